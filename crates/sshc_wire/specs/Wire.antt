@@ -1,0 +1,29 @@
+-- Wire text: numbers, strings and lists of names as bytes (RFC 4251, section 5).
+-- Each definition writes a whole list; the code appends part by part, and reads by moving a cursor.
+use Rattle.std.specs.Prelude.{ℕ, ◌<◌, ◌^◌, List, ◌++◌, length, get_or}
+use Rattle.std.specs.Int.{w32, w64, to_be_bytes}
+use Rattle.std.specs.List.{join_with_byte}
+
+-- each number is a byte
+abbrev pub IsBytes : List ℕ → Type 0
+IsBytes bytes = (i : ℕ) → get_or bytes i 0 < 256
+
+-- short enough that its length is a u32
+abbrev pub IsShort : List ℕ → Type 0
+IsShort bytes = length bytes < 2 ^ 32
+
+-- four bytes, the most significant first
+unfoldable pub u32_text : ℕ → List ℕ
+u32_text n = to_be_bytes w32 n
+
+-- eight bytes, the most significant first
+unfoldable pub u64_text : ℕ → List ℕ
+u64_text n = to_be_bytes w64 n
+
+-- the length in four bytes, and then the bytes
+unfoldable pub string_text : List ℕ → List ℕ
+string_text bytes = u32_text (length bytes) ++ bytes
+
+-- the names joined by commas, as a string
+unfoldable pub names_text : List (List ℕ) → List ℕ
+names_text names = string_text (join_with_byte 44 names)

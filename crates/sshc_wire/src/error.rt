@@ -1,0 +1,37 @@
+//! Why a part of a packet can't be read, and want of memory.
+
+ghost use Rattle.std.specs.Prelude.{◌≡◌};
+
+use std::alloc::{AllocError, AllocFailed};
+use thiserror::Error;
+
+/// Want of memory.
+#[derive(Clone, Copy, Debug, PartialEq, Eq, Error)]
+#[error("NoMemory")]
+pub struct NoMemory;
+
+impl From<AllocError> for NoMemory {
+    fn from(_error: AllocError) -> NoMemory {
+        NoMemory
+    }
+}
+
+impl<T: Drop> From<AllocFailed<T>> for NoMemory {
+    fn from(_error: AllocFailed<T>) -> NoMemory {
+        NoMemory
+    }
+}
+
+/// Why a part can't be read.
+#[derive(Clone, Copy, Debug, PartialEq, Eq, Error)]
+pub enum WireError {
+    /// Fewer bytes are left than the part needs.
+    #[error("Short")]
+    Short = 1,
+    /// The string isn't UTF-8.
+    #[error("NotText")]
+    NotText = 2,
+    /// Bytes are left where nothing may follow.
+    #[error("Trailing")]
+    Trailing = 3,
+}
