@@ -139,17 +139,18 @@ known_ok : {E T : Type 0} (o : Option T) (fault : E) (rest : List ℕ) (y : T ×
 known_ok None fault rest y e = absurd cc
 known_ok {E} (Some x) fault rest y e = let is = ok_is {E = E} (x, rest) y e in (ap (λ (p : _). Some p.0) is, ap (λ (p : _). p.1) is)
 
-pub named : {E A T : Type 0} {t : A → List ℕ} {F : A → Type 0} {f : Reader E A} (name_of : T → A) (lookup : A → Option T) (fault : E)
-    → ((s : A) (x : T) → lookup s ≡ Some x → s ≡ name_of x) → ((x : T) → lookup (name_of x) ≡ Some x)
-    → IsFormat t F f → IsFormat (λ x. t (name_of x)) (λ x. F (name_of x)) (named_at lookup fault f)
-named {E} {A} {T} {t} {F} {f} name_of lookup fault there back p = record {
+pub named : {E A T : Type 0} {t : A → List ℕ} {F : A → Type 0} {f : Reader E A} (name_of : T → A) (G : T → Type 0) (lookup : A → Option T) (fault : E)
+    → ((s : A) (x : T) → lookup s ≡ Some x → (s ≡ name_of x) × G x) → ((x : T) → G x → lookup (name_of x) ≡ Some x)
+    → IsFormat t F f → IsFormat (λ x. t (name_of x)) (λ x. F (name_of x) × G x) (named_at lookup fault f)
+named {E} {A} {T} {t} {F} {f} name_of G lookup fault there back p = record {
   takes = λ bytes x rest fits e.
       let a = bind_ok (f bytes) (λ s. known (lookup s.0) fault s.1) (x, rest) e in
       let first = p.takes bytes a.0.0 a.0.1 fits a.1 in
       let is = known_ok (lookup a.0.0) fault a.0.1 (x, rest) a.2 in
-      let name : a.0.0 ≡ name_of x = there a.0.0 x is.0 in
-      (first.0 ∙ ap (λ (n : A). t n ++ a.0.1) name ∙ ap (λ (r : List ℕ). t (name_of x) ++ r) is.1, subst F name first.1);
-  again = λ x rest fits. rw (p.again (name_of x) rest fits, back x) refl;
+      let found = there a.0.0 x is.0 in
+      let name : a.0.0 ≡ name_of x = found.0 in
+      (first.0 ∙ ap (λ (n : A). t n ++ a.0.1) name ∙ ap (λ (r : List ℕ). t (name_of x) ++ r) is.1, (subst F name first.1, found.1));
+  again = λ x rest fits. rw (p.again (name_of x) rest fits.0, back x fits.1) refl;
 }
 
 -- one part, and then another that depends on it
