@@ -5,3 +5,5 @@ mod NameLemmas
 mod TagLemmas
 mod FieldsGrammar
 mod Grammar
+mod Nested
+mod Readable
