@@ -1,2 +1,6 @@
 pub mod Wire
 pub mod Reads
+pub mod Faults
+pub mod Contents
+pub mod Records
+pub mod Outgoing

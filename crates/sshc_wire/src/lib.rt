@@ -3,14 +3,28 @@
 
 mod cursor;
 mod error;
+mod files;
 mod list;
 mod octets;
+mod outbox;
 mod put;
+mod record;
+mod resolution;
+mod sink;
+mod source;
 mod text;
+mod ticket;
 
 pub use cursor::Cursor;
 pub use error::{NoMemory, WireError};
+pub use files::{Files, Found};
 pub use list::List;
 pub use octets::Octets;
+pub use outbox::Outbox;
 pub use put::{put_bytes, put_text, put_u32, put_u64};
+pub use record::{Record, put_record};
+pub use resolution::{Resolution, put_resolution};
+pub use sink::{Sink, write_whole};
+pub use source::{Failed, Source, read_up_to};
 pub use text::Text;
+pub use ticket::Ticket;
