@@ -1,2 +1,3 @@
+mod Filed
 mod Pieces
 mod Utf8

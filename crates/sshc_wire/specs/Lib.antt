@@ -4,3 +4,4 @@ pub mod Faults
 pub mod Contents
 pub mod Records
 pub mod Outgoing
+pub mod Memory
