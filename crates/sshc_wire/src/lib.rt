@@ -1,11 +1,14 @@
 //! The data types of the wire, the traits of the outside, and what a session says.
 #![tactic(auto)]
 
+mod channel_open_failure;
 mod cursor;
+mod disconnect;
 mod error;
 mod files;
 mod list;
 mod memory;
+pub mod msg;
 mod octets;
 mod outbox;
 mod put;
@@ -17,7 +20,9 @@ mod system;
 mod text;
 mod ticket;
 
+pub use channel_open_failure::ChannelOpenFailure;
 pub use cursor::Cursor;
+pub use disconnect::Disconnect;
 pub use error::{NoMemory, WireError};
 pub use files::{Files, Found};
 pub use list::List;
