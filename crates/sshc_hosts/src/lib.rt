@@ -1,0 +1,11 @@
+//! Known hosts: which keys a text records for a host, and whether a key is one of them.
+#![tactic(auto)]
+
+mod cutting;
+mod entry;
+mod hmac;
+mod host;
+mod lines;
+
+pub use hmac::hmac_sha1;
+pub use host::host_text;
