@@ -1,3 +1,4 @@
 pub mod Hmac
 pub mod HostText
 pub mod MatchingLines
+pub mod Learning
