@@ -33,6 +33,11 @@ impl<T> List<T> {
         }
     }
 
+    /// The allocator from which the list grows.
+    pub fn allocator(&self) -> Global {
+        *self.items.allocator()
+    }
+
     pub fn as_slice(&self) -> &[T]
         ensures same { result.now ≡ self.now }
         ensures short { length self.now < 2 ^ 32 }

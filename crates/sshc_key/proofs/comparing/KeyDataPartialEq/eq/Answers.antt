@@ -1,0 +1,6 @@
+use Rattle.std.proofs.lemmas.Bool.Decides.{same_from_decides}
+use Rattle.sshc_key.specs.KeyEq.{key_eq-Decides}
+use Rattle.sshc_key.proofs.comparing.KeyDataPartialEq.eq.Goals as goal
+
+pub returns : goal.returns
+returns c = same_from_decides _ _ c.is_same.ensures (key_eq-Decides _ _)

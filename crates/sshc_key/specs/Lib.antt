@@ -1,0 +1,11 @@
+pub mod AlgorithmNames
+pub mod KeyGrammar
+pub mod KeyCode
+pub mod Tested
+pub mod KeyEq
+pub mod View
+pub mod PublicView
+pub mod PairCode
+pub mod PairView
+pub mod Falls
+pub mod Signers

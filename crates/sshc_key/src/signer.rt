@@ -1,0 +1,42 @@
+//! Who signs with a key pair that is at hand.
+
+ghost use Rattle.std.specs.Prelude.{◌≡◌, ◌≤◌, ℕ, List, IfOk, Err, length};
+ghost use Rattle.sshc_wire.specs.Faults.{Rose};
+ghost use Rattle.sshc_key.specs.Signers.{SignCall, KeepsCall};
+
+use crate::algorithm::HashAlg;
+use crate::pair::PrivateKey;
+
+/// Who asks for a signature: the session, or a connection of the agent by its number.
+#[derive(Clone, Copy, Debug, PartialEq, Eq)]
+pub enum Asker {
+    Session,
+    Agent(u32),
+}
+
+/// Why there is no signature.
+#[derive(Clone, Copy, Debug, PartialEq, Eq)]
+pub enum SignRefused {
+    Refused,
+    NoMemory,
+}
+
+/// Makes signatures. It keeps the list of its calls with their answers, and a count of its refusals.
+pub trait LocalSigner {
+    ghost calls: { Self → List SignCall };
+
+    ghost refusals: { Self → ℕ };
+
+    /// Signs the bytes. The answer is the blob of a signature. The hash counts for RSA keys alone.
+    fn sign(
+        &mut self,
+        by: Asker,
+        key: &PrivateKey,
+        hash: Option<HashAlg>,
+        bytes: &[u8],
+    ) -> Result<Vec<u8>, SignRefused>
+        ensures call { KeepsCall (calls self.old) (calls self.new) by key.now hash bytes.now result }
+        ensures short { IfOk result (λ v. length v.items ≤ 65536) }
+        ensures cause { result ≡ Err SignRefused.Refused → Rose (refusals self.old) (refusals self.new) }
+        ensures later { refusals self.old ≤ refusals self.new };
+}
