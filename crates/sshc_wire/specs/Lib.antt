@@ -4,3 +4,5 @@ pub mod Faults
 pub mod Contents
 pub mod Records
 pub mod Outgoing
+pub mod Reasons
+pub mod Memory

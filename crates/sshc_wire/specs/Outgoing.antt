@@ -1,6 +1,6 @@
 -- What contracts see of an outbox: the records in order, for how many more there is room, and whether packets are dropped.
 -- Plain data; the code keeps a vector.
-use Rattle.std.proofs.Common.{◌≡◌, ℕ, Bool, true, false, List, [], ◌∷◌, ◌++◌, refl, ap, ◌∙◌, sym, append_assoc}
+use Rattle.std.proofs.Common.{◌≡◌, ℕ, Bool, true, false, List, [], ◌∷◌, ◌++◌, Option, Some, None, refl, ap, ◌∙◌, sym, append_assoc}
 use Rattle.sshc_wire.specs.declared.record.Record.{Record}
 use Rattle.sshc_wire.specs.declared.record.Record.TheVariants.{Payload}
 
@@ -8,6 +8,11 @@ pub record Outgoing : Type 0 where
   pub records : List Record
   pub room : ℕ
   pub muted : Bool
+
+-- one value or none, as a list
+abbrev pub listed : {A : Type 0} → Option A → List A
+listed None = []
+listed (Some x) = x ∷ []
 
 -- what is kept of a record: a muted outbox drops packets
 abbrev pub kept : Bool → Record → List Record

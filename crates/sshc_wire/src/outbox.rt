@@ -1,7 +1,7 @@
 //! The records that a step says, in order.
 
 ghost use Rattle.std.specs.Prelude.{◌≡◌, ◌+◌, ◌<◌, ◌≤◌, [], ◌∷◌, ◌++◌, OnOk, OnErr, true, false};
-ghost use Rattle.sshc_wire.specs.Outgoing.{shown};
+ghost use Rattle.sshc_wire.specs.Outgoing.{listed, shown};
 
 use crate::error::NoMemory;
 use crate::record::Record;
@@ -75,6 +75,35 @@ impl Outbox {
         self.reserve(1)?;
         self.push_reserved(said);
         Ok(())
+    }
+
+    /// Adds no record, one or two, or changes nothing.
+    #[tactic(auto, using(crate::proofs::Shown::shown_two))]
+    pub fn push_both(
+        &mut self,
+        first: Option<Record>,
+        second: Option<Record>,
+    ) -> Result<(), NoMemory>
+        ensures ok { OnOk result (self.new.records ≡ self.old.records ++ shown self.old.muted (listed first ++ listed second)) }
+        ensures err { OnErr result (self.new.records ≡ self.old.records) }
+        ensures same { self.new.muted ≡ self.old.muted }
+    {
+        self.reserve(2)?;
+        self.push_if_some(first);
+        self.push_if_some(second);
+        Ok(())
+    }
+
+    /// Adds the record, if there is one, for which room was made.
+    fn push_if_some(&mut self, said: Option<Record>)
+        requires { 0 < self.old.room }
+        ensures added { self.new.records ≡ self.old.records ++ shown self.old.muted (listed said) }
+        ensures room { self.old.room ≤ self.new.room + 1 }
+        ensures same { self.new.muted ≡ self.old.muted }
+    {
+        if let Some(said) = said {
+            self.push_reserved(said);
+        }
     }
 
     pub fn as_slice(&self) -> &[Record]
