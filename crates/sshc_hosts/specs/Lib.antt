@@ -1,4 +1,5 @@
 pub mod Hmac
 pub mod HostText
 pub mod MatchingLines
+pub mod Judgement
 pub mod Learning

@@ -5,6 +5,7 @@ mod cutting;
 mod entry;
 mod hmac;
 mod host;
+mod judgement;
 mod lines;
 
 pub use hmac::hmac_sha1;

@@ -1,0 +1,105 @@
+//! Whether a host key is one that the matching lines record.
+
+ghost use Rattle.std.specs.Prelude.{◌≡◌, option_copied, option_map, find};
+ghost use Rattle.std.specs.List.{list_any};
+ghost use Rattle.sshc_key.specs.View.{view};
+ghost use Rattle.sshc_key.specs.KeyEq.{key_eq};
+ghost use Rattle.sshc_key.specs.AlgorithmNames.{kind_name};
+ghost use Rattle.sshc_key.specs.declared.kind.Kind.TheVariants.{Ecdsa};
+ghost use Rattle.sshc_hosts.specs.Judgement.{is_certificate, algorithm_name, same_algorithm, contradicts, has_key, judged_among};
+
+use sshc_key::{EcdsaCurve, Error, KeyData, PublicKey};
+
+/// The name of ECDSA's algorithm with a curve.
+fn ecdsa_name(curve: EcdsaCurve) -> &'static str
+    ensures { result.now ≡ kind_name (Ecdsa curve) }
+{
+    match curve {
+        EcdsaCurve::NistP256 => "ecdsa-sha2-nistp256",
+        EcdsaCurve::NistP384 => "ecdsa-sha2-nistp384",
+        EcdsaCurve::NistP521 => "ecdsa-sha2-nistp521",
+    }
+}
+
+/// The name of a plain key's algorithm.
+fn algorithm_name(key: &KeyData) -> Option<&str>
+    ensures { option_copied result ≡ algorithm_name (view key.now) }
+{
+    match key {
+        KeyData::Dsa { .. } => Some("ssh-dss"),
+        KeyData::Ecdsa { curve, .. } => Some(ecdsa_name(*curve)),
+        KeyData::Ed25519 { .. } => Some("ssh-ed25519"),
+        KeyData::Rsa { .. } => Some("ssh-rsa"),
+        KeyData::SkEcdsaSha2NistP256 { .. } => Some("sk-ecdsa-sha2-nistp256@openssh.com"),
+        KeyData::SkEd25519 { .. } => Some("sk-ssh-ed25519@openssh.com"),
+        KeyData::Other { name, .. } => Some(name.as_str()),
+        KeyData::Certificate(certificate) => {
+            let _ = &certificate.nonce;
+            None
+        }
+    }
+}
+
+/// Whether the key is a certificate.
+fn is_certificate(key: &PublicKey) -> bool
+    ensures { result ≡ is_certificate key.now.0 }
+{
+    match &key.key {
+        KeyData::Certificate(certificate) => {
+            let _ = &certificate.nonce;
+            true
+        }
+        _ => false,
+    }
+}
+
+/// Whether both are plain keys of one algorithm.
+fn same_algorithm(key: &PublicKey, other: &PublicKey) -> bool
+    ensures { result ≡ same_algorithm key.now.0 other.now.0 }
+{
+    match (algorithm_name(&key.key), algorithm_name(&other.key)) {
+        (Some(name), Some(other)) => name == other,
+        _ => false,
+    }
+}
+
+/// Whether both have the same key data, whatever their comments are.
+fn same_key(key: &PublicKey, other: &PublicKey) -> bool
+    ensures { result ≡ key_eq key.now.0 other.now.0 }
+{
+    key.key == other.key
+}
+
+/// The first line that has another key of the key's algorithm.
+fn changed_line(key: &PublicKey, known: &[(u64, PublicKey)]) -> Option<u64>
+    ensures { result ≡ option_map (λ line. line.0) (find (contradicts key.now.0) known.now) }
+{
+    for line in known {
+        if same_algorithm(key, &line.1) && !same_key(key, &line.1) {
+            return Some(line.0);
+        }
+    }
+    None
+}
+
+/// Whether a line has the key.
+fn is_known(key: &PublicKey, known: &[(u64, PublicKey)]) -> bool
+    ensures { result ≡ list_any (has_key key.now.0) known.now }
+{
+    for line in known {
+        if same_key(key, &line.1) {
+            return true;
+        }
+    }
+    false
+}
+
+/// Whether the key is one of the known keys, or the first line that contradicts it.
+fn judge_among(key: &PublicKey, known: &[(u64, PublicKey)]) -> Result<bool, Error>
+    ensures { result ≡ judged_among key.now.0 known.now }
+{
+    match changed_line(key, known) {
+        Some(line) => Err(Error::KeyChanged { line }),
+        None => Ok(is_known(key, known)),
+    }
+}
