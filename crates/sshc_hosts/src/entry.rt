@@ -11,11 +11,12 @@ use sshc_wire::{NoMemory, Octets};
 use std::alloc::Global;
 
 /// The text without carriage returns and line feeds.
-fn without_line_ends(alloc: Global, text: &[u8]) -> Result<Vec<u8>, NoMemory>
+fn without_line_ends(alloc: Global, text: &str) -> Result<Vec<u8>, NoMemory>
     ensures { IfOk result (λ kept. kept.items ≡ filter is_within_line text.now) }
 {
     Ok(
-        text.iter()
+        text.as_bytes()
+            .iter()
             .copied()
             .filter(|b| *b != b'\r' && *b != b'\n')
             .collect(alloc)?,
@@ -24,7 +25,7 @@ fn without_line_ends(alloc: Global, text: &[u8]) -> Result<Vec<u8>, NoMemory>
 
 /// The bytes of a padded base64 text.
 #[tactic(auto, unfolding(base64::specs::GeneralPurpose::decoded_of))]
-fn decoded(alloc: Global, text: &[u8]) -> Result<Option<Octets>, NoMemory>
+fn decoded(alloc: Global, text: &str) -> Result<Option<Octets>, NoMemory>
     ensures { IfOk result (λ bytes. bytes ≡ base64_bytes text.now) }
 {
     let kept = without_line_ends(alloc, text)?;
@@ -36,7 +37,7 @@ fn decoded(alloc: Global, text: &[u8]) -> Result<Option<Octets>, NoMemory>
 }
 
 /// Whether the HMAC of the host text under the salt is the hash, both of them in base64.
-fn is_hash_of(alloc: Global, host: &[u8], salt: &[u8], hash: &[u8]) -> Result<bool, NoMemory>
+fn is_hash_of(alloc: Global, host: &str, salt: &str, hash: &str) -> Result<bool, NoMemory>
     ensures { IfOk result (λ b. b ≡ hash_matches host.now (base64_bytes salt.now) (base64_bytes hash.now)) }
 {
     let Some(salt) = decoded(alloc, salt)? else {
@@ -45,12 +46,12 @@ fn is_hash_of(alloc: Global, host: &[u8], salt: &[u8], hash: &[u8]) -> Result<bo
     let Some(hash) = decoded(alloc, hash)? else {
         return Ok(false);
     };
-    let digest = hmac_sha1(salt.as_slice(), host);
+    let digest = hmac_sha1(salt.as_slice(), host.as_bytes());
     Ok(digest.as_slice() == hash.as_slice())
 }
 
 /// Whether the parts of a hashed entry have the host's hash.
-fn is_hashed_host(alloc: Global, host: &[u8], entry: &[u8]) -> Result<bool, NoMemory>
+fn is_hashed_host(alloc: Global, host: &str, entry: &str) -> Result<bool, NoMemory>
     ensures { IfOk result (λ b. b ≡ hashed_matches host.now (parts_at 124 entry.now)) }
 {
     let (_front, Some(rest)) = cut(entry, b'|') else {
@@ -67,10 +68,10 @@ fn is_hashed_host(alloc: Global, host: &[u8], entry: &[u8]) -> Result<bool, NoMe
 }
 
 /// Whether an entry is the host.
-pub fn is_host(alloc: Global, host: &[u8], entry: &[u8]) -> Result<bool, NoMemory>
+pub fn is_host(alloc: Global, host: &str, entry: &str) -> Result<bool, NoMemory>
     ensures { IfOk result (λ b. b ≡ entry_matches host.now entry.now) }
 {
-    if entry.starts_with(b"|1|") {
+    if entry.starts_with("|1|") {
         is_hashed_host(alloc, host, entry)
     } else {
         Ok(entry == host)

@@ -5,14 +5,15 @@ ghost use Rattle.std.specs.List.{list_any};
 ghost use Rattle.sshc_key.specs.View.{view};
 ghost use Rattle.sshc_key.specs.KeyEq.{key_eq};
 ghost use Rattle.sshc_key.specs.AlgorithmNames.{kind_name};
-ghost use Rattle.sshc_key.specs.declared.kind.Kind.TheVariants.{Ecdsa};
+ghost use Rattle.sshc_key.specs.declared.kind.Kind.TheVariants.{Known};
+ghost use Rattle.sshc_key.specs.declared.kind.Known.TheVariants.{Ecdsa};
 ghost use Rattle.sshc_hosts.specs.Judgement.{is_certificate, algorithm_name, same_algorithm, contradicts, has_key, judged_among};
 
 use sshc_key::{EcdsaCurve, Error, KeyData, PublicKey};
 
 /// The name of ECDSA's algorithm with a curve.
 fn ecdsa_name(curve: EcdsaCurve) -> &'static str
-    ensures { result.now ≡ kind_name (Ecdsa curve) }
+    ensures { result.now ≡ kind_name (Known (Ecdsa curve)) }
 {
     match curve {
         EcdsaCurve::NistP256 => "ecdsa-sha2-nistp256",

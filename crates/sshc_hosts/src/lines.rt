@@ -9,7 +9,7 @@ use sshc_wire::NoMemory;
 use std::alloc::Global;
 
 /// Whether an entry of the field is the host.
-fn has_host(alloc: Global, host: &[u8], field: &[u8]) -> Result<bool, NoMemory>
+fn has_host(alloc: Global, host: &str, field: &str) -> Result<bool, NoMemory>
     ensures { IfOk result (λ b. b ≡ field_matches host.now field.now) }
 {
     let mut left = field;
@@ -26,17 +26,17 @@ fn has_host(alloc: Global, host: &[u8], field: &[u8]) -> Result<bool, NoMemory>
 }
 
 /// Whether the line is a comment.
-fn comments(line: &[u8]) -> bool
+fn comments(line: &str) -> bool
     ensures { result ≡ is_comment line.now }
 {
-    match line.first() {
+    match line.as_bytes().first() {
         Some(b) => *b == b'#',
         None => false,
     }
 }
 
 /// The third field of a line whose first field has the host.
-fn key_of<'a>(alloc: Global, host: &[u8], line: &'a [u8]) -> Result<Option<&'a [u8]>, NoMemory>
+fn key_of<'a>(alloc: Global, host: &str, line: &'a str) -> Result<Option<&'a str>, NoMemory>
     ensures { IfOk result (λ key. option_copied key ≡ line_key host.now line.now) }
 {
     if comments(line) {
@@ -58,9 +58,9 @@ fn key_of<'a>(alloc: Global, host: &[u8], line: &'a [u8]) -> Result<Option<&'a [
 /// The matching lines, by their numbers from 1, and their third fields.
 pub fn matching_lines<'a>(
     alloc: Global,
-    text: &'a [u8],
-    host: &[u8],
-) -> Result<Vec<(u64, &'a [u8])>, NoMemory>
+    text: &'a str,
+    host: &str,
+) -> Result<Vec<(u64, &'a str)>, NoMemory>
     ensures { IfOk result (λ lines. map (λ line. (line.0, line.1.now)) lines.items ≡ matching text.now host.now) }
 {
     let mut found = Vec::new(alloc);
