@@ -6,6 +6,7 @@ mod entry;
 mod hmac;
 mod host;
 mod judgement;
+mod learning;
 mod lines;
 
 pub use hmac::hmac_sha1;
