@@ -9,22 +9,23 @@ use Rattle.sshc_key.specs.KeyGrammar.{Key}
 use Rattle.sshc_key.specs.KeyEq.{key_eq, key_eq-Decides}
 use Rattle.sshc_key.specs.declared.error.Error.{Error}
 use Rattle.sshc_hosts.specs.Judgement.{KnownKey, is_certificate, same_algorithm, contradicts, has_key, verdict, judged_among, read_lines, judged_by, once_learned}
+use Rattle.sshc_key.specs.KeyText.{decoded_key}
 
 -- ---- reading one line more
 
-more_case : (read : List ℕ → Result Key Error) (line : ℕ × List ℕ) (key : Result Key Error) (rest : Result (List KnownKey) Error) (more : List KnownKey)
+more_case : (line : ℕ × List ℕ) (key : Result Key Error) (rest : Result (List KnownKey) Error) (more : List KnownKey)
     → (key >>= (λ k. (rest >>= (λ lines. Ok (lines ++ more))) >>= (λ lines. Ok ((line.0, (k, [])) ∷ lines))))
     ≡ ((key >>= (λ k. rest >>= (λ lines. Ok ((line.0, (k, [])) ∷ lines)))) >>= (λ lines. Ok (lines ++ more)))
-more_case read line (Ok key) (Ok rest) more = refl
-more_case read line (Ok key) (Err e) more = refl
-more_case read line (Err e) rest more = refl
+more_case line (Ok key) (Ok rest) more = refl
+more_case line (Ok key) (Err e) more = refl
+more_case line (Err e) rest more = refl
 
-read_lines-more : (read : List ℕ → Result Key Error) (found : List (ℕ × List ℕ)) (n : ℕ) (field : List ℕ) (key : Key) → read field ≡ Ok key
-    → read_lines read (found ++ (n, field) ∷ []) ≡ (read_lines read found >>= (λ lines. Ok (lines ++ (n, (key, [])) ∷ [])))
-read_lines-more read [] n field key is = rw is refl
-read_lines-more read (line ∷ found) n field key is =
-    ap (λ rest. read line.1 >>= (λ k. rest >>= (λ lines. Ok ((line.0, (k, [])) ∷ lines)))) (read_lines-more read found n field key is)
-    ∙ more_case read line (read line.1) (read_lines read found) ((n, (key, [])) ∷ [])
+read_lines-more : (found : List (ℕ × List ℕ)) (n : ℕ) (field : List ℕ) (key : Key) → decoded_key field ≡ Ok key
+    → read_lines (found ++ (n, field) ∷ []) ≡ (read_lines found >>= (λ lines. Ok (lines ++ (n, (key, [])) ∷ [])))
+read_lines-more [] n field key is = rw is refl
+read_lines-more (line ∷ found) n field key is =
+    ap (λ rest. decoded_key line.1 >>= (λ k. rest >>= (λ lines. Ok ((line.0, (k, [])) ∷ lines)))) (read_lines-more found n field key is)
+    ∙ more_case line (decoded_key line.1) (read_lines found) ((n, (key, [])) ∷ [])
 
 -- ---- one key more
 
@@ -69,7 +70,7 @@ judged_case key n (Ok lines) = among-more key lines n
 judged_case key n (Err e) = refl
 
 -- a key that is no certificate, where one line more matches that has it
-pub judged_by-more : (read : List ℕ → Result Key Error) (found : List (ℕ × List ℕ)) (n : ℕ) (field : List ℕ) (key : Key) → is_certificate key ≡ false → read field ≡ Ok key
-    → judged_by read (found ++ (n, field) ∷ []) key ≡ once_learned (judged_by read found key)
-judged_by-more read found n field key plain is =
-    rw plain (ap (λ lines. lines >>= judged_among key) (read_lines-more read found n field key is) ∙ judged_case key n (read_lines read found))
+pub judged-more : (found : List (ℕ × List ℕ)) (n : ℕ) (field : List ℕ) (key : Key) → is_certificate key ≡ false → decoded_key field ≡ Ok key
+    → judged_by (read_lines (found ++ (n, field) ∷ [])) key ≡ once_learned (judged_by (read_lines found) key)
+judged-more found n field key plain is =
+    rw plain (ap (λ lines. lines >>= judged_among key) (read_lines-more found n field key is) ∙ judged_case key n (read_lines found))

@@ -1,18 +1,18 @@
 -- What learning a key does to the judgement: the key is accepted unless an old line refuses it, and no other host's judgement changes.
-use Rattle.std.proofs.Common.{◌≡◌, ◌≢◌, ℕ, Bool, true, false, List, [], ◌∷◌, ◌++◌, Some, None, Result, Ok, refl, ap, sym, ◌∙◌}
+use Rattle.std.proofs.Common.{◌≡◌, ◌≢◌, ℕ, Bool, true, false, List, [], ◌∷◌, ◌++◌, Some, None, Ok, refl, ap, sym, ◌∙◌}
 use Rattle.std.specs.Prelude.{if◌then◌else◌, option_map, bytes_eq}
 use Rattle.std.specs.List.{cons_option}
 use Rattle.std.proofs.lemmas.Bool.{false_from_ne_true}
 use Rattle.std.proofs.lemmas.List.{append-nil}
 use Rattle.std.proofs.lemmas.Slice.Eq.{bytes_eq-Decides}
 use Rattle.sshc_key.specs.KeyGrammar.{Key}
-use Rattle.sshc_key.specs.declared.error.Error.{Error}
 use Rattle.sshc_hosts.specs.MatchingLines.{parts_at, line_key, matching}
-use Rattle.sshc_hosts.specs.Judgement.{is_certificate, judged_by, once_learned}
+use Rattle.sshc_hosts.specs.Judgement.{is_certificate, read_lines, judged_by, judged, once_learned}
+use Rattle.sshc_key.specs.KeyText.{decoded_key}
 use Rattle.sshc_hosts.specs.Learning.{Lacks, IsLearnable, ends_line, added_line}
 use Rattle.sshc_hosts.proofs.LineLemmas.{matching-added, added_number}
 use Rattle.sshc_hosts.proofs.LearningLemmas.{line_key-learned, Lacks-append, Lacks-cons}
-use Rattle.sshc_hosts.proofs.JudgementLemmas.{judged_by-more}
+use Rattle.sshc_hosts.proofs.JudgementLemmas.{judged-more}
 
 -- a line of a host text, an algorithm's name, a key's base64 and what follows it
 pub record IsLearnedLine (host name field rest : List ℕ) : Type 0 where
@@ -43,12 +43,11 @@ added_matches old other host name field rest b line same =
     ∙ ap (λ o. matching old other ++ cons_option (option_map (λ key. (added_number old (ends_line old), key)) o) []) found
 
 -- the key is accepted for its host, unless an old line refuses it
-pub learned_is_accepted : (read : List ℕ → Result Key Error) (old host name field rest : List ℕ) (key : Key)
-    → IsLearnedLine host name field rest → is_certificate key ≡ false → read field ≡ Ok key
-    → judged_by read (matching (old ++ added_line old (host ++ 32 ∷ (name ++ 32 ∷ rest))) host) key ≡ once_learned (judged_by read (matching old host) key)
-learned_is_accepted read old host name field rest key line plain is =
-    ap (λ found. judged_by read found key) (added_matches old host host name field rest true line ((bytes_eq-Decides host host).1 refl))
-    ∙ judged_by-more read (matching old host) (added_number old (ends_line old)) field key plain is
+pub learned_is_accepted : (old host name field rest : List ℕ) (key : Key) → IsLearnedLine host name field rest → is_certificate key ≡ false → decoded_key field ≡ Ok key
+    → judged (old ++ added_line old (host ++ 32 ∷ (name ++ 32 ∷ rest))) host key ≡ once_learned (judged old host key)
+learned_is_accepted old host name field rest key line plain is =
+    ap (λ found. judged_by (read_lines found) key) (added_matches old host host name field rest true line ((bytes_eq-Decides host host).1 refl))
+    ∙ judged-more (matching old host) (added_number old (ends_line old)) field key plain is
 
 -- no other host text's lines change
 pub learning_touches_no_other : (old other host name field rest : List ℕ) → IsLearnedLine host name field rest → other ≢ host

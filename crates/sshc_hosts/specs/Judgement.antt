@@ -6,8 +6,10 @@ use Rattle.sshc_wire.specs.Reads.{◌>>=◌}
 use Rattle.sshc_key.specs.AlgorithmNames.{kind_name}
 use Rattle.sshc_key.specs.KeyGrammar.{Key, plain, certificate, plain_kind}
 use Rattle.sshc_key.specs.KeyEq.{key_eq}
+use Rattle.sshc_key.specs.KeyText.{decoded_key}
 use Rattle.sshc_key.specs.declared.error.Error.{Error}
 use Rattle.sshc_key.specs.declared.error.Error.TheVariants.{KeyChanged}
+use Rattle.sshc_hosts.specs.MatchingLines.{matching}
 
 -- the number of a line, its key and that key's comment
 abbrev pub KnownKey : Type 0
@@ -46,17 +48,25 @@ verdict None accepted = Ok accepted
 abbrev pub judged_among : Key → List KnownKey → Result Bool Error
 judged_among key lines = verdict (find (contradicts key) lines) (list_any (has_key key) lines)
 
--- the matching lines with their keys, or why the first that can't be read can't
-abbrev pub read_lines : (List ℕ → Result Key Error) → List (ℕ × List ℕ) → Result (List KnownKey) Error
-read_lines read [] = Ok []
-read_lines read (line ∷ lines) = do
-  key ← read line.1
-  rest ← read_lines read lines
+-- the lines with their keys, or why the first that can't be read can't
+abbrev pub read_lines : List (ℕ × List ℕ) → Result (List KnownKey) Error
+read_lines [] = Ok []
+read_lines (line ∷ lines) = do
+  key ← decoded_key line.1
+  rest ← read_lines lines
   Ok ((line.0, (key, [])) ∷ rest)
 
+-- the matching lines of a text, with their keys
+abbrev pub known_keys : List ℕ → List ℕ → Result (List KnownKey) Error
+known_keys text host = read_lines (matching text host)
+
 -- no certificate is accepted
-abbrev pub judged_by : (List ℕ → Result Key Error) → List (ℕ × List ℕ) → Key → Result Bool Error
-judged_by read found key = if is_certificate key then Ok false else (read_lines read found >>= judged_among key)
+abbrev pub judged_by : Result (List KnownKey) Error → Key → Result Bool Error
+judged_by known key = if is_certificate key then Ok false else (known >>= judged_among key)
+
+-- the judgement of a key by a known hosts text, for the host that a host text names
+abbrev pub judged : List ℕ → List ℕ → Key → Result Bool Error
+judged text host key = judged_by (known_keys text host) key
 
 -- what becomes of a verdict where the key is learned
 abbrev pub once_learned : Result Bool Error → Result Bool Error

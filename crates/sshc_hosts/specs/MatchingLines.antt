@@ -1,24 +1,21 @@
 -- The lines of a known hosts text that speak of a host (OpenSSH's sshd(8), "SSH_KNOWN_HOSTS FILE FORMAT").
 -- A filter over all numbered lines; the code cuts off one line after another.
-use Rattle.std.specs.Prelude.{ℕ, Bool, false, not, ◌&&◌, List, [], ◌∷◌, Option, Some, None, ◌==◌, if◌then◌else◌, filter, option_map}
+use Rattle.std.specs.Prelude.{ℕ, Bool, false, List, [], ◌∷◌, Option, Some, None, ◌==◌, if◌then◌else◌, filter, option_map}
 use Rattle.std.specs.List.{slice_split, list_any, filter_map, enumerate_from, starts_with}
 use Rattle.std.specs.Str.{bytes_eq}
 use Rattle.std.specs.Prelude.{nat_eq}
 use Rattle.base64.specs.Engines.{standard}
 use Rattle.base64.specs.GeneralPurpose.{decoded_of}
+use Rattle.sshc_key.specs.KeyText.{is_no_line_end}
 use Rattle.sshc_hosts.specs.Hmac.{hmac_sha1}
 
 -- the parts at each such byte
 abbrev pub parts_at : ℕ → List ℕ → List (List ℕ)
 parts_at at bytes = slice_split (λ b. b == at) bytes
 
--- neither a carriage return nor a line feed
-abbrev pub is_within_line : ℕ → Bool
-is_within_line b = not (b == 13) && not (b == 10)
-
 -- padded base64 (RFC 4648, section 4), after carriage returns and line feeds are dropped
 abbrev pub base64_bytes : List ℕ → Option (List ℕ)
-base64_bytes text = decoded_of standard (filter is_within_line text)
+base64_bytes text = decoded_of standard (filter is_no_line_end text)
 
 -- the HMAC of the host text under the salt is the hash
 abbrev pub hash_matches : List ℕ → Option (List ℕ) → Option (List ℕ) → Bool

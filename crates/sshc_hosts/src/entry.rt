@@ -1,7 +1,8 @@
 //! Entries of a host field, plain and hashed.
 
 ghost use Rattle.std.specs.Prelude.{◌≡◌, IfOk, filter};
-ghost use Rattle.sshc_hosts.specs.MatchingLines.{is_within_line, base64_bytes, hash_matches, hashed_matches, entry_matches, parts_at};
+ghost use Rattle.sshc_key.specs.KeyText.{is_no_line_end};
+ghost use Rattle.sshc_hosts.specs.MatchingLines.{base64_bytes, hash_matches, hashed_matches, entry_matches, parts_at};
 
 use crate::cutting::cut;
 use crate::hmac::hmac_sha1;
@@ -12,7 +13,7 @@ use std::alloc::Global;
 
 /// The text without carriage returns and line feeds.
 fn without_line_ends(alloc: Global, text: &str) -> Result<Vec<u8>, NoMemory>
-    ensures { IfOk result (λ kept. kept.items ≡ filter is_within_line text.now) }
+    ensures { IfOk result (λ kept. kept.items ≡ filter is_no_line_end text.now) }
 {
     Ok(
         text.as_bytes()

@@ -1,15 +1,22 @@
 //! Whether a host key is one that the matching lines record.
 
-ghost use Rattle.std.specs.Prelude.{◌≡◌, option_copied, option_map, find};
+ghost use Rattle.std.specs.Prelude.{◌≡◌, option_copied, option_map, find, map};
 ghost use Rattle.std.specs.List.{list_any};
 ghost use Rattle.sshc_key.specs.View.{view};
 ghost use Rattle.sshc_key.specs.KeyEq.{key_eq};
 ghost use Rattle.sshc_key.specs.AlgorithmNames.{kind_name};
 ghost use Rattle.sshc_key.specs.declared.kind.Kind.TheVariants.{Known};
 ghost use Rattle.sshc_key.specs.declared.kind.Known.TheVariants.{Ecdsa};
-ghost use Rattle.sshc_hosts.specs.Judgement.{is_certificate, algorithm_name, same_algorithm, contradicts, has_key, judged_among};
+ghost use Rattle.sshc_hosts.specs.Judgement.{is_certificate, algorithm_name, same_algorithm, contradicts, has_key, judged_among, read_lines, known_keys, judged};
+ghost use Rattle.sshc_key.specs.Gives.{GivesAll};
+ghost use Rattle.sshc_key.specs.KeyText.{decoded_key};
+ghost use Rattle.sshc_key.specs.Nesting.{Parses};
+ghost use Rattle.sshc_hosts.specs.HostText.{host_text};
 
+use crate::host::host_text;
+use crate::lines::matching_lines;
 use sshc_key::{EcdsaCurve, Error, KeyData, PublicKey};
+use std::alloc::Global;
 
 /// The name of ECDSA's algorithm with a curve.
 fn ecdsa_name(curve: EcdsaCurve) -> &'static str
@@ -103,4 +110,55 @@ fn judge_among(key: &PublicKey, known: &[(u64, PublicKey)]) -> Result<bool, Erro
         Some(line) => Err(Error::KeyChanged { line }),
         None => Ok(is_known(key, known)),
     }
+}
+
+/// The key of a third field. Answers want of memory until `parse_public_key_base64` stands in sshc_key, with this very clause.
+fn parsed(_alloc: Global, _field: &str) -> Result<PublicKey, Error>
+    ensures { Parses result (decoded_key _field.now) }
+{
+    Err(Error::NoMemory)
+}
+
+/// The lines with their keys, or why the first that can't be read can't.
+fn read_lines(alloc: Global, lines: &[(u64, &str)]) -> Result<Vec<(u64, PublicKey)>, Error>
+    ensures { GivesAll (λ known. known.items) result (read_lines (map (λ line. (line.0, line.1.now)) lines.now)) }
+{
+    let mut known = Vec::new(alloc);
+    for line in lines {
+        let key = parsed(alloc, line.1)?;
+        known.push((line.0, key))?;
+    }
+    Ok(known)
+}
+
+/// The keys that a known hosts text records for the host at the port, with the numbers of their lines, counted from 1.
+/// A matching line that can't be read refuses them all.
+pub fn known_host_keys_text(
+    alloc: Global,
+    text: &str,
+    host: &str,
+    port: u16,
+) -> Result<Vec<(u64, PublicKey)>, Error>
+    ensures { GivesAll (λ known. known.items) result (known_keys text.now (host_text host.now port)) }
+{
+    let host = host_text(alloc, host, port)?;
+    let lines = matching_lines(alloc, text, host.as_str())?;
+    read_lines(alloc, lines.as_slice())
+}
+
+/// Whether a known hosts text accepts the key for the host at the port. No certificate is accepted.
+pub fn judge_text(
+    alloc: Global,
+    text: &str,
+    host: &str,
+    port: u16,
+    key: &PublicKey,
+) -> Result<bool, Error>
+    ensures { GivesAll (λ accepted. accepted) result (judged text.now (host_text host.now port) key.now.0) }
+{
+    if is_certificate(key) {
+        return Ok(false);
+    }
+    let known = known_host_keys_text(alloc, text, host, port)?;
+    judge_among(key, known.as_slice())
 }

@@ -11,3 +11,4 @@ mod lines;
 
 pub use hmac::hmac_sha1;
 pub use host::host_text;
+pub use judgement::{judge_text, known_host_keys_text};
