@@ -7,7 +7,7 @@ use Rattle.std.proofs.lemmas.List.{append-nil}
 use Rattle.std.proofs.lemmas.Slice.Eq.{bytes_eq-Decides}
 use Rattle.sshc_key.specs.KeyGrammar.{Key}
 use Rattle.sshc_hosts.specs.MatchingLines.{parts_at, line_key, matching}
-use Rattle.sshc_hosts.specs.Judgement.{is_certificate, read_lines, judged_by, judged, once_learned}
+use Rattle.sshc_hosts.specs.Judgement.{is_certificate, read_lines, known_keys, judged_by, judged, once_learned}
 use Rattle.sshc_key.specs.KeyText.{decoded_key}
 use Rattle.sshc_hosts.specs.Learning.{Lacks, IsLearnable, ends_line, added_line}
 use Rattle.sshc_hosts.proofs.LineLemmas.{matching-added, added_number}
@@ -45,6 +45,7 @@ added_matches old other host name field rest b line same =
 -- the key is accepted for its host, unless an old line refuses it
 pub learned_is_accepted : (old host name field rest : List ℕ) (key : Key) → IsLearnedLine host name field rest → is_certificate key ≡ false → decoded_key field ≡ Ok key
     → judged (old ++ added_line old (host ++ 32 ∷ (name ++ 32 ∷ rest))) host key ≡ once_learned (judged old host key)
+unfolding judged known_keys
 learned_is_accepted old host name field rest key line plain is =
     ap (λ found. judged_by (read_lines found) key) (added_matches old host host name field rest true line ((bytes_eq-Decides host host).1 refl))
     ∙ judged-more (matching old host) (added_number old (ends_line old)) field key plain is

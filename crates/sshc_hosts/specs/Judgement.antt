@@ -8,7 +8,7 @@ use Rattle.sshc_key.specs.KeyGrammar.{Key, plain, certificate, plain_kind}
 use Rattle.sshc_key.specs.KeyEq.{key_eq}
 use Rattle.sshc_key.specs.KeyText.{decoded_key}
 use Rattle.sshc_key.specs.declared.error.Error.{Error}
-use Rattle.sshc_key.specs.declared.error.Error.TheVariants.{KeyChanged}
+use Rattle.sshc_key.specs.declared.error.Error.TheVariants.{KeyChanged, Decode, SshKey, NoMemory}
 use Rattle.sshc_hosts.specs.MatchingLines.{matching}
 
 -- the number of a line, its key and that key's comment
@@ -57,7 +57,7 @@ read_lines (line ∷ lines) = do
   Ok ((line.0, (key, [])) ∷ rest)
 
 -- the matching lines of a text, with their keys
-abbrev pub known_keys : List ℕ → List ℕ → Result (List KnownKey) Error
+unfoldable pub known_keys : List ℕ → List ℕ → Result (List KnownKey) Error
 known_keys text host = read_lines (matching text host)
 
 -- no certificate is accepted
@@ -65,10 +65,22 @@ abbrev pub judged_by : Result (List KnownKey) Error → Key → Result Bool Erro
 judged_by known key = if is_certificate key then Ok false else (known >>= judged_among key)
 
 -- the judgement of a key by a known hosts text, for the host that a host text names
-abbrev pub judged : List ℕ → List ℕ → Key → Result Bool Error
+unfoldable pub judged : List ℕ → List ℕ → Key → Result Bool Error
 judged text host key = judged_by (known_keys text host) key
 
 -- what becomes of a verdict where the key is learned
 abbrev pub once_learned : Result Bool Error → Result Bool Error
 once_learned (Ok accepted) = Ok true
 once_learned (Err e) = Err e
+
+-- why a call that reads the lines refuses: a line that can't be read, or want of memory
+abbrev pub IsUnreadable : Error → Type 0
+IsUnreadable Decode = Unit {0}
+IsUnreadable SshKey = Unit {0}
+IsUnreadable NoMemory = Unit {0}
+IsUnreadable e = ⊥
+
+-- why a call that judges refuses
+abbrev pub IsRefusal : Error → Type 0
+IsRefusal (KeyChanged line) = Unit {0}
+IsRefusal e = IsUnreadable e

@@ -1,13 +1,13 @@
 //! Whether a host key is one that the matching lines record.
 
-ghost use Rattle.std.specs.Prelude.{◌≡◌, option_copied, option_map, find, map};
+ghost use Rattle.std.specs.Prelude.{◌≡◌, option_copied, option_map, find, map, IfErr};
 ghost use Rattle.std.specs.List.{list_any};
 ghost use Rattle.sshc_key.specs.View.{view};
 ghost use Rattle.sshc_key.specs.KeyEq.{key_eq};
 ghost use Rattle.sshc_key.specs.AlgorithmNames.{kind_name};
 ghost use Rattle.sshc_key.specs.declared.kind.Kind.TheVariants.{Known};
 ghost use Rattle.sshc_key.specs.declared.kind.Known.TheVariants.{Ecdsa};
-ghost use Rattle.sshc_hosts.specs.Judgement.{is_certificate, algorithm_name, same_algorithm, contradicts, has_key, judged_among, read_lines, known_keys, judged};
+ghost use Rattle.sshc_hosts.specs.Judgement.{is_certificate, algorithm_name, same_algorithm, contradicts, has_key, judged_among, read_lines, known_keys, judged, IsUnreadable, IsRefusal};
 ghost use Rattle.sshc_key.specs.Gives.{GivesAll};
 ghost use Rattle.sshc_key.specs.KeyText.{decoded_key};
 ghost use Rattle.sshc_key.specs.Nesting.{Parses};
@@ -131,6 +131,7 @@ fn read_lines(alloc: Global, lines: &[(u64, &str)]) -> Result<Vec<(u64, PublicKe
     Ok(known)
 }
 
+#[tactic(auto, unfolding(crate::specs::Judgement::known_keys))]
 /// The keys that a known hosts text records for the host at the port, with the numbers of their lines, counted from 1.
 /// A matching line that can't be read refuses them all.
 pub fn known_host_keys_text(
@@ -139,13 +140,15 @@ pub fn known_host_keys_text(
     host: &str,
     port: u16,
 ) -> Result<Vec<(u64, PublicKey)>, Error>
-    ensures { GivesAll (λ known. known.items) result (known_keys text.now (host_text host.now port)) }
+    ensures keys { GivesAll (λ known. known.items) result (known_keys text.now (host_text host.now port)) }
+    ensures refusal { IfErr result IsUnreadable }
 {
     let host = host_text(alloc, host, port)?;
     let lines = matching_lines(alloc, text, host.as_str())?;
     read_lines(alloc, lines.as_slice())
 }
 
+#[tactic(auto, unfolding(crate::specs::Judgement::judged))]
 /// Whether a known hosts text accepts the key for the host at the port. No certificate is accepted.
 pub fn judge_text(
     alloc: Global,
@@ -154,7 +157,8 @@ pub fn judge_text(
     port: u16,
     key: &PublicKey,
 ) -> Result<bool, Error>
-    ensures { GivesAll (λ accepted. accepted) result (judged text.now (host_text host.now port) key.now.0) }
+    ensures verdict { GivesAll (λ accepted. accepted) result (judged text.now (host_text host.now port) key.now.0) }
+    ensures refusal { IfErr result IsRefusal }
 {
     if is_certificate(key) {
         return Ok(false);

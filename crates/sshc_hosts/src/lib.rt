@@ -3,12 +3,14 @@
 
 mod cutting;
 mod entry;
+mod file;
 mod hmac;
 mod host;
 mod judgement;
 mod learning;
 mod lines;
 
+pub use file::{check_known_hosts_path, known_host_keys_path};
 pub use hmac::hmac_sha1;
 pub use host::host_text;
 pub use judgement::{judge_text, known_host_keys_text};
