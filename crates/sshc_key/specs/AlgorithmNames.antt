@@ -1,10 +1,12 @@
 -- The names of algorithms, of curves and of certificates (RFC 4253, section 6.6; RFC 5656, sections 3.1 and 10.1; RFC 8709;
 -- OpenSSH's PROTOCOL.certkeys and PROTOCOL.u2f), and the grammar of names that have a domain (RFC 4251, section 6).
 -- A name is defined by the text that is written for it; the code goes through a table and parts a name at its sign.
-use Rattle.std.specs.Prelude.{◌≡◌, ℕ, ◌≤◌, Bool, true, false, ◌&&◌, not, nat_eq, nat_le, ◌==◌, List, [], ◌∷◌, ◌++◌, length, codes, Option, Some, None, bytes_eq, if◌then◌else◌}
+use Rattle.std.specs.Prelude.{◌≡◌, ℕ, ◌-◌, ◌≤◌, Bool, true, false, ◌&&◌, not, nat_eq, nat_le, ◌==◌, List, [], ◌∷◌, ◌++◌, length, take, drop, codes, find, Option, Some, None, bytes_eq, if◌then◌else◌}
 use Rattle.std.specs.List.{list_all, list_any, ends_with}
 use Rattle.sshc_key.specs.declared.algorithm.EcdsaCurve.{EcdsaCurve}
 use Rattle.sshc_key.specs.declared.algorithm.EcdsaCurve.TheVariants.{NistP256, NistP384, NistP521}
+use Rattle.sshc_key.specs.declared.kind.Known.{Known}
+use Rattle.sshc_key.specs.declared.kind.Known.TheVariants.{Dsa, Ecdsa, Ed25519, Rsa, SkEcdsaSha2NistP256, SkEd25519}
 use Rattle.sshc_key.specs.declared.kind.Kind.{Kind}
 use Rattle.sshc_key.specs.declared.kind.Kind.TheVariants as kinds
 use Rattle.sshc_key.specs.declared.kind.Tag.{Tag}
@@ -25,16 +27,36 @@ point_length NistP521 = 133
 
 -- ---- the kinds of plain keys
 
-abbrev pub kind_name : Kind → List ℕ
-kind_name kinds.Dsa = codes "ssh-dss"
-kind_name (kinds.Ecdsa NistP256) = codes "ecdsa-sha2-nistp256"
-kind_name (kinds.Ecdsa NistP384) = codes "ecdsa-sha2-nistp384"
-kind_name (kinds.Ecdsa NistP521) = codes "ecdsa-sha2-nistp521"
-kind_name kinds.Ed25519 = codes "ssh-ed25519"
-kind_name kinds.Rsa = codes "ssh-rsa"
-kind_name kinds.SkEcdsaSha2NistP256 = codes "sk-ecdsa-sha2-nistp256@openssh.com"
-kind_name kinds.SkEd25519 = codes "sk-ssh-ed25519@openssh.com"
-kind_name (kinds.Opaque name) = name
+abbrev pub known_name : Known → List ℕ
+known_name Dsa = codes "ssh-dss"
+known_name (Ecdsa NistP256) = codes "ecdsa-sha2-nistp256"
+known_name (Ecdsa NistP384) = codes "ecdsa-sha2-nistp384"
+known_name (Ecdsa NistP521) = codes "ecdsa-sha2-nistp521"
+known_name Ed25519 = codes "ssh-ed25519"
+known_name Rsa = codes "ssh-rsa"
+known_name SkEcdsaSha2NistP256 = codes "sk-ecdsa-sha2-nistp256@openssh.com"
+known_name SkEd25519 = codes "sk-ssh-ed25519@openssh.com"
+
+abbrev pub known_certificate_name : Known → List ℕ
+known_certificate_name Dsa = codes "ssh-dss-cert-v01@openssh.com"
+known_certificate_name (Ecdsa NistP256) = codes "ecdsa-sha2-nistp256-cert-v01@openssh.com"
+known_certificate_name (Ecdsa NistP384) = codes "ecdsa-sha2-nistp384-cert-v01@openssh.com"
+known_certificate_name (Ecdsa NistP521) = codes "ecdsa-sha2-nistp521-cert-v01@openssh.com"
+known_certificate_name Ed25519 = codes "ssh-ed25519-cert-v01@openssh.com"
+known_certificate_name Rsa = codes "ssh-rsa-cert-v01@openssh.com"
+known_certificate_name SkEcdsaSha2NistP256 = codes "sk-ecdsa-sha2-nistp256-cert-v01@openssh.com"
+known_certificate_name SkEd25519 = codes "sk-ssh-ed25519-cert-v01@openssh.com"
+
+abbrev pub all_known : List Known
+all_known = Dsa ∷ Ecdsa NistP256 ∷ Ecdsa NistP384 ∷ Ecdsa NistP521 ∷ Ed25519 ∷ Rsa ∷ SkEcdsaSha2NistP256 ∷ SkEd25519 ∷ []
+
+-- the kind that has this name
+abbrev pub known_named : List ℕ → Option Known
+known_named name = find (λ k. bytes_eq (known_name k) name) all_known
+
+-- the kind whose certificates have this name
+abbrev pub known_certified : List ℕ → Option Known
+known_certified name = find (λ k. bytes_eq (known_certificate_name k) name) all_known
 
 -- ---- names with a domain
 
@@ -95,15 +117,12 @@ abbrev pub marked_name : List ℕ → List ℕ
 marked_name [] = mark
 marked_name (b ∷ bytes) = if b == 64 then mark ++ (b ∷ bytes) else b ∷ marked_name bytes
 
+abbrev pub kind_name : Kind → List ℕ
+kind_name (kinds.Known k) = known_name k
+kind_name (kinds.Opaque name) = name
+
 abbrev pub certificate_name : Kind → List ℕ
-certificate_name kinds.Dsa = codes "ssh-dss-cert-v01@openssh.com"
-certificate_name (kinds.Ecdsa NistP256) = codes "ecdsa-sha2-nistp256-cert-v01@openssh.com"
-certificate_name (kinds.Ecdsa NistP384) = codes "ecdsa-sha2-nistp384-cert-v01@openssh.com"
-certificate_name (kinds.Ecdsa NistP521) = codes "ecdsa-sha2-nistp521-cert-v01@openssh.com"
-certificate_name kinds.Ed25519 = codes "ssh-ed25519-cert-v01@openssh.com"
-certificate_name kinds.Rsa = codes "ssh-rsa-cert-v01@openssh.com"
-certificate_name kinds.SkEcdsaSha2NistP256 = codes "sk-ecdsa-sha2-nistp256-cert-v01@openssh.com"
-certificate_name kinds.SkEd25519 = codes "sk-ssh-ed25519-cert-v01@openssh.com"
+certificate_name (kinds.Known k) = known_certificate_name k
 certificate_name (kinds.Opaque name) = marked_name name
 
 -- ---- what a blob's name says
@@ -114,14 +133,37 @@ tag_name (tags.Certified kind) = certificate_name kind
 
 -- which names there are
 abbrev pub IsKind : Kind → Type 0
+IsKind (kinds.Known k) = Unit {0}
 IsKind (kinds.Opaque name) = is_opaque_name name ≡ true
-IsKind kinds.Dsa = Unit {0}
-IsKind (kinds.Ecdsa curve) = Unit {0}
-IsKind kinds.Ed25519 = Unit {0}
-IsKind kinds.Rsa = Unit {0}
-IsKind kinds.SkEcdsaSha2NistP256 = Unit {0}
-IsKind kinds.SkEd25519 = Unit {0}
 
 abbrev pub IsTag : Tag → Type 0
 IsTag (tags.Plain kind) = IsKind kind
 IsTag (tags.Certified kind) = IsKind kind × (length (certificate_name kind) ≤ 64)
+
+-- ---- a name read
+
+-- the text before the mark at its end
+abbrev pub unmarked : List ℕ → Option (List ℕ)
+unmarked name = if bytes_eq (drop (length name - 9) name) mark then Some (take (length name - 9) name) else None
+
+abbrev pub certified_tag : Parted → Option (List ℕ) → Option Tag
+certified_tag p None = None
+certified_tag p (Some own) =
+    if is_opaque (record { front = own; domain = p.domain }) && nat_le (length (at_domain p)) 64 then Some (tags.Certified (kinds.Opaque (at_domain (record { front = own; domain = p.domain }))))
+    else None
+
+abbrev pub opaque_tag : Option Parted → Option Tag
+opaque_tag None = None
+opaque_tag (Some p) = if is_opaque p then Some (tags.Plain (kinds.Opaque (at_domain p))) else certified_tag p (unmarked p.front)
+
+abbrev pub certified_or : Option Known → List ℕ → Option Tag
+certified_or (Some k) name = Some (tags.Certified (kinds.Known k))
+certified_or None name = opaque_tag (parted name)
+
+abbrev pub plain_or : Option Known → List ℕ → Option Tag
+plain_or (Some k) name = Some (tags.Plain (kinds.Known k))
+plain_or None name = certified_or (known_certified name) name
+
+-- what the name says, if it is in the grammar
+unfoldable pub tag_named : List ℕ → Option Tag
+tag_named name = plain_or (known_named name) name

@@ -12,6 +12,7 @@ use Rattle.sshc_key.specs.declared.key_data.CertType.TheVariants.{User, Host}
 use Rattle.sshc_key.specs.declared.signature.Signature.{Signature}
 use Rattle.sshc_key.specs.declared.signature.SkFields.{SkFields}
 use Rattle.sshc_key.specs.declared.statement.Statement.{Statement}
+use Rattle.sshc_key.specs.declared.kind.Known.TheVariants as known
 use Rattle.sshc_key.specs.declared.kind.Kind.{Kind}
 use Rattle.sshc_key.specs.declared.kind.Kind.TheVariants as kinds
 use Rattle.sshc_key.specs.declared.kind.Tag.{Tag}
@@ -54,12 +55,12 @@ depth (certificate nonce key says signer signature) = depth signer + 1
 -- ---- names
 
 abbrev pub plain_kind : Plain → Kind
-plain_kind (dsa p q g y) = kinds.Dsa
-plain_kind (ecdsa curve point) = kinds.Ecdsa curve
-plain_kind (ed25519 public) = kinds.Ed25519
-plain_kind (rsa e n) = kinds.Rsa
-plain_kind (sk_ecdsa point application) = kinds.SkEcdsaSha2NistP256
-plain_kind (sk_ed25519 public application) = kinds.SkEd25519
+plain_kind (dsa p q g y) = kinds.Known known.Dsa
+plain_kind (ecdsa curve point) = kinds.Known (known.Ecdsa curve)
+plain_kind (ed25519 public) = kinds.Known known.Ed25519
+plain_kind (rsa e n) = kinds.Known known.Rsa
+plain_kind (sk_ecdsa point application) = kinds.Known known.SkEcdsaSha2NistP256
+plain_kind (sk_ed25519 public application) = kinds.Known known.SkEd25519
 plain_kind (opaque name body) = kinds.Opaque name
 
 -- a certificate is of the kind of its key

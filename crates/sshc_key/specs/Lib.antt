@@ -1,5 +1,8 @@
 pub mod AlgorithmNames
 pub mod KeyGrammar
+pub mod Gives
+pub mod KeyReading
+pub mod Nesting
 pub mod KeyCode
 pub mod Tested
 pub mod KeyEq
@@ -9,3 +12,4 @@ pub mod PairCode
 pub mod PairView
 pub mod Falls
 pub mod Signers
+pub mod KeyText

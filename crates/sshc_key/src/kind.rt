@@ -1,18 +1,27 @@
 //! The kinds of blobs, as their names tell them.
 
+ghost use Rattle.std.specs.Prelude.{◌≡◌};
+ghost use Rattle.sshc_key.specs.AlgorithmNames.{known_name, known_certificate_name, known_named, known_certified};
+
 use crate::algorithm::EcdsaCurve;
 use sshc_wire::Text;
 
-/// A kind of plain key, which is an algorithm without a hash.
-#[derive(Debug, Drop, PartialEq, Eq)]
-pub enum Kind {
+/// A kind of plain key that has a name of its own.
+#[derive(Clone, Copy, Debug, PartialEq, Eq)]
+pub enum Known {
     Dsa,
     Ecdsa(EcdsaCurve),
     Ed25519,
     Rsa,
     SkEcdsaSha2NistP256,
     SkEd25519,
-    /// An algorithm that stands in no table, by its name.
+}
+
+/// A kind of plain key, which is an algorithm without a hash.
+#[derive(Debug, Drop, PartialEq, Eq)]
+pub enum Kind {
+    Known(Known),
+    /// An algorithm that stands in no table, by its name, which has a domain.
     Opaque(Text),
 }
 
@@ -21,4 +30,66 @@ pub enum Kind {
 pub enum Tag {
     Plain(Kind),
     Certified(Kind),
+}
+
+const KNOWN: [Known; 8] = [
+    Known::Dsa,
+    Known::Ecdsa(EcdsaCurve::NistP256),
+    Known::Ecdsa(EcdsaCurve::NistP384),
+    Known::Ecdsa(EcdsaCurve::NistP521),
+    Known::Ed25519,
+    Known::Rsa,
+    Known::SkEcdsaSha2NistP256,
+    Known::SkEd25519,
+];
+
+impl Known {
+    pub fn name(self) -> &'static str
+        ensures { result.now ≡ known_name self }
+    {
+        match self {
+            Known::Dsa => "ssh-dss",
+            Known::Ecdsa(EcdsaCurve::NistP256) => "ecdsa-sha2-nistp256",
+            Known::Ecdsa(EcdsaCurve::NistP384) => "ecdsa-sha2-nistp384",
+            Known::Ecdsa(EcdsaCurve::NistP521) => "ecdsa-sha2-nistp521",
+            Known::Ed25519 => "ssh-ed25519",
+            Known::Rsa => "ssh-rsa",
+            Known::SkEcdsaSha2NistP256 => "sk-ecdsa-sha2-nistp256@openssh.com",
+            Known::SkEd25519 => "sk-ssh-ed25519@openssh.com",
+        }
+    }
+
+    /// The name of a certificate for such a key.
+    pub fn certificate_name(self) -> &'static str
+        ensures { result.now ≡ known_certificate_name self }
+    {
+        match self {
+            Known::Dsa => "ssh-dss-cert-v01@openssh.com",
+            Known::Ecdsa(EcdsaCurve::NistP256) => "ecdsa-sha2-nistp256-cert-v01@openssh.com",
+            Known::Ecdsa(EcdsaCurve::NistP384) => "ecdsa-sha2-nistp384-cert-v01@openssh.com",
+            Known::Ecdsa(EcdsaCurve::NistP521) => "ecdsa-sha2-nistp521-cert-v01@openssh.com",
+            Known::Ed25519 => "ssh-ed25519-cert-v01@openssh.com",
+            Known::Rsa => "ssh-rsa-cert-v01@openssh.com",
+            Known::SkEcdsaSha2NistP256 => "sk-ecdsa-sha2-nistp256-cert-v01@openssh.com",
+            Known::SkEd25519 => "sk-ssh-ed25519-cert-v01@openssh.com",
+        }
+    }
+
+    pub fn named(name: &[u8]) -> Option<Known>
+        ensures { result ≡ known_named name.now }
+    {
+        KNOWN
+            .iter()
+            .copied()
+            .find(|known| known.name().as_bytes() == name)
+    }
+
+    pub fn certified(name: &[u8]) -> Option<Known>
+        ensures { result ≡ known_certified name.now }
+    {
+        KNOWN
+            .iter()
+            .copied()
+            .find(|known| known.certificate_name().as_bytes() == name)
+    }
 }

@@ -19,7 +19,6 @@ pub use algorithm::{Algorithm, EcdsaCurve, HashAlg};
 pub use error::Error;
 pub use identity::PublicKeyOrCertificate;
 pub use key_data::{CertType, Certificate, KeyData};
-pub use kind::{Kind, Tag};
 pub use pair::{PairData, PrivateKey};
 pub use public_key::PublicKey;
 pub use signature::{Signature, SkFields};

@@ -1,5 +1,9 @@
 pub mod Wire
 pub mod Reads
+pub mod Format
+pub mod Parts
+pub mod Whole
+pub mod Lookup
 pub mod Faults
 pub mod Contents
 pub mod Records

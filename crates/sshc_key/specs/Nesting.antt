@@ -1,0 +1,52 @@
+-- The bound on certificates in one another, and the key at the front of a blob.
+use Rattle.std.specs.Prelude.{◌≡◌, ℕ, ◌+◌, ◌≤◌, List, [], ◌∷◌, ◌++◌, codes, nat_eq, nat_le, Option, Some, None, Result, Ok, Err, if◌then◌else◌}
+use Rattle.std.specs.List.{starts_with}
+use Rattle.sshc_key.specs.declared.error.Error.{Error}
+use Rattle.sshc_key.specs.declared.error.Error.TheVariants.{SshKey}
+use Rattle.sshc_key.specs.Gives.{Fails}
+use Rattle.sshc_key.specs.KeyGrammar.{Key, key_text, Fits}
+use Rattle.sshc_key.specs.KeyReading.{key_at}
+
+-- what each certificate's name has
+abbrev pub marker : List ℕ
+marker = codes "-cert-v01@"
+
+-- at how many places the marker stands
+abbrev pub markers : List ℕ → ℕ
+markers [] = 0
+markers (b ∷ bytes) = (if starts_with nat_eq (b ∷ bytes) marker then 1 else 0) + markers bytes
+
+-- the key stands at the front of the blob, which has at most eight markers
+pub record IsReadable (blob : List ℕ) (key : Key) : Type 0 where
+  pub nesting : markers blob ≤ 8
+  pub fits : Fits key
+  pub rest : List ℕ
+  pub front : blob ≡ key_text key ++ rest
+
+-- what reading found, and what followed it
+abbrev pub front_of : Result (Key × List ℕ) Error → Option Key
+front_of (Ok x) = Some x.0
+front_of (Err e) = None
+
+abbrev pub whole_of : Result (Key × List ℕ) Error → Option Key
+whole_of (Ok (key, [])) = Some key
+whole_of (Ok (key, (b ∷ bytes))) = None
+whole_of (Err e) = None
+
+-- the key at the front of a blob with at most eight markers, if there is one
+unfoldable pub blob_key : List ℕ → Option Key
+blob_key blob = if nat_le (markers blob) 8 then front_of (key_at 9 blob) else None
+
+-- the same, where nothing follows the key
+unfoldable pub whole_blob_key : List ℕ → Option Key
+whole_blob_key blob = if nat_le (markers blob) 8 then whole_of (key_at 9 blob) else None
+
+-- no key is outside the grammar
+abbrev pub key_or_fault : Option Key → Result Key Error
+key_or_fault None = Err SshKey
+key_or_fault (Some key) = Ok key
+
+-- the call answers this key with no comment, or this fault
+abbrev pub Parses : Result (Key × List ℕ) Error → Result Key Error → Type 0
+Parses (Ok k) read = (read ≡ Ok k.0) × (k.1 ≡ [])
+Parses (Err e) read = Fails e read
