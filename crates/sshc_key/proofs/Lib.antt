@@ -1,1 +1,7 @@
 mod Pairs
+mod Loops
+mod Levels
+mod NameLemmas
+mod TagLemmas
+mod FieldsGrammar
+mod Grammar

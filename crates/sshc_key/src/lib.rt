@@ -10,6 +10,7 @@ mod key_data;
 mod kind;
 mod pair;
 mod public_key;
+mod reading;
 mod signature;
 mod signer;
 mod statement;
