@@ -1,1 +1,4 @@
+mod Filed
+mod Pieces
+mod Shown
 mod Utf8

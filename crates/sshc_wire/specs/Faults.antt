@@ -1,6 +1,18 @@
--- Counts of faults, which never fall.
-use Rattle.std.specs.Prelude.{ℕ, ◌+◌, ◌-◌, ◌≤◌, ◌^◌, min}
+-- Counts of what fails outside, and of the calls that were made. A count never falls; at its type's end it stands still.
+-- The code keeps a number; the definitions compare it before a call and after it.
+use Rattle.std.specs.Prelude.{◌≡◌, ℕ, ◌+◌, ◌-◌, ◌^◌, ◌≤◌, min, Result, IsErrOf}
+use Rattle.sshc_wire.specs.declared.source.Failed.{Failed}
+use Rattle.sshc_wire.specs.declared.source.Failed.TheVariants.{Fault}
 
 -- the count has risen, or stands at its type's end
 abbrev pub Rose : ℕ → ℕ → Type 0
 Rose before now = min (before + 1) (2 ^ 64 - 1) ≤ now
+
+-- the count has gained one, or stands at its type's end
+abbrev pub CountsOne : ℕ → ℕ → Type 0
+CountsOne before now = now ≡ min (before + 1) (2 ^ 64 - 1)
+
+-- a count never falls, and a fault is answered only where it rose
+pub record HasCause {T : Type 0} (before now : ℕ) (result : Result T Failed) : Type 0 where
+  pub later : before ≤ now
+  pub fault : IsErrOf result Fault → Rose before now

@@ -5,3 +5,8 @@ pub mod Parts
 pub mod Whole
 pub mod Lookup
 pub mod Faults
+pub mod Contents
+pub mod Records
+pub mod Outgoing
+pub mod Reasons
+pub mod Memory

@@ -1,0 +1,6 @@
+pub mod RequestTexts
+pub mod HostKey
+pub mod OpeningState
+pub mod Row
+pub mod OpeningTable
+pub mod Stepping

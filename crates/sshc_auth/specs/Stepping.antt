@@ -1,0 +1,79 @@
+-- What a step does with a gate: it asks what the event's row asks, and does the rest of the row as it was told.
+-- The gate's answers are whatever its relations allow; the code calls it in between.
+use Rattle.std.specs.Prelude.{◌≡◌, ◌⊎◌, Bool, true, false, List, ◌++◌, Result, Ok, Err}
+use Rattle.std.specs.List.{AllByRecursion}
+use Rattle.sshc_wire.specs.declared.record.Record.{Record}
+use Rattle.sshc_wire.specs.Outgoing.{Outgoing}
+use Rattle.sshc_wire.specs.Records.{IsResolved}
+use Rattle.sshc_key.specs.Signers.{SignCall}
+use Rattle.sshc_key.specs.declared.identity.PublicKeyOrCertificate.{PublicKeyOrCertificate}
+use Rattle.sshc_auth.specs.declared.error.Error.{Error}
+use Rattle.sshc_auth.specs.declared.error.Error.TheVariants.{NoMemory}
+use Rattle.sshc_auth.specs.declared.event.Event.{Event}
+use Rattle.sshc_auth.specs.declared.step.Asks.{Asks}
+use Rattle.sshc_auth.specs.declared.step.Asks.TheVariants as asking
+use Rattle.sshc_auth.specs.declared.step.Told.TheVariants as telling
+use Rattle.sshc_auth.specs.declared.step.Step.{Step}
+use Rattle.sshc_auth.specs.declared.step.Step.TheVariants as steps
+use Rattle.sshc_auth.specs.OpeningState.{OpeningState, shut}
+use Rattle.sshc_auth.specs.OpeningTable.{open_row}
+use Rattle.sshc_auth.specs.Row.{Row, Steps}
+
+-- a gate's call added only answers to tickets, as its relation allows
+abbrev pub Adds : {E : Type 0} → (Result (Unit {0}) E → List Record → Type 0) → Outgoing → Outgoing → Result (Unit {0}) E → Type 0
+Adds tells old new result =
+    (more : List Record) × tells result more × AllByRecursion IsResolved more × (new.records ≡ old.records ++ more) × (new.muted ≡ old.muted)
+
+-- a step's answer, with its error as a gate tells it
+abbrev pub map_step : {E : Type 0} → (Error → E) → Step Error → Step E
+map_step told_as steps.Went = steps.Went
+map_step told_as steps.Opened = steps.Opened
+map_step told_as (steps.Ended e) = steps.Ended e
+map_step told_as (steps.Refused e) = steps.Refused (told_as e)
+map_step told_as steps.Closed = steps.Closed
+
+-- what a step is given and leaves: the opening, the outbox and the signer's calls
+pub record Span : Type 0 where
+  pub before : OpeningState
+  pub after : OpeningState
+  pub old : Outgoing
+  pub new : Outgoing
+  pub calls : List SignCall
+  pub calls' : List SignCall
+
+-- the step is the row's, with its error as the gate tells it
+abbrev pub StepsAs : {E : Type 0} → (Error → E) → Row → Span → Step E → Type 0
+StepsAs told_as row span result =
+    (answer : Step Error) × (result ≡ map_step told_as answer) × Steps row span.before span.after span.old span.new span.calls span.calls' answer
+
+-- the gate refused: the opening is closed, and nothing more is said
+abbrev pub GateRefused : {E : Type 0} → E → Span → Step E → Type 0
+GateRefused e span result = (result ≡ steps.Refused e) × (span.after ≡ shut span.before) × (span.new ≡ span.old) × (span.calls' ≡ span.calls)
+
+-- by what a call of the gate that adds answers to tickets answered
+abbrev pub StepsAnswered : {E : Type 0} → (Error → E) → Row → Span → Step E → Result (Unit {0}) E → Type 0
+StepsAnswered told_as row span result (Ok u) = StepsAs told_as row span result
+StepsAnswered told_as row span result (Err e) = GateRefused e span result
+
+-- the gate is told, and the rest of the row stands behind what it added
+abbrev pub StepsAfter : {E : Type 0} → (Error → E) → (Result (Unit {0}) E → List Record → Type 0) → Row → Span → Step E → Type 0
+StepsAfter {E = E} told_as tells row span result =
+    (answer : Result (Unit {0}) E) × (mid : Outgoing) × Adds tells span.old mid answer × StepsAnswered told_as row (record span { old = mid }) result answer
+
+-- by what the gate said of the host key
+abbrev pub StepsJudged : {E : Type 0} → (Error → E) → (Result (Unit {0}) E → List Record → Type 0) → Event → List SignCall → Span → Step E → Result Bool E → Type 0
+StepsJudged told_as tells event gained span result (Ok true) = StepsAfter told_as tells (open_row span.before event telling.Went gained) span result
+StepsJudged told_as tells event gained span result (Ok false) = StepsAs told_as (open_row span.before event telling.No gained) span result
+StepsJudged told_as tells event gained span result (Err e) = GateRefused e span result
+
+-- by what the row asks
+abbrev pub StepsAsked : {E : Type 0} → (Error → E) → (PublicKeyOrCertificate → Result Bool E → Type 0) → (Result (Unit {0}) E → List Record → Type 0) → Event → List SignCall → Span → Step E → Asks → Type 0
+StepsAsked told_as judges tells event gained span result asking.Nothing = StepsAs told_as (open_row span.before event telling.NotAsked gained) span result
+StepsAsked {E = E} told_as judges tells event gained span result (asking.HostKey key) =
+    (verdict : Result Bool E) × judges key verdict × StepsJudged told_as tells event gained span result verdict
+StepsAsked told_as judges tells event gained span result asking.Exchange = StepsAfter told_as tells (open_row span.before event telling.Went gained) span result
+StepsAsked told_as judges tells event gained span result (asking.Banner text) = StepsAfter told_as tells (open_row span.before event telling.Went gained) span result
+
+-- the same, or memory ran out before the gate was asked
+abbrev pub StepsBy : {E : Type 0} → (Error → E) → (PublicKeyOrCertificate → Result Bool E → Type 0) → (Result (Unit {0}) E → List Record → Type 0) → Event → List SignCall → Span → Step E → Asks → Type 0
+StepsBy told_as judges tells event gained span result asks = GateRefused (told_as NoMemory) span result ⊎ StepsAsked told_as judges tells event gained span result asks

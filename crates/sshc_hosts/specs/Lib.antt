@@ -1,0 +1,6 @@
+pub mod Hmac
+pub mod HostText
+pub mod MatchingLines
+pub mod Judgement
+pub mod HostsFile
+pub mod Learning

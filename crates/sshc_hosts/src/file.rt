@@ -1,0 +1,61 @@
+//! Known hosts in files.
+
+ghost use Rattle.std.specs.Prelude.{◌≡◌};
+ghost use Rattle.sshc_hosts.specs.HostText.{host_text};
+ghost use Rattle.sshc_hosts.specs.HostsFile.{text_at, known_keys_at, judged_at, AnswersBy, HasReadCause};
+
+use crate::judgement::{judge_text, known_host_keys_text};
+use sshc_key::{Error, PublicKey};
+use sshc_wire::{Failed, Files, Found, Text};
+use std::alloc::Global;
+
+/// The known hosts text at the path. A file that can't be opened counts as an empty text.
+fn text_at<F: Files>(alloc: Global, files: &mut F, path: &str) -> Result<Text, Error>
+    ensures answer { AnswersBy (λ text. text) result (F.contents files.old) (λ told. text_at told path.now) }
+    ensures same { F.contents files.new ≡ F.contents files.old }
+    ensures cause { HasReadCause (F.read_faults files.old) (F.read_faults files.new) result }
+    ensures others { F.append_faults files.new ≡ F.append_faults files.old }
+{
+    match files.read_text(path) {
+        Ok(Found::Text(text)) => Ok(text),
+        Ok(Found::NotOpened) => Ok(Text::new(alloc)),
+        Ok(Found::NotText) => Err(Error::Utf8),
+        Err(Failed::Fault) => Err(Error::ReadFault),
+        Err(Failed::NoMemory) => Err(Error::NoMemory),
+    }
+}
+
+/// The keys that the known hosts file at the path records for the host at the port, with the numbers of their lines.
+pub fn known_host_keys_path<F: Files>(
+    alloc: Global,
+    files: &mut F,
+    host: &str,
+    port: u16,
+    path: &str,
+) -> Result<Vec<(u64, PublicKey)>, Error>
+    ensures answer { AnswersBy (λ known. known.items) result (F.contents files.old) (known_keys_at path.now (host_text host.now port)) }
+    ensures same { F.contents files.new ≡ F.contents files.old }
+    ensures cause { HasReadCause (F.read_faults files.old) (F.read_faults files.new) result }
+    ensures others { F.append_faults files.new ≡ F.append_faults files.old }
+{
+    let text = text_at(alloc, files, path)?;
+    known_host_keys_text(alloc, text.as_str(), host, port)
+}
+
+/// Whether the known hosts file at the path accepts the key for the host at the port.
+pub fn check_known_hosts_path<F: Files>(
+    alloc: Global,
+    files: &mut F,
+    host: &str,
+    port: u16,
+    key: &PublicKey,
+    path: &str,
+) -> Result<bool, Error>
+    ensures answer { AnswersBy (λ accepted. accepted) result (F.contents files.old) (judged_at path.now (host_text host.now port) key.now.0) }
+    ensures same { F.contents files.new ≡ F.contents files.old }
+    ensures cause { HasReadCause (F.read_faults files.old) (F.read_faults files.new) result }
+    ensures others { F.append_faults files.new ≡ F.append_faults files.old }
+{
+    let text = text_at(alloc, files, path)?;
+    judge_text(alloc, text.as_str(), host, port, key)
+}

@@ -1,0 +1,32 @@
+//! What is added to a known hosts text where a key is learned.
+
+ghost use Rattle.std.specs.Prelude.{◌≡◌, ◌++◌, ◌∷◌, IfOk};
+ghost use Rattle.sshc_hosts.specs.Learning.{ends_line, line_feed_after, added_line};
+
+use sshc_wire::{NoMemory, Text};
+use std::alloc::Global;
+
+/// Whether the text ends with a line feed.
+fn ends_line(text: &str) -> bool
+    ensures { result ≡ ends_line text.now }
+{
+    match text.as_bytes().last() {
+        Some(b) => *b == b'\n',
+        None => false,
+    }
+}
+
+/// A line feed, unless the old text ends with one.
+fn line_feed_after(old: &str) -> &'static str
+    ensures { result.now ≡ line_feed_after old.now }
+{
+    if ends_line(old) { "" } else { "\n" }
+}
+
+/// A line of a host text and a key's text, which begins a line of its own behind the old text.
+fn added_line(alloc: Global, old: &str, host: &str, key: &str) -> Result<Text, NoMemory>
+    ensures { IfOk result (λ t. t ≡ added_line old.now (host.now ++ 32 ∷ key.now)) }
+{
+    let line_feed = line_feed_after(old);
+    Text::from_string(format!(in alloc; "{line_feed}{host} {key}\n")?)
+}

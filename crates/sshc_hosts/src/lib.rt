@@ -1,0 +1,16 @@
+//! Known hosts: which keys a text records for a host, and whether a key is one of them.
+#![tactic(auto)]
+
+mod cutting;
+mod entry;
+mod file;
+mod hmac;
+mod host;
+mod judgement;
+mod learning;
+mod lines;
+
+pub use file::{check_known_hosts_path, known_host_keys_path};
+pub use hmac::hmac_sha1;
+pub use host::host_text;
+pub use judgement::{judge_text, known_host_keys_text};

@@ -1,0 +1,5 @@
+//! Tests of known hosts: worked examples of hashes, host texts and judgements, and files made with OpenSSH's tools.
+#![tactic(auto)]
+
+#[cfg(test)]
+mod hashes;

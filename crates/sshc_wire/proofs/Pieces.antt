@@ -1,0 +1,57 @@
+-- One more piece of a buffer that is filled, and of a text that is written.
+use Rattle.std.proofs.Common.{◌≡◌, ℕ, ◌+◌, ◌-◌, ◌≤◌, List, ◌++◌, length, take, drop, ap, sym, ◌∙◌, arith, length-append, length-take, length-drop, drop-drop, Option}
+use Rattle.std.proofs.lemmas.List.{take-append-drop, take-append-le, take-take, take_at}
+use Rattle.std.proofs.Math.Seq.{take-append-add}
+use borrow.Rule.Slice.PartMut.{put_mid, post_of}
+use Rattle.sshc_wire.specs.Contents.{prepend, append, prepend-prepend, append-append}
+
+pub take_two : (xs : List ℕ) (f n : ℕ) → f ≤ length xs → take (f + n) xs ≡ take f xs ++ take n (drop f xs)
+take_two xs f n h =
+    let same : length (take f xs) ≡ f = grind (arith, length-take) in
+    let front : take (length (take f xs) + n) (take f xs ++ drop f xs) ≡ take f xs ++ take n (drop f xs) = take-append-add (take f xs) (drop f xs) n in
+    rw (same, take-append-drop) at front
+
+pub take_two_put : (f n k : ℕ) (buf piece : List ℕ) → f ≤ length buf → n ≤ length piece → take (f + n) (put_mid f k buf piece) ≡ take f buf ++ take n piece
+take_two_put f n k buf piece fits within =
+    let same : length (take f buf) ≡ f = grind (arith, length-take) in
+    let front : take (length (take f buf) + n) (take f buf ++ (piece ++ post_of f k buf)) ≡ take f buf ++ take n (piece ++ post_of f k buf) = take-append-add (take f buf) (piece ++ post_of f k buf) n in
+    let short : take n (piece ++ post_of f k buf) ≡ take n piece = take-append-le n piece (post_of f k buf) within in
+    rw (same, short) at front
+
+-- a read that goes on behind what is filled
+pub filled_more : (f n k : ℕ) (buf piece : List ℕ) (a b c : Option (List ℕ)) → f ≤ length buf → n ≤ length piece →
+    a ≡ prepend (take f buf) b → b ≡ prepend (take n piece) c → a ≡ prepend (take (f + n) (put_mid f k buf piece)) c
+filled_more f n k buf piece a b c fits within first second =
+    first ∙ ap (λ o. prepend (take f buf) o) second ∙ prepend-prepend (take f buf) (take n piece) c
+    ∙ ap (λ t. prepend t c) (sym (take_two_put f n k buf piece fits within))
+
+-- a write that goes on behind what is written
+pub written_more : (f n : ℕ) (piece : List ℕ) (a b c : Option (List ℕ)) → f ≤ length piece → n ≤ length (take (length piece - f) (drop f piece)) →
+    b ≡ append a (take f piece) → c ≡ append b (take n (take (length piece - f) (drop f piece))) → c ≡ append a (take (f + n) piece)
+written_more f n piece a b c fits within first second =
+    let le : n ≤ length piece - f = grind (arith, length-take, length-drop) in
+    second ∙ ap (λ o. append o (take n (take (length piece - f) (drop f piece)))) first
+    ∙ append-append a (take f piece) (take n (take (length piece - f) (drop f piece)))
+    ∙ ap (λ t. append a (take f piece ++ t)) (take-take n (length piece - f) (drop f piece) le)
+    ∙ ap (λ t. append a t) (sym (take_two piece f n fits))
+
+-- it stays within the piece
+pub within_piece : (f n : ℕ) (piece : List ℕ) → f ≤ length piece → n ≤ length (take (length piece - f) (drop f piece)) → f + n ≤ length piece
+within_piece f n piece fits within = grind (arith, length-take, length-drop)
+
+pub within_buffer : (f n : ℕ) (buf piece : List ℕ) → f ≤ length buf → n ≤ length piece → f + n ≤ length (put_mid f (length buf - f) buf piece)
+within_buffer f n buf piece fits within = grind (arith, length-append, length-take)
+
+-- the next bytes of a list, copied to the front of a buffer
+pub next_bytes : (at n : ℕ) (contents piece buf : List ℕ) → n + at ≤ length contents → piece ≡ take n (drop at contents) → drop at contents ≡ take n (piece ++ drop n buf) ++ drop (at + n) contents
+next_bytes at n contents piece buf fits is =
+    let size : length (take n (drop at contents)) ≡ n = grind (arith, length-take, length-drop) in
+    let first : take n (piece ++ drop n buf) ≡ take n (drop at contents) = ap (λ p. take n (p ++ drop n buf)) is ∙ take_at (take n (drop at contents)) (drop n buf) n size in
+    let behind : drop n (drop at contents) ≡ drop (at + n) contents = drop-drop n at contents in
+    sym (take-append-drop n (drop at contents)) ∙ ap (λ t. t ++ drop n (drop at contents)) (sym first) ∙ ap (λ t. take n (piece ++ drop n buf) ++ t) behind
+
+pub next_range : (at n : ℕ) (contents whole piece buf : List ℕ) → n ≤ length contents - at → at ≤ length contents → whole ≡ contents → piece ≡ take (at + n - at) (drop at whole) →
+    drop at contents ≡ take n (piece ++ drop n buf) ++ drop (at + n) contents
+next_range at n contents whole piece buf fits within same is =
+    let count : at + n - at ≡ n = omega arith in
+    next_bytes at n contents piece buf (omega arith) (is ∙ ap (λ k. take k (drop at whole)) count ∙ ap (λ w. take n (drop at w)) same)

@@ -1,0 +1,22 @@
+use Rattle.std.proofs.Common.{arith, ◌<◌, ◌-◌, length, take, drop, sym, ◌∙◌, length-take, length-drop}
+use Rattle.std.proofs.lemmas.List.{take-append-drop}
+use Rattle.sshc_wire.proofs.Pieces.{written_more, within_piece}
+use Rattle.sshc_wire.proofs.sink.write_whole.Goals as goal
+
+pub loop-written-preserved : goal.loop-written-preserved
+loop-written-preserved g c = record {
+  within = within_piece _ _ _ c.loop-written.invariant.within c.in-Ok.ensures.bound;
+  wrote = written_more _ _ _ _ _ _ c.loop-written.invariant.within c.in-Ok.ensures.bound c.loop-written.invariant.wrote c.in-Ok.ensures.bytes;
+  later = omega (arith, c.loop-written.invariant.later, c.write.ensures.cause.later);
+  counted =
+      let some : 0 < length (take (length c.args.piece.now - c.loop-written.written) (drop c.loop-written.written c.args.piece.now)) = grind (arith, length-take, length-drop) in
+      omega (arith, c.loop-written.invariant.counted, c.write.ensures.counted, c.in-Ok.ensures.moves some);
+}
+
+pub returns-in-Err-clause-cut : goal.returns-in-Err-clause-cut
+returns-in-Err-clause-cut g c = (
+  take c.loop-written.written c.args.piece.now,
+  drop c.loop-written.written c.args.piece.now,
+  sym (take-append-drop c.loop-written.written c.args.piece.now),
+  c.in-Err.ensures.none ∙ c.loop-written.invariant.wrote,
+)

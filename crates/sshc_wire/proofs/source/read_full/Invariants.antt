@@ -1,0 +1,15 @@
+use Rattle.std.proofs.Common.{length, ◌-◌, ◌+◌, ◌≡◌, ◌≤◌, take}
+use Rattle.sshc_wire.specs.Contents.{prepend}
+use Rattle.sshc_wire.proofs.source.read_full.Given as goal
+
+abbrev pub invariant-loop-filled : goal.invariant-loop-filled
+invariant-loop-filled g l =
+    record {
+      within : l.filled ≤ length l.buf;
+      given : g.S.Source.left l.initial.source ≡ prepend (take l.filled l.buf) (g.S.Source.left l.source);
+      later : g.S.Source.faults l.initial.source ≤ g.S.Source.faults l.source;
+      counted : g.S.Source.reads l.source ≤ g.S.Source.reads l.initial.source + l.filled;
+    }
+
+abbrev pub decreases-loop-filled : goal.decreases-loop-filled
+decreases-loop-filled g l = length l.initial.buf - l.filled

@@ -1,0 +1,73 @@
+-- What sources, sinks and files tell of the bytes that they hold. What isn't told is none.
+-- One equation serves told and untold contents; the code keeps positions and buffers.
+use Rattle.std.proofs.Common.{◌≡◌, ℕ, List, [], ◌∷◌, ◌++◌, Option, Some, None, refl, ap, sym, ◌∙◌, append_assoc}
+use Rattle.std.proofs.lemmas.List.{append-nil}
+use Rattle.std.specs.Prelude.{bytes_eq, if◌then◌else◌}
+use Rattle.std.specs.Option.{option_map, IfSome}
+use Rattle.std.specs.Str.{is_utf8}
+use Rattle.sshc_wire.specs.declared.files.Found.{Found}
+use Rattle.sshc_wire.specs.declared.files.Found.TheVariants as found
+
+-- the bytes, and then what is left
+abbrev pub prepend : List ℕ → Option (List ℕ) → Option (List ℕ)
+prepend bytes left = option_map (λ rest. bytes ++ rest) left
+
+-- what was held, and then the bytes
+abbrev pub append : Option (List ℕ) → List ℕ → Option (List ℕ)
+append held bytes = option_map (λ before. before ++ bytes) held
+
+-- nothing is left
+abbrev pub IsAtEnd : Option (List ℕ) → Type 0
+IsAtEnd left = IfSome left (λ rest. rest ≡ [])
+
+-- a front of the whole was written
+abbrev pub WroteFront : Option (List ℕ) → Option (List ℕ) → List ℕ → Type 0
+WroteFront old new whole = (front rest : List ℕ) × (whole ≡ front ++ rest) × (new ≡ append old front)
+
+-- the bytes of the first file of this path
+abbrev pub bytes_of : List (List ℕ × List ℕ) → List ℕ → Option (List ℕ)
+bytes_of [] path = None
+bytes_of (file ∷ files) path = if bytes_eq file.0 path then Some file.1 else bytes_of files path
+
+-- the text at the end of the first file of this path, or in a new file behind the others
+abbrev pub with_text : List (List ℕ × List ℕ) → List ℕ → List ℕ → List (List ℕ × List ℕ)
+with_text [] path text = (path, text) ∷ []
+with_text (file ∷ files) path text =
+    if bytes_eq file.0 path then (file.0, file.1 ++ text) ∷ files else file ∷ with_text files path text
+
+-- what a file is found to be, by its bytes
+abbrev pub found_in : Option (List ℕ) → Found
+found_in None = found.NotOpened
+found_in (Some bytes) = if is_utf8 bytes then found.Text bytes else found.NotText
+
+-- what is found agrees with what the files tell
+abbrev pub IsFound : Option (List (List ℕ × List ℕ)) → List ℕ → Found → Type 0
+IsFound None path answer = Unit {0}
+IsFound (Some files) path answer = answer ≡ found_in (bytes_of files path)
+
+-- laws of pieces, one after the other
+
+pub prepend-nothing : (o : Option (List ℕ)) → prepend [] o ≡ o
+prepend-nothing None = refl
+prepend-nothing (Some x) = refl
+
+pub prepend-prepend : (a b : List ℕ) (o : Option (List ℕ)) → prepend a (prepend b o) ≡ prepend (a ++ b) o
+prepend-prepend a b None = refl
+prepend-prepend a b (Some x) = ap Some (sym (append_assoc a b x))
+
+pub append-nothing : (o : Option (List ℕ)) → append o [] ≡ o
+append-nothing None = refl
+append-nothing (Some x) = ap Some (append-nil x)
+
+pub append-append : (o : Option (List ℕ)) (a b : List ℕ) → append (append o a) b ≡ append o (a ++ b)
+append-append None a b = refl
+append-append (Some x) a b = ap Some (append_assoc x a b)
+
+-- what was written before, and then a front of a part of what was due
+pub wrote_more : (a b c : Option (List ℕ)) (before part after : List ℕ) → b ≡ append a before → WroteFront b c part → WroteFront a c (before ++ part ++ after)
+wrote_more a b c before part after first (front, rest, whole, now) = (
+  before ++ front,
+  rest ++ after,
+  ap (λ p. before ++ p ++ after) whole ∙ simp append_assoc,
+  now ∙ ap (λ o. append o front) first ∙ append-append a before front,
+)

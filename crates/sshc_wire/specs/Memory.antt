@@ -1,0 +1,24 @@
+-- What contracts see of sources, sinks and files over memory: plain data. The calls of the numbers in failing fail.
+use Rattle.std.specs.Prelude.{ℕ, List}
+
+-- the bytes that are left, the numbers of the calls that fail, and how many calls were made and have failed
+pub record HeldSource : Type 0 where
+  pub left : List ℕ
+  pub failing : List ℕ
+  pub calls : ℕ
+  pub faults : ℕ
+
+-- the bytes that were written
+pub record HeldSink : Type 0 where
+  pub contents : List ℕ
+  pub failing : List ℕ
+  pub calls : ℕ
+  pub faults : ℕ
+
+-- paths and bytes; reads and appends are numbered together
+pub record HeldFiles : Type 0 where
+  pub contents : List (List ℕ × List ℕ)
+  pub failing : List ℕ
+  pub calls : ℕ
+  pub read_faults : ℕ
+  pub append_faults : ℕ

@@ -1,0 +1,82 @@
+//! Where bytes come from.
+
+ghost use Rattle.std.specs.Prelude.{◌≡◌, ℕ, ◌+◌, ◌<◌, ◌≤◌, List, length, take, Option, IfOk, OnErr};
+ghost use Rattle.sshc_wire.specs.Contents.{prepend, IsAtEnd};
+ghost use Rattle.sshc_wire.specs.Faults.{CountsOne, HasCause};
+
+use std::alloc::Global;
+
+/// How a call of the outside fails.
+#[derive(Clone, Copy, Debug, PartialEq, Eq)]
+pub enum Failed {
+    /// The outside failed, and its count of faults rose.
+    Fault,
+    /// Memory ran out, and the call did nothing.
+    NoMemory,
+}
+
+/// Bytes that come one piece after another.
+pub trait Source {
+    /// The bytes that are left, where the source tells them.
+    ghost left: { Self → Option (List ℕ) };
+
+    /// How often a read has failed.
+    ghost faults: { Self → ℕ };
+
+    /// How often it was read.
+    ghost reads: { Self → ℕ };
+
+    /// Fills a front of the buffer. No byte for a buffer that isn't empty is the end.
+    fn read(&mut self, buf: &mut [u8]) -> Result<usize, Failed>
+        ensures bound { IfOk result (λ n. n ≤ length buf.new) }
+        ensures bytes { IfOk result (λ n. left self.old ≡ prepend (take n buf.new) (left self.new)) }
+        ensures end { IfOk result (λ n. n ≡ 0 → 0 < length buf.new → IsAtEnd (left self.new)) }
+        ensures none { OnErr result (left self.new ≡ left self.old) }
+        ensures cause { HasCause (faults self.old) (faults self.new) result }
+        ensures counted { CountsOne (reads self.old) (reads self.new) };
+}
+
+/// Fills the buffer from the source, or as much of it as there is before the source ends. Each read but the last
+/// moves at least one byte.
+fn read_full<S: Source>(source: &mut S, buf: &mut [u8]) -> Result<usize, Failed>
+    ensures bound { IfOk result (λ n. n ≤ length buf.new) }
+    ensures bytes { IfOk result (λ n. S.left source.old ≡ prepend (take n buf.new) (S.left source.new)) }
+    ensures end { IfOk result (λ n. n < length buf.new → IsAtEnd (S.left source.new)) }
+    ensures none { OnErr result ((given : List ℕ) × (length given < length buf.new)
+        × (S.left source.old ≡ prepend given (S.left source.new))
+        × (S.reads source.new ≤ S.reads source.old + length given + 1)) }
+    ensures cause { HasCause (S.faults source.old) (S.faults source.new) result }
+    ensures whole { IfOk result (λ n. n ≡ length buf.new → S.reads source.new ≤ S.reads source.old + n) }
+    ensures short { IfOk result (λ n. S.reads source.new ≤ S.reads source.old + n + 1) }
+{
+    let mut filled = 0usize;
+    while filled < buf.len() {
+        match source.read(&mut buf[filled..]) {
+            Ok(0) => return Ok(filled),
+            Ok(n) => filled += n,
+            Err(e) => return Err(e),
+        }
+    }
+    Ok(filled)
+}
+
+/// The next bytes of the source: as many as are asked for, or all before its end.
+pub fn read_up_to<S: Source>(alloc: Global, source: &mut S, count: usize) -> Result<Vec<u8>, Failed>
+    requires { 0 < count }
+    ensures bytes { IfOk result (λ v. S.left source.old ≡ prepend v.items (S.left source.new)) }
+    ensures bound { IfOk result (λ v. length v.items ≤ count) }
+    ensures end { IfOk result (λ v. length v.items < count → IsAtEnd (S.left source.new)) }
+    ensures none { OnErr result ((given : List ℕ) × (length given < count)
+        × (S.left source.old ≡ prepend given (S.left source.new))
+        × (S.reads source.new ≤ S.reads source.old + length given + 1)) }
+    ensures cause { HasCause (S.faults source.old) (S.faults source.new) result }
+    ensures whole { IfOk result (λ v. length v.items ≡ count → S.reads source.new ≤ S.reads source.old + length v.items) }
+    ensures short { IfOk result (λ v. S.reads source.new ≤ S.reads source.old + length v.items + 1) }
+{
+    let Ok(mut bytes) = vec![in alloc; 0u8; count] else {
+        return Err(Failed::NoMemory);
+    };
+    let filled = read_full(source, bytes.as_mut_slice())?;
+    bytes.truncate(filled);
+    Ok(bytes)
+}
