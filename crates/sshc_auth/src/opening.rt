@@ -250,6 +250,7 @@ impl Opening {
         ensures closed { self.old.closed ≡ true → (result ≡ Step.Closed) × (self.new ≡ self.old) × (out.new ≡ out.old) }
         ensures row { self.old.closed ≡ false → Steps (open_row self.old event.now told (since (S.calls signer.old) (S.calls signer.new)))
             self.old self.new out.old out.new (S.calls signer.old) (S.calls signer.new) result }
+        ensures unsigned { S.calls signer.new ≡ S.calls signer.old }
         ensures later { S.refusals signer.old ≤ S.refusals signer.new }
     {
         if self.is_closed {

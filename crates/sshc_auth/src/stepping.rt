@@ -50,6 +50,7 @@ impl Opening {
             (since (S.calls signer.old) (S.calls signer.new))
             (record { before = self.old; after = self.new; old = out.old; new = out.new; calls = S.calls signer.old; calls' = S.calls signer.new })
             result (asked_of self.old event.now) }
+        ensures unsigned { S.calls signer.new ≡ S.calls signer.old }
         ensures signer_later { S.refusals signer.old ≤ S.refusals signer.new }
         ensures gate_later { G.refusals gate.old ≤ G.refusals gate.new }
         ensures gate_kept { G.setting gate.new ≡ G.setting gate.old }
@@ -77,6 +78,7 @@ impl Opening {
         requires fresh { self.old.closed ≡ false }
         ensures row { StepsBy G.told_as (G.judges gate.old) G.tells event.now (since (S.calls signer.old) (S.calls signer.new))
             (record { before = self.old; after = self.new; old = out.old; new = out.new; calls = S.calls signer.old; calls' = S.calls signer.new }) result (asked_of self.old event.now) }
+        ensures unsigned { S.calls signer.new ≡ S.calls signer.old }
         ensures signer_later { S.refusals signer.old ≤ S.refusals signer.new }
         ensures gate_later { G.refusals gate.old ≤ G.refusals gate.new }
         ensures gate_kept { G.setting gate.new ≡ G.setting gate.old }
@@ -104,6 +106,7 @@ impl Opening {
         requires asked { asked_of self.old event.now ≡ asks.now }
         ensures row { StepsAsked G.told_as (G.judges gate.old) G.tells event.now (since (S.calls signer.old) (S.calls signer.new))
             (record { before = self.old; after = self.new; old = out.old; new = out.new; calls = S.calls signer.old; calls' = S.calls signer.new }) result asks.now }
+        ensures unsigned { S.calls signer.new ≡ S.calls signer.old }
         ensures signer_later { S.refusals signer.old ≤ S.refusals signer.new }
         ensures gate_later { G.refusals gate.old ≤ G.refusals gate.new }
         ensures gate_kept { G.setting gate.new ≡ G.setting gate.old }
@@ -131,6 +134,7 @@ impl Opening {
         requires asked { asked_of self.old event.now ≡ Asks.HostKey key.now }
         ensures row { StepsAsked G.told_as (G.judges gate.old) G.tells event.now (since (S.calls signer.old) (S.calls signer.new))
             (record { before = self.old; after = self.new; old = out.old; new = out.new; calls = S.calls signer.old; calls' = S.calls signer.new }) result (Asks.HostKey key.now) }
+        ensures unsigned { S.calls signer.new ≡ S.calls signer.old }
         ensures signer_later { S.refusals signer.old ≤ S.refusals signer.new }
         ensures gate_later { G.refusals gate.old ≤ G.refusals gate.new }
         ensures gate_kept { G.setting gate.new ≡ G.setting gate.old }
@@ -159,6 +163,7 @@ impl Opening {
         ensures row { StepsAfter G.told_as G.tells (open_row self.old event.now Told.Went (since (S.calls signer.old) (S.calls signer.new)))
             (record { before = self.old; after = self.new; old = out.old; new = out.new; calls = S.calls signer.old; calls' = S.calls signer.new })
             result }
+        ensures unsigned { S.calls signer.new ≡ S.calls signer.old }
         ensures signer_later { S.refusals signer.old ≤ S.refusals signer.new }
         ensures gate_later { G.refusals gate.old ≤ G.refusals gate.new }
         ensures gate_kept { G.setting gate.new ≡ G.setting gate.old }

@@ -1,0 +1,109 @@
+-- A run that has come so far goes on, or ends. Nothing here looks into the table.
+use Rattle.std.proofs.Common.{◌≡◌, ℕ, suc, ◌+◌, ◌-◌, ◌<◌, ◌≤◌, List, [], ◌∷◌, ◌++◌, length, Option, Result, ap, sym, ◌∙◌, subst, append_assoc, length-append, arith}
+use Rattle.std.proofs.lemmas.List.Concat.{flat_map-append}
+use Rattle.sshc_wire.specs.Contents.{prepend, append, WroteFront, append-nothing, prepend-nothing, append-append, prepend-prepend}
+use Rattle.sshc_wire.specs.declared.record.Record.{Record}
+use Rattle.sshc_auth.specs.declared.ended.Ended.{Ended}
+use Rattle.sshc_run.specs.declared.error.RunError.{RunError}
+use Rattle.sshc_run.specs.Along.{Along, IsAlong}
+use Rattle.sshc_run.specs.Outcome.{Ending, told, cut, unread, ending_of, IsExact, EndsAs, Ends}
+use Rattle.sshc_run.specs.RecordLines.{line, lines}
+use Rattle.sshc_run.specs.ScriptRun.{Run, after}
+use Rattle.sshc_run.specs.Turning.{BringsOn}
+
+-- at the start
+pub along_none : {S : Type 0} (first : S) (table : ℕ → ℕ → ℕ → S → List ℕ → Run) (max : ℕ) (s : S) (left held : Option (List ℕ)) (reads : ℕ) → s ≡ first → IsAlong first table max 0 0 0 s left left held held reads reads
+along_none {S = S} first table max s left held reads is = (
+  [],
+  [],
+  record {
+    read = sym (prepend-nothing left);
+    wrote = sym (append-nothing held);
+    on = λ more. let m : max ≡ max - 0 = omega arith in ap (λ n. table n 0 0 first more) m ∙ ap (λ (x : S). table (max - 0) 0 0 x more) (sym is);
+    count = omega arith;
+  },
+)
+
+lines_two : (a b : List Record) (held mid now : Option (List ℕ)) → mid ≡ append held (lines a) → now ≡ append mid (lines b) → now ≡ append held (lines (a ++ b))
+lines_two a b held mid now first second =
+    second ∙ ap (λ o. append o (lines b)) first ∙ append-append held (lines a) (lines b) ∙ ap (append held) (sym (flat_map-append line a b))
+
+after_two : (a b : List Record) (r : Run) → after a (after b r) ≡ after (a ++ b) r
+after_two a b r = ap (λ (x : List Record). record { records = x; stop = r.stop }) (sym (append_assoc a b r.records))
+
+-- after one turn more
+pub along_more : {S : Type 0} (first : S) (table : ℕ → ℕ → ℕ → S → List ℕ → Run) (max turns place last : ℕ) (s : S) (place' last' : ℕ) (s' : S) (script left left' held now now' : Option (List ℕ)) (reads reads' reads'' : ℕ) → turns < max →
+    IsAlong first table max turns place last s script left held now reads reads' →
+    (given : List ℕ) × (records : List Record) × (left ≡ prepend given left') × (now' ≡ append now (lines records)) × BringsOn table place last s place' last' s' given records × (reads'' ≤ reads' + length given) →
+    IsAlong first table max (turns + 1) place' last' s' script left' held now' reads reads''
+along_more first table max turns place last s place' last' s' script left left' held now now' reads reads' reads'' lt (given, records, so_far) (given', records', read, wrote, brings, count) =
+    let one : max - turns ≡ suc (max - (turns + 1)) = omega arith in (
+      given ++ given',
+      records ++ records',
+      record {
+        read = so_far.read ∙ ap (prepend given) read ∙ prepend-prepend given given' left';
+        wrote = lines_two records records' held now now' so_far.wrote wrote;
+        on = λ more.
+            ap (table max 0 0 first) (append_assoc given given' more) ∙ so_far.on (given' ++ more)
+            ∙ ap (λ n. after records (table n place last s (given' ++ more))) one ∙ ap (after records) (brings.on (max - (turns + 1)) more)
+            ∙ after_two records records' (table (max - (turns + 1)) place' last' s' more);
+        count = omega (arith, so_far.count, count, length-append given given');
+      },
+    )
+
+exact_end : {S : Type 0} (first : S) (table : ℕ → ℕ → ℕ → S → List ℕ → Run) (max turns place last : ℕ) (s : S) (script left left' held now now' : Option (List ℕ)) (reads reads' : ℕ) (given : List ℕ) (records : List Record) (given' : List ℕ) (a : Result Ended RunError) →
+    Along first table max turns place last s script left held now reads reads' given records → IsExact (table (max - turns) place last s) given' left' now now' a → IsExact (table max 0 0 first) (given ++ given') left' held now' a
+exact_end first table max turns place last s script left left' held now now' reads reads' given records given' a so_far exact =
+    let r : Run = table (max - turns) place last s given' in
+    let here : table max 0 0 first (given ++ given') ≡ after records r = so_far.on given' in
+    record {
+      all = rw here (lines_two records r.records held now now' so_far.wrote exact.all);
+      stop = ap (λ (x : Run). x.stop) here ∙ exact.stop;
+      rest = λ more e.
+          ap (table max 0 0 first) (append_assoc given given' more) ∙ so_far.on (given' ++ more) ∙ ap (after records) (exact.rest more e) ∙ sym here;
+    }
+
+cut_end : {S : Type 0} (first : S) (table : ℕ → ℕ → ℕ → S → List ℕ → Run) (max turns place last : ℕ) (s : S) (script left held now now' : Option (List ℕ)) (reads reads' : ℕ) (given : List ℕ) (records : List Record) (given' : List ℕ) →
+    Along first table max turns place last s script left held now reads reads' given records → WroteFront now now' (lines (table (max - turns) place last s given').records) → WroteFront held now' (lines (table max 0 0 first (given ++ given')).records)
+cut_end first table max turns place last s script left held now now' reads reads' given records given' so_far (part, others, due, wrote) =
+    let r : Run = table (max - turns) place last s given' in (
+      lines records ++ part,
+      others,
+      ap (λ (x : Run). lines x.records) (so_far.on given') ∙ flat_map-append line records r.records ∙ ap (λ t. lines records ++ t) due ∙ sym (append_assoc (lines records) part others),
+      wrote ∙ ap (λ o. append o part) so_far.wrote ∙ append-append held (lines records) part,
+    )
+
+unread_end : {S : Type 0} (first : S) (table : ℕ → ℕ → ℕ → S → List ℕ → Run) (max turns place last : ℕ) (s : S) (script left held now now' : Option (List ℕ)) (reads reads' : ℕ) (given : List ℕ) (records : List Record) (given' : List ℕ) →
+    Along first table max turns place last s script left held now reads reads' given records → now' ≡ append now (lines (table (max - turns) place last s given').records) → now' ≡ append held (lines (table max 0 0 first (given ++ given')).records)
+unread_end first table max turns place last s script left held now now' reads reads' given records given' so_far wrote =
+    let r : Run = table (max - turns) place last s given' in
+    lines_two records r.records held now now' so_far.wrote wrote ∙ ap (λ (x : Run). append held (lines x.records)) (sym (so_far.on given'))
+
+ends_as : {S : Type 0} (ending : Ending) (first : S) (table : ℕ → ℕ → ℕ → S → List ℕ → Run) (max turns place last : ℕ) (s : S) (script left left' held now now' : Option (List ℕ)) (reads reads' : ℕ) (given : List ℕ) (records : List Record) (given' : List ℕ) (a : Result Ended RunError) →
+    Along first table max turns place last s script left held now reads reads' given records → EndsAs ending (table (max - turns) place last s) given' left' now now' a → EndsAs ending (table max 0 0 first) (given ++ given') left' held now' a
+ends_as told first table max turns place last s script left left' held now now' reads reads' given records given' a so_far by = exact_end first table max turns place last s script left left' held now now' reads reads' given records given' a so_far by
+ends_as cut first table max turns place last s script left left' held now now' reads reads' given records given' a so_far by = cut_end first table max turns place last s script left held now now' reads reads' given records given' so_far by
+ends_as unread first table max turns place last s script left left' held now now' reads reads' given records given' a so_far by = unread_end first table max turns place last s script left held now now' reads reads' given records given' so_far by
+
+-- where it ends
+pub along_ends : {S : Type 0} (first : S) (table : ℕ → ℕ → ℕ → S → List ℕ → Run) (max turns place last : ℕ) (s : S) (script left left' held now now' : Option (List ℕ)) (reads reads' reads'' : ℕ) (a : Result Ended RunError) →
+    IsAlong first table max turns place last s script left held now reads reads' → Ends (table (max - turns) place last s) left left' now now' reads' reads'' a → Ends (table max 0 0 first) script left' held now' reads reads'' a
+along_ends first table max turns place last s script left left' held now now' reads reads' reads'' a (given, records, so_far) (given', read, by, count) = (
+  given ++ given',
+  so_far.read ∙ ap (prepend given) read ∙ prepend-prepend given given' left',
+  ends_as (ending_of a) first table max turns place last s script left left' held now now' reads reads' given records given' a so_far by,
+  omega (arith, so_far.count, count, length-append given given'),
+)
+
+-- the same where a turn was left
+pub turn_ends : {S : Type 0} (first : S) (table : ℕ → ℕ → ℕ → S → List ℕ → Run) (max turns place last : ℕ) (s : S) (script left left' held now now' : Option (List ℕ)) (reads reads' reads'' : ℕ) (a : Result Ended RunError) → turns < max →
+    IsAlong first table max turns place last s script left held now reads reads' → ((n : ℕ) → Ends (table (suc n) place last s) left left' now now' reads' reads'' a) → Ends (table max 0 0 first) script left' held now' reads reads'' a
+turn_ends first table max turns place last s script left left' held now now' reads reads' reads'' a lt so_far ends =
+    let one : suc (max - (turns + 1)) ≡ max - turns = omega arith in
+    along_ends first table max turns place last s script left left' held now now' reads reads' reads'' a so_far (subst (λ n. Ends (table n place last s) left left' now now' reads' reads'' a) one (ends (max - (turns + 1))))
+
+-- one byte more
+pub one_more : (bytes : List ℕ) (old new : Option (List ℕ)) → length bytes ≤ 1 → 0 < length bytes → old ≡ prepend bytes new → (b : ℕ) × (old ≡ prepend (b ∷ []) new)
+one_more [] old new few some given = absurd (omega (arith, some))
+one_more (b ∷ []) old new few some given = (b, given)
+one_more (b ∷ c ∷ rest) old new few some given = absurd (omega (arith, few))

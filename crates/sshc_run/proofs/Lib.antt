@@ -1,0 +1,9 @@
+-- Facts that the answers cite.
+pub mod Fronts
+pub mod Lines
+pub mod Turns
+pub mod Going
+pub mod Coming
+pub mod Joined
+pub mod Gated
+pub mod Promises

@@ -1,0 +1,55 @@
+use Rattle.std.proofs.Common.{arith, refl, subst, ap, ◌∙◌, ◌≡◌, ◌-◌, Some}
+use Rattle.sshc_auth.specs.OpeningState.{start}
+use Rattle.sshc_run.specs.Configured.{settings_of}
+use Rattle.sshc_run.specs.Outcome.{Ends}
+use Rattle.sshc_run.specs.Turning.{hosts_of}
+use Rattle.sshc_run.proofs.Coming.{along_none, along_more, along_ends, turn_ends}
+use Rattle.sshc_run.proofs.Going.{table, limit_ends}
+use Rattle.sshc_run.proofs.run.run_events.Goals as goal
+
+pub loop-turn-init : goal.loop-turn-init
+loop-turn-init g c = record {
+  along = along_none _ _ _ _ _ _ _ (rw c.is_some.ensures at c.new.ensures);
+  same = refl;
+  unsigned = refl;
+  place = omega arith;
+  reads = omega arith;
+  writes = omega arith;
+}
+
+pub one_turn-requires : goal.one_turn-requires
+one_turn-requires g c = omega (arith, c.loop-turn.invariant.place)
+
+pub loop-turn-preserved : goal.loop-turn-preserved
+loop-turn-preserved g c =
+    let gives = rw c.loop-turn.invariant.same at c.in_default.ensures.gives in
+    record {
+      along = along_more (start (settings_of c.args.config.now)) (table (hosts_of c.args.gate.now)) _ _ _ _ _ _ _ _ _ _ _ _ _ _ _ _ _ c.loop-turn-test.true c.loop-turn.invariant.along gives;
+      same = c.one_turn.ensures.same ∙ c.loop-turn.invariant.same;
+      unsigned = c.one_turn.ensures.unsigned ∙ c.loop-turn.invariant.unsigned;
+      place = omega (arith, c.loop-turn.invariant.place, gives.4.within);
+      reads = omega (arith, c.loop-turn.invariant.reads, c.one_turn.ensures.read_later);
+      writes = omega (arith, c.loop-turn.invariant.writes, c.one_turn.ensures.write_later);
+    }
+
+pub returns-in-Some-clause-run : goal.returns-in-Some-clause-run
+returns-in-Some-clause-run g c =
+    let gives = rw c.loop-turn.invariant.same at c.in-Some.ensures.gives in
+    turn_ends (start (settings_of c.args.config.now)) (table (hosts_of c.args.gate.now)) _ _ _ _ _ _ _ _ _ _ _ _ _ _ c.in-Some.answer c.loop-turn-test.true c.loop-turn.invariant.along gives
+
+pub returns-in-Some-clause-unsigned : goal.returns-in-Some-clause-unsigned
+returns-in-Some-clause-unsigned g c = c.one_turn.ensures.unsigned ∙ c.loop-turn.invariant.unsigned
+
+pub returns-in-Some-clause-read_fault : goal.returns-in-Some-clause-read_fault
+returns-in-Some-clause-read_fault g c = λ e. let rose = c.in-Some.ensures.read_fault (ap Some e) in omega (arith, rose, c.loop-turn.invariant.reads)
+
+pub returns-in-Some-clause-write_fault : goal.returns-in-Some-clause-write_fault
+returns-in-Some-clause-write_fault g c = λ e. let rose = c.in-Some.ensures.write_fault (ap Some e) in omega (arith, rose, c.loop-turn.invariant.writes)
+
+pub returns-clause-run : goal.returns-clause-run
+returns-clause-run g c =
+    let none : 0 ≡ c.args.config.now.max_events - c.loop-turn.turn = omega (arith, c.loop-turn-test.false) in
+    let ends = limit_ends (hosts_of c.args.gate.now) c.loop-turn.at.place c.loop-turn.at.last c.loop-turn.at.opening _ _ (g.K.Sink.contents c.loop-turn.sink) _ _ c.at_limit.result c.at_limit.ensures.gives c.at_limit.ensures.count in
+    along_ends (start (settings_of c.args.config.now)) (table (hosts_of c.args.gate.now)) _ _ _ _ _ _ _ _ _ _ _ _ _ _ c.at_limit.result c.loop-turn.invariant.along
+    (subst (λ n. Ends (table (hosts_of c.args.gate.now) n c.loop-turn.at.place c.loop-turn.at.last c.loop-turn.at.opening) (g.S.Source.left c.loop-turn.source) (g.S.Source.left c.at_limit.new.source)
+    (g.K.Sink.contents c.loop-turn.sink) (g.K.Sink.contents c.loop-turn.sink) (g.S.Source.reads c.loop-turn.source) (g.S.Source.reads c.at_limit.new.source) c.at_limit.result) none ends)

@@ -1,0 +1,15 @@
+pub mod Script
+pub mod Fields
+pub mod Gives
+pub mod Handled
+pub mod KnownHosts
+pub mod Reading
+pub mod Turn
+pub mod OpeningRun
+pub mod RecordLines
+pub mod ScriptRun
+pub mod Outcome
+pub mod Turning
+pub mod Along
+pub mod Configured
+pub mod Headline

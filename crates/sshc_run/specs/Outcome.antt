@@ -1,0 +1,45 @@
+-- What a run has given, written and answered.
+use Rattle.std.specs.Prelude.{◌≡◌, ℕ, List, ◌++◌, Option, Some, Result, Ok, Err}
+use Rattle.sshc_wire.specs.Contents.{prepend, append, WroteFront}
+use Rattle.sshc_auth.specs.declared.ended.Ended.{Ended}
+use Rattle.sshc_run.specs.declared.error.RunError.{RunError}
+use Rattle.sshc_run.specs.declared.error.RunError.TheVariants as errors
+use Rattle.sshc_run.specs.Reading.{ReadFor}
+use Rattle.sshc_run.specs.RecordLines.{lines}
+use Rattle.sshc_run.specs.ScriptRun.{Run}
+use Rattle.sshc_run.specs.Turn.{RunStop, ended, refused}
+
+-- how an answer was come by: the table tells it, a write was cut, or a read failed
+pub data Ending : Type 0 where
+  told : Ending
+  cut : Ending
+  unread : Ending
+
+abbrev pub ending_of : Result Ended RunError → Ending
+ending_of (Ok e) = told
+ending_of (Err errors.NoMemory) = cut
+ending_of (Err errors.WriteFault) = cut
+ending_of (Err errors.ReadFault) = unread
+ending_of (Err e) = told
+
+-- the answer, as the table tells it
+abbrev pub stop_as : Result Ended RunError → RunStop
+stop_as (Ok e) = ended e
+stop_as (Err e) = refused e
+
+-- the answer is the table's over the bytes that were given, and no byte that is left would change it; all records are written
+pub record IsExact (table : List ℕ → Run) (given : List ℕ) (left held written : Option (List ℕ)) (answer : Result Ended RunError) : Type 0 where
+  pub all : written ≡ append held (lines (table given).records)
+  pub stop : (table given).stop ≡ stop_as answer
+  pub rest : (more : List ℕ) → left ≡ Some more → table (given ++ more) ≡ table given
+
+-- a cut write leaves a front of the lines, a failed read all lines of the whole events that were given
+abbrev pub EndsAs : Ending → (List ℕ → Run) → List ℕ → Option (List ℕ) → Option (List ℕ) → Option (List ℕ) → Result Ended RunError → Type 0
+EndsAs told table given left held written answer = IsExact table given left held written answer
+EndsAs cut table given left held written answer = WroteFront held written (lines (table given).records)
+EndsAs unread table given left held written answer = written ≡ append held (lines (table given).records)
+
+-- the bytes that the source gave, and what came of them
+abbrev pub Ends : (List ℕ → Run) → Option (List ℕ) → Option (List ℕ) → Option (List ℕ) → Option (List ℕ) → ℕ → ℕ → Result Ended RunError → Type 0
+Ends table script left held written reads reads' answer =
+    (given : List ℕ) × (script ≡ prepend given left) × EndsAs (ending_of answer) table given left held written answer × ReadFor reads reads' given

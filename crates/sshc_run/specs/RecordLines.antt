@@ -1,0 +1,13 @@
+-- Record lines: each record as lower-case hexadecimal digits and a line feed.
+-- A map over a whole list; the code writes each record as it comes.
+use Rattle.std.specs.Prelude.{ℕ, List, [], ◌∷◌, ◌++◌}
+use Rattle.std.specs.List.{flat_map}
+use Rattle.hex.specs.Hex.{encode_lower}
+use Rattle.sshc_wire.specs.declared.record.Record.{Record}
+use Rattle.sshc_wire.specs.Records.{record_text}
+
+abbrev pub line : Record → List ℕ
+line said = encode_lower (record_text said) ++ 10 ∷ []
+
+abbrev pub lines : List Record → List ℕ
+lines records = flat_map line records

@@ -1,0 +1,125 @@
+//! How a run fails.
+
+ghost use Rattle.std.specs.Prelude.{◌≡◌};
+ghost use Rattle.sshc_run.specs.declared.error.EventError.TheVariants as reads;
+
+use sshc_wire::{NoMemory, WireError};
+use std::alloc::{AllocError, AllocFailed};
+use thiserror::Error;
+
+/// Why a run ends before its script does. A place is of an event's length field, in bytes from 0.
+#[derive(Clone, Copy, Debug, PartialEq, Eq, Error)]
+pub enum RunError {
+    /// Memory ran out.
+    #[error("NoMemory")]
+    NoMemory,
+    /// A read of the source failed.
+    #[error("ReadFault")]
+    ReadFault,
+    /// A write to the sink failed.
+    #[error("WriteFault")]
+    WriteFault,
+    /// The local signer refused.
+    #[error("SignerFault")]
+    SignerFault,
+    /// The bytes at the place begin no event.
+    #[error("BadEvent")]
+    BadEvent { at: u64 },
+    /// The event at the place may not come now.
+    #[error("OutOfTurn")]
+    OutOfTurn { at: u64 },
+    /// The script goes on after the last event that is allowed.
+    #[error("ScriptTooLong")]
+    ScriptTooLong,
+    /// The transport failed.
+    #[error("TransportFailed")]
+    TransportFailed,
+    /// The host key is missing, or the known hosts text doesn't have it.
+    #[error("UnknownKey")]
+    UnknownKey,
+    /// A line of the known hosts text has another key of the same algorithm.
+    #[error("KeyChanged")]
+    KeyChanged { line: u64 },
+    /// The key of a matching line isn't base64.
+    #[error("Decode")]
+    Decode,
+    /// The key of a matching line is none.
+    #[error("SshKey")]
+    SshKey,
+    /// The peer sent a packet that its state doesn't allow.
+    #[error("Inconsistent")]
+    Inconsistent,
+    /// Too many bytes came while an exchange ran.
+    #[error("Pending")]
+    Pending,
+    /// The server names no method that is known.
+    #[error("NoAuthMethod")]
+    NoAuthMethod,
+    /// A channel was asked for before the session is open.
+    #[error("NotAuthenticated")]
+    NotAuthenticated,
+    /// A part of a packet is short, isn't text or has bytes left over.
+    #[error("SshEncoding")]
+    SshEncoding,
+    /// The peer's disconnection has a reason outside 1 to 15.
+    #[error("InvalidDisconnect")]
+    InvalidDisconnect,
+    /// The user is gone while an answer is awaited.
+    #[error("RecvError")]
+    RecvError,
+    /// The peer answers no keepalive.
+    #[error("KeepaliveTimeout")]
+    KeepaliveTimeout,
+    /// Nothing came for too long.
+    #[error("InactivityTimeout")]
+    InactivityTimeout,
+    /// The event at the place isn't built yet.
+    #[error("Unbuilt")]
+    Unbuilt { at: u64 },
+}
+
+/// Why an event's fields give no event.
+#[derive(Clone, Copy, Debug, PartialEq, Eq, Error)]
+pub enum EventError {
+    /// Memory ran out.
+    #[error("NoMemory")]
+    NoMemory,
+    /// They are outside the grammar.
+    #[error("Bad")]
+    Bad,
+    /// The event isn't built yet.
+    #[error("Unbuilt")]
+    Unbuilt,
+}
+
+impl From<NoMemory> for EventError {
+    ghost from_gives = { λ _ e. e ≡ reads.NoMemory };
+
+    fn from(_error: NoMemory) -> EventError {
+        EventError::NoMemory
+    }
+}
+
+impl From<AllocError> for EventError {
+    ghost from_gives = { λ _ e. e ≡ reads.NoMemory };
+
+    fn from(_error: AllocError) -> EventError {
+        EventError::NoMemory
+    }
+}
+
+impl<T: Drop> From<AllocFailed<T>> for EventError {
+    ghost from_gives = { λ _ e. e ≡ reads.NoMemory };
+
+    fn from(_error: AllocFailed<T>) -> EventError {
+        EventError::NoMemory
+    }
+}
+
+impl From<WireError> for EventError {
+    ghost from_gives = { λ _ e. e ≡ reads.Bad };
+
+    fn from(_error: WireError) -> EventError {
+        EventError::Bad
+    }
+}

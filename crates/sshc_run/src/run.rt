@@ -1,0 +1,91 @@
+//! A run of a script.
+
+ghost use Rattle.std.specs.Prelude.{◌≡◌, ◌≤◌, [], Err};
+ghost use Rattle.sshc_wire.specs.Faults.{Rose};
+ghost use Rattle.sshc_hosts.specs.HostText.{host_text};
+ghost use Rattle.sshc_auth.specs.OpeningState.{start};
+ghost use Rattle.sshc_run.specs.Configured.{settings_of};
+ghost use Rattle.sshc_run.specs.Headline.{IsGated, IsDone, IsKept, IsComplete};
+ghost use Rattle.sshc_run.specs.Outcome.{Ends};
+ghost use Rattle.sshc_run.specs.ScriptRun.{run, script_run};
+ghost use Rattle.sshc_run.specs.Turning.{hosts_of};
+
+use crate::config::Config;
+use crate::error::RunError;
+use crate::known_hosts_handler::KnownHostsHandler;
+use crate::turn::{Point, at_limit, one_turn};
+use sshc_auth::{Ended, Opening};
+use sshc_key::{LocalSigner, Verifier};
+use sshc_wire::{NoMemory, Sink, Source};
+use std::alloc::Global;
+
+/// Takes the events of a script, at most so many.
+fn run_events<S: Source, G: LocalSigner, K: Sink>(
+    alloc: Global,
+    config: &Config,
+    gate: &mut KnownHostsHandler,
+    source: &mut S,
+    signer: &mut G,
+    sink: &mut K,
+) -> Result<Ended, RunError>
+    ensures run { Ends (λ bytes. run (hosts_of gate.old) config.now.max_events 0 0 (start (settings_of config.now)) [] bytes)
+        (S.left source.old) (S.left source.new) (K.contents sink.old) (K.contents sink.new) (S.reads source.old) (S.reads source.new) result }
+    ensures unsigned { G.calls signer.new ≡ G.calls signer.old }
+    ensures read_fault { result ≡ Err RunError.ReadFault → Rose (S.faults source.old) (S.faults source.new) }
+    ensures write_fault { result ≡ Err RunError.WriteFault → Rose (K.faults sink.old) (K.faults sink.new) }
+{
+    let mut at = Point {
+        opening: Opening::new(
+            alloc,
+            config.window_size,
+            config.anonymous,
+            config.inactivity_timeout.is_some(),
+        ),
+        place: 0,
+        last: 0,
+    };
+    for turn in 0..config.max_events {
+        if let Some(answer) = one_turn(alloc, &mut at, gate, source, signer, sink) {
+            return answer;
+        }
+    }
+    at_limit(alloc, source)
+}
+
+/// Runs a script: takes its events one at a time, judges host keys by the known hosts text, and writes a line for each
+/// record before the next event is read. It stops at the first end or error; what stands behind stays unread.
+pub fn run_script<S: Source, K: Sink, G: LocalSigner, V: Verifier>(
+    alloc: Global,
+    config: &Config,
+    host: &str,
+    port: u16,
+    known: &str,
+    signer: &mut G,
+    _verifier: &V,
+    source: &mut S,
+    sink: &mut K,
+) -> Result<Ended, RunError>
+    // What was given, what was written and what is answered, by the opening table over the script's events.
+    ensures run { Ends (λ bytes. script_run (record { host = host_text host.now port; known = known.now }) (start (settings_of config.now)) config.now.max_events bytes [])
+        (S.left source.old) (S.left source.new) (K.contents sink.old) (K.contents sink.new) (S.reads source.old) (S.reads source.new) result }
+    // No payload is written, not even in part, unless the known hosts text accepts the host key of the first exchange.
+    ensures gate { IsGated (record { host = host_text host.now port; known = known.now }) config.now.max_events
+        (S.left source.old) (S.left source.new) (K.contents sink.old) (K.contents sink.new) }
+    // Ok is the end of the whole script by the table, and all its records are written.
+    ensures done { IsDone (λ bytes. script_run (record { host = host_text host.now port; known = known.now }) (start (settings_of config.now)) config.now.max_events bytes [])
+        (S.left source.old) (K.contents sink.old) (K.contents sink.new) result }
+    // Every error but WriteFault and NoMemory has all records of the events before it, and those of its own row.
+    ensures kept { IsKept (λ bytes. script_run (record { host = host_text host.now port; known = known.now }) (start (settings_of config.now)) config.now.max_events bytes [])
+        (S.left source.old) (S.left source.new) (K.contents sink.old) (K.contents sink.new) result }
+    // A script that the table refuses no event of is answered so, or with want of memory, where nothing fails.
+    ensures complete { IsComplete (λ bytes. script_run (record { host = host_text host.now port; known = known.now }) (start (settings_of config.now)) config.now.max_events bytes [])
+        (S.left source.old) (S.faults source.old) (S.faults source.new) (K.faults sink.old) (K.faults sink.new) result }
+    ensures unsigned { G.calls signer.new ≡ G.calls signer.old }
+    ensures read_fault { result ≡ Err RunError.ReadFault → Rose (S.faults source.old) (S.faults source.new) }
+    ensures write_fault { result ≡ Err RunError.WriteFault → Rose (K.faults sink.old) (K.faults sink.new) }
+{
+    match KnownHostsHandler::new(alloc, host, port, known) {
+        Ok(mut gate) => run_events(alloc, config, &mut gate, source, signer, sink),
+        Err(NoMemory) => Err(RunError::NoMemory),
+    }
+}

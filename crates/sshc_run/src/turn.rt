@@ -1,0 +1,255 @@
+//! One event of a script: it is taken, and its records are written.
+
+ghost use Rattle.std.specs.Prelude.{◌≡◌, ◌≢◌, ◌+◌, ◌<◌, ◌≤◌, ◌^◌, [], Some, None, Err, IfNone, true, false};
+ghost use Rattle.sshc_wire.specs.Faults.{Rose};
+ghost use Rattle.sshc_auth.specs.OpeningTable.{asked_of};
+ghost use Rattle.sshc_run.specs.Outcome.{Ends};
+ghost use Rattle.sshc_run.specs.Script.{frame_at, size_of};
+ghost use Rattle.sshc_run.specs.ScriptRun.{run};
+ghost use Rattle.sshc_run.specs.Turn.{error_of, key_error_of, handler_error_of, is_out_of_turn, is_built_now, asked_turn, event_turn, turn};
+ghost use Rattle.sshc_run.specs.Turning.{hosts_of, step_answer, TakeGives, TurnGives, LimitGives};
+
+use crate::error::{EventError, RunError};
+use crate::event_kind::EventKind;
+use crate::fields::read_event;
+use crate::known_hosts_handler::{HandlerError, KnownHostsHandler};
+use crate::record_lines::write_lines;
+use crate::script::{NextError, RawEvent, next_event};
+use sshc_auth::{Ended, Error, Event, ExchangeFlag, Opening, Phase, Step};
+use sshc_key::LocalSigner;
+use sshc_wire::{Failed, Outbox, Sink, Source, read_up_to};
+use std::alloc::Global;
+
+/// Where a run stands: the opening, the place of the next event and the last moment.
+#[derive(Debug, Drop)]
+pub struct Point {
+    pub opening: Opening,
+    pub place: u64,
+    pub last: u64,
+}
+
+fn error_at(place: u64, e: Error) -> RunError
+    ensures { result ≡ error_of place e }
+{
+    match e {
+        Error::NoMemory => RunError::NoMemory,
+        Error::SignerFault => RunError::SignerFault,
+        Error::OutOfTurn => RunError::OutOfTurn { at: place },
+        Error::TransportFailed => RunError::TransportFailed,
+        Error::UnknownKey => RunError::UnknownKey,
+        Error::Inconsistent => RunError::Inconsistent,
+        Error::Pending => RunError::Pending,
+        Error::NoAuthMethod => RunError::NoAuthMethod,
+        Error::NotAuthenticated => RunError::NotAuthenticated,
+        Error::SshEncoding => RunError::SshEncoding,
+        Error::InvalidDisconnect => RunError::InvalidDisconnect,
+        Error::RecvError => RunError::RecvError,
+        Error::KeepaliveTimeout => RunError::KeepaliveTimeout,
+        Error::InactivityTimeout => RunError::InactivityTimeout,
+        // Answers of the handle, which no step gives.
+        Error::WrongServerSig
+        | Error::RequestDenied
+        | Error::ChannelOpenFailure(_)
+        | Error::SendError
+        | Error::Disconnect => RunError::Inconsistent,
+    }
+}
+
+fn handler_error_at(place: u64, e: HandlerError) -> RunError
+    ensures { result ≡ handler_error_of place e }
+{
+    match e {
+        HandlerError::Client(e) => error_at(place, e),
+        HandlerError::Key(sshc_key::Error::KeyChanged { line }) => RunError::KeyChanged { line },
+        HandlerError::Key(sshc_key::Error::Decode) => RunError::Decode,
+        HandlerError::Key(sshc_key::Error::NoMemory) => RunError::NoMemory,
+        HandlerError::Key(_) => RunError::SshKey,
+    }
+}
+
+fn event_error_at(place: u64, e: EventError) -> RunError
+    ensures { result ≡ (elim e [ EventError.NoMemory ↦ RunError.NoMemory | EventError.Bad ↦ RunError.BadEvent place | EventError.Unbuilt ↦ RunError.Unbuilt place ]) }
+{
+    match e {
+        EventError::NoMemory => RunError::NoMemory,
+        EventError::Bad => RunError::BadEvent { at: place },
+        EventError::Unbuilt => RunError::Unbuilt { at: place },
+    }
+}
+
+fn next_error_at(place: u64, e: NextError) -> RunError
+    ensures { result ≡ (elim e [ NextError.NoMemory ↦ RunError.NoMemory | NextError.ReadFault ↦ RunError.ReadFault | NextError.Bad ↦ RunError.BadEvent place ]) }
+{
+    match e {
+        NextError::NoMemory => RunError::NoMemory,
+        NextError::ReadFault => RunError::ReadFault,
+        NextError::Bad => RunError::BadEvent { at: place },
+    }
+}
+
+fn write_failed(failed: Failed) -> RunError
+    ensures { result ≡ (elim failed [ Failed.Fault ↦ RunError.WriteFault | Failed.NoMemory ↦ RunError.NoMemory ]) }
+{
+    match failed {
+        Failed::Fault => RunError::WriteFault,
+        Failed::NoMemory => RunError::NoMemory,
+    }
+}
+
+fn read_failed(failed: Failed) -> RunError
+    ensures { result ≡ (elim failed [ Failed.Fault ↦ RunError.ReadFault | Failed.NoMemory ↦ RunError.NoMemory ]) }
+{
+    match failed {
+        Failed::Fault => RunError::ReadFault,
+        Failed::NoMemory => RunError::NoMemory,
+    }
+}
+
+/// How the run stops at a step, or none where it goes on.
+fn stop_at(place: u64, step: Step<HandlerError>) -> Option<Result<Ended, RunError>>
+    ensures { result ≡ step_answer place step }
+{
+    match step {
+        Step::Went | Step::Opened => None,
+        Step::Ended(e) => Some(Ok(e)),
+        Step::Refused(e) => Some(Err(handler_error_at(place, e))),
+        Step::Closed => Some(Err(RunError::Inconsistent)),
+    }
+}
+
+/// Whether an event of this kind may not come while the exchange flag is so.
+fn is_early(kind: EventKind, flag: ExchangeFlag) -> bool
+    ensures { result ≡ is_out_of_turn kind flag }
+{
+    match kind {
+        EventKind::PeerKexinit => flag == ExchangeFlag::Peer,
+        EventKind::ExchangeDone => flag != ExchangeFlag::Peer,
+        EventKind::Authenticate => flag != ExchangeFlag::Idle,
+        EventKind::Payload | EventKind::Later => false,
+    }
+}
+
+/// Whether events of this kind are built where the opening stands.
+fn is_built(kind: EventKind, opening: &Opening) -> bool
+    ensures { result ≡ is_built_now kind opening.now }
+{
+    if opening.is_closed() {
+        return false;
+    }
+    match (kind, opening.phase()) {
+        (EventKind::PeerKexinit | EventKind::ExchangeDone, Phase::Exchanging) => true,
+        (EventKind::Payload, Phase::Service) => opening.has_requested(),
+        (EventKind::Payload, Phase::Auth) => true,
+        (EventKind::Authenticate, Phase::Service | Phase::Auth) => true,
+        _ => false,
+    }
+}
+
+/// Steps the opening, and writes the records.
+fn step_event<G: LocalSigner, K: Sink>(
+    alloc: Global,
+    at: &mut Point,
+    event: &Event,
+    gate: &mut KnownHostsHandler,
+    signer: &mut G,
+    sink: &mut K,
+) -> Option<Result<Ended, RunError>>
+    requires fresh { at.old.opening.closed ≡ false }
+    ensures gives { TakeGives (asked_turn (hosts_of gate.old) at.old.place at.old.opening event.now [] (asked_of at.old.opening event.now))
+        at.new.opening (K.contents sink.old) (K.contents sink.new) result }
+    ensures moved { (at.new.place ≡ at.old.place) × (at.new.last ≡ at.old.last) }
+    ensures same { hosts_of gate.new ≡ hosts_of gate.old }
+    ensures unsigned { G.calls signer.new ≡ G.calls signer.old }
+    ensures write_later { K.faults sink.old ≤ K.faults sink.new }
+    ensures write_fault { result ≡ Some (Err RunError.WriteFault) → Rose (K.faults sink.old) (K.faults sink.new) }
+    ensures no_read { result ≢ Some (Err RunError.ReadFault) }
+{
+    let mut out = Outbox::new(alloc);
+    let step = at.opening.step(event, gate, signer, &mut out);
+    match write_lines(alloc, sink, out.as_slice()) {
+        Ok(()) => stop_at(at.place, step),
+        Err(failed) => Some(Err(write_failed(failed))),
+    }
+}
+
+/// Takes an event, and writes its records.
+fn take_event<G: LocalSigner, K: Sink>(
+    alloc: Global,
+    at: &mut Point,
+    event: &RawEvent,
+    gate: &mut KnownHostsHandler,
+    signer: &mut G,
+    sink: &mut K,
+) -> Option<Result<Ended, RunError>>
+    ensures gives { TakeGives (turn (hosts_of gate.old) at.old.opening (frame_at at.old.place event.now) [])
+        at.new.opening (K.contents sink.old) (K.contents sink.new) result }
+    ensures moved { (at.new.place ≡ at.old.place) × (at.new.last ≡ at.old.last) }
+    ensures same { hosts_of gate.new ≡ hosts_of gate.old }
+    ensures unsigned { G.calls signer.new ≡ G.calls signer.old }
+    ensures write_later { K.faults sink.old ≤ K.faults sink.new }
+    ensures write_fault { result ≡ Some (Err RunError.WriteFault) → Rose (K.faults sink.old) (K.faults sink.new) }
+    ensures no_read { result ≢ Some (Err RunError.ReadFault) }
+{
+    let place = at.place;
+    if is_early(event.kind(), at.opening.flag()) {
+        return Some(Err(RunError::OutOfTurn { at: place }));
+    }
+    if !is_built(event.kind(), &at.opening) {
+        return Some(Err(RunError::Unbuilt { at: place }));
+    }
+    match read_event(alloc, at.opening.phase(), event.kind(), event.fields()) {
+        Ok(event) => step_event(alloc, at, &event, gate, signer, sink),
+        Err(e) => Some(Err(event_error_at(place, e))),
+    }
+}
+
+/// Reads and takes one event.
+pub fn one_turn<S: Source, G: LocalSigner, K: Sink>(
+    alloc: Global,
+    at: &mut Point,
+    gate: &mut KnownHostsHandler,
+    source: &mut S,
+    signer: &mut G,
+    sink: &mut K,
+) -> Option<Result<Ended, RunError>>
+    requires { at.old.place + 262148 < 2 ^ 64 }
+    ensures gives { TurnGives (λ n place last s bytes. run (hosts_of gate.old) n place last s [] bytes) at.old.place at.old.last at.old.opening at.new.place at.new.last at.new.opening
+        (S.left source.old) (S.left source.new) (K.contents sink.old) (K.contents sink.new) (S.reads source.old) (S.reads source.new) result }
+    ensures same { hosts_of gate.new ≡ hosts_of gate.old }
+    ensures unsigned { G.calls signer.new ≡ G.calls signer.old }
+    ensures read_later { S.faults source.old ≤ S.faults source.new }
+    ensures write_later { K.faults sink.old ≤ K.faults sink.new }
+    ensures read_fault { result ≡ Some (Err RunError.ReadFault) → Rose (S.faults source.old) (S.faults source.new) }
+    ensures write_fault { result ≡ Some (Err RunError.WriteFault) → Rose (K.faults sink.old) (K.faults sink.new) }
+{
+    let event = match next_event(alloc, source, at.last) {
+        Ok(Some(event)) => event,
+        Ok(None) => return Some(Ok(Ended::ScriptEnd)),
+        Err(e) => return Some(Err(next_error_at(at.place, e))),
+    };
+    if let Some(answer) = take_event(alloc, at, &event, gate, signer, sink) {
+        return Some(answer);
+    }
+    at.place += event.size();
+    at.last = event.moment();
+    None
+}
+
+/// What a run answers that may take no event more: whether the script is at its end.
+pub fn at_limit<S: Source>(alloc: Global, source: &mut S) -> Result<Ended, RunError>
+    ensures gives { LimitGives (S.left source.old) (S.left source.new) result }
+    ensures count { S.reads source.new ≤ S.reads source.old + 1 }
+    ensures later { S.faults source.old ≤ S.faults source.new }
+    ensures fault { result ≡ Err RunError.ReadFault → Rose (S.faults source.old) (S.faults source.new) }
+{
+    match read_up_to(alloc, source, 1) {
+        Ok(bytes) => {
+            if bytes.is_empty() {
+                Ok(Ended::ScriptEnd)
+            } else {
+                Err(RunError::ScriptTooLong)
+            }
+        }
+        Err(failed) => Err(read_failed(failed)),
+    }
+}
