@@ -14,3 +14,4 @@ pub mod Falls
 pub mod Signers
 pub mod KeyText
 pub mod KeyWriting
+pub mod PairGrammar

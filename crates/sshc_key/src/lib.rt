@@ -29,6 +29,8 @@ pub use nesting::check_cert_nesting;
 pub use pair::{PairData, PrivateKey};
 pub use parsing::{parse_public_key, parse_whole_public_key};
 pub use public_key::PublicKey;
+pub use reading::{read_key_pair, read_signature};
 pub use signature::{Signature, SkFields};
 pub use signer::{Asker, LocalSigner, SignRefused};
 pub use verifier::Verifier;
+pub use writing::write_key_pair;
