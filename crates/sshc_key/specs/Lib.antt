@@ -15,3 +15,4 @@ pub mod Signers
 pub mod KeyText
 pub mod KeyWriting
 pub mod PairGrammar
+pub mod Algorithms
