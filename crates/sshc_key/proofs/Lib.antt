@@ -8,3 +8,4 @@ mod Grammar
 mod Nested
 mod Readable
 mod PairFormats
+mod FieldLemmas

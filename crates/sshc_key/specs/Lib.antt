@@ -16,3 +16,4 @@ pub mod KeyText
 pub mod KeyWriting
 pub mod PairGrammar
 pub mod Algorithms
+pub mod KeyFiles
