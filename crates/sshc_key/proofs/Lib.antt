@@ -7,3 +7,5 @@ mod FieldsGrammar
 mod Grammar
 mod Nested
 mod Readable
+mod PairFormats
+mod FieldLemmas

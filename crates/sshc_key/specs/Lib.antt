@@ -13,3 +13,7 @@ pub mod PairView
 pub mod Falls
 pub mod Signers
 pub mod KeyText
+pub mod KeyWriting
+pub mod PairGrammar
+pub mod Algorithms
+pub mod KeyFiles

@@ -2,3 +2,4 @@ mod Filed
 mod Pieces
 mod Shown
 mod Utf8
+mod NamesLemmas

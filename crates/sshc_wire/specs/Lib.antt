@@ -10,3 +10,6 @@ pub mod Records
 pub mod Outgoing
 pub mod Reasons
 pub mod Memory
+pub mod Names
+pub mod Methods
+pub mod Signals

@@ -2,9 +2,12 @@
 
 ghost use Rattle.std.specs.Prelude.{◌≡◌, [], IsUtf8, IfOk, Err, OnErr, IsOk, ◌↔◌};
 ghost use Rattle.std.specs.Int.{w32, w64};
+ghost use Rattle.sshc_wire.specs.Wire.{IsBytes};
+ghost use Rattle.sshc_wire.specs.Names.{names_at};
 ghost use Rattle.sshc_wire.specs.Reads.{Reads, byte_at, number_at, boolean_at, string_at, text_at};
 
 use crate::error::WireError;
+use crate::names::Names;
 use std::marker::Model;
 
 /// The bytes of a packet that are still unread, which contracts see as that list.
@@ -110,9 +113,18 @@ impl<'a> Cursor<'a> {
         }
     }
 
+    /// A list of names.
+    #[tactic(auto, unfolding(crate::specs::Names::names_at))]
+    pub fn names(&mut self) -> Result<Names<'a>, WireError>
+        ensures { Reads (λ n. n) result self.old self.new (names_at self.old) }
+    {
+        Ok(Names::new(self.text()?))
+    }
+
     /// What is still unread.
     pub fn rest(&self) -> &'a [u8]
-        ensures { result.now ≡ self.now }
+        ensures same { result.now ≡ self.now }
+        ensures bytes { IsBytes self.now }
     {
         self.bytes
     }

@@ -1,0 +1,75 @@
+-- Keys in files: what a loader answers by the files as they are told, and which faults it may answer.
+-- The definitions look the path up in a list of files and part a whole text; the code asks the files for it.
+use Rattle.std.specs.Prelude.{◌≡◌, ℕ, Bool, ◌≤◌, List, length, nat_lt, ◌==◌, bytes_eq, Option, Some, None, Result, Ok, Err, IsErrOf, if◌then◌else◌}
+use Rattle.std.specs.List.{position_or_len, before_first, after_first}
+use Rattle.std.specs.Str.{trim_end}
+use Rattle.sshc_wire.specs.declared.files.Found.{Found}
+use Rattle.sshc_wire.specs.declared.files.Found.TheVariants as found
+use Rattle.sshc_wire.specs.Contents.{bytes_of, found_in}
+use Rattle.sshc_wire.specs.Faults.{Rose}
+use Rattle.sshc_key.specs.declared.error.Error.{Error}
+use Rattle.sshc_key.specs.declared.error.Error.TheVariants.{CouldNotReadKey, SshKey, Utf8, ReadFault}
+use Rattle.sshc_key.specs.Gives.{Fails}
+use Rattle.sshc_key.specs.KeyGrammar.{Key, plain, certificate, key_name}
+use Rattle.sshc_key.specs.KeyText.{decoded_key}
+
+-- ---- what a loader answers
+
+-- paths and their bytes
+abbrev pub Told : Type 0
+Told = List (List ℕ × List ℕ)
+
+-- a failed read is answered as such, and each other error is the one said
+abbrev pub FailsReading : {Y : Type 0} → Error → Result Y Error → Type 0
+FailsReading ReadFault said = Unit {0}
+FailsReading e said = Fails e said
+
+abbrev pub GivesReading : {X Y : Type 0} → (X → Y) → Result X Error → Result Y Error → Type 0
+GivesReading view (Ok x) said = said ≡ Ok (view x)
+GivesReading view (Err e) said = FailsReading e said
+
+-- where the files are told, what the call answers is what is said of them, or that a read failed
+abbrev pub AnswersBy : {X Y : Type 0} → (X → Y) → Result X Error → Option Told → (Told → Result Y Error) → Type 0
+AnswersBy view result None said = Unit {0}
+AnswersBy view result (Some files) said = GivesReading view result (said files)
+
+-- a count never falls, and a failed read is answered only where it rose
+pub record HasReadCause {T : Type 0} (before now : ℕ) (result : Result T Error) : Type 0 where
+  pub later : before ≤ now
+  pub fault : IsErrOf result ReadFault → Rose before now
+
+-- ---- certificate files: a name, the base64 of a certificate and what follows, with single spaces between them
+
+abbrev pub is_space : ℕ → Bool
+is_space b = b == 32
+
+-- what stands before and after the first space
+unfoldable pub at_space : List ℕ → Option (List ℕ × List ℕ)
+at_space text = if nat_lt (position_or_len is_space text) (length text) then Some (before_first is_space text, after_first is_space text) else None
+
+-- the key has to be a certificate of this name
+abbrev pub named_certificate : List ℕ → Key → Result Key Error
+named_certificate name (plain k) = Err SshKey
+named_certificate name (certificate nonce key says signer signature) =
+    if bytes_eq (key_name (certificate nonce key says signer signature)) name then Ok (certificate nonce key says signer signature) else Err SshKey
+
+abbrev pub certificate_named : List ℕ → Result Key Error → Result Key Error
+certificate_named name (Ok key) = named_certificate name key
+certificate_named name (Err e) = Err e
+
+abbrev pub certificate_fields : Option (List ℕ × List ℕ) → Result Key Error
+certificate_fields None = Err CouldNotReadKey
+certificate_fields (Some fields) = certificate_named fields.0 (decoded_key (before_first is_space fields.1))
+
+-- the certificate of a file's text; white space at its end doesn't count
+unfoldable pub certificate_in : List ℕ → Result Key Error
+certificate_in text = certificate_fields (at_space (trim_end text))
+
+abbrev pub certificate_found : Found → Result Key Error
+certificate_found found.NotOpened = Err CouldNotReadKey
+certificate_found found.NotText = Err Utf8
+certificate_found (found.Text text) = certificate_in text
+
+-- the certificate of the file at a path
+abbrev pub certificate_at_path : List ℕ → Told → Result Key Error
+certificate_at_path path files = certificate_found (found_in (bytes_of files path))

@@ -1,0 +1,83 @@
+//! Certificates in files.
+
+ghost use Rattle.std.specs.Prelude.{◌≡◌, ◌++◌, Some, None, MatchOption};
+ghost use Rattle.std.specs.List.{before_first};
+ghost use Rattle.sshc_key.specs.Gives.{GivesAll};
+ghost use Rattle.sshc_key.specs.KeyFiles.{AnswersBy, HasReadCause, is_space, at_space, named_certificate, certificate_in, certificate_at_path};
+
+use crate::error::Error;
+use crate::key_data::{Certificate, KeyData};
+use crate::key_text::parse_public_key_base64;
+use crate::public_key::PublicKey;
+use sshc_wire::{Failed, Files, Found};
+use std::alloc::Global;
+
+/// What stands before and after the first space.
+#[tactic(auto, unfolding(crate::specs::KeyFiles::at_space))]
+fn space_parts(text: &str) -> Option<(&str, &str)>
+    ensures { MatchOption result (at_space text.now ≡ None) (λ x. at_space text.now ≡ Some (x.0.now, x.1.now)) }
+{
+    text.split_once(' ')
+}
+
+/// What stands before the first space, or all of the text.
+#[tactic(auto, using(crate::proofs::FieldLemmas::whole_field))]
+fn first_field(text: &str) -> &str
+    ensures { result.now ≡ before_first is_space text.now }
+{
+    match text.split_once(' ') {
+        Some((field, _)) => field,
+        None => text,
+    }
+}
+
+/// The certificate, if the key is one of this name.
+fn certificate_of(alloc: Global, name: &str, key: &PublicKey) -> Result<Certificate, Error>
+    ensures { GivesAll (λ c. c) result (named_certificate name.now key.now.0) }
+{
+    let own = key.key.name(alloc)?;
+    match &key.key {
+        KeyData::Certificate(certificate) => {
+            let _ = &certificate.nonce;
+            if own.as_str() != name {
+                return Err(Error::SshKey);
+            }
+            Ok(certificate.copy()?)
+        }
+        _ => Err(Error::SshKey),
+    }
+}
+
+/// The certificate of a file's text.
+#[tactic(auto, unfolding(crate::specs::KeyFiles::certificate_in))]
+fn certificate_text(alloc: Global, text: &str) -> Result<Certificate, Error>
+    ensures { GivesAll (λ c. c) result (certificate_in text.now) }
+{
+    let Some((name, rest)) = space_parts(text.trim_end()) else {
+        return Err(Error::CouldNotReadKey);
+    };
+    match parse_public_key_base64(alloc, first_field(rest)) {
+        Ok(key) => certificate_of(alloc, name, &key),
+        Err(error) => Err(error),
+    }
+}
+
+/// Reads the certificate of a file: a name, the base64 of the certificate and what follows, with single spaces between them.
+pub fn load_openssh_certificate<F: Files>(
+    alloc: Global,
+    files: &mut F,
+    path: &str,
+) -> Result<Certificate, Error>
+    ensures answer { AnswersBy (λ c. c) result (F.contents files.old) (certificate_at_path path.now) }
+    ensures same { F.contents files.new ≡ F.contents files.old }
+    ensures cause { HasReadCause (F.read_faults files.old) (F.read_faults files.new) result }
+    ensures others { F.append_faults files.new ≡ F.append_faults files.old }
+{
+    match files.read_text(path) {
+        Ok(Found::Text(text)) => certificate_text(alloc, text.as_str()),
+        Ok(Found::NotOpened) => Err(Error::CouldNotReadKey),
+        Ok(Found::NotText) => Err(Error::Utf8),
+        Err(Failed::Fault) => Err(Error::ReadFault),
+        Err(Failed::NoMemory) => Err(Error::NoMemory),
+    }
+}

@@ -1,0 +1,10 @@
+//! Writes keys, certificates and signatures at the end of what is there.
+
+mod certificate;
+mod fields;
+mod names;
+mod pair;
+mod signature;
+
+pub(crate) use certificate::key_bytes;
+pub use pair::write_key_pair;

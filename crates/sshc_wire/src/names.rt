@@ -1,0 +1,114 @@
+//! Lists of names, which are parted by commas (RFC 4251, section 5).
+
+ghost use Rattle.std.specs.Prelude.{◌≡◌, ◌<◌, ◌^◌, ◌++◌, ◌∷◌, [], length, MatchOption, IfOk, OnOk, OnErr};
+ghost use Rattle.std.specs.Iterator.{YieldsFirstRef, item_count};
+ghost use Rattle.std.specs.List.{flat_map, join_with_byte, position_or_len, before_first, after_first};
+ghost use Rattle.sshc_wire.specs.Names.{is_comma, names_in, behind_comma};
+ghost use Rattle.sshc_wire.specs.Wire.{names_text};
+
+use crate::error::NoMemory;
+use crate::put::put_bytes;
+use crate::text::Text;
+use std::alloc::Global;
+use std::marker::Model;
+
+/// The names that are still to come from a list, without the empty ones, which contracts see as that list.
+#[derive(Debug, Drop)]
+pub struct Names<'a> {
+    left: &'a str,
+}
+
+impl<'a> Model for Names<'a> {
+    ghost use Rattle.std.specs.Prelude.{List, ℕ};
+    ghost use Rattle.sshc_wire.specs.Names.{names_in};
+
+    ghost Value = { List (List ℕ) };
+
+    ghost view = { λ n. names_in n.left.now };
+}
+
+impl<'a> Names<'a> {
+    /// The names in the text.
+    pub fn new(text: &'a str) -> Names<'a>
+        ensures { result ≡ names_in text.now }
+    {
+        Names { left: text }
+    }
+}
+
+impl<'a> Iterator for Names<'a> {
+    type Item = &'a str;
+
+    ghost next_gives = { YieldsFirstRef (λ s. s) };
+
+    ghost remaining = { item_count (λ s. s) };
+
+    fn next(&mut self) -> Option<&'a str> {
+        let (name, rest) = first_name(self.left)?;
+        self.left = rest;
+        Some(name)
+    }
+}
+
+/// What stands before and after the first comma.
+fn cut(text: &str) -> Option<(&str, &str)>
+    ensures { MatchOption result (position_or_len is_comma text.now ≡ length text.now)
+        (λ x. (position_or_len is_comma text.now < length text.now) × (x.0.now ≡ before_first is_comma text.now) × (x.1.now ≡ after_first is_comma text.now)) }
+{
+    text.split_once(',')
+}
+
+/// The first name that isn't empty, and the text behind it.
+#[tactic(auto, using(crate::proofs::NamesLemmas::names_first, crate::proofs::NamesLemmas::names_skipped, crate::proofs::NamesLemmas::names_whole, crate::proofs::NamesLemmas::names_none))]
+fn first_name(text: &str) -> Option<(&str, &str)>
+    ensures { MatchOption result (names_in text.now ≡ []) (λ x. names_in text.now ≡ x.0.now ∷ names_in x.1.now) }
+{
+    let mut left = text;
+    while !left.is_empty() {
+        let Some((name, rest)) = cut(left) else {
+            return Some((left, ""));
+        };
+        if !name.is_empty() {
+            return Some((name, rest));
+        }
+        left = rest;
+    }
+    None
+}
+
+/// Adds the names, each behind a comma.
+fn put_rest(out: &mut Vec<u8>, names: &[Text]) -> Result<(), NoMemory>
+    ensures { OnOk result (out.new.items ≡ out.old.items ++ flat_map behind_comma names.now) }
+{
+    for name in names {
+        out.push(b',')?;
+        out.extend_from_slice(name.as_str().as_bytes())?;
+    }
+    Ok(())
+}
+
+#[tactic(auto, using(crate::proofs::NamesLemmas::joined_first))]
+fn joined(alloc: Global, names: &[Text]) -> Result<Vec<u8>, NoMemory>
+    ensures { IfOk result (λ v. v.items ≡ join_with_byte 44 names.now) }
+{
+    let mut out = Vec::new(alloc);
+    match names.split_first() {
+        None => Ok(out),
+        Some((first, others)) => {
+            out.extend_from_slice(first.as_str().as_bytes())?;
+            put_rest(&mut out, others)?;
+            Ok(out)
+        }
+    }
+}
+
+/// Writes a list of names: the names joined by commas, as a string.
+#[tactic(auto, unfolding(crate::specs::Wire::names_text))]
+pub fn put_names(out: &mut Vec<u8>, names: &[Text]) -> Result<(), NoMemory>
+    requires { length (join_with_byte 44 names.now) < 2 ^ 32 }
+    ensures ok { OnOk result (out.new.items ≡ out.old.items ++ names_text names.now) }
+    ensures err { OnErr result (out.new.items ≡ out.old.items) }
+{
+    let text = joined(*out.allocator(), names)?;
+    put_bytes(out, &text)
+}
