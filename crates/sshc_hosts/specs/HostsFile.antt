@@ -1,6 +1,6 @@
 -- Known hosts texts in files: what a call answers by the files as they are told, and which faults it may answer.
 -- The definitions look the path up in a list of files; the code asks the files for it.
-use Rattle.std.specs.Prelude.{◌≡◌, ℕ, Bool, ◌≤◌, List, [], ◌++◌, codes, Option, Some, None, Result, Ok, Err, IsErrOf, if◌then◌else◌}
+use Rattle.std.specs.Prelude.{◌≡◌, ◌≢◌, ℕ, Bool, ◌≤◌, List, [], ◌++◌, codes, Option, Some, None, Result, Ok, Err, IsErrOf, if◌then◌else◌}
 use Rattle.std.specs.Str.{is_utf8}
 use Rattle.sshc_wire.specs.Contents.{bytes_of}
 use Rattle.sshc_wire.specs.Faults.{Rose}
@@ -8,8 +8,8 @@ use Rattle.sshc_wire.specs.Reads.{◌>>=◌}
 use Rattle.sshc_key.specs.Gives.{Fails}
 use Rattle.sshc_key.specs.KeyGrammar.{Key}
 use Rattle.sshc_key.specs.declared.error.Error.{Error}
-use Rattle.sshc_key.specs.declared.error.Error.TheVariants.{Utf8, ReadFault, WriteFault}
-use Rattle.sshc_hosts.specs.Judgement.{KnownKey, known_keys, judged}
+use Rattle.sshc_key.specs.declared.error.Error.TheVariants.{NoHomeDir, Utf8, ReadFault}
+use Rattle.sshc_hosts.specs.Judgement.{KnownKey, known_keys, judged, IsRefusal}
 
 -- paths and their bytes
 abbrev pub Told : Type 0
@@ -49,8 +49,28 @@ abbrev pub AnswersBy : {X Y : Type 0} → (X → Y) → Result X Error → Optio
 AnswersBy view result None said = Unit {0}
 AnswersBy view result (Some files) said = GivesReading view result (said files)
 
--- a count never falls, and a failed read is answered only where it rose; no failed write is
+-- a count never falls, and a failed read is answered only where it rose
 pub record HasReadCause {T : Type 0} (before now : ℕ) (result : Result T Error) : Type 0 where
   pub later : before ≤ now
   pub fault : IsErrOf result ReadFault → Rose before now
-  pub no_write : IsErrOf result WriteFault → ⊥
+
+-- why a call that reads a file refuses
+abbrev pub IsFileRefusal : Error → Type 0
+IsFileRefusal Utf8 = Unit {0}
+IsFileRefusal ReadFault = Unit {0}
+IsFileRefusal e = IsRefusal e
+
+-- why a call over a home refuses
+abbrev pub IsHomeRefusal : Error → Type 0
+IsHomeRefusal NoHomeDir = Unit {0}
+IsHomeRefusal e = IsFileRefusal e
+
+-- what is said of the path in a home, where one is handed in
+abbrev pub at_home : {Y : Type 0} → Option (List ℕ) → (List ℕ → Told → Result Y Error) → Told → Result Y Error
+at_home None said files = Err NoHomeDir
+at_home (Some home) said files = said (home_path home) files
+
+-- a home is wanting exactly where none is handed in
+abbrev pub NeedsHome : {T : Type 0} → Option (List ℕ) → Result T Error → Type 0
+NeedsHome None result = result ≡ Err NoHomeDir
+NeedsHome (Some home) result = result ≢ Err NoHomeDir

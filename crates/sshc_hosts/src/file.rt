@@ -1,8 +1,8 @@
 //! Known hosts in files.
 
-ghost use Rattle.std.specs.Prelude.{◌≡◌};
+ghost use Rattle.std.specs.Prelude.{◌≡◌, IfErr};
 ghost use Rattle.sshc_hosts.specs.HostText.{host_text};
-ghost use Rattle.sshc_hosts.specs.HostsFile.{text_at, known_keys_at, judged_at, AnswersBy, HasReadCause};
+ghost use Rattle.sshc_hosts.specs.HostsFile.{text_at, known_keys_at, judged_at, AnswersBy, HasReadCause, IsFileRefusal};
 
 use crate::judgement::{judge_text, known_host_keys_text};
 use sshc_key::{Error, PublicKey};
@@ -13,6 +13,7 @@ use std::alloc::Global;
 fn text_at<F: Files>(alloc: Global, files: &mut F, path: &str) -> Result<Text, Error>
     ensures answer { AnswersBy (λ text. text) result (F.contents files.old) (λ told. text_at told path.now) }
     ensures same { F.contents files.new ≡ F.contents files.old }
+    ensures refusal { IfErr result IsFileRefusal }
     ensures cause { HasReadCause (F.read_faults files.old) (F.read_faults files.new) result }
     ensures others { F.append_faults files.new ≡ F.append_faults files.old }
 {
@@ -35,6 +36,7 @@ pub fn known_host_keys_path<F: Files>(
 ) -> Result<Vec<(u64, PublicKey)>, Error>
     ensures answer { AnswersBy (λ known. known.items) result (F.contents files.old) (known_keys_at path.now (host_text host.now port)) }
     ensures same { F.contents files.new ≡ F.contents files.old }
+    ensures refusal { IfErr result IsFileRefusal }
     ensures cause { HasReadCause (F.read_faults files.old) (F.read_faults files.new) result }
     ensures others { F.append_faults files.new ≡ F.append_faults files.old }
 {
@@ -53,6 +55,7 @@ pub fn check_known_hosts_path<F: Files>(
 ) -> Result<bool, Error>
     ensures answer { AnswersBy (λ accepted. accepted) result (F.contents files.old) (judged_at path.now (host_text host.now port) key.now.0) }
     ensures same { F.contents files.new ≡ F.contents files.old }
+    ensures refusal { IfErr result IsFileRefusal }
     ensures cause { HasReadCause (F.read_faults files.old) (F.read_faults files.new) result }
     ensures others { F.append_faults files.new ≡ F.append_faults files.old }
 {

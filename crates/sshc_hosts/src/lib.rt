@@ -5,6 +5,7 @@ mod cutting;
 mod entry;
 mod file;
 mod hmac;
+mod home;
 mod host;
 mod judgement;
 mod learning;
@@ -12,5 +13,6 @@ mod lines;
 
 pub use file::{check_known_hosts_path, known_host_keys_path};
 pub use hmac::hmac_sha1;
+pub use home::{check_known_hosts, known_host_keys};
 pub use host::host_text;
 pub use judgement::{judge_text, known_host_keys_text};
