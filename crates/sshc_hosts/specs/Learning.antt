@@ -1,6 +1,12 @@
 -- What a known hosts text becomes where a key is learned, and which hosts can be learned.
 -- The line stands whole behind the old text; the code appends its parts.
-use Rattle.std.specs.Prelude.{◌≡◌, ℕ, ◌-◌, ◌<◌, Bool, false, List, [], ◌∷◌, ◌++◌, length, slice_index, ◌==◌, if◌then◌else◌, All}
+use Rattle.std.specs.Prelude.{◌≡◌, ◌≢◌, ℕ, ◌-◌, ◌<◌, Bool, true, false, Some, Result, Ok, Err, List, [], ◌∷◌, ◌++◌, length, slice_index, ◌==◌, if◌then◌else◌, All}
+use Rattle.base64.specs.Engines.{standard}
+use Rattle.base64.specs.GeneralPurpose.{encode_of}
+use Rattle.sshc_key.specs.KeyGrammar.{Key, key_name, key_text, Fits}
+use Rattle.sshc_key.specs.Nesting.{blob_key}
+use Rattle.sshc_key.specs.declared.error.Error.{Error}
+use Rattle.sshc_hosts.specs.Judgement.{is_certificate, judged}
 use Rattle.sshc_hosts.specs.MatchingLines.{is_hashed, is_comment}
 
 -- the last byte is a line feed
@@ -27,3 +33,33 @@ pub record IsLearnable (host : List ℕ) : Type 0 where
   pub no_line_feed : Lacks host 10
   pub no_comment : is_comment host ≡ false
   pub not_hashed : is_hashed host ≡ false
+
+-- the comment, behind a space where there is one
+abbrev pub comment_text : List ℕ → List ℕ
+comment_text [] = []
+comment_text (b ∷ comment) = 32 ∷ b ∷ comment
+
+-- a key as OpenSSH writes it: the name of its algorithm, its base64, and its comment
+abbrev pub openssh_text : Key × List ℕ → List ℕ
+openssh_text key = key_name key.0 ++ 32 ∷ (encode_of standard (key_text key.0) ++ comment_text key.1)
+
+-- what is added where a key is learned for a host text
+unfoldable pub learned : List ℕ → List ℕ → Key × List ℕ → List ℕ
+learned old host key = added_line old (host ++ 32 ∷ openssh_text key)
+
+-- a key that can be learned: no certificate, in the grammar, read from its own blob, and no line feed in its comment
+pub record IsLearnableKey (key : Key × List ℕ) : Type 0 where
+  pub no_certificate : is_certificate key.0 ≡ false
+  pub fits : Fits key.0
+  pub is_read : blob_key (key_text key.0) ≡ Some key.0
+  pub one_line : Lacks key.1 10
+
+-- what becomes of a verdict where the key is learned: it is accepted, unless an old line refuses it
+abbrev pub once_learned : Result Bool Error → Result Bool Error
+once_learned (Ok accepted) = Ok true
+once_learned (Err e) = Err e
+
+-- the judgement before a text is added for a host and a key, and after it: no other host's judgement changes
+pub record Learns (old added host : List ℕ) (key : Key) : Type 0 where
+  pub accepted : judged (old ++ added) host key ≡ once_learned (judged old host key)
+  pub others : (other : List ℕ) (k : Key) → other ≢ host → judged (old ++ added) other k ≡ judged old other k
