@@ -1,1 +1,9 @@
 mod Pairs
+mod Loops
+mod Levels
+mod NameLemmas
+mod TagLemmas
+mod FieldsGrammar
+mod Grammar
+mod Nested
+mod Readable

@@ -1,7 +1,7 @@
 -- Reading keys, certificates and signatures from the front of a list of bytes, part after part, up to the first fault.
 -- Reading is a function on whole lists; the code moves a cursor. That it gives just the values of the key grammar is a
 -- law, on which the clauses of `parse_public_key` stand.
-use Rattle.std.specs.Prelude.{ℕ, zero, suc, List, [], ◌∷◌, length, Option, Some, None, Ok, Err, ◌==◌, bytes_eq, find, cond}
+use Rattle.std.specs.Prelude.{ℕ, zero, suc, List, [], ◌∷◌, length, Option, Some, None, Result, Ok, Err, ◌==◌, bytes_eq, find, cond}
 use Rattle.std.specs.Int.{w32, w64}
 use Rattle.sshc_wire.specs.declared.error.WireError.{WireError}
 use Rattle.sshc_wire.specs.Reads.{Reader, byte_at, number_at, string_at, text_at}
@@ -136,6 +136,10 @@ made_certificate p = certificate p.0 p.1.0 p.1.1.0 p.1.1.1.0 p.1.1.1.1
 unfoldable pub certificate_at : Reader Error Key → Kind → Reader Error Key
 certificate_at signer kind bytes =
     made_at made_certificate (both_at octets_at (both_at (fields_at kind) (both_at statement_at (both_at (framed_at octets_at (whole_at SshKey signer)) (framed_at octets_at (whole_at SshKey signature_at)))))) bytes
+
+abbrev pub tag_or_fault : Option Tag → Result Tag Error
+tag_or_fault None = Err SshKey
+tag_or_fault (Some tag) = Ok tag
 
 unfoldable pub tag_at : Reader Error Tag
 tag_at bytes = named_at tag_named SshKey utf8_at bytes

@@ -1,7 +1,7 @@
 //! The kinds of blobs, as their names tell them.
 
 ghost use Rattle.std.specs.Prelude.{◌≡◌};
-ghost use Rattle.sshc_key.specs.AlgorithmNames.{known_name, known_certificate_name, known_named, known_certified};
+ghost use Rattle.sshc_key.specs.AlgorithmNames.{known_name, known_stem, known_certificate_name, known_stemmed, known_named, known_certified};
 
 use crate::algorithm::EcdsaCurve;
 use sshc_wire::Text;
@@ -75,6 +75,33 @@ impl Known {
         }
     }
 
+    /// The name before its domain, if it has one.
+    fn stem(self) -> &'static str
+        ensures { result.now ≡ known_stem self }
+    {
+        match self {
+            Known::Dsa => "ssh-dss",
+            Known::Ecdsa(EcdsaCurve::NistP256) => "ecdsa-sha2-nistp256",
+            Known::Ecdsa(EcdsaCurve::NistP384) => "ecdsa-sha2-nistp384",
+            Known::Ecdsa(EcdsaCurve::NistP521) => "ecdsa-sha2-nistp521",
+            Known::Ed25519 => "ssh-ed25519",
+            Known::Rsa => "ssh-rsa",
+            Known::SkEcdsaSha2NistP256 => "sk-ecdsa-sha2-nistp256",
+            Known::SkEd25519 => "sk-ssh-ed25519",
+        }
+    }
+
+    #[tactic(auto, unfolding(crate::specs::AlgorithmNames::known_stemmed))]
+    pub fn stemmed(stem: &[u8]) -> Option<Known>
+        ensures { result ≡ known_stemmed stem.now }
+    {
+        KNOWN
+            .iter()
+            .copied()
+            .find(|known| known.stem().as_bytes() == stem)
+    }
+
+    #[tactic(auto, unfolding(crate::specs::AlgorithmNames::known_named))]
     pub fn named(name: &[u8]) -> Option<Known>
         ensures { result ≡ known_named name.now }
     {
@@ -84,6 +111,7 @@ impl Known {
             .find(|known| known.name().as_bytes() == name)
     }
 
+    #[tactic(auto, unfolding(crate::specs::AlgorithmNames::known_certified))]
     pub fn certified(name: &[u8]) -> Option<Known>
         ensures { result ≡ known_certified name.now }
     {
