@@ -1,9 +1,13 @@
 -- The names of algorithms have neither spaces nor line feeds.
-use Rattle.std.proofs.Common.{◌≡◌, ℕ, ◌<◌, Bool, true, false, List, [], ◌∷◌, Option, Some, None, refl, arith}
-use Rattle.std.specs.Prelude.{◌==◌, ◌&&◌, not, nat_le}
-use Rattle.std.specs.List.{list_all}
+use Rattle.std.proofs.Common.{◌≡◌, ℕ, ◌<◌, Bool, true, false, List, [], ◌∷◌, Some, None, refl, arith}
+use Rattle.std.specs.Prelude.{if◌then◌else◌, nat_lt, ◌==◌, ◌&&◌, not, nat_le}
+use Rattle.std.proofs.Common.{length, get_or, ◌+◌, ap, ◌∙◌, ◌++◌, Some, None}
+use Rattle.std.proofs.lemmas.Bool.{eqb-true}
+use Rattle.std.proofs.lemmas.List.Sums.{split_at_first, passes_at_first}
+use Rattle.std.specs.List.{list_all, position_or_len, before_first, after_first}
 use Rattle.std.proofs.lemmas.Bool.Decides.{nat_tests}
-use Rattle.sshc_key.specs.AlgorithmNames.{Parted, with_first, parted, is_name_byte, is_opaque_name, opaque_parts, is_nonempty, known_name, kind_name, IsKind}
+use Rattle.sshc_key.specs.AlgorithmNames.{Parted, is_sign, parted, is_name_byte, is_side, is_marked, is_taken, is_opaque, opaque_parts, is_opaque_name, known_name, kind_name, IsKind}
+use Rattle.std.proofs.lemmas.List.Folds.{list_all-append}
 use Rattle.sshc_key.specs.KeyGrammar.{Key, plain, certificate, plain_kind, key_name, Fits}
 use Rattle.sshc_key.specs.declared.algorithm.EcdsaCurve.TheVariants.{NistP256, NistP384, NistP521}
 use Rattle.sshc_key.specs.declared.kind.Known.{Known as KnownKind}
@@ -32,6 +36,7 @@ first_holds false b c d h = cc
 
 -- a byte of a name is no blank and no control character
 name_byte_apart : (b byte : ℕ) → byte < 33 → is_name_byte b ≡ true → not (b == byte) ≡ true
+unfolding is_name_byte
 name_byte_apart b byte low name =
     let high : nat_le 33 b ≡ true = first_holds (nat_le 33 b) (nat_le b 126) (not (b == 44)) (not (b == 64)) name in
     grind (arith, nat_tests, high)
@@ -42,47 +47,36 @@ name_lacks byte (x ∷ xs) low all =
     and_both (not (x == byte)) (lacks byte xs) (name_byte_apart x byte low (and_left (is_name_byte x) (list_all is_name_byte xs) all))
     (name_lacks byte xs low (and_right (is_name_byte x) (list_all is_name_byte xs) all))
 
--- what the two sides of an opaque name's sign are made of
-sides_hold : (a b c d e f g : Bool) → (a && b && c && d && e && f && g) ≡ true → (c ≡ true) × (d ≡ true)
-sides_hold true true true true e f g h = (refl, refl)
-sides_hold true true true false e f g h = absurd (cc)
-sides_hold true true false d e f g h = absurd (cc)
-sides_hold true false c d e f g h = absurd (cc)
-sides_hold false b c d e f g h = absurd (cc)
+-- ---- the two sides of an opaque name
 
--- a name lacks what its sides lack
-abbrev pub sides_lack : ℕ → Option Parted → Type 0
-sides_lack byte None = Unit {0}
-sides_lack byte (Some p) = (lacks byte p.front ≡ true) × (lacks byte p.domain ≡ true)
+both_hold : (a b : Bool) → (a && b) ≡ true → (a ≡ true) × (b ≡ true)
+both_hold a b h = (and_left a b h, and_right a b h)
 
-abbrev pub whole_lacks : ℕ → List ℕ → Option Parted → Type 0
-whole_lacks byte name None = Unit {0}
-whole_lacks byte name (Some p) = lacks byte name ≡ true
+name_sides : (p : Parted) → is_opaque p ≡ true → (list_all is_name_byte p.front ≡ true) × (list_all is_name_byte p.domain ≡ true)
+unfolding is_opaque is_side
+name_sides p h =
+    let unmarked = both_hold _ (not (is_marked p.front)) h in
+    let untaken = both_hold _ (not (is_taken p)) unmarked.0 in
+    let short = both_hold _ (nat_le (length p.front + 1 + length p.domain) 64) untaken.0 in
+    let sides = both_hold (is_side p.front) (is_side p.domain) short.0 in
+    ((both_hold _ (list_all is_name_byte p.front) sides.0).1, (both_hold _ (list_all is_name_byte p.domain) sides.1).1)
 
-with_first_lacks : (byte b : ℕ) (bytes : List ℕ) (o : Option Parted) → (sides_lack byte o → whole_lacks byte bytes o)
-    → sides_lack byte (with_first b o) → whole_lacks byte (b ∷ bytes) (with_first b o)
-with_first_lacks byte b bytes None later h = tt
-with_first_lacks byte b bytes (Some p) later h =
-    and_both (not (b == byte)) (lacks byte bytes) (and_left (not (b == byte)) (lacks byte p.front) h.0)
-    (later (and_right (not (b == byte)) (lacks byte p.front) h.0, h.1))
+-- what a text lacks whose first sign parts it so
+sign_case : (byte : ℕ) (name : List ℕ) (b : Bool) → byte < 33 → not (64 == byte) ≡ true → nat_lt (position_or_len is_sign name) (length name) ≡ b
+    → opaque_parts (if b then Some (record { front = before_first is_sign name; domain = after_first is_sign name }) else None) ≡ true → lacks byte name ≡ true
+sign_case byte name false low sign inside h = absurd (cc)
+sign_case byte name true low sign inside h =
+    let within : position_or_len is_sign name < length name = grind (arith, nat_tests, inside) in
+    let is : get_or name (position_or_len is_sign name) 0 ≡ 64 = eqb-true (get_or name (position_or_len is_sign name) 0) 64 (passes_at_first is_sign name 0 within) in
+    let sides = name_sides (record { front = before_first is_sign name; domain = after_first is_sign name }) h in
+    ap (lacks byte) (split_at_first is_sign name 0 within ∙ ap (λ (c : ℕ). before_first is_sign name ++ (c ∷ after_first is_sign name)) is)
+    ∙ list_all-append (λ b. not (b == byte)) (before_first is_sign name) (64 ∷ after_first is_sign name)
+    ∙ and_both (lacks byte (before_first is_sign name)) (lacks byte (64 ∷ after_first is_sign name)) (name_lacks byte (before_first is_sign name) low sides.0)
+    (and_both (not (64 == byte)) (lacks byte (after_first is_sign name)) sign (name_lacks byte (after_first is_sign name) low sides.1))
 
-parted_case : (byte b : ℕ) (bytes : List ℕ) (t : Bool) → byte < 33 → (b == 64) ≡ t → (sides_lack byte (parted bytes) → whole_lacks byte bytes (parted bytes))
-    → sides_lack byte (parted (b ∷ bytes)) → whole_lacks byte (b ∷ bytes) (parted (b ∷ bytes))
-parted_case byte b bytes true low e later = rw e (λ h. and_both (not (b == byte)) (lacks byte bytes) (grind (arith, nat_tests, e)) h.1)
-parted_case byte b bytes false low e later = rw e (with_first_lacks byte b bytes (parted bytes) later)
-
-parted_lacks : (byte : ℕ) (name : List ℕ) → byte < 33 → sides_lack byte (parted name) → whole_lacks byte name (parted name)
-parted_lacks byte [] low h = tt
-parted_lacks byte (b ∷ bytes) low h = parted_case byte b bytes (b == 64) low refl (parted_lacks byte bytes low) h
-
-opaque_case : (byte : ℕ) (name : List ℕ) (o : Option Parted) → byte < 33 → (sides_lack byte o → whole_lacks byte name o) → opaque_parts o ≡ true → lacks byte name ≡ true
-opaque_case byte name None low law h = absurd (cc)
-opaque_case byte name (Some p) low law h =
-    let sides : (list_all is_name_byte p.front ≡ true) × (list_all is_name_byte p.domain ≡ true) = sides_hold (is_nonempty p.front) (is_nonempty p.domain) _ _ _ _ _ h in
-    law (name_lacks byte p.front low sides.0, name_lacks byte p.domain low sides.1)
-
-opaque_lacks : (byte : ℕ) (name : List ℕ) → byte < 33 → is_opaque_name name ≡ true → lacks byte name ≡ true
-opaque_lacks byte name low h = opaque_case byte name (parted name) low (parted_lacks byte name low) h
+opaque_lacks : (byte : ℕ) (name : List ℕ) → byte < 33 → not (64 == byte) ≡ true → is_opaque_name name ≡ true → lacks byte name ≡ true
+unfolding parted
+opaque_lacks byte name low sign h = sign_case byte name (nat_lt (position_or_len is_sign name) (length name)) low sign refl h
 
 known_no_space : (k : KnownKind) → lacks 32 (known_name k) ≡ true
 known_no_space Dsa = refl
@@ -106,11 +100,11 @@ known_no_line_feed SkEd25519 = refl
 
 kind_no_space : (kind : Kind) → IsKind kind → lacks 32 (kind_name kind) ≡ true
 kind_no_space (Known k) fits = known_no_space k
-kind_no_space (Opaque name) fits = opaque_lacks 32 name (omega arith) fits
+kind_no_space (Opaque name) fits = opaque_lacks 32 name (omega arith) refl fits
 
 kind_no_line_feed : (kind : Kind) → IsKind kind → lacks 10 (kind_name kind) ≡ true
 kind_no_line_feed (Known k) fits = known_no_line_feed k
-kind_no_line_feed (Opaque name) fits = opaque_lacks 10 name (omega arith) fits
+kind_no_line_feed (Opaque name) fits = opaque_lacks 10 name (omega arith) refl fits
 
 -- the name of a plain key's algorithm is one field of one line
 pub name_no_space : (key : Key) → is_certificate key ≡ false → Fits key → Lacks (key_name key) 32
