@@ -1,8 +1,14 @@
 //! What is added to a known hosts text where a key is learned.
 
-ghost use Rattle.std.specs.Prelude.{◌≡◌, ◌++◌, ◌∷◌, IfOk};
-ghost use Rattle.sshc_hosts.specs.Learning.{ends_line, line_feed_after, added_line};
+ghost use Rattle.std.specs.Prelude.{◌≡◌, ◌++◌, ◌∷◌, IfOk, Ok, string_bytes};
+ghost use Rattle.sshc_hosts.specs.Learning.{ends_line, line_feed_after, added_line, openssh_text, learned, IsLearnable, IsLearnableKey, Learns};
+ghost use Rattle.sshc_hosts.specs.HostText.{host_text};
+ghost use Rattle.base64.specs.Engines.{standard};
+ghost use Rattle.base64.specs.GeneralPurpose.{encode_of, decode_of};
+ghost use Rattle.sshc_key.specs.KeyGrammar.{key_text};
 
+use crate::host::host_text;
+use sshc_key::PublicKey;
 use sshc_wire::{NoMemory, Text};
 use std::alloc::Global;
 
@@ -29,4 +35,28 @@ fn added_line(alloc: Global, old: &str, host: &str, key: &str) -> Result<Text, N
 {
     let line_feed = line_feed_after(old);
     Text::from_string(format!(in alloc; "{line_feed}{host} {key}\n")?)
+}
+
+/// The key as OpenSSH writes it. Answers want of memory until `to_openssh` stands in sshc_key.
+fn openssh(_alloc: Global, _key: &PublicKey) -> Result<String, NoMemory>
+    ensures text { IfOk result (λ t. string_bytes t ≡ openssh_text _key.now) }
+    ensures back { IfOk result (λ _. decode_of standard (encode_of standard (key_text _key.now.0)) ≡ Ok (key_text _key.now.0)) }
+{
+    Err(NoMemory)
+}
+
+/// What is added to a known hosts text where the key is learned for the host at the port: a line of its own.
+pub fn learn_text(
+    alloc: Global,
+    old: &str,
+    host: &str,
+    port: u16,
+    key: &PublicKey,
+) -> Result<Text, NoMemory>
+    ensures text { IfOk result (λ t. t ≡ learned old.now (host_text host.now port) key.now) }
+    ensures law { IsLearnable host.now → IsLearnableKey key.now → IfOk result (λ t. Learns old.now t (host_text host.now port) key.now.0) }
+{
+    let host = host_text(alloc, host, port)?;
+    let key = openssh(alloc, key)?;
+    added_line(alloc, old, host.as_str(), key.as_str())
 }

@@ -16,3 +16,4 @@ pub use hmac::hmac_sha1;
 pub use home::{check_known_hosts, known_host_keys};
 pub use host::host_text;
 pub use judgement::{judge_text, known_host_keys_text};
+pub use learning::learn_text;

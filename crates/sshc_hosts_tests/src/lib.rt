@@ -3,3 +3,7 @@
 
 #[cfg(test)]
 mod hashes;
+#[cfg(test)]
+mod judgement;
+#[cfg(test)]
+mod keys;
