@@ -13,3 +13,4 @@ pub mod PairView
 pub mod Falls
 pub mod Signers
 pub mod KeyText
+pub mod KeyWriting

@@ -18,6 +18,7 @@ mod signature;
 mod signer;
 mod statement;
 mod verifier;
+mod writing;
 
 pub use algorithm::{Algorithm, EcdsaCurve, HashAlg};
 pub use error::Error;

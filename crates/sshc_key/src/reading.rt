@@ -8,3 +8,4 @@ mod signature;
 mod statement;
 
 pub(crate) use certificate::key_of;
+pub(crate) use names::parts_of;

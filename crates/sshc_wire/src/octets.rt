@@ -66,6 +66,11 @@ impl Octets {
         Octets { bytes }
     }
 
+    /// The allocator of which the bytes are.
+    pub fn allocator(&self) -> Global {
+        *self.bytes.allocator()
+    }
+
     pub fn as_slice(&self) -> &[u8]
         ensures same { result.now ≡ self.now }
         ensures short { length self.now < 2 ^ 32 }

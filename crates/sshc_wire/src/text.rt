@@ -58,6 +58,11 @@ impl Text {
         }
     }
 
+    /// The allocator of which the bytes are.
+    pub fn allocator(&self) -> Global {
+        *self.text.allocator()
+    }
+
     pub fn as_str(&self) -> &str
         ensures same { result.now ≡ self.now }
         ensures utf8 { IsUtf8 self.now }
