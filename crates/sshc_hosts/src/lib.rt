@@ -11,7 +11,7 @@ mod judgement;
 mod learning;
 mod lines;
 
-pub use file::{check_known_hosts_path, known_host_keys_path};
+pub use file::{check_known_hosts_path, known_host_keys_path, learn_known_hosts_path};
 pub use hmac::hmac_sha1;
 pub use home::{check_known_hosts, known_host_keys};
 pub use host::host_text;
