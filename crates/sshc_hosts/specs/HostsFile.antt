@@ -118,3 +118,22 @@ IsAddingRefusal e = ⊥
 abbrev pub IsLearningRefusal : Error → Type 0
 IsLearningRefusal WriteFault = Unit {0}
 IsLearningRefusal e = IsReadingRefusal e
+
+-- learning in the file of a home, where one is handed in
+abbrev pub LearnedAtHome : Option Told → Option Told → Option (List ℕ) → List ℕ → Key × List ℕ → Type 0
+LearnedAtHome old new None host key = ⊥
+LearnedAtHome old new (Some home) host key = LearnedIn old new (home_path home) host key
+
+abbrev pub LearnsAtHome : Option Told → Option Told → Option (List ℕ) → List ℕ → Key → Type 0
+LearnsAtHome old new None host key = ⊥
+LearnsAtHome old new (Some home) host key = LearnsIn old new (home_path home) host key
+
+-- the home's file is no text
+abbrev pub HomeHoldsNoText : Option Told → Option (List ℕ) → Type 0
+HomeHoldsNoText files None = ⊥
+HomeHoldsNoText files (Some home) = HoldsNoText files (home_path home)
+
+-- why learning in a home refuses
+abbrev pub IsHomeLearningRefusal : Error → Type 0
+IsHomeLearningRefusal NoHomeDir = Unit {0}
+IsHomeLearningRefusal e = IsLearningRefusal e

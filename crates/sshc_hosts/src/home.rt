@@ -1,10 +1,12 @@
 //! Known hosts in a home.
 
-ghost use Rattle.std.specs.Prelude.{◌≡◌, IfErr, IfOk, option_copied, string_bytes};
+ghost use Rattle.std.specs.Prelude.{◌≡◌, IfErr, IfOk, OnOk, OnErr, IsErrOf, option_copied, string_bytes};
 ghost use Rattle.sshc_hosts.specs.HostText.{host_text};
-ghost use Rattle.sshc_hosts.specs.HostsFile.{home_path, known_keys_at, judged_at, at_home, AnswersBy, HasReadCause, IsHomeRefusal, NeedsHome};
+ghost use Rattle.sshc_hosts.specs.HostsFile.{home_path, known_keys_at, judged_at, at_home, AnswersBy, HasReadCause, IsHomeRefusal, NeedsHome, HasWriteCause, LearnedAtHome, LearnsAtHome, HomeHoldsNoText, IsHomeLearningRefusal};
+ghost use Rattle.sshc_hosts.specs.Learning.{IsLearnable, IsLearnableKey};
+ghost use Rattle.sshc_key.specs.declared.error.Error.TheVariants.{Utf8};
 
-use crate::file::{check_known_hosts_path, known_host_keys_path};
+use crate::file::{check_known_hosts_path, known_host_keys_path, learn_known_hosts_path};
 use sshc_key::{Error, PublicKey};
 use sshc_wire::{Files, NoMemory};
 use std::alloc::Global;
@@ -61,6 +63,33 @@ pub fn check_known_hosts<F: Files>(
         Some(home) => {
             let path = path_in(alloc, home)?;
             check_known_hosts_path(alloc, files, host, port, key, path.as_str())
+        }
+    }
+}
+
+/// Adds a line with the key for the host at the port to a home's known hosts.
+pub fn learn_known_hosts<F: Files>(
+    alloc: Global,
+    files: &mut F,
+    host: &str,
+    port: u16,
+    key: &PublicKey,
+    home: Option<&str>,
+) -> Result<(), Error>
+    ensures added { OnOk result (LearnedAtHome (F.contents files.old) (F.contents files.new) (option_copied home.entry) (host_text host.now port) key.now) }
+    ensures law { IsLearnable host.now → IsLearnableKey key.now → OnOk result (LearnsAtHome (F.contents files.old) (F.contents files.new) (option_copied home.entry) (host_text host.now port) key.now.0) }
+    ensures none { OnErr result (F.contents files.new ≡ F.contents files.old) }
+    ensures text { IsErrOf result Utf8 → HomeHoldsNoText (F.contents files.old) (option_copied home.entry) }
+    ensures home { NeedsHome (option_copied home.entry) result }
+    ensures refusal { IfErr result IsHomeLearningRefusal }
+    ensures reading { HasReadCause (F.read_faults files.old) (F.read_faults files.new) result }
+    ensures writing { HasWriteCause (F.append_faults files.old) (F.append_faults files.new) result }
+{
+    match home {
+        None => Err(Error::NoHomeDir),
+        Some(home) => {
+            let path = path_in(alloc, home)?;
+            learn_known_hosts_path(alloc, files, host, port, key, path.as_str())
         }
     }
 }

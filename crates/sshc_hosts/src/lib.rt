@@ -13,7 +13,7 @@ mod lines;
 
 pub use file::{check_known_hosts_path, known_host_keys_path, learn_known_hosts_path};
 pub use hmac::hmac_sha1;
-pub use home::{check_known_hosts, known_host_keys};
+pub use home::{check_known_hosts, known_host_keys, learn_known_hosts};
 pub use host::host_text;
 pub use judgement::{judge_text, known_host_keys_text};
 pub use learning::learn_text;
