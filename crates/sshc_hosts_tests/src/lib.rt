@@ -2,8 +2,12 @@
 #![tactic(auto)]
 
 #[cfg(test)]
+mod files;
+#[cfg(test)]
 mod hashes;
 #[cfg(test)]
 mod judgement;
+#[cfg(test)]
+mod keygen;
 #[cfg(test)]
 mod keys;
