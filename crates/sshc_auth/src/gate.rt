@@ -16,6 +16,9 @@ use sshc_wire::Outbox;
 pub trait Gate {
     type Error;
 
+    /// What the gate judges by, which each call keeps.
+    ghost setting: { Self → List (List ℕ) };
+
     /// The answers that a gate may give for a host key.
     ghost judges: { Self → HostKey → Result Bool Self.Error → Type 0 };
 
@@ -32,7 +35,8 @@ pub trait Gate {
     fn check_server_key(&mut self, key: &PublicKeyOrCertificate) -> Result<bool, Self::Error>
         ensures judged { judges self.old key.now result }
         ensures cause { OnErr result (Rose (refusals self.old) (refusals self.new)) }
-        ensures later { refusals self.old ≤ refusals self.new };
+        ensures later { refusals self.old ≤ refusals self.new }
+        ensures kept { setting self.new ≡ setting self.old };
 
     /// A key exchange is done. It may add answers to tickets.
     fn kex_done(
@@ -43,13 +47,15 @@ pub trait Gate {
     ) -> Result<(), Self::Error>
         ensures added { Adds tells out.old out.new result }
         ensures cause { OnErr result (Rose (refusals self.old) (refusals self.new)) }
-        ensures later { refusals self.old ≤ refusals self.new };
+        ensures later { refusals self.old ≤ refusals self.new }
+        ensures kept { setting self.new ≡ setting self.old };
 
     /// The server's banner (RFC 4252, section 5.4). It may add answers to tickets.
     fn auth_banner(&mut self, banner: &str, out: &mut Outbox) -> Result<(), Self::Error>
         ensures added { Adds tells out.old out.new result }
         ensures cause { OnErr result (Rose (refusals self.old) (refusals self.new)) }
-        ensures later { refusals self.old ≤ refusals self.new };
+        ensures later { refusals self.old ≤ refusals self.new }
+        ensures kept { setting self.new ≡ setting self.old };
 
     /// How an error of the opening is answered.
     fn from_auth(e: Error) -> Self::Error

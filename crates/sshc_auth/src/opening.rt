@@ -217,7 +217,9 @@ impl Opening {
         }
         match event {
             Event::ExchangeDone(exchange) => self.exchange_asks(exchange),
-            Event::PeerKexinit | Event::Payload(_) | Event::Authenticate { .. } => Ok(Asks::Nothing),
+            Event::PeerKexinit | Event::Payload(_) | Event::Authenticate { .. } => Ok(
+                Asks::Nothing,
+            ),
         }
     }
 
@@ -256,11 +258,11 @@ impl Opening {
         match self.row(event, told, out) {
             Ok(Flow::Went) => Step::Went,
             Ok(Flow::Opened) => {
-                self.is_closed = true;
+                self.shut();
                 Step::Opened
             }
             Err(e) => {
-                self.is_closed = true;
+                self.shut();
                 Step::Refused(e)
             }
         }

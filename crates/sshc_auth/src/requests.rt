@@ -8,7 +8,7 @@ use sshc_wire::{NoMemory, Octets, Text, msg, put_text};
 use std::alloc::Global;
 
 /// The request to begin authentication (RFC 4253, section 10).
-#[tactic(auto, using(std::proofs::lemmas::List::append_assoc))]
+#[tactic(auto, using(std::proofs::lemmas::List::append_assoc), unfolding(crate::specs::RequestTexts::service_request))]
 pub fn service_request_packet(alloc: Global) -> Result<Octets, NoMemory>
     ensures { IfOk result (λ packet. packet ≡ service_request) }
 {
@@ -33,19 +33,16 @@ fn put_method(out: &mut Vec<u8>, method: &Method) -> Result<(), NoMemory>
 }
 
 /// Writes the request by which a user asks for a method (RFC 4252, section 5).
-#[tactic(auto, using(std::proofs::lemmas::List::append_assoc))]
-pub fn write_auth_request(
-    out: &mut Vec<u8>,
-    user: &str,
-    method: &Method,
-) -> Result<(), NoMemory>
+#[tactic(auto, using(std::proofs::lemmas::List::append_assoc), unfolding(crate::specs::RequestTexts::request))]
+pub fn write_auth_request(out: &mut Vec<u8>, user: &str, method: &Method) -> Result<(), NoMemory>
     requires { length user.now < 2 ^ 32 }
     ensures { OnOk result (out.new.items ≡ out.old.items ++ request user.now method.now) }
 {
     out.push(msg::USERAUTH_REQUEST)?;
     put_text(out, user)?;
     put_text(out, "ssh-connection")?;
-    put_method(out, method)
+    put_method(out, method)?;
+    Ok(())
 }
 
 /// The packet of a user's request.

@@ -39,42 +39,42 @@ pub bytes8 : IsFormat (λ b. b ∷ []) (λ b. b < 256) u8_at
 unfolding u8_at
 bytes8 = part as_encoding a_byte
 
-mpints : IsFormat string_text IsMpint mpint_at
+pub mpints : IsFormat string_text IsMpint mpint_at
 unfolding mpint_at
 mpints = tested is_mpint SshKey octets
 
-points : (curve : EcdsaCurve) → IsFormat string_text (IsPoint curve) (point_at curve)
+pub points : (curve : EcdsaCurve) → IsFormat string_text (IsPoint curve) (point_at curve)
 unfolding point_at
 points curve = tested (is_point curve) SshKey octets
 
-sized : (n : ℕ) → IsFormat string_text (IsOfLength n) (sized_at n)
+pub sized : (n : ℕ) → IsFormat string_text (IsOfLength n) (sized_at n)
 unfolding sized_at
 sized n = tested (λ b. eqb (length b) n) SshKey octets
 
-abbrev IsCurveName : EcdsaCurve → List ℕ → Type 0
+abbrev pub IsCurveName : EcdsaCurve → List ℕ → Type 0
 IsCurveName curve b = IsShort b × (bytes_eq b (curve_name curve) ≡ true)
 
-curves : (curve : EcdsaCurve) → IsFormat string_text (IsCurveName curve) (curve_at curve)
+pub curves : (curve : EcdsaCurve) → IsFormat string_text (IsCurveName curve) (curve_at curve)
 unfolding curve_at
 curves curve = tested (λ name. bytes_eq name (curve_name curve)) SshKey octets
 
-name_fits : (curve : EcdsaCurve) → IsCurveName curve (curve_name curve)
+pub name_fits : (curve : EcdsaCurve) → IsCurveName curve (curve_name curve)
 name_fits NistP256 = (lit< tt, refl)
 name_fits NistP384 = (lit< tt, refl)
 name_fits NistP521 = (lit< tt, refl)
 
-named_so : (curve : EcdsaCurve) (b : List ℕ) → IsCurveName curve b → curve_name curve ≡ b
+pub named_so : (curve : EcdsaCurve) (b : List ℕ) → IsCurveName curve b → curve_name curve ≡ b
 named_so curve b h = sym (same_bytes _ _ h.1)
 
 -- ---- plain keys of one kind
 
-abbrev Two : Type 0
+abbrev pub Two : Type 0
 Two = List ℕ × List ℕ
 
-abbrev Three : Type 0
+abbrev pub Three : Type 0
 Three = List ℕ × (List ℕ × List ℕ)
 
-abbrev Four : Type 0
+abbrev pub Four : Type 0
 Four = List ℕ × (List ℕ × (List ℕ × List ℕ))
 
 -- the plain keys of a kind, made of their parts

@@ -7,3 +7,4 @@ mod FieldsGrammar
 mod Grammar
 mod Nested
 mod Readable
+mod PairFormats

@@ -107,3 +107,8 @@ is_whole blob bytes k = (
   (λ e. let h = front_there blob k [] bytes (some_whole (front_at blob) k e) in record { nesting = h.0; fits = h.1; text = h.2 ∙ append-nil (key_text k) }),
   (λ is. ap whole_of (front_back blob k [] is.nesting is.fits (is.text ∙ sym (append-nil (key_text k))))),
 )
+
+-- what was written is read again
+pub written_is_read : (k : Key) (rest : List ℕ) → Fits k → markers (key_text k ++ rest) ≤ 8 → blob_key (key_text k ++ rest) ≡ Some k
+unfolding blob_key
+written_is_read k rest fits few = ap front_of (front_back (key_text k ++ rest) k rest few fits refl)

@@ -18,7 +18,7 @@ use Rattle.sshc_key.proofs.NameLemmas.{both_true, chosen, some, some_is, cases_o
 
 -- ---- the table
 
-known_is : (name : List ℕ) (k : Known) → known_named name ≡ Some k → name ≡ known_name k
+pub known_is : (name : List ℕ) (k : Known) → known_named name ≡ Some k → name ≡ known_name k
 unfolding known_named
 known_is name k e = sym (same_bytes _ _ (found_passes (λ k. bytes_eq (known_name k) name) all_known k e))
 

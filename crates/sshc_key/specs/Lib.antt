@@ -14,3 +14,5 @@ pub mod Falls
 pub mod Signers
 pub mod KeyText
 pub mod KeyWriting
+pub mod PairGrammar
+pub mod Algorithms

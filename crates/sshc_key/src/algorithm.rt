@@ -54,3 +54,27 @@ pub enum Algorithm {
     SkEd25519,
     Other(Text),
 }
+
+/// The algorithms of keys that have names of their own.
+pub const ALL_KEY_TYPES: [Algorithm; 10] = [
+    Algorithm::Dsa,
+    Algorithm::Ecdsa {
+        curve: EcdsaCurve::NistP256,
+    },
+    Algorithm::Ecdsa {
+        curve: EcdsaCurve::NistP384,
+    },
+    Algorithm::Ecdsa {
+        curve: EcdsaCurve::NistP521,
+    },
+    Algorithm::Ed25519,
+    Algorithm::Rsa { hash: None },
+    Algorithm::Rsa {
+        hash: Some(HashAlg::Sha256),
+    },
+    Algorithm::Rsa {
+        hash: Some(HashAlg::Sha512),
+    },
+    Algorithm::SkEcdsaSha2NistP256,
+    Algorithm::SkEd25519,
+];

@@ -1,12 +1,18 @@
 //! Keys as base64 in lines.
 
-ghost use Rattle.std.specs.Prelude.{◌≡◌, filter, IfOk};
+ghost use Rattle.std.specs.Prelude.{◌≡◌, ◌↔◌, ◌≤◌, ◌++◌, ℕ, List, Some, filter, IfOk, OnOk, string_bytes};
+ghost use Rattle.sshc_key.specs.Algorithms.{algorithm_of, key_base64, commented_text, openssh_text};
+ghost use Rattle.sshc_key.specs.KeyGrammar.{Key, key_text, Fits};
 ghost use Rattle.sshc_key.specs.KeyText.{is_no_line_end, decoded_key};
-ghost use Rattle.sshc_key.specs.Nesting.{Parses};
+ghost use Rattle.sshc_key.specs.Nesting.{Parses, IsReadable, markers, blob_key, key_or_fault};
 
+use crate::algorithm::Algorithm;
 use crate::error::Error;
+use crate::key_data::KeyData;
+use crate::pair::PrivateKey;
 use crate::parsing::parse_public_key;
 use crate::public_key::PublicKey;
+use crate::writing::key_bytes;
 use base64::DecodeAllocError;
 use base64::engine::general_purpose::STANDARD;
 use sshc_wire::NoMemory;
@@ -33,5 +39,109 @@ pub fn parse_public_key_base64(alloc: Global, key: &str) -> Result<PublicKey, Er
         Ok(blob) => parse_public_key(alloc, &blob),
         Err(DecodeAllocError::OutOfMemory) => Err(Error::NoMemory),
         Err(DecodeAllocError::DecodeError(_)) => Err(Error::Decode),
+    }
+}
+
+/// A public key as bytes and as text.
+pub trait PublicKeyBase64 {
+    ghost use Rattle.sshc_key.specs.KeyGrammar.{Key};
+
+    ghost key: { Self → Key };
+
+    /// The key's blob.
+    fn public_key_bytes(&self) -> Result<Vec<u8>, NoMemory>
+        ensures text { IfOk result (λ v. v.items ≡ key_text (key self.now)) }
+        // What was written is read again, whatever follows it.
+        ensures again { IfOk result (λ v. (rest : List ℕ) → Fits (key self.now) → markers (v.items ++ rest) ≤ 8
+            → blob_key (v.items ++ rest) ≡ Some (key self.now)) };
+
+    /// The blob in padded base64.
+    fn public_key_base64(&self) -> Result<String, NoMemory>
+        ensures { IfOk result (λ t. string_bytes t ≡ key_base64 (key self.now)) };
+}
+
+impl PublicKeyBase64 for PublicKey {
+    ghost key = { λ k. k.0 };
+
+    #[tactic(auto, using(crate::proofs::Readable::written_is_read))]
+    fn public_key_bytes(&self) -> Result<Vec<u8>, NoMemory> {
+        key_bytes(self.comment.allocator(), &self.key)
+    }
+
+    fn public_key_base64(&self) -> Result<String, NoMemory> {
+        let blob = self.public_key_bytes()?;
+        Ok(STANDARD.encode(self.comment.allocator(), &blob)?)
+    }
+}
+
+impl PublicKeyBase64 for PrivateKey {
+    ghost key = { λ k. k.public.0 };
+
+    fn public_key_bytes(&self) -> Result<Vec<u8>, NoMemory> {
+        self.public.public_key_bytes()
+    }
+
+    fn public_key_base64(&self) -> Result<String, NoMemory> {
+        self.public.public_key_base64()
+    }
+}
+
+impl PublicKey {
+    /// The key's algorithm. An RSA key's has no hash, and a certificate's is the name that its blob begins with.
+    pub fn algorithm(&self) -> Result<Algorithm, NoMemory>
+        ensures { IfOk result (λ a. a ≡ algorithm_of self.now.0) }
+    {
+        match &self.key {
+            KeyData::Dsa { .. } => Ok(Algorithm::Dsa),
+            KeyData::Ecdsa { curve, .. } => Ok(Algorithm::Ecdsa { curve: *curve }),
+            KeyData::Ed25519 { .. } => Ok(Algorithm::Ed25519),
+            KeyData::Rsa { .. } => Ok(Algorithm::Rsa { hash: None }),
+            KeyData::SkEcdsaSha2NistP256 { .. } => Ok(Algorithm::SkEcdsaSha2NistP256),
+            KeyData::SkEd25519 { .. } => Ok(Algorithm::SkEd25519),
+            KeyData::Other { name, .. } => Ok(Algorithm::Other(name.copy()?)),
+            KeyData::Certificate(certificate) => {
+                let _ = &certificate.nonce;
+                Ok(Algorithm::Other(self.key.name(self.comment.allocator())?))
+            }
+        }
+    }
+
+    /// The key as a line of a key file.
+    pub fn to_openssh(&self) -> Result<String, NoMemory>
+        ensures { IfOk result (λ t. string_bytes t ≡ openssh_text self.now.0 self.now.1) }
+    {
+        let name = self.key.name(self.comment.allocator())?;
+        let base64 = self.public_key_base64()?;
+        let mut line = String::new(self.comment.allocator());
+        line.push_str(name.as_str())?;
+        line.push(' ')?;
+        line.push_str(&base64)?;
+        push_comment(&mut line, self.comment.as_str())?;
+        Ok(line)
+    }
+}
+
+fn push_comment(line: &mut String, comment: &str) -> Result<(), NoMemory>
+    ensures { OnOk result (string_bytes line.new ≡ string_bytes line.old ++ commented_text comment.now) }
+{
+    if !comment.is_empty() {
+        line.push(' ')?;
+        line.push_str(comment)?;
+    }
+    Ok(())
+}
+
+/// Reads a public key from a blob.
+pub trait PublicKeyExt {
+    fn decode(alloc: Global, bytes: &[u8]) -> Result<PublicKey, Error>;
+}
+
+impl PublicKeyExt for PublicKey {
+    /// The key at the front of the bytes, as `parse_public_key` answers it.
+    fn decode(alloc: Global, bytes: &[u8]) -> Result<PublicKey, Error>
+        ensures key { Parses result (key_or_fault (blob_key bytes.now)) }
+        ensures grammar { (k : Key) → (blob_key bytes.now ≡ Some k) ↔ IsReadable bytes.now k }
+    {
+        parse_public_key(alloc, bytes)
     }
 }

@@ -3,6 +3,8 @@
 mod certificate;
 mod fields;
 mod names;
+mod pair;
 mod signature;
 
 pub(crate) use certificate::key_bytes;
+pub use pair::write_key_pair;

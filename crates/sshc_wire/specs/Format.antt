@@ -1,6 +1,6 @@
 -- A format says how a value is written, which values it has, and how it is read from the front of a list of bytes.
 -- The format of a whole is made of those of its parts, a line for each; the code reads and writes part by part.
-use Rattle.std.proofs.Common.{◌≡◌, ℕ, suc, Bool, true, false, cond, List, [], ◌∷◌, ◌++◌, Option, Some, None, Result, Ok, Err, refl, sym, ap, subst, ◌∙◌, append_assoc}
+use Rattle.std.proofs.Common.{◌≡◌, ◌↔◌, ℕ, suc, Bool, true, false, cond, List, [], ◌∷◌, ◌++◌, Option, Some, None, Result, Ok, Err, refl, sym, ap, subst, ◌∙◌, append_assoc}
 use Rattle.sshc_wire.specs.Reads.{Reader, ◌>>=◌}
 use Rattle.sshc_wire.specs.Wire.{IsBytes}
 
@@ -188,3 +188,11 @@ nothing {E} x = record {
   takes = λ bytes y rest fits e. let is = ok_is {E = E} (x, bytes) (y, rest) e in (ap (λ (p : _). p.1) is, sym (ap (λ (p : _). p.0) is));
   again = λ y rest fits. rw fits refl;
 }
+
+-- what a format's reader answers, and what stands at the front
+pub reads_just : {E A : Type 0} {t : A → List ℕ} {F : A → Type 0} {f : Reader E A} → IsFormat t F f → (bytes : List ℕ) → IsBytes bytes → (x : A) (rest : List ℕ)
+    → (f bytes ≡ Ok (x, rest)) ↔ (F x × (bytes ≡ t x ++ rest))
+reads_just {f = f} p bytes fits x rest = (
+  (λ e. let h = p.takes bytes x rest fits e in (h.1, h.0)),
+  (λ h. ap f h.1 ∙ p.again x rest h.0),
+)

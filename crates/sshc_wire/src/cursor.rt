@@ -2,6 +2,7 @@
 
 ghost use Rattle.std.specs.Prelude.{◌≡◌, [], IsUtf8, IfOk, Err, OnErr, IsOk, ◌↔◌};
 ghost use Rattle.std.specs.Int.{w32, w64};
+ghost use Rattle.sshc_wire.specs.Wire.{IsBytes};
 ghost use Rattle.sshc_wire.specs.Reads.{Reads, byte_at, number_at, boolean_at, string_at, text_at};
 
 use crate::error::WireError;
@@ -112,7 +113,8 @@ impl<'a> Cursor<'a> {
 
     /// What is still unread.
     pub fn rest(&self) -> &'a [u8]
-        ensures { result.now ≡ self.now }
+        ensures same { result.now ≡ self.now }
+        ensures bytes { IsBytes self.now }
     {
         self.bytes
     }

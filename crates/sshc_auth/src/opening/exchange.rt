@@ -75,11 +75,7 @@ impl Opening {
     }
 
     /// A later exchange keeps the session id, and nobody judges it.
-    fn later_exchange(
-        &mut self,
-        exchange: &ExchangeResult,
-        out: &mut Outbox,
-    ) -> Result<Flow, Error>
+    fn later_exchange(&mut self, exchange: &ExchangeResult, out: &mut Outbox) -> Result<Flow, Error>
         ensures row { Follows (later_exchange_row self.old exchange.now) self.old self.new out.old out.new result }
     {
         let kex = exchange.names.kex.copy()?;

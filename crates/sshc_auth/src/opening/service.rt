@@ -37,7 +37,7 @@ impl Opening {
         }
         let mut packet = Cursor::new(body);
         let name = packet.bytes()?;
-        if name != b"ssh-userauth" {
+        if name != b"ssh-userauth".as_slice() {
             return Ok(Flow::Went);
         }
         packet.ensure_end()?;

@@ -1,9 +1,11 @@
 //! Reads signatures (RFC 4253, section 6.6; PROTOCOL.u2f).
 
-ghost use Rattle.std.specs.Prelude.{◌≡◌};
+ghost use Rattle.std.specs.Prelude.{◌≡◌, ◌↔◌, ◌++◌, ℕ, List, Ok, OnErr};
 ghost use Rattle.sshc_wire.specs.Whole.{whole_at};
 ghost use Rattle.sshc_key.specs.Gives.{Gives, GivesAll};
+ghost use Rattle.sshc_key.specs.KeyGrammar.{signature_text, SignatureFits};
 ghost use Rattle.sshc_key.specs.KeyReading.{sk_at, signature_at};
+ghost use Rattle.sshc_key.specs.declared.signature.Signature.{Signature as Signed};
 ghost use Rattle.sshc_key.specs.declared.error.Error.TheVariants.{SshKey};
 
 use crate::error::Error;
@@ -34,7 +36,7 @@ pub(super) fn signature_of(alloc: Global, c: &mut Cursor<'_>) -> Result<Signatur
     Ok(Signature { name, body, sk })
 }
 
-pub(super) fn whole_signature(alloc: Global, bytes: &[u8]) -> Result<Signature, Error>
+pub(crate) fn whole_signature(alloc: Global, bytes: &[u8]) -> Result<Signature, Error>
     ensures { GivesAll (λ x. x) result (whole_at SshKey signature_at bytes.now) }
 {
     let mut c = Cursor::new(bytes);
@@ -43,4 +45,21 @@ pub(super) fn whole_signature(alloc: Global, bytes: &[u8]) -> Result<Signature, 
         return Err(Error::SshKey);
     }
     Ok(signature)
+}
+
+/// Reads a signature. A refused cursor is unmoved.
+pub fn read_signature(alloc: Global, c: &mut Cursor<'_>) -> Result<Signature, Error>
+    ensures reads { Gives (λ s. s) result c.new (signature_at c.old) }
+    ensures unmoved { OnErr result (c.new ≡ c.old) }
+    // What is read is a signature of the grammar with its text at the front, and there is no other.
+    ensures grammar { (s : Signed) (rest : List ℕ) → (signature_at c.old ≡ Ok (s, rest)) ↔ (SignatureFits s × (c.old ≡ signature_text s ++ rest)) }
+{
+    let mut after = Cursor::new(c.rest());
+    match signature_of(alloc, &mut after) {
+        Ok(signature) => {
+            *c = after;
+            Ok(signature)
+        }
+        Err(error) => Err(error),
+    }
 }

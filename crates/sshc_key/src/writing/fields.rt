@@ -8,7 +8,7 @@ use crate::algorithm::EcdsaCurve;
 use crate::key_data::KeyData;
 use sshc_wire::{NoMemory, Octets, put_bytes, put_text};
 
-fn put_dsa(
+pub(super) fn put_dsa(
     out: &mut Vec<u8>,
     p: &Octets,
     q: &Octets,
