@@ -1,10 +1,9 @@
 -- What a known hosts text becomes where a key is learned, and which hosts can be learned.
 -- The line stands whole behind the old text; the code appends its parts.
-use Rattle.std.specs.Prelude.{◌≡◌, ◌≢◌, ℕ, ◌-◌, ◌<◌, Bool, true, false, Some, Result, Ok, Err, List, [], ◌∷◌, ◌++◌, length, slice_index, ◌==◌, if◌then◌else◌, All}
-use Rattle.base64.specs.Engines.{standard}
-use Rattle.base64.specs.GeneralPurpose.{encode_of}
-use Rattle.sshc_key.specs.KeyGrammar.{Key, key_name, key_text, Fits}
-use Rattle.sshc_key.specs.Nesting.{blob_key}
+use Rattle.std.specs.Prelude.{◌≡◌, ◌≢◌, ℕ, ◌-◌, ◌<◌, ◌≤◌, Bool, true, false, Result, Ok, Err, List, [], ◌∷◌, ◌++◌, length, slice_index, ◌==◌, if◌then◌else◌, All}
+use Rattle.sshc_key.specs.KeyGrammar.{Key, key_text, Fits}
+use Rattle.sshc_key.specs.Algorithms.{openssh_text}
+use Rattle.sshc_key.specs.Nesting.{markers}
 use Rattle.sshc_key.specs.declared.error.Error.{Error}
 use Rattle.sshc_hosts.specs.Judgement.{is_certificate, judged}
 use Rattle.sshc_hosts.specs.MatchingLines.{is_hashed, is_comment}
@@ -34,24 +33,15 @@ pub record IsLearnable (host : List ℕ) : Type 0 where
   pub no_comment : is_comment host ≡ false
   pub not_hashed : is_hashed host ≡ false
 
--- the comment, behind a space where there is one
-abbrev pub comment_text : List ℕ → List ℕ
-comment_text [] = []
-comment_text (b ∷ comment) = 32 ∷ b ∷ comment
-
--- a key as OpenSSH writes it: the name of its algorithm, its base64, and its comment
-abbrev pub openssh_text : Key × List ℕ → List ℕ
-openssh_text key = key_name key.0 ++ 32 ∷ (encode_of standard (key_text key.0) ++ comment_text key.1)
-
 -- what is added where a key is learned for a host text
 unfoldable pub learned : List ℕ → List ℕ → Key × List ℕ → List ℕ
-learned old host key = added_line old (host ++ 32 ∷ openssh_text key)
+learned old host key = added_line old (host ++ 32 ∷ openssh_text key.0 key.1)
 
--- a key that can be learned: no certificate, in the grammar, read from its own blob, and no line feed in its comment
+-- a key that can be learned: no certificate, in the grammar with few enough markers, and no line feed in its comment
 pub record IsLearnableKey (key : Key × List ℕ) : Type 0 where
   pub no_certificate : is_certificate key.0 ≡ false
   pub fits : Fits key.0
-  pub is_read : blob_key (key_text key.0) ≡ Some key.0
+  pub nesting : markers (key_text key.0) ≤ 8
   pub one_line : Lacks key.1 10
 
 -- what becomes of a verdict where the key is learned: it is accepted, unless an old line refuses it

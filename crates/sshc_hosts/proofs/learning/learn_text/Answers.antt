@@ -1,12 +1,13 @@
 use Rattle.std.proofs.Common.{◌≡◌, ℕ, List, ◌∷◌, ◌++◌, Result, Ok, Err, IfOk, subst, ap, sym, ◌∙◌, arith}
 use Rattle.sshc_hosts.specs.HostText.{host_text}
-use Rattle.sshc_hosts.specs.Learning.{added_line, openssh_text, learned, Learns}
+use Rattle.sshc_hosts.specs.Learning.{added_line, learned, Learns}
 use Rattle.sshc_hosts.proofs.LearningLaws.{learns}
 use Rattle.sshc_key.specs.KeyGrammar.{Key}
+use Rattle.sshc_key.specs.Algorithms.{openssh_text}
 use Rattle.sshc_hosts.proofs.learning.learn_text.Goals as goal
 
 -- the line by its parts
-learned_by : (old host text line : List ℕ) (key : Key × List ℕ) → host ≡ text → line ≡ openssh_text key → added_line old (host ++ 32 ∷ line) ≡ learned old text key
+learned_by : (old host text line : List ℕ) (key : Key × List ℕ) → host ≡ text → line ≡ openssh_text key.0 key.1 → added_line old (host ++ 32 ∷ line) ≡ learned old text key
 unfolding learned
 learned_by old host text line key same is = ap (λ front. added_line old (front ++ 32 ∷ line)) same ∙ ap (λ back. added_line old (text ++ 32 ∷ back)) is
 
@@ -26,5 +27,5 @@ returns-clause-text c =
 pub returns-clause-law : goal.returns-clause-law
 returns-clause-law c fit good =
     law_of (λ t. Learns c.args.old.now t (host_text c.args.host.now c.args.port) c.args.key.now.0) _ _
-    (learns c.args.old.now c.args.host.now c.args.port c.args.key.now (omega arith) fit good c.in_ok-key.ensures.back)
+    (learns c.args.old.now c.args.host.now c.args.port c.args.key.now (omega arith) fit good c.in_ok-key.ensures.bytes (let again = c.in_ok-key.ensures.again good.fits good.nesting in again))
     (returns-clause-text c)
