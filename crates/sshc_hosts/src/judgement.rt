@@ -122,9 +122,9 @@ fn read_lines(alloc: Global, lines: &[(u64, &str)]) -> Result<Vec<(u64, PublicKe
     Ok(known)
 }
 
-#[tactic(auto, unfolding(crate::specs::Judgement::known_keys))]
 /// The keys that a known hosts text records for the host at the port, with the numbers of their lines, counted from 1.
 /// A matching line that can't be read refuses them all.
+#[tactic(auto, unfolding(crate::specs::Judgement::known_keys))]
 pub fn known_host_keys_text(
     alloc: Global,
     text: &str,
@@ -139,8 +139,8 @@ pub fn known_host_keys_text(
     read_lines(alloc, lines.as_slice())
 }
 
-#[tactic(auto, unfolding(crate::specs::Judgement::judged))]
 /// Whether a known hosts text accepts the key for the host at the port. No certificate is accepted.
+#[tactic(auto, unfolding(crate::specs::Judgement::judged))]
 pub fn judge_text(
     alloc: Global,
     text: &str,

@@ -11,3 +11,5 @@ mod judgement;
 mod keygen;
 #[cfg(test)]
 mod keys;
+#[cfg(test)]
+mod learning;
