@@ -8,7 +8,8 @@ use Rattle.sshc_wire.specs.Reads.{◌>>=◌}
 use Rattle.sshc_key.specs.KeyGrammar.{Key}
 use Rattle.sshc_key.specs.KeyEq.{key_eq, key_eq-Decides}
 use Rattle.sshc_key.specs.declared.error.Error.{Error}
-use Rattle.sshc_hosts.specs.Judgement.{KnownKey, is_certificate, same_algorithm, contradicts, has_key, verdict, judged_among, read_lines, judged_by, once_learned}
+use Rattle.sshc_hosts.specs.Learning.{once_learned}
+use Rattle.sshc_hosts.specs.Judgement.{KnownKey, is_certificate, same_algorithm, contradicts, has_key, verdict, judged_among, read_lines, judged_by}
 use Rattle.sshc_key.specs.KeyText.{decoded_key}
 
 -- ---- reading one line more

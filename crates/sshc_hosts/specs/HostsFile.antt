@@ -1,15 +1,16 @@
 -- Known hosts texts in files: what a call answers by the files as they are told, and which faults it may answer.
 -- The definitions look the path up in a list of files; the code asks the files for it.
-use Rattle.std.specs.Prelude.{◌≡◌, ℕ, Bool, ◌≤◌, List, [], ◌++◌, codes, Option, Some, None, Result, Ok, Err, IsErrOf, if◌then◌else◌}
+use Rattle.std.specs.Prelude.{◌≡◌, ◌≢◌, ℕ, Bool, ◌≤◌, List, [], ◌++◌, codes, Option, Some, None, Result, Ok, Err, IsErrOf, if◌then◌else◌}
 use Rattle.std.specs.Str.{is_utf8}
-use Rattle.sshc_wire.specs.Contents.{bytes_of}
+use Rattle.sshc_wire.specs.Contents.{bytes_of, with_text}
 use Rattle.sshc_wire.specs.Faults.{Rose}
 use Rattle.sshc_wire.specs.Reads.{◌>>=◌}
 use Rattle.sshc_key.specs.Gives.{Fails}
 use Rattle.sshc_key.specs.KeyGrammar.{Key}
 use Rattle.sshc_key.specs.declared.error.Error.{Error}
-use Rattle.sshc_key.specs.declared.error.Error.TheVariants.{Utf8, ReadFault, WriteFault}
-use Rattle.sshc_hosts.specs.Judgement.{KnownKey, known_keys, judged}
+use Rattle.sshc_key.specs.declared.error.Error.TheVariants.{NoHomeDir, Utf8, ReadFault, WriteFault, NoMemory}
+use Rattle.sshc_hosts.specs.Learning.{learned, once_learned}
+use Rattle.sshc_hosts.specs.Judgement.{KnownKey, known_keys, judged, IsRefusal}
 
 -- paths and their bytes
 abbrev pub Told : Type 0
@@ -49,8 +50,90 @@ abbrev pub AnswersBy : {X Y : Type 0} → (X → Y) → Result X Error → Optio
 AnswersBy view result None said = Unit {0}
 AnswersBy view result (Some files) said = GivesReading view result (said files)
 
--- a count never falls, and a failed read is answered only where it rose; no failed write is
+-- a count never falls, and a failed read is answered only where it rose
 pub record HasReadCause {T : Type 0} (before now : ℕ) (result : Result T Error) : Type 0 where
   pub later : before ≤ now
   pub fault : IsErrOf result ReadFault → Rose before now
-  pub no_write : IsErrOf result WriteFault → ⊥
+
+-- why reading a file refuses, and why a call over a file's text does
+abbrev pub IsReadingRefusal : Error → Type 0
+IsReadingRefusal Utf8 = Unit {0}
+IsReadingRefusal ReadFault = Unit {0}
+IsReadingRefusal NoMemory = Unit {0}
+IsReadingRefusal e = ⊥
+
+abbrev pub IsFileRefusal : Error → Type 0
+IsFileRefusal Utf8 = Unit {0}
+IsFileRefusal ReadFault = Unit {0}
+IsFileRefusal e = IsRefusal e
+
+-- why a call over a home refuses
+abbrev pub IsHomeRefusal : Error → Type 0
+IsHomeRefusal NoHomeDir = Unit {0}
+IsHomeRefusal e = IsFileRefusal e
+
+-- what is said of the path in a home, where one is handed in
+abbrev pub at_home : {Y : Type 0} → Option (List ℕ) → (List ℕ → Told → Result Y Error) → Told → Result Y Error
+at_home None said files = Err NoHomeDir
+at_home (Some home) said files = said (home_path home) files
+
+-- a home is wanting exactly where none is handed in
+abbrev pub NeedsHome : {T : Type 0} → Option (List ℕ) → Result T Error → Type 0
+NeedsHome None result = result ≡ Err NoHomeDir
+NeedsHome (Some home) result = result ≢ Err NoHomeDir
+
+-- ---- learning
+
+-- the line stands at the end of the file at the path, or in a new file
+abbrev pub LearnedIn : Option Told → Option Told → List ℕ → List ℕ → Key × List ℕ → Type 0
+LearnedIn None new path host key = Unit {0}
+LearnedIn (Some old) new path host key = (text : List ℕ) × (text_at old path ≡ Ok text) × (new ≡ Some (with_text old path (learned text host key)))
+
+-- the judgement by the file at the path, before a key is learned for a host and after it
+pub record LearnsAt (old new : Told) (path host : List ℕ) (key : Key) : Type 0 where
+  pub accepted : judged_at path host key new ≡ once_learned (judged_at path host key old)
+  pub others : (other : List ℕ) (k : Key) → other ≢ host → judged_at path other k new ≡ judged_at path other k old
+
+abbrev pub LearnsIn : Option Told → Option Told → List ℕ → List ℕ → Key → Type 0
+LearnsIn None new path host key = Unit {0}
+LearnsIn (Some old) None path host key = ⊥
+LearnsIn (Some old) (Some new) path host key = LearnsAt old new path host key
+
+-- the file at the path is no text
+abbrev pub HoldsNoText : Option Told → List ℕ → Type 0
+HoldsNoText None path = Unit {0}
+HoldsNoText (Some files) path = text_at files path ≡ Err Utf8
+
+-- a count never falls, and a failed write is answered only where it rose
+pub record HasWriteCause {T : Type 0} (before now : ℕ) (result : Result T Error) : Type 0 where
+  pub later : before ≤ now
+  pub fault : IsErrOf result WriteFault → Rose before now
+
+-- why adding to a file refuses, and why learning does
+abbrev pub IsAddingRefusal : Error → Type 0
+IsAddingRefusal WriteFault = Unit {0}
+IsAddingRefusal NoMemory = Unit {0}
+IsAddingRefusal e = ⊥
+
+abbrev pub IsLearningRefusal : Error → Type 0
+IsLearningRefusal WriteFault = Unit {0}
+IsLearningRefusal e = IsReadingRefusal e
+
+-- learning in the file of a home, where one is handed in
+abbrev pub LearnedAtHome : Option Told → Option Told → Option (List ℕ) → List ℕ → Key × List ℕ → Type 0
+LearnedAtHome old new None host key = ⊥
+LearnedAtHome old new (Some home) host key = LearnedIn old new (home_path home) host key
+
+abbrev pub LearnsAtHome : Option Told → Option Told → Option (List ℕ) → List ℕ → Key → Type 0
+LearnsAtHome old new None host key = ⊥
+LearnsAtHome old new (Some home) host key = LearnsIn old new (home_path home) host key
+
+-- the home's file is no text
+abbrev pub HomeHoldsNoText : Option Told → Option (List ℕ) → Type 0
+HomeHoldsNoText files None = ⊥
+HomeHoldsNoText files (Some home) = HoldsNoText files (home_path home)
+
+-- why learning in a home refuses
+abbrev pub IsHomeLearningRefusal : Error → Type 0
+IsHomeLearningRefusal NoHomeDir = Unit {0}
+IsHomeLearningRefusal e = IsLearningRefusal e

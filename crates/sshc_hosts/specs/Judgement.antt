@@ -68,11 +68,6 @@ judged_by known key = if is_certificate key then Ok false else (known >>= judged
 unfoldable pub judged : List ℕ → List ℕ → Key → Result Bool Error
 judged text host key = judged_by (known_keys text host) key
 
--- what becomes of a verdict where the key is learned
-abbrev pub once_learned : Result Bool Error → Result Bool Error
-once_learned (Ok accepted) = Ok true
-once_learned (Err e) = Err e
-
 -- why a call that reads the lines refuses: a line that can't be read, or want of memory
 abbrev pub IsUnreadable : Error → Type 0
 IsUnreadable Decode = Unit {0}

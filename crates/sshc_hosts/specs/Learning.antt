@@ -1,6 +1,11 @@
 -- What a known hosts text becomes where a key is learned, and which hosts can be learned.
 -- The line stands whole behind the old text; the code appends its parts.
-use Rattle.std.specs.Prelude.{◌≡◌, ℕ, ◌-◌, ◌<◌, Bool, false, List, [], ◌∷◌, ◌++◌, length, slice_index, ◌==◌, if◌then◌else◌, All}
+use Rattle.std.specs.Prelude.{◌≡◌, ◌≢◌, ℕ, ◌-◌, ◌<◌, ◌≤◌, Bool, true, false, Result, Ok, Err, List, [], ◌∷◌, ◌++◌, length, slice_index, ◌==◌, if◌then◌else◌, All}
+use Rattle.sshc_key.specs.KeyGrammar.{Key, key_text, Fits}
+use Rattle.sshc_key.specs.Algorithms.{openssh_text}
+use Rattle.sshc_key.specs.Nesting.{markers}
+use Rattle.sshc_key.specs.declared.error.Error.{Error}
+use Rattle.sshc_hosts.specs.Judgement.{is_certificate, judged}
 use Rattle.sshc_hosts.specs.MatchingLines.{is_hashed, is_comment}
 
 -- the last byte is a line feed
@@ -27,3 +32,24 @@ pub record IsLearnable (host : List ℕ) : Type 0 where
   pub no_line_feed : Lacks host 10
   pub no_comment : is_comment host ≡ false
   pub not_hashed : is_hashed host ≡ false
+
+-- what is added where a key is learned for a host text
+unfoldable pub learned : List ℕ → List ℕ → Key × List ℕ → List ℕ
+learned old host key = added_line old (host ++ 32 ∷ openssh_text key.0 key.1)
+
+-- a key that can be learned: no certificate, in the grammar with few enough markers, and no line feed in its comment
+pub record IsLearnableKey (key : Key × List ℕ) : Type 0 where
+  pub no_certificate : is_certificate key.0 ≡ false
+  pub fits : Fits key.0
+  pub nesting : markers (key_text key.0) ≤ 8
+  pub one_line : Lacks key.1 10
+
+-- what becomes of a verdict where the key is learned: it is accepted, unless an old line refuses it
+abbrev pub once_learned : Result Bool Error → Result Bool Error
+once_learned (Ok accepted) = Ok true
+once_learned (Err e) = Err e
+
+-- the judgement before a text is added for a host and a key, and after it: no other host's judgement changes
+pub record Learns (old added host : List ℕ) (key : Key) : Type 0 where
+  pub accepted : judged (old ++ added) host key ≡ once_learned (judged old host key)
+  pub others : (other : List ℕ) (k : Key) → other ≢ host → judged (old ++ added) other k ≡ judged old other k

@@ -50,8 +50,8 @@ fn digest_after(block: &[u8; BLOCK_LENGTH], rest: &[u8]) -> [u8; 20]
     hasher.finalize()
 }
 
-#[tactic(auto, unfolding(crate::specs::Hmac::hmac_sha1))]
 /// The HMAC of a message under a key, with SHA-1.
+#[tactic(auto, unfolding(crate::specs::Hmac::hmac_sha1))]
 pub fn hmac_sha1(key: &[u8], message: &[u8]) -> [u8; 20]
     ensures { result ≡ hmac_sha1 key.now message.now }
 {

@@ -9,13 +9,11 @@ ghost use Rattle.sshc_key.specs.declared.kind.Kind.TheVariants.{Known};
 ghost use Rattle.sshc_key.specs.declared.kind.Known.TheVariants.{Ecdsa};
 ghost use Rattle.sshc_hosts.specs.Judgement.{is_certificate, algorithm_name, same_algorithm, contradicts, has_key, judged_among, read_lines, known_keys, judged, IsUnreadable, IsRefusal};
 ghost use Rattle.sshc_key.specs.Gives.{GivesAll};
-ghost use Rattle.sshc_key.specs.KeyText.{decoded_key};
-ghost use Rattle.sshc_key.specs.Nesting.{Parses};
 ghost use Rattle.sshc_hosts.specs.HostText.{host_text};
 
 use crate::host::host_text;
 use crate::lines::matching_lines;
-use sshc_key::{EcdsaCurve, Error, KeyData, PublicKey};
+use sshc_key::{EcdsaCurve, Error, KeyData, PublicKey, parse_public_key_base64};
 use std::alloc::Global;
 
 /// The name of ECDSA's algorithm with a curve.
@@ -112,28 +110,21 @@ fn judge_among(key: &PublicKey, known: &[(u64, PublicKey)]) -> Result<bool, Erro
     }
 }
 
-/// The key of a third field. Answers want of memory until `parse_public_key_base64` stands in sshc_key, with this very clause.
-fn parsed(_alloc: Global, _field: &str) -> Result<PublicKey, Error>
-    ensures { Parses result (decoded_key _field.now) }
-{
-    Err(Error::NoMemory)
-}
-
 /// The lines with their keys, or why the first that can't be read can't.
 fn read_lines(alloc: Global, lines: &[(u64, &str)]) -> Result<Vec<(u64, PublicKey)>, Error>
     ensures { GivesAll (λ known. known.items) result (read_lines (map (λ line. (line.0, line.1.now)) lines.now)) }
 {
     let mut known = Vec::new(alloc);
     for line in lines {
-        let key = parsed(alloc, line.1)?;
+        let key = parse_public_key_base64(alloc, line.1)?;
         known.push((line.0, key))?;
     }
     Ok(known)
 }
 
-#[tactic(auto, unfolding(crate::specs::Judgement::known_keys))]
 /// The keys that a known hosts text records for the host at the port, with the numbers of their lines, counted from 1.
 /// A matching line that can't be read refuses them all.
+#[tactic(auto, unfolding(crate::specs::Judgement::known_keys))]
 pub fn known_host_keys_text(
     alloc: Global,
     text: &str,
@@ -148,8 +139,8 @@ pub fn known_host_keys_text(
     read_lines(alloc, lines.as_slice())
 }
 
-#[tactic(auto, unfolding(crate::specs::Judgement::judged))]
 /// Whether a known hosts text accepts the key for the host at the port. No certificate is accepted.
+#[tactic(auto, unfolding(crate::specs::Judgement::judged))]
 pub fn judge_text(
     alloc: Global,
     text: &str,

@@ -2,4 +2,14 @@
 #![tactic(auto)]
 
 #[cfg(test)]
+mod files;
+#[cfg(test)]
 mod hashes;
+#[cfg(test)]
+mod judgement;
+#[cfg(test)]
+mod keygen;
+#[cfg(test)]
+mod keys;
+#[cfg(test)]
+mod learning;
