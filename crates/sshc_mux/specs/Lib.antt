@@ -1,0 +1,3 @@
+pub mod ChannelState
+pub mod Packets
+pub mod ChannelTable

@@ -1,0 +1,13 @@
+//! Channels and windows of the connection protocol, over an outbox of records, with no IO.
+#![tactic(auto)]
+
+mod channel;
+mod chunk;
+mod error;
+mod msg;
+mod table;
+
+pub use channel::{Opener, Stage};
+pub use chunk::Stream;
+pub use error::MuxError;
+pub use table::{ChannelId, ChannelTable};
