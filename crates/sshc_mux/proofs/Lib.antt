@@ -1,1 +1,4 @@
 mod StandardFacts
+mod PieceLemmas
+mod SendingLemmas
+mod FlushLemmas

@@ -1,9 +1,9 @@
 -- Channels worked step by step, computed from the definitions.
-use Rattle.std.proofs.Common.{◌≡◌, ℕ, Bool, true, false, List, [], ◌∷◌, Option, Some, None, refl}
+use Rattle.std.proofs.Common.{◌≡◌, ℕ, true, false, [], ◌∷◌, Some, None, refl}
 use Rattle.sshc_mux.specs.declared.chunk.Stream.TheVariants as Streams
 use Rattle.sshc_mux.specs.declared.channel.Stage.TheVariants as Stages
-use Rattle.sshc_mux.specs.ChannelState.{ChannelState, TableState, Waiting}
-use Rattle.sshc_mux.specs.Packets.{Packet, Piece, Eof, Close, Adjust}
+use Rattle.sshc_mux.specs.ChannelState.{ChannelState, TableState}
+use Rattle.sshc_mux.specs.Packets.{Piece, Eof, Close, Adjust}
 use Rattle.sshc_mux.specs.ChannelTable.{close_peer, confirm, fail}
 use Rattle.sshc_mux.specs.ChannelTable.Opens.{opened_by_user, reserved_by_server, confirmed, next_number, awaited}
 use Rattle.sshc_mux.specs.ChannelTable.Sending.{flushed, cut}

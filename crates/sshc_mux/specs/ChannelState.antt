@@ -1,6 +1,6 @@
 -- What the table remembers of the channels of a connection, as plain data (RFC 4254, section 5).
 -- No field tells how bytes are kept; the code keeps queues and places in them.
-use Rattle.std.specs.Prelude.{ℕ, Bool, true, false, List, [], ◌∷◌, ◌++◌, Option, Some, None, if◌then◌else◌, ◌==◌, sum}
+use Rattle.std.specs.Prelude.{ℕ, Bool, List, [], ◌∷◌, Option, Some, None, if◌then◌else◌, ◌==◌}
 use Rattle.sshc_mux.specs.declared.chunk.Stream.{Stream}
 use Rattle.sshc_mux.specs.declared.channel.Opener.{Opener}
 use Rattle.sshc_mux.specs.declared.channel.Stage.{Stage}

@@ -5,7 +5,9 @@ mod channel;
 mod chunk;
 mod error;
 mod msg;
+mod packets;
 mod table;
+mod waiting;
 
 pub use channel::{Opener, Stage};
 pub use chunk::Stream;

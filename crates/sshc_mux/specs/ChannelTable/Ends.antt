@@ -3,7 +3,7 @@ use Rattle.std.specs.Prelude.{ℕ, Bool, true, false, not, ◌&&◌, List, [], �
 use Rattle.sshc_mux.specs.declared.chunk.Stream.{Stream}
 use Rattle.sshc_mux.specs.declared.channel.Stage.{Stage}
 use Rattle.sshc_mux.specs.declared.channel.Stage.TheVariants as Stages
-use Rattle.sshc_mux.specs.ChannelState.{ChannelState, Waiting}
+use Rattle.sshc_mux.specs.ChannelState.{ChannelState}
 use Rattle.sshc_mux.specs.Packets.{Packet, Close}
 use Rattle.sshc_mux.specs.ChannelTable.Sending.{Turn, flushed}
 

@@ -5,7 +5,7 @@ use Rattle.sshc_wire.specs.declared.ticket.Ticket.{Ticket}
 use Rattle.sshc_mux.specs.declared.channel.Opener.{Opener}
 use Rattle.sshc_mux.specs.declared.channel.Opener.TheVariants.{User, Server}
 use Rattle.sshc_mux.specs.declared.channel.Stage.TheVariants.{Unasked}
-use Rattle.sshc_mux.specs.ChannelState.{ChannelState, TableState, channel_of, with_channel, without}
+use Rattle.sshc_mux.specs.ChannelState.{ChannelState, TableState, channel_of}
 
 -- the next number; after the last of a u32 it goes on at 0
 abbrev pub above : ℕ → ℕ

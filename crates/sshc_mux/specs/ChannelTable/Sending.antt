@@ -66,8 +66,11 @@ done Stages.Asked = Stages.Sent
 done Stages.Sent = Stages.Sent
 
 -- EOF first, then our close
+abbrev pub due_of : ChannelState → List Packet
+due_of c = (if is_due c.eof then Eof ∷ [] else []) ++ (if is_due c.close then Close ∷ [] else [])
+
 abbrev pub ends_of : ChannelState → List Packet
-ends_of c = if may_end c then ((if is_due c.eof then Eof ∷ [] else []) ++ (if is_due c.close then Close ∷ [] else [])) else []
+ends_of c = if may_end c then due_of c else []
 
 abbrev pub ended : ChannelState → ChannelState
 ended c = if may_end c then record c { eof = done c.eof; close = done c.close } else c

@@ -1,7 +1,7 @@
 -- Windows: what the peer grants, and what it uses of ours (RFC 4254, section 5.2).
-use Rattle.std.specs.Prelude.{ℕ, ◌+◌, ◌-◌, ◌/◌, ◌^◌, min, Bool, List, [], ◌∷◌, if◌then◌else◌, nat_lt}
+use Rattle.std.specs.Prelude.{ℕ, ◌+◌, ◌-◌, ◌/◌, ◌^◌, min, Bool, ◌&&◌, [], ◌∷◌, if◌then◌else◌, nat_lt}
 use Rattle.sshc_mux.specs.ChannelState.{ChannelState}
-use Rattle.sshc_mux.specs.Packets.{Packet, Adjust}
+use Rattle.sshc_mux.specs.Packets.{Adjust}
 use Rattle.sshc_mux.specs.ChannelTable.Sending.{Turn, flushed}
 
 -- the window after a grant, held at the last of a u32
@@ -30,3 +30,6 @@ refilled target c =
 -- bytes of the peer's
 abbrev pub received_turn : ℕ → ℕ → ChannelState → Turn
 received_turn len target c = if c.established then refilled target (lowered len c) else record { channel = c; packets = [] }
+
+abbrev pub adjusts : ℕ → ℕ → ChannelState → Bool
+adjusts len target c = c.established && is_low target (lowered len c)
