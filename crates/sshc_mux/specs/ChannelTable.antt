@@ -4,7 +4,7 @@ pub mod Sending
 pub mod Opens
 pub mod Windows
 pub mod Ends
-use Rattle.std.specs.Prelude.{◌≡◌, ℕ, Bool, true, false, List, [], ◌∷◌, ◌++◌, Option, Some, None, Result, Ok, Err, if◌then◌else◌}
+use Rattle.std.specs.Prelude.{◌≡◌, ℕ, Bool, true, false, List, [], ◌∷◌, ◌++◌, ◌||◌, length, not, ◌==◌, Option, Some, None, is_some, Result, Ok, Err, if◌then◌else◌}
 use Rattle.sshc_wire.specs.declared.error.NoMemory.{NoMemory}
 use Rattle.sshc_wire.specs.declared.ticket.Ticket.{Ticket}
 use Rattle.sshc_wire.specs.declared.record.Record.{Record}
@@ -15,9 +15,9 @@ use Rattle.sshc_mux.specs.declared.chunk.Stream.TheVariants as Streams
 use Rattle.sshc_mux.specs.ChannelState.{ChannelState, TableState, channel_of, with_channel, without}
 use Rattle.sshc_mux.specs.Packets.{Packet, packet_text, payloads}
 use Rattle.sshc_mux.specs.ChannelTable.Sending.{Turn, flushed}
-use Rattle.sshc_mux.specs.ChannelTable.Opens.{next_number, made, opened_by_user, reserved_by_server, awaited_by, confirmed, reserved_by}
-use Rattle.sshc_mux.specs.ChannelTable.Windows.{grant_turn, received_turn}
-use Rattle.sshc_mux.specs.ChannelTable.Ends.{data_turn, eof_turn, close_turn, last_packets}
+use Rattle.sshc_mux.specs.ChannelTable.Opens.{awaited, confirmed, reserved_by}
+use Rattle.sshc_mux.specs.ChannelTable.Windows.{grant_turn, adjusts}
+use Rattle.sshc_mux.specs.ChannelTable.Ends.{last_packets, is_sent}
 
 -- a packet, with the number of the channel that wrote it and the peer's number
 pub record Said : Type 0 where
@@ -42,16 +42,16 @@ records_of (s ∷ said) = Payload (packet_text s.recipient s.packet) ∷ records
 abbrev pub unmoved : TableState → Effect
 unmoved t = record { table = t; said = [] }
 
--- the channel takes its turn
-abbrev pub turned : Option ChannelState → (ChannelState → Turn) → TableState → Effect
-turned None turn t = unmoved t
-turned (Some c) turn t = record {
-  table = record t { channels = with_channel c.number (turn c).channel t.channels };
+-- the channel of this number takes its turn
+abbrev pub turned : ℕ → Option ChannelState → (ChannelState → Turn) → TableState → Effect
+turned n None turn t = unmoved t
+turned n (Some c) turn t = record {
+  table = record t { channels = with_channel n (turn c).channel t.channels };
   said = said_by c (turn c).packets;
 }
 
 abbrev pub turn_at : ℕ → (ChannelState → Turn) → TableState → Effect
-turn_at n turn t = turned (channel_of n t.channels) turn t
+turn_at n turn t = turned n (channel_of n t.channels) turn t
 
 -- each channel's turn, in the order of their making
 abbrev pub all_flushed : List ChannelState → List ChannelState
@@ -65,45 +65,39 @@ all_said (c ∷ cs) = said_by c (flushed false c).packets ++ all_said cs
 abbrev pub flush : TableState → Effect
 flush t = record { table = record t { channels = all_flushed t.channels }; said = all_said t.channels }
 
--- the channel is changed, or taken away, without a word
-abbrev pub changed : ℕ → (ChannelState → ChannelState) → Option ChannelState → TableState → TableState
-changed n change None t = t
-changed n change (Some c) t = record t { channels = with_channel n (change c) t.channels }
+-- the channel of this number is changed, or taken away, without a word
+abbrev pub changed : ℕ → Option ChannelState → (ChannelState → ChannelState) → TableState → TableState
+changed n None change t = t
+changed n (Some c) change t = record t { channels = with_channel n (change c) t.channels }
+
+abbrev pub changed_at : ℕ → (ChannelState → ChannelState) → TableState → TableState
+changed_at n change t = changed n (channel_of n t.channels) change t
 
 abbrev pub removed : ℕ → TableState → TableState
 removed n t = record t { channels = without n t.channels }
 
-abbrev pub settled_with : ChannelState → ChannelState
-settled_with c = record c { established = true }
+abbrev pub accepted : ChannelState → ChannelState
+accepted c = record c { established = true }
 
+-- an open of the peer's that waits is established or taken away
 abbrev pub settle : ℕ → Bool → TableState → TableState
 settle n accept t =
-    if reserved_by (channel_of n t.channels)
-    then (if accept then changed n settled_with (channel_of n t.channels) t else removed n t)
-    else t
+    if reserved_by (channel_of n t.channels) then (if accept then changed_at n accepted t else removed n t) else t
 
-abbrev pub confirm_where : Option (Option Ticket) → ℕ → ℕ → ℕ → ℕ → TableState → TableState
-confirm_where None n recipient window packet t = t
-confirm_where (Some ticket) n recipient window packet t = changed n (confirmed recipient window packet) (channel_of n t.channels) t
-
+-- an open of ours that waits is established, or taken away
 abbrev pub confirm : ℕ → ℕ → ℕ → ℕ → TableState → TableState
-confirm n recipient window packet t = confirm_where (awaited_by (channel_of n t.channels)) n recipient window packet t
-
-abbrev pub fail_where : Option (Option Ticket) → ℕ → TableState → TableState
-fail_where None n t = t
-fail_where (Some ticket) n t = removed n t
+confirm n recipient window packet t = if is_some (awaited n t) then changed_at n (confirmed recipient window packet) t else t
 
 abbrev pub fail : ℕ → TableState → TableState
-fail n t = fail_where (awaited_by (channel_of n t.channels)) n t
+fail n t = if is_some (awaited n t) then removed n t else t
 
--- the peer's close removes an established channel with what waits on it
-abbrev pub closed_where : Option ChannelState → TableState → Effect
-closed_where None t = unmoved t
-closed_where (Some c) t =
-    if c.established then record { table = removed c.number t; said = said_by c (last_packets c) } else unmoved t
+-- the peer's close takes an established channel away with what waits on it
+abbrev pub closed : ℕ → Option ChannelState → TableState → Effect
+closed n None t = unmoved t
+closed n (Some c) t = if c.established then record { table = removed n t; said = said_by c (last_packets c) } else unmoved t
 
 abbrev pub close_peer : ℕ → TableState → Effect
-close_peer n t = closed_where (channel_of n t.channels) t
+close_peer n t = closed n (channel_of n t.channels) t
 
 abbrev pub established_in : Option ChannelState → Bool
 established_in None = false
@@ -111,6 +105,46 @@ established_in (Some c) = c.established
 
 abbrev pub is_established : ℕ → TableState → Bool
 is_established n t = established_in (channel_of n t.channels)
+
+-- bytes wait on the channel
+abbrev pub waits : ChannelState → Bool
+waits c = not (length c.pending == 0)
+
+abbrev pub waits_in : Option ChannelState → Bool
+waits_in None = false
+waits_in (Some c) = waits c
+
+abbrev pub any_waits : List ChannelState → Bool
+any_waits [] = false
+any_waits (c ∷ cs) = waits c || any_waits cs
+
+abbrev pub window_in : Option ChannelState → ℕ
+window_in None = 0
+window_in (Some c) = c.window
+
+abbrev pub recipient_in : Option ChannelState → Option ℕ
+recipient_in None = None
+recipient_in (Some c) = if c.established then Some c.recipient else None
+
+abbrev pub close_sent_in : Option ChannelState → Bool
+close_sent_in None = false
+close_sent_in (Some c) = is_sent c.close
+
+-- the window that is left after a grant
+abbrev pub granted_in : Option ChannelState → ℕ → Bool → Option ℕ
+granted_in None amount exchanging = None
+granted_in (Some c) amount exchanging = if c.established then Some (grant_turn amount exchanging c).channel.window else None
+
+abbrev pub granted_at : ℕ → ℕ → Bool → TableState → Option ℕ
+granted_at n amount exchanging t = granted_in (channel_of n t.channels) amount exchanging
+
+-- bytes of the peer's bring an adjust packet
+abbrev pub adjusted_in : Option ChannelState → ℕ → ℕ → Bool
+adjusted_in None len target = false
+adjusted_in (Some c) len target = adjusts len target c
+
+abbrev pub adjusted_at : ℕ → ℕ → ℕ → TableState → Bool
+adjusted_at n len target t = adjusted_in (channel_of n t.channels) len target
 
 -- a call did this, or found no memory and changed nothing
 abbrev pub Did : {A : Type 0} → Effect → TableState → TableState → Outgoing → Outgoing → Result A NoMemory → Type 0

@@ -1,3 +1,4 @@
 pub mod ChannelState
+pub mod Places
 pub mod Packets
 pub mod ChannelTable

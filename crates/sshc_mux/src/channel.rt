@@ -6,7 +6,7 @@ mod windows;
 
 ghost use Rattle.std.specs.Prelude.{◌≡◌, Some};
 ghost use Rattle.sshc_mux.specs.ChannelTable.Opens.{opened_by_user, reserved_by_server, confirmed, awaited_by, reserved_by};
-ghost use Rattle.sshc_mux.specs.ChannelTable.{settled_with};
+ghost use Rattle.sshc_mux.specs.ChannelTable.{accepted, waits};
 ghost use Rattle.sshc_mux.specs.ChannelTable.Sending.{done, is_due};
 ghost use Rattle.sshc_mux.specs.ChannelTable.Ends.{asked, is_sent, is_unasked};
 
@@ -184,6 +184,20 @@ impl Channel {
         self.is_established
     }
 
+    /// Whether bytes wait.
+    pub(crate) fn waits(&self) -> bool
+        ensures { result ≡ waits self.now }
+    {
+        self.pending.len() > 0
+    }
+
+    /// Whether our close was sent.
+    pub(crate) fn is_close_sent(&self) -> bool
+        ensures { result ≡ is_sent self.now.close }
+    {
+        self.close.is_sent()
+    }
+
     /// The ticket of an open of ours that waits for the peer's answer.
     pub(crate) fn awaited(&self) -> Option<Option<Ticket>>
         ensures { result ≡ awaited_by (Some self.now) }
@@ -213,7 +227,7 @@ impl Channel {
 
     /// An open of the peer's is accepted.
     pub(crate) fn accept(&mut self)
-        ensures { self.new ≡ settled_with self.old }
+        ensures { self.new ≡ accepted self.old }
     {
         self.is_established = true;
     }

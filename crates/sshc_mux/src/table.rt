@@ -1,6 +1,14 @@
 //! The table of channels.
 
-ghost use Rattle.std.specs.Prelude.{◌≡◌, []};
+mod ends;
+mod opens;
+mod sending;
+mod windows;
+
+ghost use Rattle.std.specs.Prelude.{◌≡◌, [], MatchOption, None};
+ghost use Rattle.sshc_mux.specs.ChannelState.{channel_of};
+ghost use Rattle.sshc_mux.specs.ChannelTable.{is_established, waits_in, any_waits, window_in, recipient_in, close_sent_in};
+ghost use Rattle.sshc_mux.specs.Places.{IsPlace};
 
 use crate::channel::Channel;
 use std::alloc::Global;
@@ -37,4 +45,84 @@ impl ChannelTable {
             alloc,
         }
     }
+
+    /// Whether the peer has confirmed the channel, or the user accepted it.
+    pub fn is_established(&self, id: ChannelId) -> bool
+        ensures { result ≡ is_established id.0 self.now }
+    {
+        match place(self.channels.as_slice(), id.0) {
+            Some(at) => self.channels[at].is_established(),
+            None => false,
+        }
+    }
+
+    /// Whether bytes wait on the channel.
+    pub fn has_pending_data(&self, id: ChannelId) -> bool
+        ensures { result ≡ waits_in (channel_of id.0 self.now.channels) }
+    {
+        match place(self.channels.as_slice(), id.0) {
+            Some(at) => self.channels[at].waits(),
+            None => false,
+        }
+    }
+
+    /// Whether bytes wait on any channel.
+    pub fn has_any_pending_data(&self) -> bool
+        ensures { result ≡ any_waits self.now.channels }
+    {
+        any_waits(self.channels.as_slice())
+    }
+
+    /// What may still be sent to the peer.
+    pub fn sender_window_size(&self, id: ChannelId) -> usize
+        ensures { result ≡ window_in (channel_of id.0 self.now.channels) }
+    {
+        match place(self.channels.as_slice(), id.0) {
+            Some(at) => self.channels[at].window() as usize,
+            None => 0,
+        }
+    }
+
+    /// The peer's number of an established channel.
+    pub fn recipient(&self, id: ChannelId) -> Option<u32>
+        ensures { result ≡ recipient_in (channel_of id.0 self.now.channels) }
+    {
+        match place(self.channels.as_slice(), id.0) {
+            Some(at) if self.channels[at].is_established() => Some(self.channels[at].recipient()),
+            _ => None,
+        }
+    }
+
+    /// Whether our close was sent on the channel.
+    pub fn close_sent(&self, id: ChannelId) -> bool
+        ensures { result ≡ close_sent_in (channel_of id.0 self.now.channels) }
+    {
+        match place(self.channels.as_slice(), id.0) {
+            Some(at) => self.channels[at].is_close_sent(),
+            None => false,
+        }
+    }
+}
+
+/// Where the channel of this number stands.
+pub(crate) fn place(channels: &[Channel], number: u32) -> Option<usize>
+    ensures { MatchOption result (channel_of number channels.now ≡ None) (λ at. IsPlace number channels.now at) }
+{
+    for (at, channel) in channels.iter().enumerate() {
+        if channel.number() == number {
+            return Some(at);
+        }
+    }
+    None
+}
+
+fn any_waits(channels: &[Channel]) -> bool
+    ensures { result ≡ any_waits channels.now }
+{
+    for channel in channels {
+        if channel.waits() {
+            return true;
+        }
+    }
+    false
 }
