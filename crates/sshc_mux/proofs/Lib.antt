@@ -5,3 +5,5 @@ mod FlushLemmas
 mod PlaceLemmas
 mod TableLemmas
 mod NumberLemmas
+mod AccountLemmas
+mod TurnLemmas

@@ -27,10 +27,10 @@ sent-nothing size (w ∷ ws) =
     ∙ ap (λ (r : ℕ). sent_of size r ws) none
     ∙ sent-nothing size ws
 
-sent-whole : (size room : ℕ) (w : Waiting) (ws : List Waiting) → length w.bytes ≤ room → sent_of size room (w ∷ ws) ≡ pieces_of w.stream (cut size w.bytes) ++ sent_of size (room - length w.bytes) ws
+pub sent-whole : (size room : ℕ) (w : Waiting) (ws : List Waiting) → length w.bytes ≤ room → sent_of size room (w ∷ ws) ≡ pieces_of w.stream (cut size w.bytes) ++ sent_of size (room - length w.bytes) ws
 sent-whole size room w ws fits = ap (λ (bs : List ℕ). pieces_of w.stream (cut size bs) ++ sent_of size (room - length w.bytes) ws) (take-past room w.bytes fits)
 
-sent-part : (size room : ℕ) (w : Waiting) (ws : List Waiting) → room < length w.bytes → sent_of size room (w ∷ ws) ≡ pieces_of w.stream (cut size (take room w.bytes))
+pub sent-part : (size room : ℕ) (w : Waiting) (ws : List Waiting) → room < length w.bytes → sent_of size room (w ∷ ws) ≡ pieces_of w.stream (cut size (take room w.bytes))
 sent-part size room w ws short =
     let none : room - length w.bytes ≡ 0 = omega arith in
     ap (λ (r : ℕ). pieces_of w.stream (cut size (take room w.bytes)) ++ sent_of size r ws) none

@@ -2,3 +2,4 @@ pub mod ChannelState
 pub mod Places
 pub mod Packets
 pub mod ChannelTable
+pub mod ChannelAccount
