@@ -7,3 +7,5 @@ mod TableLemmas
 mod NumberLemmas
 mod AccountLemmas
 mod TurnLemmas
+mod NumbersLemmas
+mod CallLemmas
