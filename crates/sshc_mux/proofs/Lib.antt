@@ -9,3 +9,4 @@ mod AccountLemmas
 mod TurnLemmas
 mod NumbersLemmas
 mod CallLemmas
+mod LifeLemmas
