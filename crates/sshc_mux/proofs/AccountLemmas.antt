@@ -1,16 +1,16 @@
 -- What a channel's turn does to its account.
-use Rattle.std.proofs.Common.{◌≡◌, ℕ, zero, suc, ◌+◌, ◌-◌, ◌<◌, ◌≤◌, min, Bool, true, false, not, ◌&&◌, List, [], ◌∷◌, ◌++◌, length, take, drop, eqb, if◌then◌else◌, refl, ap, sym, subst, ◌∙◌, arith, inl, inr, length-append, length-take, length-drop, append_assoc}
+use Rattle.std.proofs.Common.{◌≡◌, ℕ, zero, suc, ◌+◌, ◌-◌, ◌<◌, ◌≤◌, min, Bool, true, false, List, [], ◌∷◌, ◌++◌, length, take, drop, if◌then◌else◌, refl, ap, sym, subst, ◌∙◌, arith, inl, inr, length-append, length-take, length-drop, append_assoc}
 use Rattle.std.proofs.lemmas.List.{append-nil, take-append-drop}
-use Rattle.std.proofs.lemmas.Bool.{cases_lt, ltb-true}
+use Rattle.std.proofs.lemmas.Bool.{cases_lt}
 use Rattle.sshc_mux.specs.declared.chunk.Stream.{Stream}
 use Rattle.sshc_mux.specs.declared.channel.Stage.{Stage}
 use Rattle.sshc_mux.specs.declared.channel.Stage.TheVariants as Stages
 use Rattle.sshc_mux.specs.ChannelState.{ChannelState, Waiting}
 use Rattle.sshc_mux.specs.Packets.{Packet, Piece, Eof, Close, Adjust}
-use Rattle.sshc_mux.specs.ChannelTable.Sending.{Turn, cut, cut_up_to, pieces_of, count_of, sent_of, left_of, room_of, emptied, may_end, is_due, done, due_of, ends_of, ended, flushed}
-use Rattle.sshc_mux.specs.ChannelTable.Ends.{is_sent, is_unasked, takes}
+use Rattle.sshc_mux.specs.ChannelTable.Sending.{cut, cut_up_to, pieces_of, count_of, sent_of, left_of, emptied, is_due, done, due_of}
+use Rattle.sshc_mux.specs.ChannelTable.Ends.{is_sent, is_unasked}
 use Rattle.sshc_mux.specs.ChannelAccount.{marked, bytes_in, pending, Orderly}
-use Rattle.sshc_mux.proofs.SendingLemmas.{left-whole, left-part, sent-whole, sent-part, sent-nothing}
+use Rattle.sshc_mux.proofs.SendingLemmas.{left-whole, left-part, sent-whole, sent-part}
 
 -- bytes with their marks
 

@@ -1,16 +1,15 @@
 -- What each call of the table does to the account of one channel.
-use Rattle.std.proofs.Common.{◌≡◌, ℕ, ◌+◌, Bool, true, false, not, ◌&&◌, List, [], ◌∷◌, ◌++◌, eqb, if◌then◌else◌, Option, Some, None, is_some, refl, ap, sym, subst, ◌∙◌, inl, inr}
+use Rattle.std.proofs.Common.{◌≡◌, ℕ, Bool, false, List, [], ◌∷◌, ◌++◌, if◌then◌else◌, Option, Some, None, refl, ap, sym, ◌∙◌, inl, inr}
 use Rattle.std.proofs.lemmas.List.{append-nil}
 use Rattle.std.proofs.lemmas.Bool.{ne_eqb}
 use Rattle.std.proofs.lemmas.Bool.Decides.{eqb_tells}
 use Rattle.std.proofs.Common.{eq-eqb}
-use Rattle.sshc_mux.specs.declared.chunk.Stream.{Stream}
 use Rattle.sshc_mux.specs.ChannelState.{ChannelState, TableState, channel_of, with_channel, without}
 use Rattle.sshc_mux.specs.Packets.{Packet}
-use Rattle.sshc_mux.specs.ChannelTable.{Said, Effect, said_by, turned, turn_at, unmoved, all_flushed, all_said, flush, changed, changed_at, removed, closed, accepted}
+use Rattle.sshc_mux.specs.ChannelTable.{Said, said_by, turned, turn_at, all_flushed, all_said, flush, changed, changed_at, removed}
 use Rattle.sshc_mux.specs.ChannelTable.Sending.{Turn, flushed}
 use Rattle.sshc_mux.specs.ChannelAccount.{packets_by}
-use Rattle.sshc_mux.proofs.NumbersLemmas.{numbers, has, Apart, none_has, number_of, with_same, with_other, without_same, without_other, flushed_found}
+use Rattle.sshc_mux.proofs.NumbersLemmas.{numbers, Apart, none_has, number_of, with_same, with_other, without_same, without_other, flushed_found}
 
 -- the packets of one channel
 

@@ -10,3 +10,5 @@ mod TurnLemmas
 mod NumbersLemmas
 mod CallLemmas
 mod LifeLemmas
+mod AccountLaw
+mod QuietLemmas

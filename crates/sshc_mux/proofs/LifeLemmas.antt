@@ -1,20 +1,19 @@
 -- The account of a channel over a list of calls.
-use Rattle.std.proofs.Common.{◌≡◌, ℕ, zero, suc, ◌+◌, ◌-◌, ◌≤◌, Bool, true, false, not, ◌&&◌, List, [], ◌∷◌, ◌++◌, length, eqb, if◌then◌else◌, Option, Some, None, is_some, refl, ap, sym, subst, ◌∙◌, inl, inr, arith, length-append, append_assoc}
-use Rattle.std.proofs.lemmas.List.{append-nil}
+use Rattle.std.proofs.Common.{◌≡◌, ℕ, ◌-◌, Bool, true, false, not, ◌&&◌, List, [], ◌∷◌, length, eqb, if◌then◌else◌, Option, Some, None, is_some, refl, ap, sym, subst, ◌∙◌, inl, inr}
 use Rattle.std.proofs.lemmas.Bool.Decides.{eqb_tells}
 use Rattle.sshc_mux.specs.declared.chunk.Stream.{Stream}
-use Rattle.sshc_mux.specs.ChannelState.{ChannelState, TableState, channel_of, with_channel, without}
-use Rattle.sshc_mux.specs.Packets.{Packet, Piece, Eof, Close, Adjust}
-use Rattle.sshc_mux.specs.ChannelTable.{Said, Effect, said_by, turned, turn_at, unmoved, flush, changed, changed_at, removed, closed, accepted, settle, confirm, fail, close_peer}
-use Rattle.sshc_mux.specs.ChannelTable.Opens.{above, free_or, free_from, next_number, made, opened_by_user, reserved_by_server, awaited, awaited_by, confirmed, reserved_by}
+use Rattle.sshc_mux.specs.ChannelState.{ChannelState, TableState, channel_of, without}
+use Rattle.sshc_mux.specs.Packets.{Packet, Adjust}
+use Rattle.sshc_mux.specs.ChannelTable.{said_by, turn_at, unmoved, flush, changed_at, removed, closed, accepted, close_peer}
+use Rattle.sshc_mux.specs.ChannelTable.Opens.{next_number, opened_by_user, reserved_by_server, awaited, awaited_by, confirmed, reserved_by}
 use Rattle.sshc_mux.specs.ChannelTable.Sending.{Turn, flushed}
 use Rattle.sshc_mux.specs.ChannelTable.Windows.{raised, grant_turn, lowered, is_low, refilled, received_turn}
 use Rattle.sshc_mux.specs.ChannelTable.Ends.{takes, is_sent, asked, with_pending, data_turn, with_eof, eof_turn, with_close, close_turn, last_packets}
-use Rattle.sshc_mux.specs.ChannelAccount.{Call, OpenUser, ReserveServer, SettleServer, Confirm, Fail, Bytes, AskEof, AskClose, PeerClose, Grant, FlushAll, Received, called, opened, ran, marked, taken, packets_by, bytes_in, pending, gain, gain_in, granted, Stands, Orderly, has_eof}
-use Rattle.sshc_mux.proofs.AccountLemmas.{Sound, Kept, bytes-append, orderly_then}
+use Rattle.sshc_mux.specs.ChannelAccount.{Call, OpenUser, ReserveServer, SettleServer, Confirm, Fail, Bytes, AskEof, AskClose, PeerClose, Grant, FlushAll, Received, called, opened, marked, packets_by, gain}
+use Rattle.sshc_mux.proofs.AccountLemmas.{Sound}
 use Rattle.sshc_mux.proofs.TurnLemmas.{Fair, still_fair, flush_fair, data_fair, eof_fair, close_fair, grant_fair, received_fair, confirmed_fair, accepted_fair}
-use Rattle.sshc_mux.proofs.NumbersLemmas.{numbers, has, Apart, none_has, has_none, number_of, numbers-with, without_other, without_same, apart_without, append_found, apart_append, flush_number, numbers-flushed}
-use Rattle.sshc_mux.proofs.CallLemmas.{Outcome, turn_outcome, changed_outcome, removed_outcome, same_outcome, flush_outcome, packets-append, packets-other}
+use Rattle.sshc_mux.proofs.NumbersLemmas.{numbers, Apart, number_of, without_same, append_found, flush_number}
+use Rattle.sshc_mux.proofs.CallLemmas.{Outcome, turn_outcome, changed_outcome, removed_outcome, same_outcome, flush_outcome, packets-other}
 
 -- turns keep the channel's number
 
@@ -22,23 +21,23 @@ if_number : (b : Bool) (x y : Turn) (n : ℕ) → x.channel.number ≡ n → y.c
 if_number true x y n first second = first
 if_number false x y n first second = second
 
-data_number : (stream : Stream) (bytes : List ℕ) (exchanging : Bool) (c : ChannelState) → (data_turn stream bytes exchanging c).channel.number ≡ c.number
+pub data_number : (stream : Stream) (bytes : List ℕ) (exchanging : Bool) (c : ChannelState) → (data_turn stream bytes exchanging c).channel.number ≡ c.number
 data_number stream bytes exchanging c = if_number (takes c && not (eqb (length bytes) 0)) (flushed exchanging (with_pending stream bytes c)) (record { channel = c; packets = [] }) c.number (flush_number exchanging (with_pending stream bytes c)) refl
 
 with_eof_number : (b : Bool) (c : ChannelState) → (if b then c else record c { eof = asked c.eof }).number ≡ c.number
 with_eof_number true c = refl
 with_eof_number false c = refl
 
-eof_number : (c : ChannelState) → (eof_turn c).channel.number ≡ c.number
+pub eof_number : (c : ChannelState) → (eof_turn c).channel.number ≡ c.number
 eof_number c = flush_number true (with_eof c) ∙ with_eof_number (is_sent c.close) c
 
-close_number : (c : ChannelState) → (close_turn c).channel.number ≡ c.number
+pub close_number : (c : ChannelState) → (close_turn c).channel.number ≡ c.number
 close_number c = flush_number true (with_close c)
 
-grant_number : (amount : ℕ) (exchanging : Bool) (c : ChannelState) → (grant_turn amount exchanging c).channel.number ≡ c.number
+pub grant_number : (amount : ℕ) (exchanging : Bool) (c : ChannelState) → (grant_turn amount exchanging c).channel.number ≡ c.number
 grant_number amount exchanging c = if_number c.established (flushed exchanging (raised amount c)) (record { channel = c; packets = [] }) c.number (flush_number exchanging (raised amount c)) refl
 
-received_number : (len target : ℕ) (c : ChannelState) → (received_turn len target c).channel.number ≡ c.number
+pub received_number : (len target : ℕ) (c : ChannelState) → (received_turn len target c).channel.number ≡ c.number
 received_number len target c =
     let low : (refilled target (lowered len c)).channel.number ≡ c.number =
     if_number (is_low target (lowered len c)) (record { channel = record (lowered len c) { own_window = target }; packets = Adjust (target - (lowered len c).own_window) ∷ [] }) (record { channel = lowered len c; packets = [] }) c.number refl refl in
@@ -46,11 +45,11 @@ received_number len target c =
 
 -- a call's part in what is taken, and whether it ends it
 
-own_more : ℕ → Call → ChannelState → List (Stream × ℕ)
+abbrev pub own_more : ℕ → Call → ChannelState → List (Stream × ℕ)
 own_more n (Bytes id stream bytes exchanging) c = if eqb id n then (if takes c then marked stream bytes else []) else []
 own_more n call c = []
 
-ends : ℕ → Call → Bool
+abbrev pub ends : ℕ → Call → Bool
 ends n (AskEof id) = eqb id n
 ends n (AskClose id) = eqb id n
 ends n call = false
@@ -145,9 +144,8 @@ closed_outcome None n id t c c2 found apart here there = same_outcome n id t c c
 closed_outcome (Some x) n id t c c2 found apart here there = closed_by x.established n id x t c c2 found apart here there
 
 -- each call keeps the account of a channel that stands after it
-step_fair : (n : ℕ) (call : Call) (t : TableState) (c c2 : ChannelState) → Apart (numbers t.channels) → Sound c → channel_of n t.channels ≡ Some c → channel_of n (called call t).table.channels ≡ Some c2 →
+pub step_fair : (n : ℕ) (call : Call) (t : TableState) (c c2 : ChannelState) → Apart (numbers t.channels) → Sound c → channel_of n t.channels ≡ Some c → channel_of n (called call t).table.channels ≡ Some c2 →
     Fair c c2 (packets_by n (called call t).said) (own_more n call c) (gain n call c) (ends n call)
-unfolding own_more ends
 step_fair n (OpenUser window packet ticket) t c c2 apart sound here there = opened_fair n (next_number t) (λ m. opened_by_user m window packet ticket) t c c2 sound here there
 step_fair n (ReserveServer recipient window packet own) t c c2 apart sound here there = opened_fair n (next_number t) (λ m. reserved_by_server m recipient window packet own) t c c2 sound here there
 step_fair n (SettleServer id accept) t c c2 apart sound here there =

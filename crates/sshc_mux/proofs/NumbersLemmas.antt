@@ -4,7 +4,7 @@ use Rattle.std.proofs.lemmas.Bool.{ne_eqb}
 use Rattle.std.proofs.lemmas.Bool.Decides.{eqb_tells}
 use Rattle.sshc_mux.specs.ChannelState.{ChannelState, channel_of, with_channel, without}
 use Rattle.sshc_mux.specs.ChannelTable.{all_flushed}
-use Rattle.sshc_mux.specs.ChannelTable.Sending.{flushed, emptied, ended, may_end, done, room_of}
+use Rattle.sshc_mux.specs.ChannelTable.Sending.{flushed, emptied, may_end, done, room_of}
 
 abbrev pub numbers : List ChannelState → List ℕ
 numbers [] = []
@@ -18,7 +18,7 @@ abbrev pub Apart : List ℕ → Type 0
 Apart [] = Unit {0}
 Apart (x ∷ xs) = (has x xs ≡ false) × Apart xs
 
-or_false : (a b : Bool) → (a || b) ≡ false → (a ≡ false) × (b ≡ false)
+pub or_false : (a b : Bool) → (a || b) ≡ false → (a ≡ false) × (b ≡ false)
 or_false true b h = absurd (cc)
 or_false false b h = (refl, h)
 

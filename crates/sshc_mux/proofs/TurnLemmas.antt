@@ -1,19 +1,19 @@
 -- Each turn of a channel keeps its account.
-use Rattle.std.proofs.Common.{◌≡◌, ℕ, zero, suc, ◌+◌, ◌-◌, ◌<◌, ◌≤◌, ◌^◌, min, Bool, true, false, not, ◌&&◌, List, [], ◌∷◌, ◌++◌, length, eqb, ltb, if◌then◌else◌, Option, Some, None, is_some, refl, ap, sym, subst, ◌∙◌, arith}
+use Rattle.std.proofs.Common.{◌≡◌, ℕ, suc, ◌+◌, ◌-◌, ◌<◌, ◌≤◌, Bool, true, false, not, ◌&&◌, List, [], ◌∷◌, ◌++◌, length, eqb, ltb, if◌then◌else◌, refl, ap, sym, subst, ◌∙◌, arith}
 use Rattle.std.proofs.lemmas.List.{append-nil}
 use Rattle.std.proofs.lemmas.Bool.{ltb-true}
 use Rattle.std.proofs.Math.Dec.{eqb-suc-zero}
 use Rattle.sshc_mux.specs.declared.chunk.Stream.{Stream}
 use Rattle.sshc_mux.specs.declared.channel.Stage.{Stage}
 use Rattle.sshc_mux.specs.declared.channel.Stage.TheVariants as Stages
-use Rattle.sshc_mux.specs.ChannelState.{ChannelState, Waiting}
+use Rattle.sshc_mux.specs.ChannelState.{ChannelState}
 use Rattle.sshc_mux.specs.Packets.{Packet, Adjust}
 use Rattle.sshc_mux.specs.ChannelTable.{accepted}
 use Rattle.sshc_mux.specs.ChannelTable.Opens.{confirmed}
 use Rattle.sshc_mux.specs.ChannelTable.Sending.{Turn, sent_of, room_of, emptied, may_end, is_due, done, due_of, ends_of, ended, flushed}
 use Rattle.sshc_mux.specs.ChannelTable.Windows.{raised, grant_turn, lowered, is_low, refilled, received_turn}
 use Rattle.sshc_mux.specs.ChannelTable.Ends.{is_sent, is_unasked, asked, takes, with_pending, data_turn, with_eof, eof_turn, with_close, close_turn}
-use Rattle.sshc_mux.specs.ChannelAccount.{marked, bytes_in, pending, Orderly}
+use Rattle.sshc_mux.specs.ChannelAccount.{marked, bytes_in, pending}
 use Rattle.sshc_mux.proofs.SendingLemmas.{sent-nothing}
 use Rattle.sshc_mux.proofs.AccountLemmas.{Sound, Kept, kept_then, emptied_kept, ended_kept, pending-append, bytes-append, done_unasked, due_bytes}
 

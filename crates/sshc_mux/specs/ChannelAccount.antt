@@ -1,6 +1,6 @@
 -- The account of one life of a channel's number: what was taken to send, what was sent, what waits and what the peer granted
 -- (RFC 4254, sections 5.2 and 5.3). Lists and sums over the calls; the code keeps queues and windows, and no history.
-use Rattle.std.specs.Prelude.{◌≡◌, ℕ, ◌+◌, ◌≤◌, Bool, true, false, not, ◌&&◌, ◌||◌, List, [], ◌∷◌, ◌++◌, length, Option, Some, None, is_some, if◌then◌else◌, ◌==◌}
+use Rattle.std.specs.Prelude.{◌≡◌, ℕ, ◌+◌, ◌≤◌, ◌⊎◌, Bool, true, false, not, ◌&&◌, List, [], ◌∷◌, ◌++◌, length, Option, Some, None, is_some, if◌then◌else◌, ◌==◌}
 use Rattle.sshc_wire.specs.declared.ticket.Ticket.{Ticket}
 use Rattle.sshc_mux.specs.declared.chunk.Stream.{Stream}
 use Rattle.sshc_mux.specs.ChannelState.{ChannelState, TableState, Waiting, channel_of}
@@ -120,6 +120,12 @@ has_eof [] = false
 has_eof (Eof ∷ packets) = true
 has_eof (p ∷ packets) = has_eof packets
 
+-- a channel as an open of ours or of the peer's makes it
+abbrev pub IsMade : ℕ → ChannelState → Type 0
+IsMade n c =
+    ((window packet : ℕ) × (ticket : Option Ticket) × (c ≡ opened_by_user n window packet ticket))
+    ⊎ ((recipient window packet own : ℕ) × (c ≡ reserved_by_server n recipient window packet own))
+
 -- The account of the number n over a life of calls, from the channel as it was made to the channel after them.
 pub record Account (n : ℕ) (start : ChannelState) (life : List Call) (packets : List Packet) (end : ChannelState) (grants : ℕ) : Type 0 where
   pub balance : bytes_in packets ++ pending end.pending ≡ taken n life
@@ -137,3 +143,19 @@ may_send call = false
 abbrev pub packets_in : List Said → List Packet
 packets_in [] = []
 packets_in (s ∷ said) = s.packet ∷ packets_in said
+
+-- the table after some calls from the start, and one more that made this channel
+abbrev pub with_new : List Call → ChannelState → TableState
+with_new before start = made start (ran before no_channels).table
+
+-- For every list of calls before, every open that then makes a channel, and every life of it: its account stands.
+abbrev pub EachLifeHasItsAccount : Type 0
+EachLifeHasItsAccount =
+    (before life : List Call) (n : ℕ) (start end : ChannelState) →
+    next_number (ran before no_channels).table ≡ Some n → IsMade n start →
+    Stands n life (with_new before start) → channel_of n (ran life (with_new before start)).table.channels ≡ Some end →
+    Account n start life (packets_by n (ran life (with_new before start)).said) end (granted n life (with_new before start))
+
+-- a call that tells of an exchange that runs sends no bytes, and no more does one that only ends or adjusts
+abbrev pub ExchangesAreQuiet : Type 0
+ExchangesAreQuiet = (call : Call) (t : TableState) → may_send call ≡ false → bytes_in (packets_in (called call t).said) ≡ []

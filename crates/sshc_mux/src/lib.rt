@@ -4,6 +4,7 @@
 mod channel;
 mod chunk;
 mod error;
+mod law;
 mod msg;
 mod packets;
 mod table;
@@ -12,4 +13,5 @@ mod waiting;
 pub use channel::{Opener, Stage};
 pub use chunk::Stream;
 pub use error::MuxError;
+pub use law::account;
 pub use table::{ChannelId, ChannelTable};

@@ -1,8 +1,8 @@
 //! EOF and close, ours and the peer's (RFC 4254, section 5.3).
 
 ghost use Rattle.std.specs.Prelude.{◌≡◌, IfOk};
-ghost use Rattle.sshc_mux.specs.ChannelTable.{Did, turn_at, close_peer, is_established};
-ghost use Rattle.sshc_mux.specs.ChannelTable.Ends.{eof_turn, close_turn};
+ghost use Rattle.sshc_mux.specs.ChannelAccount.{called, AskEof, AskClose, PeerClose};
+ghost use Rattle.sshc_mux.specs.ChannelTable.{Did, is_established};
 
 use crate::packets::close_record;
 use crate::table::{ChannelId, ChannelTable, place};
@@ -11,7 +11,7 @@ use sshc_wire::{NoMemory, Outbox};
 impl ChannelTable {
     /// Asks for EOF, which is sent once, behind all bytes that were taken.
     pub fn eof(&mut self, id: ChannelId, out: &mut Outbox) -> Result<(), NoMemory>
-        ensures { Did (turn_at id.0 eof_turn self.old) self.old self.new out.old out.new result }
+        ensures { Did (called (AskEof id.0) self.old) self.old self.new out.old out.new result }
     {
         let alloc = self.alloc;
         match place(self.channels.as_slice(), id.0) {
@@ -25,7 +25,7 @@ impl ChannelTable {
 
     /// Asks for our close, which is sent once, behind all bytes that were taken and EOF.
     pub fn close_own(&mut self, id: ChannelId, out: &mut Outbox) -> Result<(), NoMemory>
-        ensures { Did (turn_at id.0 close_turn self.old) self.old self.new out.old out.new result }
+        ensures { Did (called (AskClose id.0) self.old) self.old self.new out.old out.new result }
     {
         let alloc = self.alloc;
         match place(self.channels.as_slice(), id.0) {
@@ -39,7 +39,7 @@ impl ChannelTable {
 
     /// The peer's close, which is answered by ours and takes the channel away. False where it isn't established.
     pub fn close_peer(&mut self, id: ChannelId, out: &mut Outbox) -> Result<bool, NoMemory>
-        ensures closed { Did (close_peer id.0 self.old) self.old self.new out.old out.new result }
+        ensures closed { Did (called (PeerClose id.0) self.old) self.old self.new out.old out.new result }
         ensures answer { IfOk result (λ known. known ≡ is_established id.0 self.old) }
     {
         match place(self.channels.as_slice(), id.0) {

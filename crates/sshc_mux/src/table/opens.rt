@@ -2,7 +2,7 @@
 
 ghost use Rattle.std.specs.Prelude.{◌≡◌, Some, None, IfOk, OnErr, Err, MatchResult};
 ghost use Rattle.sshc_mux.specs.ChannelState.{channel_of};
-ghost use Rattle.sshc_mux.specs.ChannelTable.{settle, confirm, fail};
+ghost use Rattle.sshc_mux.specs.ChannelAccount.{called, SettleServer, Confirm, Fail};
 ghost use Rattle.sshc_mux.specs.ChannelTable.Opens.{next_number, made, opened_by_user, reserved_by_server, awaited, reserved_by};
 
 use crate::channel::Channel;
@@ -57,7 +57,7 @@ impl ChannelTable {
     /// Accepts an open of the peer's, or takes it away. False where the number names none that waits.
     pub fn settle_server(&mut self, id: ChannelId, accept: bool) -> bool
         ensures answer { result ≡ reserved_by (channel_of id.0 self.old.channels) }
-        ensures settled { self.new ≡ settle id.0 accept self.old }
+        ensures settled { self.new ≡ (called (SettleServer id.0 accept) self.old).table }
     {
         match place(self.channels.as_slice(), id.0) {
             Some(at) if self.channels[at].is_reserved() => {
@@ -82,7 +82,7 @@ impl ChannelTable {
         packet: u32,
     ) -> Result<Option<Ticket>, MuxError>
         ensures answer { MatchResult result (λ ticket. awaited id.0 self.old ≡ Some ticket) (λ error. awaited id.0 self.old ≡ None) }
-        ensures confirmed { self.new ≡ confirm id.0 recipient window packet self.old }
+        ensures confirmed { self.new ≡ (called (Confirm id.0 recipient window packet) self.old).table }
     {
         let Some(at) = place(self.channels.as_slice(), id.0) else {
             return Err(MuxError::Inconsistent);
@@ -101,7 +101,7 @@ impl ChannelTable {
     /// open of ours that waits.
     pub fn fail(&mut self, id: ChannelId) -> Option<Option<Ticket>>
         ensures answer { result ≡ awaited id.0 self.old }
-        ensures failed { self.new ≡ fail id.0 self.old }
+        ensures failed { self.new ≡ (called (Fail id.0) self.old).table }
     {
         let at = place(self.channels.as_slice(), id.0)?;
         let ticket = self.channels[at].awaited()?;

@@ -1,8 +1,8 @@
 //! Data, and the flush of all channels (RFC 4254, section 5.2).
 
 ghost use Rattle.std.specs.Prelude.{◌≡◌, ◌++◌, OnOk};
-ghost use Rattle.sshc_mux.specs.ChannelTable.{Did, turn_at, flush, all_flushed, all_said, records_of};
-ghost use Rattle.sshc_mux.specs.ChannelTable.Ends.{data_turn};
+ghost use Rattle.sshc_mux.specs.ChannelAccount.{called, Bytes, FlushAll};
+ghost use Rattle.sshc_mux.specs.ChannelTable.{Did, all_flushed, all_said, records_of};
 
 use crate::channel::Channel;
 use crate::chunk::Stream;
@@ -20,7 +20,7 @@ impl ChannelTable {
         exchanging: bool,
         out: &mut Outbox,
     ) -> Result<(), NoMemory>
-        ensures { Did (turn_at id.0 (data_turn Stream.Data body.now exchanging) self.old) self.old self.new out.old out.new result }
+        ensures { Did (called (Bytes id.0 Stream.Data body.now exchanging) self.old) self.old self.new out.old out.new result }
     {
         self.take(id, Stream::Data, body, exchanging, out)
     }
@@ -34,7 +34,7 @@ impl ChannelTable {
         exchanging: bool,
         out: &mut Outbox,
     ) -> Result<(), NoMemory>
-        ensures { Did (turn_at id.0 (data_turn (Stream.Extended ext) body.now exchanging) self.old) self.old self.new out.old out.new result }
+        ensures { Did (called (Bytes id.0 (Stream.Extended ext) body.now exchanging) self.old) self.old self.new out.old out.new result }
     {
         self.take(id, Stream::Extended(ext), body, exchanging, out)
     }
@@ -47,7 +47,7 @@ impl ChannelTable {
         exchanging: bool,
         out: &mut Outbox,
     ) -> Result<(), NoMemory>
-        ensures { Did (turn_at id.0 (data_turn stream body.now exchanging) self.old) self.old self.new out.old out.new result }
+        ensures { Did (called (Bytes id.0 stream body.now exchanging) self.old) self.old self.new out.old out.new result }
     {
         let alloc = self.alloc;
         match place(self.channels.as_slice(), id.0) {
@@ -61,7 +61,7 @@ impl ChannelTable {
 
     /// Sends what may be sent on each channel, after an exchange.
     pub fn flush_all(&mut self, out: &mut Outbox) -> Result<(), NoMemory>
-        ensures { Did (flush self.old) self.old self.new out.old out.new result }
+        ensures { Did (called FlushAll self.old) self.old self.new out.old out.new result }
     {
         let mut said = Vec::new(self.alloc);
         push_flushed(self.alloc, self.channels.as_slice(), &mut said)?;

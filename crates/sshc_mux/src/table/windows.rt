@@ -1,8 +1,8 @@
 //! Grants of the peer's, and what it uses of our windows (RFC 4254, section 5.2).
 
 ghost use Rattle.std.specs.Prelude.{◌≡◌, IfOk};
-ghost use Rattle.sshc_mux.specs.ChannelTable.{Did, turn_at, granted_at, adjusted_at};
-ghost use Rattle.sshc_mux.specs.ChannelTable.Windows.{grant_turn, received_turn};
+ghost use Rattle.sshc_mux.specs.ChannelAccount.{called, Grant, Received};
+ghost use Rattle.sshc_mux.specs.ChannelTable.{Did, granted_at, adjusted_at};
 
 use crate::table::{ChannelId, ChannelTable, place};
 use sshc_wire::{NoMemory, Outbox};
@@ -16,7 +16,7 @@ impl ChannelTable {
         exchanging: bool,
         out: &mut Outbox,
     ) -> Result<Option<u32>, NoMemory>
-        ensures granted { Did (turn_at id.0 (grant_turn amount exchanging) self.old) self.old self.new out.old out.new result }
+        ensures granted { Did (called (Grant id.0 amount exchanging) self.old) self.old self.new out.old out.new result }
         ensures answer { IfOk result (λ left. left ≡ granted_at id.0 amount exchanging self.old) }
     {
         let alloc = self.alloc;
@@ -38,7 +38,7 @@ impl ChannelTable {
         target: u32,
         out: &mut Outbox,
     ) -> Result<bool, NoMemory>
-        ensures received { Did (turn_at id.0 (received_turn len target) self.old) self.old self.new out.old out.new result }
+        ensures received { Did (called (Received id.0 len target) self.old) self.old self.new out.old out.new result }
         ensures answer { IfOk result (λ wrote. wrote ≡ adjusted_at id.0 len target self.old) }
     {
         let alloc = self.alloc;
