@@ -6,7 +6,7 @@ use Rattle.sshc_mux.specs.declared.chunk.Stream.{Stream}
 use Rattle.sshc_mux.specs.ChannelState.{ChannelState, TableState, Waiting, channel_of}
 use Rattle.sshc_mux.specs.Packets.{Packet, Piece, Eof, Close, Adjust}
 use Rattle.sshc_mux.specs.ChannelTable.{Effect, Said, unmoved, turn_at, flush, settle, confirm, fail, close_peer}
-use Rattle.sshc_mux.specs.ChannelTable.Opens.{next_number, made, opened_by_user, reserved_by_server, awaited_by}
+use Rattle.sshc_mux.specs.ChannelTable.Opens.{next_number, IsNext, made, opened_by_user, reserved_by_server, awaited_by}
 use Rattle.sshc_mux.specs.ChannelTable.Windows.{grant_turn, received_turn}
 use Rattle.sshc_mux.specs.ChannelTable.Ends.{data_turn, eof_turn, close_turn}
 
@@ -159,3 +159,7 @@ EachLifeHasItsAccount =
 -- a call that tells of an exchange that runs sends no bytes, and no more does one that only ends or adjusts
 abbrev pub ExchangesAreQuiet : Type 0
 ExchangesAreQuiet = (call : Call) (t : TableState) → may_send call ≡ false → bytes_in (packets_in (called call t).said) ≡ []
+
+-- a new number is the next that is free
+abbrev pub NumbersGoOn : Type 0
+NumbersGoOn = (t : TableState) (n : ℕ) → next_number t ≡ Some n → IsNext t n

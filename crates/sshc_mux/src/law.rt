@@ -1,12 +1,14 @@
 //! The account of each channel, over every list of calls.
 
-ghost use Rattle.sshc_mux.specs.ChannelAccount.{EachLifeHasItsAccount, ExchangesAreQuiet};
+ghost use Rattle.sshc_mux.specs.ChannelAccount.{EachLifeHasItsAccount, ExchangesAreQuiet, NumbersGoOn};
 
 /// What was sent on a channel, and then what waits, is what was taken; no more was sent than the peer granted; bytes come before
-/// EOF and close, each of which is sent at most once; EOF comes after all that was taken. No bytes are sent while an exchange runs.
+/// EOF and close, each of which is sent at most once; EOF comes after all that was taken. No bytes are sent while an exchange runs. A
+/// new number is the next that no channel has.
 ///
 /// The call does nothing. It states the law over the definitions by which each call of the table is proved.
 pub fn account()
     ensures account { EachLifeHasItsAccount }
     ensures quiet { ExchangesAreQuiet }
+    ensures numbers { NumbersGoOn }
 {}

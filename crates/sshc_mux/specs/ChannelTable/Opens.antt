@@ -1,6 +1,6 @@
 -- Numbers, opens, confirmations and failures (RFC 4254, section 5.1).
 -- A number is the first that stands in no channel; the code tries one after the other.
-use Rattle.std.specs.Prelude.{ℕ, zero, suc, ◌+◌, ◌^◌, ◌%◌, Bool, true, false, not, ◌&&◌, List, [], ◌∷◌, ◌++◌, length, Option, Some, None}
+use Rattle.std.specs.Prelude.{ℕ, zero, suc, ◌+◌, ◌^◌, ◌%◌, Bool, true, false, not, ◌&&◌, List, [], ◌∷◌, ◌++◌, length, Option, Some, None, ◌≡◌, ◌<◌, is_some}
 use Rattle.sshc_wire.specs.declared.ticket.Ticket.{Ticket}
 use Rattle.sshc_mux.specs.declared.channel.Opener.{Opener}
 use Rattle.sshc_mux.specs.declared.channel.Opener.TheVariants.{User, Server}
@@ -24,6 +24,13 @@ free_from (suc tries) n cs = free_or (channel_of n cs) n (free_from tries (above
 -- One number more than there are channels is enough to find a free one, unless every number is taken.
 unfoldable pub next_number : TableState → Option ℕ
 next_number t = free_from (length t.channels + 1) (above t.last) t.channels
+
+-- The number is the first that no channel has, counted on from the last given, and from 0 behind the last of a u32.
+pub record IsNext (t : TableState) (n : ℕ) : Type 0 where
+  pub steps : ℕ
+  pub counted : n ≡ (t.last + 1 + steps) % 2 ^ 32
+  pub free : channel_of n t.channels ≡ None
+  pub taken : (k : ℕ) → k < steps → is_some (channel_of ((t.last + 1 + k) % 2 ^ 32) t.channels) ≡ true
 
 abbrev pub made : ChannelState → TableState → TableState
 made c t = record { channels = t.channels ++ c ∷ []; last = c.number }

@@ -1,8 +1,8 @@
 //! Numbers, opens, confirmations and failures (RFC 4254, section 5.1).
 
-ghost use Rattle.std.specs.Prelude.{◌≡◌, Some, None, IfOk, OnErr, Err, MatchResult};
+ghost use Rattle.std.specs.Prelude.{◌≡◌, Some, None, IfOk, OnErr, Err, MatchResult, OnOk, IsErr, is_some, true, ◌<◌, ◌^◌, ℕ};
 ghost use Rattle.sshc_mux.specs.ChannelState.{channel_of};
-ghost use Rattle.sshc_mux.specs.ChannelAccount.{called, SettleServer, Confirm, Fail};
+ghost use Rattle.sshc_mux.specs.ChannelAccount.{called, OpenUser, ReserveServer, SettleServer, Confirm, Fail};
 ghost use Rattle.sshc_mux.specs.ChannelTable.Opens.{next_number, made, opened_by_user, reserved_by_server, awaited, reserved_by};
 
 use crate::channel::Channel;
@@ -22,6 +22,8 @@ impl ChannelTable {
         ensures number { IfOk result (λ id. next_number self.old ≡ Some id.0) }
         ensures fresh { IfOk result (λ id. channel_of id.0 self.old.channels ≡ None) }
         ensures made { IfOk result (λ id. self.new ≡ made (opened_by_user id.0 window packet ticket) self.old) }
+        ensures called { OnOk result (self.new ≡ (called (OpenUser window packet ticket) self.old).table) }
+        ensures full { ((n : ℕ) → n < 2 ^ 32 → is_some (channel_of n self.old.channels) ≡ true) → IsErr result }
         ensures err { OnErr result (self.new ≡ self.old) }
     {
         let number = next_number(self.channels.as_slice(), self.last)?;
@@ -43,6 +45,8 @@ impl ChannelTable {
         ensures number { IfOk result (λ id. next_number self.old ≡ Some id.0) }
         ensures fresh { IfOk result (λ id. channel_of id.0 self.old.channels ≡ None) }
         ensures made { IfOk result (λ id. self.new ≡ made (reserved_by_server id.0 recipient window packet own) self.old) }
+        ensures called { OnOk result (self.new ≡ (called (ReserveServer recipient window packet own) self.old).table) }
+        ensures full { ((n : ℕ) → n < 2 ^ 32 → is_some (channel_of n self.old.channels) ≡ true) → IsErr result }
         ensures err { OnErr result (self.new ≡ self.old) }
     {
         let number = next_number(self.channels.as_slice(), self.last)?;
