@@ -11,7 +11,8 @@ use Rattle.sshc_mux.specs.ChannelTable.Ends.{takes, is_sent, last_packets, data_
 use Rattle.sshc_mux.specs.ChannelTable.Windows.{grant_turn, received_turn}
 use Rattle.sshc_mux.specs.ChannelAccount.{Call, OpenUser, ReserveServer, SettleServer, Confirm, Fail, Bytes, AskEof, AskClose, PeerClose, Grant, FlushAll, Received, called, opened, ran, no_channels, marked, taken, packets_by, bytes_in, pending, gain, gain_in, granted, Stands, Orderly, has_eof, IsMade, Account}
 use Rattle.sshc_mux.proofs.AccountLemmas.{Sound, bytes-append, orderly_then}
-use Rattle.sshc_mux.proofs.NumbersLemmas.{numbers, has, or_false, Apart, has_none, number_of, numbers-with, apart_without, apart_append, numbers-flushed}
+use Rattle.sshc_mux.specs.Places.{numbers}
+use Rattle.sshc_mux.proofs.NumbersLemmas.{has, or_false, Apart, has_none, number_of, numbers-with, apart_without, apart_append, numbers-flushed}
 use Rattle.sshc_mux.proofs.CallLemmas.{packets-append}
 use Rattle.sshc_mux.proofs.LifeLemmas.{own_more, ends, step_fair, data_number, eof_number, close_number, grant_number, received_number}
 

@@ -9,7 +9,8 @@ use Rattle.sshc_mux.specs.Packets.{Packet}
 use Rattle.sshc_mux.specs.ChannelTable.{Said, said_by, turned, turn_at, all_flushed, all_said, flush, changed, changed_at, removed}
 use Rattle.sshc_mux.specs.ChannelTable.Sending.{Turn, flushed}
 use Rattle.sshc_mux.specs.ChannelAccount.{packets_by}
-use Rattle.sshc_mux.proofs.NumbersLemmas.{numbers, Apart, none_has, number_of, with_same, with_other, without_same, without_other, flushed_found}
+use Rattle.sshc_mux.specs.Places.{numbers}
+use Rattle.sshc_mux.proofs.NumbersLemmas.{Apart, none_has, number_of, with_same, with_other, without_same, without_other, flushed_found}
 
 -- the packets of one channel
 

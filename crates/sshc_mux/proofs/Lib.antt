@@ -3,6 +3,7 @@ mod PieceLemmas
 mod SendingLemmas
 mod FlushLemmas
 mod PlaceLemmas
+mod ListedLemmas
 mod TableLemmas
 mod NumberLemmas
 mod AccountLemmas

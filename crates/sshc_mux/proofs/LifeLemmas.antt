@@ -12,7 +12,8 @@ use Rattle.sshc_mux.specs.ChannelTable.Ends.{takes, is_sent, asked, with_pending
 use Rattle.sshc_mux.specs.ChannelAccount.{Call, OpenUser, ReserveServer, SettleServer, Confirm, Fail, Bytes, AskEof, AskClose, PeerClose, Grant, FlushAll, Received, called, opened, marked, packets_by, gain}
 use Rattle.sshc_mux.proofs.AccountLemmas.{Sound}
 use Rattle.sshc_mux.proofs.TurnLemmas.{Fair, still_fair, flush_fair, data_fair, eof_fair, close_fair, grant_fair, received_fair, confirmed_fair, accepted_fair}
-use Rattle.sshc_mux.proofs.NumbersLemmas.{numbers, Apart, number_of, without_same, append_found, flush_number}
+use Rattle.sshc_mux.specs.Places.{numbers}
+use Rattle.sshc_mux.proofs.NumbersLemmas.{Apart, number_of, without_same, append_found, flush_number}
 use Rattle.sshc_mux.proofs.CallLemmas.{Outcome, turn_outcome, changed_outcome, removed_outcome, same_outcome, flush_outcome, packets-other}
 
 -- turns keep the channel's number

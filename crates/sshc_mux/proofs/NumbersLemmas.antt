@@ -3,12 +3,9 @@ use Rattle.std.proofs.Common.{◌≡◌, ℕ, Bool, true, false, ◌||◌, List,
 use Rattle.std.proofs.lemmas.Bool.{ne_eqb}
 use Rattle.std.proofs.lemmas.Bool.Decides.{eqb_tells}
 use Rattle.sshc_mux.specs.ChannelState.{ChannelState, channel_of, with_channel, without}
+use Rattle.sshc_mux.specs.Places.{numbers}
 use Rattle.sshc_mux.specs.ChannelTable.{all_flushed}
 use Rattle.sshc_mux.specs.ChannelTable.Sending.{flushed, emptied, may_end, done, room_of}
-
-abbrev pub numbers : List ChannelState → List ℕ
-numbers [] = []
-numbers (c ∷ cs) = c.number ∷ numbers cs
 
 abbrev pub has : ℕ → List ℕ → Bool
 has n [] = false

@@ -8,9 +8,10 @@ mod windows;
 ghost use Rattle.std.specs.Prelude.{◌≡◌, [], MatchOption, None};
 ghost use Rattle.sshc_mux.specs.ChannelState.{channel_of};
 ghost use Rattle.sshc_mux.specs.ChannelTable.{is_established, waits_in, any_waits, window_in, recipient_in, close_sent_in};
-ghost use Rattle.sshc_mux.specs.Places.{IsPlace};
+ghost use Rattle.sshc_mux.specs.Places.{IsPlace, numbers};
 
 use crate::channel::Channel;
+use indexmap::IndexSet;
 use std::alloc::Global;
 use std::marker::Model;
 
@@ -22,16 +23,21 @@ pub struct ChannelId(pub u32);
 #[derive(Debug, Drop)]
 pub struct ChannelTable {
     channels: Vec<Channel>,
+    listed: IndexSet<u32>,
     last: u32,
     alloc: Global,
 }
 
 impl Model for ChannelTable {
+    ghost use Rattle.std.specs.Prelude.{◌≡◌};
     ghost use Rattle.sshc_mux.specs.ChannelState.{TableState};
+    ghost use Rattle.sshc_mux.specs.Places.{numbers};
 
     ghost Value = { TableState };
 
     ghost view = { λ t. record { channels = t.channels.items; last = t.last } };
+
+    ghost invariant = { λ t. t.listed.keys ≡ numbers t.channels.items };
 }
 
 impl ChannelTable {
@@ -41,6 +47,7 @@ impl ChannelTable {
     {
         ChannelTable {
             channels: Vec::new(alloc),
+            listed: IndexSet::new(alloc),
             last: 0,
             alloc,
         }
@@ -50,7 +57,7 @@ impl ChannelTable {
     pub fn is_established(&self, id: ChannelId) -> bool
         ensures { result ≡ is_established id.0 self.now }
     {
-        match place(self.channels.as_slice(), id.0) {
+        match place(self.channels.as_slice(), &self.listed, id.0) {
             Some(at) => self.channels[at].is_established(),
             None => false,
         }
@@ -60,7 +67,7 @@ impl ChannelTable {
     pub fn has_pending_data(&self, id: ChannelId) -> bool
         ensures { result ≡ waits_in (channel_of id.0 self.now.channels) }
     {
-        match place(self.channels.as_slice(), id.0) {
+        match place(self.channels.as_slice(), &self.listed, id.0) {
             Some(at) => self.channels[at].waits(),
             None => false,
         }
@@ -77,7 +84,7 @@ impl ChannelTable {
     pub fn sender_window_size(&self, id: ChannelId) -> usize
         ensures { result ≡ window_in (channel_of id.0 self.now.channels) }
     {
-        match place(self.channels.as_slice(), id.0) {
+        match place(self.channels.as_slice(), &self.listed, id.0) {
             Some(at) => self.channels[at].window() as usize,
             None => 0,
         }
@@ -87,7 +94,7 @@ impl ChannelTable {
     pub fn recipient(&self, id: ChannelId) -> Option<u32>
         ensures { result ≡ recipient_in (channel_of id.0 self.now.channels) }
     {
-        match place(self.channels.as_slice(), id.0) {
+        match place(self.channels.as_slice(), &self.listed, id.0) {
             Some(at) if self.channels[at].is_established() => Some(self.channels[at].recipient()),
             _ => None,
         }
@@ -97,7 +104,7 @@ impl ChannelTable {
     pub fn close_sent(&self, id: ChannelId) -> bool
         ensures { result ≡ close_sent_in (channel_of id.0 self.now.channels) }
     {
-        match place(self.channels.as_slice(), id.0) {
+        match place(self.channels.as_slice(), &self.listed, id.0) {
             Some(at) => self.channels[at].is_close_sent(),
             None => false,
         }
@@ -105,15 +112,11 @@ impl ChannelTable {
 }
 
 /// Where the channel of this number stands.
-pub(crate) fn place(channels: &[Channel], number: u32) -> Option<usize>
+pub(crate) fn place(channels: &[Channel], listed: &IndexSet<u32>, number: u32) -> Option<usize>
+    requires { listed.now.keys ≡ numbers channels.now }
     ensures { MatchOption result (channel_of number channels.now ≡ None) (λ at. IsPlace number channels.now at) }
 {
-    for (at, channel) in channels.iter().enumerate() {
-        if channel.number() == number {
-            return Some(at);
-        }
-    }
-    None
+    listed.get_index_of(&number)
 }
 
 fn any_waits(channels: &[Channel]) -> bool

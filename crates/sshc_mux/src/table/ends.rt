@@ -14,7 +14,7 @@ impl ChannelTable {
         ensures { Did (called (AskEof id.0) self.old) self.old self.new out.old out.new result }
     {
         let alloc = self.alloc;
-        match place(self.channels.as_slice(), id.0) {
+        match place(self.channels.as_slice(), &self.listed, id.0) {
             Some(at) => {
                 let channel = &mut self.channels[at];
                 channel.ask_eof(alloc, out)
@@ -28,7 +28,7 @@ impl ChannelTable {
         ensures { Did (called (AskClose id.0) self.old) self.old self.new out.old out.new result }
     {
         let alloc = self.alloc;
-        match place(self.channels.as_slice(), id.0) {
+        match place(self.channels.as_slice(), &self.listed, id.0) {
             Some(at) => {
                 let channel = &mut self.channels[at];
                 channel.ask_close(alloc, out)
@@ -42,12 +42,13 @@ impl ChannelTable {
         ensures closed { Did (called (PeerClose id.0) self.old) self.old self.new out.old out.new result }
         ensures answer { IfOk result (λ known. known ≡ is_established id.0 self.old) }
     {
-        match place(self.channels.as_slice(), id.0) {
+        match place(self.channels.as_slice(), &self.listed, id.0) {
             Some(at) if self.channels[at].is_established() => {
                 if !self.channels[at].is_close_sent() {
                     out.push(close_record(self.alloc, self.channels[at].recipient())?)?;
                 }
                 let _ = self.channels.remove(at);
+                let _ = self.listed.shift_remove_index(at);
                 Ok(true)
             }
             _ => Ok(false),

@@ -3,11 +3,13 @@
 ghost use Rattle.std.specs.Prelude.{◌≡◌, Some, None, IfOk, OnErr, Err, MatchResult, OnOk, IsErr, is_some, true, ◌<◌, ◌^◌, ℕ};
 ghost use Rattle.sshc_mux.specs.ChannelState.{channel_of};
 ghost use Rattle.sshc_mux.specs.ChannelAccount.{called, OpenUser, ReserveServer, SettleServer, Confirm, Fail};
+ghost use Rattle.sshc_mux.specs.Places.{numbers};
 ghost use Rattle.sshc_mux.specs.ChannelTable.Opens.{next_number, made, opened_by_user, reserved_by_server, awaited, reserved_by};
 
 use crate::channel::Channel;
 use crate::error::MuxError;
 use crate::table::{ChannelId, ChannelTable, place};
+use indexmap::IndexSet;
 use sshc_wire::{NoMemory, Ticket};
 
 impl ChannelTable {
@@ -26,9 +28,11 @@ impl ChannelTable {
         ensures full { ((n : ℕ) → n < 2 ^ 32 → is_some (channel_of n self.old.channels) ≡ true) → IsErr result }
         ensures err { OnErr result (self.new ≡ self.old) }
     {
-        let number = next_number(self.channels.as_slice(), self.last)?;
+        let number = next_number(self.channels.as_slice(), &self.listed, self.last)?;
         let channel = Channel::opened_by_user(self.alloc, number, window, packet, ticket);
-        self.channels.push(channel)?;
+        self.channels.reserve(1)?;
+        self.listed.insert(number)?;
+        self.channels.push_reserved(channel);
         self.last = number;
         Ok(ChannelId(number))
     }
@@ -49,11 +53,13 @@ impl ChannelTable {
         ensures full { ((n : ℕ) → n < 2 ^ 32 → is_some (channel_of n self.old.channels) ≡ true) → IsErr result }
         ensures err { OnErr result (self.new ≡ self.old) }
     {
-        let number = next_number(self.channels.as_slice(), self.last)?;
+        let number = next_number(self.channels.as_slice(), &self.listed, self.last)?;
         let channel = Channel::reserved_by_server(
             self.alloc, number, recipient, window, packet, own,
         );
-        self.channels.push(channel)?;
+        self.channels.reserve(1)?;
+        self.listed.insert(number)?;
+        self.channels.push_reserved(channel);
         self.last = number;
         Ok(ChannelId(number))
     }
@@ -63,13 +69,14 @@ impl ChannelTable {
         ensures answer { result ≡ reserved_by (channel_of id.0 self.old.channels) }
         ensures settled { self.new ≡ (called (SettleServer id.0 accept) self.old).table }
     {
-        match place(self.channels.as_slice(), id.0) {
+        match place(self.channels.as_slice(), &self.listed, id.0) {
             Some(at) if self.channels[at].is_reserved() => {
                 if accept {
                     let channel = &mut self.channels[at];
                     channel.accept();
                 } else {
                     let _ = self.channels.remove(at);
+                    let _ = self.listed.shift_remove_index(at);
                 }
                 true
             }
@@ -88,12 +95,12 @@ impl ChannelTable {
         ensures answer { MatchResult result (λ ticket. awaited id.0 self.old ≡ Some ticket) (λ error. awaited id.0 self.old ≡ None) }
         ensures confirmed { self.new ≡ (called (Confirm id.0 recipient window packet) self.old).table }
     {
-        let Some(at) = place(self.channels.as_slice(), id.0) else {
+        let Some(at) = place(self.channels.as_slice(), &self.listed, id.0) else {
             return Err(MuxError::Inconsistent);
         };
-        let channel = &mut self.channels[at];
-        match channel.awaited() {
+        match self.channels[at].awaited() {
             Some(ticket) => {
+                let channel = &mut self.channels[at];
                 channel.confirm(recipient, window, packet);
                 Ok(ticket)
             }
@@ -107,26 +114,28 @@ impl ChannelTable {
         ensures answer { result ≡ awaited id.0 self.old }
         ensures failed { self.new ≡ (called (Fail id.0) self.old).table }
     {
-        let at = place(self.channels.as_slice(), id.0)?;
+        let at = place(self.channels.as_slice(), &self.listed, id.0)?;
         let ticket = self.channels[at].awaited()?;
         let _ = self.channels.remove(at);
+        let _ = self.listed.shift_remove_index(at);
         Some(ticket)
     }
 }
 
 /// The next number that no channel has.
-fn next_number(channels: &[Channel], last: u32) -> Result<u32, NoMemory>
+fn next_number(channels: &[Channel], listed: &IndexSet<u32>, last: u32) -> Result<u32, NoMemory>
+    requires { listed.now.keys ≡ numbers channels.now }
     ensures next { IfOk result (λ n. next_number (record { channels = channels.now; last = last }) ≡ Some n) }
     ensures fresh { IfOk result (λ n. channel_of n channels.now ≡ None) }
 {
     let mut number = last.wrapping_add(1);
     for _tried in 0..channels.len() {
-        let Some(_) = place(channels, number) else {
+        let Some(_) = place(channels, listed, number) else {
             return Ok(number);
         };
         number = number.wrapping_add(1);
     }
-    match place(channels, number) {
+    match place(channels, listed, number) {
         Some(_) => Err(NoMemory),
         None => Ok(number),
     }

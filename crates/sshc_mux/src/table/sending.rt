@@ -50,7 +50,7 @@ impl ChannelTable {
         ensures { Did (called (Bytes id.0 stream body.now exchanging) self.old) self.old self.new out.old out.new result }
     {
         let alloc = self.alloc;
-        match place(self.channels.as_slice(), id.0) {
+        match place(self.channels.as_slice(), &self.listed, id.0) {
             Some(at) => {
                 let channel = &mut self.channels[at];
                 channel.data(alloc, stream, body, exchanging, out)
@@ -66,7 +66,7 @@ impl ChannelTable {
         let mut said = Vec::new(self.alloc);
         push_flushed(self.alloc, self.channels.as_slice(), &mut said)?;
         push_all(said, out)?;
-        count_flushed(self.channels.as_mut_slice());
+        count_all_flushed(&mut self.channels);
         Ok(())
     }
 }
@@ -82,6 +82,12 @@ fn push_flushed(alloc: Global, channels: &[Channel], said: &mut Vec<Record>) -> 
 }
 
 /// Counts as sent what each channel may send now.
+fn count_all_flushed(channels: &mut Vec<Channel>)
+    ensures { channels.new.items ≡ all_flushed channels.old.items }
+{
+    count_flushed(channels.as_mut_slice());
+}
+
 fn count_flushed(channels: &mut [Channel])
     ensures { channels.new ≡ all_flushed channels.old }
 {

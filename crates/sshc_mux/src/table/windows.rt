@@ -20,7 +20,7 @@ impl ChannelTable {
         ensures answer { IfOk result (λ left. left ≡ granted_at id.0 amount exchanging self.old) }
     {
         let alloc = self.alloc;
-        match place(self.channels.as_slice(), id.0) {
+        match place(self.channels.as_slice(), &self.listed, id.0) {
             Some(at) if self.channels[at].is_established() => {
                 let channel = &mut self.channels[at];
                 channel.grant(alloc, amount, exchanging, out)?;
@@ -42,7 +42,7 @@ impl ChannelTable {
         ensures answer { IfOk result (λ wrote. wrote ≡ adjusted_at id.0 len target self.old) }
     {
         let alloc = self.alloc;
-        match place(self.channels.as_slice(), id.0) {
+        match place(self.channels.as_slice(), &self.listed, id.0) {
             Some(at) => {
                 let channel = &mut self.channels[at];
                 channel.receive(alloc, len, target, out)
