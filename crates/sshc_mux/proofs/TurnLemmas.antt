@@ -39,7 +39,7 @@ pub no_length : {A : Type 0} (l : List A) → eqb (length l) 0 ≡ true → l �
 no_length [] h = refl
 no_length (x ∷ l) h = let no : eqb (suc (length l)) 0 ≡ false = eqb-suc-zero (length l) in absurd (cc)
 
-room_facts : (b : Bool) (window size : ℕ) → (b ≡ true → 0 < size) → (0 < (if b then window else 0) → 0 < size) × ((if b then window else 0) ≤ window)
+pub room_facts : (b : Bool) (window size : ℕ) → (b ≡ true → 0 < size) → (0 < (if b then window else 0) → 0 < size) × ((if b then window else 0) ≤ window)
 room_facts true window size h = (λ _. h refl, omega arith)
 room_facts false window size h = (λ no. absurd (omega (arith, no)), omega arith)
 

@@ -1,12 +1,13 @@
 -- The account of one life of a channel's number: what was taken to send, what was sent, what waits and what the peer granted
 -- (RFC 4254, sections 5.2 and 5.3). Lists and sums over the calls; the code keeps queues and windows, and no history.
-use Rattle.std.specs.Prelude.{◌≡◌, ℕ, ◌+◌, ◌≤◌, ◌⊎◌, Bool, true, false, not, ◌&&◌, List, [], ◌∷◌, ◌++◌, length, Option, Some, None, is_some, if◌then◌else◌, ◌==◌}
+use Rattle.std.specs.Prelude.{◌≡◌, ℕ, ◌+◌, ◌≤◌, ◌⊎◌, Bool, true, false, not, ◌&&◌, List, [], ◌∷◌, ◌++◌, length, Option, Some, None, is_some, if◌then◌else◌, ◌==◌, ◌<◌}
 use Rattle.sshc_wire.specs.declared.ticket.Ticket.{Ticket}
 use Rattle.sshc_mux.specs.declared.chunk.Stream.{Stream}
 use Rattle.sshc_mux.specs.ChannelState.{ChannelState, TableState, Waiting, channel_of}
 use Rattle.sshc_mux.specs.Packets.{Packet, Piece, Eof, Close, Adjust}
 use Rattle.sshc_mux.specs.ChannelTable.{Effect, Said, unmoved, turn_at, flush, settle, confirm, fail, close_peer}
 use Rattle.sshc_mux.specs.ChannelTable.Opens.{next_number, IsNext, made, opened_by_user, reserved_by_server, awaited_by}
+use Rattle.sshc_mux.specs.ChannelTable.Sending.{flushed}
 use Rattle.sshc_mux.specs.ChannelTable.Windows.{grant_turn, received_turn}
 use Rattle.sshc_mux.specs.ChannelTable.Ends.{data_turn, eof_turn, close_turn}
 
@@ -163,3 +164,19 @@ ExchangesAreQuiet = (call : Call) (t : TableState) → may_send call ≡ false �
 -- a new number is the next that is free
 abbrev pub NumbersGoOn : Type 0
 NumbersGoOn = (t : TableState) (n : ℕ) → next_number t ≡ Some n → IsNext t n
+
+-- each piece holds a byte at least, and no more than the packet size
+abbrev pub AllFit : ℕ → List Packet → Type 0
+AllFit size [] = Unit {0}
+AllFit size (Piece stream bytes ∷ packets) = (0 < length bytes) × (length bytes ≤ size) × AllFit size packets
+AllFit size (Eof ∷ packets) = AllFit size packets
+AllFit size (Close ∷ packets) = AllFit size packets
+AllFit size (Adjust amount ∷ packets) = AllFit size packets
+
+-- what a channel sends at once fits into its packets
+abbrev pub PiecesFit : Type 0
+PiecesFit = (exchanging : Bool) (c : ChannelState) → AllFit c.packet_size (flushed exchanging c).packets
+
+-- nothing waits on an established channel that has sent while no exchange runs, where window is left and pieces may hold something
+abbrev pub NothingWaitsInVain : Type 0
+NothingWaitsInVain = (c : ChannelState) → c.established ≡ true → 0 < c.packet_size → 0 < (flushed false c).channel.window → (flushed false c).channel.pending ≡ []
