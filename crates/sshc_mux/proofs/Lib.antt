@@ -1,0 +1,16 @@
+mod StandardFacts
+mod PieceLemmas
+mod SendingLemmas
+mod FlushLemmas
+mod PlaceLemmas
+mod ListedLemmas
+mod TableLemmas
+mod NumberLemmas
+mod AccountLemmas
+mod TurnLemmas
+mod PromptLemmas
+mod NumbersLemmas
+mod CallLemmas
+mod LifeLemmas
+mod AccountLaw
+mod QuietLemmas

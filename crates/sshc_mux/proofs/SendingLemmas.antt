@@ -1,0 +1,113 @@
+-- What is sent of what waits, and what is left, one call's bytes after the other.
+use Rattle.std.proofs.Common.{◌≡◌, ℕ, ◌+◌, ◌-◌, ◌<◌, ◌≤◌, Bool, true, false, List, [], ◌∷◌, ◌++◌, length, take, drop, get_or, eqb, if◌then◌else◌, refl, ap, sym, ◌∙◌, arith, append_assoc}
+use Rattle.std.proofs.lemmas.List.{append-nil, drop_more}
+use Rattle.std.proofs.lemmas.Bool.{le-leb, lt-leb}
+use Rattle.std.proofs.Math.Dec.{eqb-suc-zero}
+use Rattle.sshc_wire.specs.declared.record.Record.{Record}
+use Rattle.sshc_mux.specs.declared.chunk.Stream.{Stream}
+use Rattle.sshc_mux.specs.ChannelState.{Waiting}
+use Rattle.sshc_mux.specs.Packets.{Packet, payloads}
+use Rattle.sshc_mux.specs.ChannelTable.Sending.{cut, pieces_of, sent_of, left_of}
+use Rattle.sshc_mux.proofs.PieceLemmas.{payloads-append, take-past, cut-nothing}
+
+pub left-whole : (room : ℕ) (w : Waiting) (ws : List Waiting) → length w.bytes ≤ room → left_of room (w ∷ ws) ≡ left_of (room - length w.bytes) ws
+left-whole room w ws fits =
+    ap (λ (b : Bool). if b then left_of (room - length w.bytes) ws else record { stream = w.stream; bytes = drop room w.bytes } ∷ ws) (le-leb (length w.bytes) room fits)
+
+pub left-part : (room : ℕ) (w : Waiting) (ws : List Waiting) → room < length w.bytes → left_of room (w ∷ ws) ≡ record { stream = w.stream; bytes = drop room w.bytes } ∷ ws
+left-part room w ws short =
+    ap (λ (b : Bool). if b then left_of (room - length w.bytes) ws else record { stream = w.stream; bytes = drop room w.bytes } ∷ ws) (lt-leb (length w.bytes) room short)
+
+-- without room nothing is sent
+pub sent-nothing : (size : ℕ) (ws : List Waiting) → sent_of size 0 ws ≡ []
+sent-nothing size [] = refl
+sent-nothing size (w ∷ ws) =
+    let none : 0 - length w.bytes ≡ 0 = omega arith in
+    ap (λ (ps : List (List ℕ)). pieces_of w.stream ps ++ sent_of size (0 - length w.bytes) ws) (cut-nothing size)
+    ∙ ap (λ (r : ℕ). sent_of size r ws) none
+    ∙ sent-nothing size ws
+
+pub sent-whole : (size room : ℕ) (w : Waiting) (ws : List Waiting) → length w.bytes ≤ room → sent_of size room (w ∷ ws) ≡ pieces_of w.stream (cut size w.bytes) ++ sent_of size (room - length w.bytes) ws
+sent-whole size room w ws fits = ap (λ (bs : List ℕ). pieces_of w.stream (cut size bs) ++ sent_of size (room - length w.bytes) ws) (take-past room w.bytes fits)
+
+pub sent-part : (size room : ℕ) (w : Waiting) (ws : List Waiting) → room < length w.bytes → sent_of size room (w ∷ ws) ≡ pieces_of w.stream (cut size (take room w.bytes))
+sent-part size room w ws short =
+    let none : room - length w.bytes ≡ 0 = omega arith in
+    ap (λ (r : ℕ). pieces_of w.stream (cut size (take room w.bytes)) ++ sent_of size r ws) none
+    ∙ ap (λ (ps : List Packet). pieces_of w.stream (cut size (take room w.bytes)) ++ ps) (sent-nothing size ws)
+    ∙ append-nil (pieces_of w.stream (cut size (take room w.bytes)))
+
+-- the bytes of one more call are said whole
+pub whole_more : (recipient size room : ℕ) (w : Waiting) (left ws : List Waiting) (before after whole : List Record) →
+    left ≡ w ∷ ws → length w.bytes ≤ room →
+    after ≡ before ++ payloads recipient (pieces_of w.stream (cut size w.bytes)) →
+    before ++ payloads recipient (sent_of size room left) ≡ whole →
+    after ++ payloads recipient (sent_of size (room - length w.bytes) ws) ≡ whole
+whole_more recipient size room w left ws before after whole place fits pushed so_far =
+    ap (λ (rs : List Record). rs ++ payloads recipient (sent_of size (room - length w.bytes) ws)) pushed
+    ∙ append_assoc before (payloads recipient (pieces_of w.stream (cut size w.bytes))) (payloads recipient (sent_of size (room - length w.bytes) ws))
+    ∙ ap (λ (rs : List Record). before ++ rs)
+    (sym (payloads-append recipient (pieces_of w.stream (cut size w.bytes)) (sent_of size (room - length w.bytes) ws))
+    ∙ ap (λ (ps : List Packet). payloads recipient ps) (sym (sent-whole size room w ws fits) ∙ ap (λ (l : List Waiting). sent_of size room l) (sym place)))
+    ∙ so_far
+
+-- the front of one call's bytes is the last that is said
+pub part_done : (recipient size room : ℕ) (w : Waiting) (left ws : List Waiting) (before after whole : List Record) →
+    left ≡ w ∷ ws → room < length w.bytes →
+    after ≡ before ++ payloads recipient (pieces_of w.stream (cut size (take room w.bytes))) →
+    before ++ payloads recipient (sent_of size room left) ≡ whole → after ≡ whole
+part_done recipient size room w left ws before after whole place short pushed so_far =
+    pushed
+    ∙ ap (λ (ps : List Packet). before ++ payloads recipient ps) (sym (sent-part size room w ws short) ∙ ap (λ (l : List Waiting). sent_of size room l) (sym place))
+    ∙ so_far
+
+-- nothing is left to say
+pub nothing_more : (recipient size room : ℕ) (left : List Waiting) (before whole : List Record) → left ≡ [] → before ++ payloads recipient (sent_of size room left) ≡ whole → before ≡ whole
+nothing_more recipient size room left before whole none so_far =
+    sym (append-nil before) ∙ ap (λ (l : List Waiting). before ++ payloads recipient (sent_of size room l)) (sym none) ∙ so_far
+
+-- whether something is left
+pub left_some : (room : ℕ) (w : Waiting) (left ws all : List Waiting) → left ≡ w ∷ ws → room < length w.bytes → left_of room left ≡ all → eqb (length all) 0 ≡ false
+left_some room w left ws all place short is =
+    ap (λ (l : List Waiting). eqb (length l) 0) (sym is ∙ ap (λ (l : List Waiting). left_of room l) place ∙ left-part room w ws short)
+    ∙ eqb-suc-zero (length ws)
+
+pub left_none : (room : ℕ) (left all : List Waiting) → left ≡ [] → left_of room left ≡ all → eqb (length all) 0 ≡ true
+left_none room left all none is = ap (λ (l : List Waiting). eqb (length l) 0) (sym is ∙ ap (λ (l : List Waiting). left_of room l) none)
+
+-- The same at a place in the queue.
+module _ (recipient size room at : ℕ) (stream : Stream) (bytes : List ℕ) (w : Waiting) (ws : List Waiting)
+    (within : at < length ws) (place : w ≡ get_or ws at w) (stream_is : stream ≡ w.stream) (bytes_is : bytes ≡ w.bytes) where
+  next : drop at ws ≡ w ∷ drop (at + 1) ws
+  next = drop_more ws at w within ∙ ap (λ (v : Waiting). v ∷ drop (at + 1) ws) (sym place)
+
+  pub whole_at : (before after whole : List Record) → length bytes ≤ room →
+      after ≡ before ++ payloads recipient (pieces_of stream (cut size bytes)) →
+      before ++ payloads recipient (sent_of size room (drop at ws)) ≡ whole →
+      after ++ payloads recipient (sent_of size (room - length bytes) (drop (at + 1) ws)) ≡ whole
+  whole_at before after whole fits pushed so_far =
+      let fit : length w.bytes ≤ room = omega (arith, ap length bytes_is) in
+      let said : after ≡ before ++ payloads recipient (pieces_of w.stream (cut size w.bytes)) =
+      pushed ∙ ap (λ (s : Stream). before ++ payloads recipient (pieces_of s (cut size bytes))) stream_is ∙ ap (λ (bs : List ℕ). before ++ payloads recipient (pieces_of w.stream (cut size bs))) bytes_is in
+      ap (λ (bs : List ℕ). after ++ payloads recipient (sent_of size (room - length bs) (drop (at + 1) ws))) bytes_is
+      ∙ whole_more recipient size room w (drop at ws) (drop (at + 1) ws) before after whole next fit said so_far
+
+  pub rest_at : (all : List Waiting) → length bytes ≤ room → left_of room (drop at ws) ≡ all → left_of (room - length bytes) (drop (at + 1) ws) ≡ all
+  rest_at all fits is =
+      let fit : length w.bytes ≤ room = omega (arith, ap length bytes_is) in
+      ap (λ (bs : List ℕ). left_of (room - length bs) (drop (at + 1) ws)) bytes_is
+      ∙ sym (left-whole room w (drop (at + 1) ws) fit) ∙ ap (λ (l : List Waiting). left_of room l) (sym next) ∙ is
+
+  pub part_at : (part : List ℕ) (before after whole : List Record) → room < length bytes → part ≡ take room bytes →
+      after ≡ before ++ payloads recipient (pieces_of stream (cut size part)) →
+      before ++ payloads recipient (sent_of size room (drop at ws)) ≡ whole → after ≡ whole
+  part_at part before after whole short front pushed so_far =
+      let shorter : room < length w.bytes = omega (arith, ap length bytes_is) in
+      let said : after ≡ before ++ payloads recipient (pieces_of w.stream (cut size (take room w.bytes))) =
+      pushed ∙ ap (λ (bs : List ℕ). before ++ payloads recipient (pieces_of stream (cut size bs))) front ∙ ap (λ (s : Stream). before ++ payloads recipient (pieces_of s (cut size (take room bytes)))) stream_is ∙ ap (λ (bs : List ℕ). before ++ payloads recipient (pieces_of w.stream (cut size (take room bs)))) bytes_is in
+      part_done recipient size room w (drop at ws) (drop (at + 1) ws) before after whole next shorter said so_far
+
+  pub some_at : (all : List Waiting) → room < length bytes → left_of room (drop at ws) ≡ all → eqb (length all) 0 ≡ false
+  some_at all short is =
+      let shorter : room < length w.bytes = omega (arith, ap length bytes_is) in
+      left_some room w (drop at ws) (drop (at + 1) ws) all next shorter is

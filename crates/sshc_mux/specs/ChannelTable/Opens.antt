@@ -1,0 +1,99 @@
+-- Numbers, opens, confirmations and failures (RFC 4254, section 5.1).
+-- A number is the first that stands in no channel; the code tries one after the other.
+use Rattle.std.specs.Prelude.{ℕ, zero, suc, ◌+◌, ◌^◌, ◌%◌, Bool, true, false, not, ◌&&◌, List, [], ◌∷◌, ◌++◌, length, Option, Some, None, ◌≡◌, ◌<◌, is_some}
+use Rattle.sshc_wire.specs.declared.ticket.Ticket.{Ticket}
+use Rattle.sshc_mux.specs.declared.channel.Opener.{Opener}
+use Rattle.sshc_mux.specs.declared.channel.Opener.TheVariants.{User, Server}
+use Rattle.sshc_mux.specs.declared.channel.Stage.TheVariants.{Unasked}
+use Rattle.sshc_mux.specs.ChannelState.{ChannelState, TableState, channel_of}
+
+-- the next number; after the last of a u32 it goes on at 0
+abbrev pub above : ℕ → ℕ
+above n = (n + 1) % 2 ^ 32
+
+-- the number where no channel has it, else the other
+abbrev pub free_or : Option ChannelState → ℕ → Option ℕ → Option ℕ
+free_or None n other = Some n
+free_or (Some c) n other = other
+
+-- the first of so many numbers from this one on that no channel has
+abbrev pub free_from : ℕ → ℕ → List ChannelState → Option ℕ
+free_from zero n cs = None
+free_from (suc tries) n cs = free_or (channel_of n cs) n (free_from tries (above n) cs)
+
+-- One number more than there are channels is enough to find a free one, unless every number is taken.
+unfoldable pub next_number : TableState → Option ℕ
+next_number t = free_from (length t.channels + 1) (above t.last) t.channels
+
+-- The number is the first that no channel has, counted on from the last given, and from 0 behind the last of a u32.
+pub record IsNext (t : TableState) (n : ℕ) : Type 0 where
+  pub steps : ℕ
+  pub counted : n ≡ (t.last + 1 + steps) % 2 ^ 32
+  pub free : channel_of n t.channels ≡ None
+  pub taken : (k : ℕ) → k < steps → is_some (channel_of ((t.last + 1 + k) % 2 ^ 32) t.channels) ≡ true
+
+abbrev pub made : ChannelState → TableState → TableState
+made c t = record { channels = t.channels ++ c ∷ []; last = c.number }
+
+-- an open of ours, whose recipient and window are not known yet
+abbrev pub opened_by_user : ℕ → ℕ → ℕ → Option Ticket → ChannelState
+opened_by_user number window packet ticket = record {
+  number = number;
+  opener = User ticket;
+  established = false;
+  recipient = 0;
+  packet_size = packet;
+  own_window = window;
+  window = 0;
+  pending = [];
+  eof = Unasked;
+  close = Unasked;
+}
+
+-- an open of the peer's, which waits to be settled
+abbrev pub reserved_by_server : ℕ → ℕ → ℕ → ℕ → ℕ → ChannelState
+reserved_by_server number recipient window packet own = record {
+  number = number;
+  opener = Server;
+  established = false;
+  recipient = recipient;
+  packet_size = packet;
+  own_window = own;
+  window = window;
+  pending = [];
+  eof = Unasked;
+  close = Unasked;
+}
+
+-- the ticket of an open of ours
+abbrev pub ticket_in : Opener → Option (Option Ticket)
+ticket_in (User ticket) = Some ticket
+ticket_in Server = None
+
+-- the ticket of an open of ours that waits for the peer's answer
+abbrev pub awaited_in : Bool → Opener → Option (Option Ticket)
+awaited_in true opener = None
+awaited_in false opener = ticket_in opener
+
+abbrev pub awaited_by : Option ChannelState → Option (Option Ticket)
+awaited_by None = None
+awaited_by (Some c) = awaited_in c.established c.opener
+
+abbrev pub awaited : ℕ → TableState → Option (Option Ticket)
+awaited n t = awaited_by (channel_of n t.channels)
+
+-- the peer's number, window and packet size take their places
+abbrev pub confirmed : ℕ → ℕ → ℕ → ChannelState → ChannelState
+confirmed recipient window packet c = record c { established = true; recipient = recipient; window = window; packet_size = packet }
+
+-- an open of the peer's that waits to be settled
+abbrev pub is_by_server : Opener → Bool
+is_by_server (User ticket) = false
+is_by_server Server = true
+
+abbrev pub is_reserved : ChannelState → Bool
+is_reserved c = not c.established && is_by_server c.opener
+
+abbrev pub reserved_by : Option ChannelState → Bool
+reserved_by None = false
+reserved_by (Some c) = is_reserved c

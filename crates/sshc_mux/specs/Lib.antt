@@ -1,0 +1,5 @@
+pub mod ChannelState
+pub mod Places
+pub mod Packets
+pub mod ChannelTable
+pub mod ChannelAccount

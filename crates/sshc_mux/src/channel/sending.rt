@@ -1,0 +1,116 @@
+//! What a channel sends: its waiting bytes, and then what is due behind them (RFC 4254, sections 5.2 and 5.3).
+
+ghost use Rattle.std.specs.Prelude.{◌≡◌, ◌<◌, ◌≤◌, ◌++◌, [], ◌&&◌, if◌then◌else◌, OnOk};
+ghost use Rattle.sshc_mux.specs.Packets.{payloads, Eof, Close};
+ghost use Rattle.sshc_mux.specs.ChannelTable.{Turned};
+ghost use Rattle.sshc_mux.specs.ChannelTable.Sending.{room_of, emptied, ended, flushed, due_of};
+
+use crate::channel::Channel;
+use crate::packets::{close_record, eof_record, push_all};
+use crate::waiting::{drop_sent, push_sent};
+use sshc_wire::{NoMemory, Outbox, Record};
+use std::alloc::Global;
+
+impl Channel {
+    /// For how many bytes there is room now.
+    fn room(&self, exchanging: bool) -> u32
+        ensures room { result ≡ room_of exchanging self.now }
+        ensures within { result ≤ self.now.window }
+        ensures size { 0 < result → 0 < self.now.packet_size }
+    {
+        if self.is_established && !exchanging && self.packet_size > 0 {
+            self.window
+        } else {
+            0
+        }
+    }
+
+    /// Says the ends that are due, unless bytes wait.
+    fn push_ends(
+        &self,
+        alloc: Global,
+        is_empty: bool,
+        said: &mut Vec<Record>,
+    ) -> Result<(), NoMemory>
+        ensures { OnOk result (said.new.items ≡ said.old.items ++ payloads self.now.recipient
+            (if self.now.established && is_empty then due_of self.now else [])) }
+    {
+        if !self.is_established || !is_empty {
+            return Ok(());
+        }
+        if self.eof.is_due() {
+            said.push(eof_record(alloc, self.recipient)?)?;
+        }
+        if self.close.is_due() {
+            said.push(close_record(alloc, self.recipient)?)?;
+        }
+        Ok(())
+    }
+
+    /// Says what the channel may send now.
+    pub(crate) fn push_flushed(
+        &self,
+        alloc: Global,
+        exchanging: bool,
+        said: &mut Vec<Record>,
+    ) -> Result<(), NoMemory>
+        ensures { OnOk result (said.new.items ≡ said.old.items ++ payloads self.now.recipient (flushed exchanging self.now).packets) }
+    {
+        let room = self.room(exchanging);
+        let is_empty = push_sent(
+            alloc,
+            self.recipient,
+            self.packet_size,
+            room as usize,
+            &self.pending,
+            said,
+        )?;
+        self.push_ends(alloc, is_empty, said)?;
+        Ok(())
+    }
+
+    /// Lets the bytes go that there is room for.
+    fn empty(&mut self, room: u32)
+        requires { room ≤ self.old.window }
+        ensures { self.new ≡ emptied room self.old }
+    {
+        let left = drop_sent(&mut self.pending, room as usize);
+        self.window -= room - left as u32;
+    }
+
+    /// Counts the ends as sent that are due, unless bytes wait.
+    fn end(&mut self)
+        ensures { self.new ≡ ended self.old }
+    {
+        if self.is_established && self.pending.len() == 0 {
+            self.eof = self.eof.done();
+            self.close = self.close.done();
+        }
+    }
+
+    /// Counts as sent what the channel may send now.
+    #[tactic(auto, unfolding(crate::specs::ChannelTable::Sending::flushed))]
+    pub(crate) fn count_flushed(&mut self, exchanging: bool)
+        ensures { self.new ≡ (flushed exchanging self.old).channel }
+    {
+        let room = self.room(exchanging);
+        self.empty(room);
+        self.end();
+    }
+
+    /// Sends what the channel may send now, or changes nothing.
+    pub(crate) fn flush(
+        &mut self,
+        alloc: Global,
+        exchanging: bool,
+        out: &mut Outbox,
+    ) -> Result<(), NoMemory>
+        ensures { Turned (flushed exchanging self.old) self.old self.new out.old out.new result }
+    {
+        let mut said = Vec::new(alloc);
+        self.push_flushed(alloc, exchanging, &mut said)?;
+        push_all(said, out)?;
+        self.count_flushed(exchanging);
+        Ok(())
+    }
+}

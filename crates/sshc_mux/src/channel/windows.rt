@@ -1,0 +1,61 @@
+//! A channel's windows (RFC 4254, section 5.2).
+
+ghost use Rattle.std.specs.Prelude.{◌≡◌, [], IfOk};
+ghost use Rattle.sshc_mux.specs.ChannelTable.{Turned};
+ghost use Rattle.sshc_mux.specs.ChannelTable.Windows.{grant_turn, received_turn, adjusts};
+
+use crate::channel::Channel;
+use crate::packets::adjust_record;
+use sshc_wire::{NoMemory, Outbox};
+use std::alloc::Global;
+
+impl Channel {
+    /// Takes a grant of the peer's, and sends what may be sent then.
+    pub(crate) fn grant(
+        &mut self,
+        alloc: Global,
+        amount: u32,
+        exchanging: bool,
+        out: &mut Outbox,
+    ) -> Result<(), NoMemory>
+        ensures { Turned (grant_turn amount exchanging self.old) self.old self.new out.old out.new result }
+    {
+        if !self.is_established {
+            return Ok(());
+        }
+        let before = self.window;
+        self.window = before.saturating_add(amount);
+        match self.flush(alloc, exchanging, out) {
+            Ok(()) => Ok(()),
+            Err(error) => {
+                self.window = before;
+                Err(error)
+            }
+        }
+    }
+
+    /// Counts bytes of the peer's, and brings a low window back to the target. Answers whether it wrote an adjust packet.
+    pub(crate) fn receive(
+        &mut self,
+        alloc: Global,
+        len: u64,
+        target: u32,
+        out: &mut Outbox,
+    ) -> Result<bool, NoMemory>
+        ensures turn { Turned (received_turn len target self.old) self.old self.new out.old out.new result }
+        ensures answer { IfOk result (λ wrote. wrote ≡ adjusts len target self.old) }
+    {
+        if !self.is_established {
+            return Ok(false);
+        }
+        let left = u64::from(self.own_window).saturating_sub(len) as u32;
+        if left < target / 2 {
+            out.push(adjust_record(alloc, self.recipient, target - left)?)?;
+            self.own_window = target;
+            Ok(true)
+        } else {
+            self.own_window = left;
+            Ok(false)
+        }
+    }
+}

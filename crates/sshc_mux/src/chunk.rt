@@ -1,0 +1,69 @@
+//! What waits of the bytes of one call.
+
+ghost use Rattle.std.specs.Prelude.{◌≡◌, ◌<◌, ◌≤◌, ◌-◌, length, take, drop, IfOk};
+
+use sshc_wire::NoMemory;
+use std::alloc::Global;
+use std::marker::Model;
+
+/// The kind of a channel's bytes, with the code of extended data (RFC 4254, section 5.2).
+#[derive(Clone, Copy, Debug, PartialEq, Eq)]
+pub enum Stream {
+    /// Plain data.
+    Data,
+    /// Extended data of this type.
+    Extended(u32),
+}
+
+/// The bytes of one call, of which a front was sent. Contracts see those that wait, with their kind.
+#[derive(Debug, Drop)]
+pub(crate) struct Chunk {
+    stream: Stream,
+    body: Vec<u8>,
+    sent: usize,
+}
+
+impl Model for Chunk {
+    ghost use Rattle.std.specs.Prelude.{length, drop, ◌≤◌};
+    ghost use Rattle.sshc_mux.specs.ChannelState.{Waiting};
+
+    ghost Value = { Waiting };
+
+    ghost view = { λ k. record { stream = k.stream; bytes = drop k.sent k.body.items } };
+
+    ghost invariant = { λ k. k.sent ≤ length k.body.items };
+}
+
+impl Chunk {
+    /// A copy of the bytes.
+    pub(crate) fn new(alloc: Global, stream: Stream, body: &[u8]) -> Result<Chunk, NoMemory>
+        ensures { IfOk result (λ k. k ≡ record { stream = stream; bytes = body.now }) }
+    {
+        Ok(Chunk {
+            stream,
+            body: Vec::from_slice(alloc, body)?,
+            sent: 0,
+        })
+    }
+
+    pub(crate) fn stream(&self) -> Stream
+        ensures { result ≡ self.now.stream }
+    {
+        self.stream
+    }
+
+    /// The bytes that wait.
+    pub(crate) fn bytes(&self) -> &[u8]
+        ensures { result.now ≡ self.now.bytes }
+    {
+        &self.body[self.sent..]
+    }
+
+    /// Counts bytes at the front as sent.
+    pub(crate) fn skip(&mut self, count: usize)
+        requires { count ≤ length self.old.bytes }
+        ensures { self.new ≡ record { stream = self.old.stream; bytes = drop count self.old.bytes } }
+    {
+        self.sent += count;
+    }
+}

@@ -1,0 +1,12 @@
+//! Numbers of messages (RFC 4254, section 9).
+
+/// SSH_MSG_CHANNEL_WINDOW_ADJUST.
+pub const CHANNEL_WINDOW_ADJUST: u8 = 93;
+/// SSH_MSG_CHANNEL_DATA.
+pub const CHANNEL_DATA: u8 = 94;
+/// SSH_MSG_CHANNEL_EXTENDED_DATA.
+pub const CHANNEL_EXTENDED_DATA: u8 = 95;
+/// SSH_MSG_CHANNEL_EOF.
+pub const CHANNEL_EOF: u8 = 96;
+/// SSH_MSG_CHANNEL_CLOSE.
+pub const CHANNEL_CLOSE: u8 = 97;

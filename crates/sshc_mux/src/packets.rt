@@ -1,0 +1,103 @@
+//! The packets of a channel as records (RFC 4254, sections 5.2 and 5.3).
+
+ghost use Rattle.std.specs.Prelude.{◌≡◌, ◌+◌, ◌++◌, ◌≤◌, ◌<◌, ◌^◌, length, IfOk, OnOk, OnErr};
+ghost use Rattle.sshc_wire.specs.Outgoing.{shown};
+ghost use Rattle.sshc_mux.specs.Packets.{packet_text, Piece, Eof, Close, Adjust, payloads};
+ghost use Rattle.sshc_mux.specs.ChannelTable.Sending.{cut, pieces_of};
+
+use crate::chunk::Stream;
+use crate::msg;
+use sshc_wire::{NoMemory, Octets, Outbox, Record, put_bytes, put_u32};
+use std::alloc::Global;
+
+/// A piece of a channel's bytes.
+fn piece_record(
+    alloc: Global,
+    recipient: u32,
+    stream: Stream,
+    piece: &[u8],
+) -> Result<Record, NoMemory>
+    requires { length piece.now < 2 ^ 32 }
+    ensures { IfOk result (λ r. r ≡ Record.Payload (packet_text recipient (Piece stream piece.now))) }
+{
+    let mut packet = Vec::new(alloc);
+    match stream {
+        Stream::Data => {
+            packet.push(msg::CHANNEL_DATA)?;
+            put_u32(&mut packet, recipient)?;
+        }
+        Stream::Extended(code) => {
+            packet.push(msg::CHANNEL_EXTENDED_DATA)?;
+            put_u32(&mut packet, recipient)?;
+            put_u32(&mut packet, code)?;
+        }
+    }
+    put_bytes(&mut packet, piece)?;
+    Ok(Record::Payload(Octets::from_vec(packet)?))
+}
+
+/// The end of a channel's bytes.
+pub(crate) fn eof_record(alloc: Global, recipient: u32) -> Result<Record, NoMemory>
+    ensures { IfOk result (λ r. r ≡ Record.Payload (packet_text recipient Eof)) }
+{
+    let mut packet = Vec::new(alloc);
+    packet.push(msg::CHANNEL_EOF)?;
+    put_u32(&mut packet, recipient)?;
+    Ok(Record::Payload(Octets::from_vec(packet)?))
+}
+
+/// Our close.
+pub(crate) fn close_record(alloc: Global, recipient: u32) -> Result<Record, NoMemory>
+    ensures { IfOk result (λ r. r ≡ Record.Payload (packet_text recipient Close)) }
+{
+    let mut packet = Vec::new(alloc);
+    packet.push(msg::CHANNEL_CLOSE)?;
+    put_u32(&mut packet, recipient)?;
+    Ok(Record::Payload(Octets::from_vec(packet)?))
+}
+
+/// More room in our window.
+pub(crate) fn adjust_record(alloc: Global, recipient: u32, amount: u32) -> Result<Record, NoMemory>
+    ensures { IfOk result (λ r. r ≡ Record.Payload (packet_text recipient (Adjust amount))) }
+{
+    let mut packet = Vec::new(alloc);
+    packet.push(msg::CHANNEL_WINDOW_ADJUST)?;
+    put_u32(&mut packet, recipient)?;
+    put_u32(&mut packet, amount)?;
+    Ok(Record::Payload(Octets::from_vec(packet)?))
+}
+
+/// The bytes in pieces of at most `size`.
+pub(crate) fn push_pieces(
+    alloc: Global,
+    recipient: u32,
+    size: u32,
+    stream: Stream,
+    part: &[u8],
+    said: &mut Vec<Record>,
+) -> Result<(), NoMemory>
+    requires { 0 < length part.now → 0 < size }
+    ensures { OnOk result (said.new.items ≡ said.old.items ++ payloads recipient (pieces_of stream (cut size part.now))) }
+{
+    let mut rest = part;
+    while rest.len() > 0 {
+        let count = rest.len().min(size as usize);
+        let (piece, more) = rest.split_at(count);
+        said.push(piece_record(alloc, recipient, stream, piece)?)?;
+        rest = more;
+    }
+    Ok(())
+}
+
+/// Hands the records to the outbox, or changes nothing.
+pub(crate) fn push_all(said: Vec<Record>, out: &mut Outbox) -> Result<(), NoMemory>
+    ensures ok { OnOk result (out.new.records ≡ out.old.records ++ shown out.old.muted said.items) }
+    ensures err { OnErr result (out.new.records ≡ out.old.records) }
+    ensures same { out.new.muted ≡ out.old.muted }
+{
+    out.reserve(said.len())?;
+    for packet in said {
+        out.push_reserved(packet);
+    }
+    Ok(())
+}

@@ -1,0 +1,197 @@
+//! The table as a plain program: byte by byte, with nothing looked up.
+
+use sshc_mux::Stream;
+use sshc_wire::{NoMemory, put_bytes, put_u32};
+use std::alloc::Global;
+
+/// What waits of one call's bytes.
+#[derive(Debug, Drop)]
+pub(crate) struct Part {
+    stream: Stream,
+    bytes: Vec<u8>,
+}
+
+/// A channel, in the words of the rules.
+#[derive(Debug, Drop)]
+pub(crate) struct Plain {
+    pub(crate) number: u32,
+    pub(crate) by_user: bool,
+    pub(crate) established: bool,
+    pub(crate) recipient: u32,
+    pub(crate) packet_size: u32,
+    pub(crate) own_window: u32,
+    pub(crate) window: u32,
+    pub(crate) parts: Vec<Part>,
+    pub(crate) eof_asked: bool,
+    pub(crate) eof_sent: bool,
+    pub(crate) close_asked: bool,
+    pub(crate) close_sent: bool,
+}
+
+/// The payloads that were said.
+pub(crate) type Said = Vec<Vec<u8>>;
+
+fn piece(alloc: Global, recipient: u32, stream: Stream, bytes: &[u8]) -> Result<Vec<u8>, NoMemory> {
+    let mut text = Vec::new(alloc);
+    match stream {
+        Stream::Data => {
+            text.push(94)?;
+            put_u32(&mut text, recipient)?;
+        }
+        Stream::Extended(code) => {
+            text.push(95)?;
+            put_u32(&mut text, recipient)?;
+            put_u32(&mut text, code)?;
+        }
+    }
+    if bytes.len() < 1 << 32 {
+        put_bytes(&mut text, bytes)?;
+    }
+    Ok(text)
+}
+
+fn short(alloc: Global, number: u8, recipient: u32) -> Result<Vec<u8>, NoMemory> {
+    let mut text = Vec::new(alloc);
+    text.push(number)?;
+    put_u32(&mut text, recipient)?;
+    Ok(text)
+}
+
+impl Plain {
+    /// Takes a byte for the piece at hand, where one more may go out.
+    fn may_go(&self, exchanging: bool) -> bool {
+        self.established && !exchanging && self.packet_size > 0 && self.window > 0
+    }
+
+    /// Sends byte by byte, and then the ends that are due.
+    pub(crate) fn flush(
+        &mut self,
+        alloc: Global,
+        exchanging: bool,
+        said: &mut Said,
+    ) -> Result<(), NoMemory> {
+        let mut left = Vec::new(alloc);
+        let parts = std::mem::replace(&mut self.parts, Vec::new(alloc));
+        for part in parts {
+            let rest = self.send_part(alloc, exchanging, &part, said)?;
+            if !rest.is_empty() {
+                left.push(Part {
+                    stream: part.stream,
+                    bytes: rest,
+                })?;
+            }
+        }
+        self.parts = left;
+        self.send_ends(alloc, said)
+    }
+
+    /// Sends what may go of one call's bytes, and answers the rest.
+    fn send_part(
+        &mut self,
+        alloc: Global,
+        exchanging: bool,
+        part: &Part,
+        said: &mut Said,
+    ) -> Result<Vec<u8>, NoMemory> {
+        let mut rest = Vec::new(alloc);
+        let mut at_hand = Vec::new(alloc);
+        for byte in part.bytes.as_slice() {
+            if self.may_go(exchanging) && rest.is_empty() {
+                at_hand.push(*byte)?;
+                self.window = self.window.saturating_sub(1);
+            } else {
+                rest.push(*byte)?;
+            }
+            if at_hand.len() >= self.packet_size as usize && !at_hand.is_empty() {
+                said.push(piece(alloc, self.recipient, part.stream, at_hand.as_slice())?)?;
+                at_hand.clear();
+            }
+        }
+        if !at_hand.is_empty() {
+            said.push(piece(alloc, self.recipient, part.stream, at_hand.as_slice())?)?;
+        }
+        Ok(rest)
+    }
+
+    fn send_ends(&mut self, alloc: Global, said: &mut Said) -> Result<(), NoMemory> {
+        if !self.established || !self.parts.is_empty() {
+            return Ok(());
+        }
+        if self.eof_asked && !self.eof_sent {
+            said.push(short(alloc, 96, self.recipient)?)?;
+            self.eof_sent = true;
+        }
+        if self.close_asked && !self.close_sent {
+            said.push(short(alloc, 97, self.recipient)?)?;
+            self.close_sent = true;
+        }
+        Ok(())
+    }
+
+    pub(crate) fn data(
+        &mut self,
+        alloc: Global,
+        stream: Stream,
+        body: &[u8],
+        exchanging: bool,
+        said: &mut Said,
+    ) -> Result<(), NoMemory> {
+        if self.eof_asked || self.close_asked || body.is_empty() {
+            return Ok(());
+        }
+        self.parts.push(Part {
+            stream,
+            bytes: Vec::from_slice(alloc, body)?,
+        })?;
+        self.flush(alloc, exchanging, said)
+    }
+
+    pub(crate) fn eof(&mut self, alloc: Global, said: &mut Said) -> Result<(), NoMemory> {
+        if !self.close_sent {
+            self.eof_asked = true;
+        }
+        self.flush(alloc, true, said)
+    }
+
+    pub(crate) fn close(&mut self, alloc: Global, said: &mut Said) -> Result<(), NoMemory> {
+        self.close_asked = true;
+        self.flush(alloc, true, said)
+    }
+
+    /// The answer to the peer's close.
+    pub(crate) fn answer_close(&mut self, alloc: Global, said: &mut Said) -> Result<(), NoMemory> {
+        if !self.close_sent {
+            said.push(short(alloc, 97, self.recipient)?)?;
+        }
+        Ok(())
+    }
+
+    pub(crate) fn grant(
+        &mut self,
+        alloc: Global,
+        amount: u32,
+        exchanging: bool,
+        said: &mut Said,
+    ) -> Result<(), NoMemory> {
+        self.window = self.window.saturating_add(amount);
+        self.flush(alloc, exchanging, said)
+    }
+
+    pub(crate) fn received(
+        &mut self,
+        alloc: Global,
+        len: u32,
+        target: u32,
+        said: &mut Said,
+    ) -> Result<bool, NoMemory> {
+        self.own_window = self.own_window.saturating_sub(len);
+        if self.own_window >= target / 2 {
+            return Ok(false);
+        }
+        let mut text = short(alloc, 93, self.recipient)?;
+        put_u32(&mut text, target.saturating_sub(self.own_window))?;
+        said.push(text)?;
+        self.own_window = target;
+        Ok(true)
+    }
+}
