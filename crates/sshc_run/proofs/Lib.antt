@@ -8,3 +8,4 @@ pub mod Joined
 pub mod Gated
 pub mod Promises
 pub mod WordLists
+pub mod Longer

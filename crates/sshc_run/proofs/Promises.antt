@@ -8,7 +8,7 @@ use Rattle.sshc_auth.specs.declared.opening.Settings.{Settings}
 use Rattle.sshc_auth.specs.OpeningState.{start}
 use Rattle.sshc_run.specs.declared.error.RunError.{RunError}
 use Rattle.sshc_run.specs.declared.error.RunError.TheVariants as errors
-use Rattle.sshc_run.specs.Headline.{IsGated, IsDone, KeptBy, IsKept, IsComplete}
+use Rattle.sshc_run.specs.Headline.{IsGated, IsPrefix, IsDone, KeptBy, IsKept, IsComplete}
 use Rattle.sshc_run.specs.KnownHosts.{Hosts}
 use Rattle.sshc_run.specs.OpeningRun.{OpeningRun, OpeningStop, opens_before, stops_with, through, opening}
 use Rattle.sshc_run.specs.Outcome.{Ending, told, cut, unread, ending_of, IsExact, EndsAs, Ends}
@@ -17,6 +17,9 @@ use Rattle.sshc_run.specs.Script.{ScriptStop, taken, stop_of}
 use Rattle.sshc_run.specs.ScriptRun.{Run, script_run, concluded_by}
 use Rattle.sshc_run.specs.Turn.{ended, refused}
 use Rattle.sshc_run.proofs.Gated.{gated}
+use Rattle.sshc_run.proofs.Going.{table}
+use Rattle.sshc_run.proofs.Joined.{joined}
+use Rattle.sshc_run.proofs.Longer.{begins, wrote_longer}
 use Rattle.sshc_run.proofs.Turns.{wrote_all}
 
 -- by a table that says the same of all bytes
@@ -47,6 +50,20 @@ gate_of hosts settings max script left held written reads reads' a (given, read,
         subst (λ rs. WroteFront held written (lines rs)) (outputs_are r.outputs r.stop (stop_of max given)) (wrote_some (ending_of a) (λ bytes. script_run hosts (start settings) max bytes []) given left held written a by),
       ),
     )
+
+prefix_by : (hosts : Hosts) (settings : Settings) (max : ℕ) (given bytes : List ℕ) (script left held written : Option (List ℕ)) → script ≡ prepend given left → script ≡ Some bytes →
+    WroteFront held written (lines (table hosts max 0 0 (start settings) given).records) → WroteFront held written (lines (table hosts max 0 0 (start settings) bytes).records)
+prefix_by hosts settings max given bytes script None held written read said wrote = let e : Some bytes ≡ None = sym said ∙ read in absurd cc
+prefix_by hosts settings max given bytes script (Some more) held written read said wrote =
+    let e : Some bytes ≡ Some (given ++ more) = sym said ∙ read in
+    let same : bytes ≡ given ++ more = cc in
+    rw same (wrote_longer held written _ _ (begins hosts max 0 0 (start settings) [] given more) wrote)
+
+pub prefix_of : (hosts : Hosts) (settings : Settings) (max : ℕ) (script left held written : Option (List ℕ)) (reads reads' : ℕ) (a : Result Ended RunError) →
+    Ends (table hosts max 0 0 (start settings)) script left held written reads reads' a → IsPrefix (λ bytes. script_run hosts (start settings) max bytes []) script held written
+prefix_of hosts settings max script left held written reads reads' a (given, read, by, count) = λ bytes said.
+    subst (λ (r : Run). WroteFront held written (lines r.records)) (joined hosts max 0 0 (start settings) [] bytes)
+    (prefix_by hosts settings max given bytes script left held written read said (wrote_some (ending_of a) (table hosts max 0 0 (start settings)) given left held written a by))
 
 -- the table says the same of the whole script as of what was given
 same_table : (table : List ℕ → Run) (given bytes : List ℕ) (script left held written : Option (List ℕ)) (a : Result Ended RunError) → script ≡ prepend given left → script ≡ Some bytes → IsExact table given left held written a → table bytes ≡ table given

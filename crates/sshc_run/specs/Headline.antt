@@ -65,6 +65,10 @@ IsGated hosts max script left held written =
     (given : List ℕ) × (script ≡ prepend given left)
     × (is_accepted hosts (taken max given) ≡ false → (records : List Record) × NonePayload records × WroteFront held written (lines records))
 
+-- what is written is a front of the lines of the whole script's records
+abbrev pub IsPrefix : (List ℕ → Run) → Option (List ℕ) → Option (List ℕ) → Option (List ℕ) → Type 0
+IsPrefix table script held written = (bytes : List ℕ) → script ≡ Some bytes → WroteFront held written (lines (table bytes).records)
+
 -- with Ok the table ends the whole script so, and all its records are written
 abbrev pub IsDone : (List ℕ → Run) → Option (List ℕ) → Option (List ℕ) → Option (List ℕ) → Result Ended RunError → Type 0
 IsDone table script held written (Ok e) =

@@ -5,7 +5,7 @@ ghost use Rattle.sshc_wire.specs.Faults.{Rose};
 ghost use Rattle.sshc_hosts.specs.HostText.{host_text};
 ghost use Rattle.sshc_auth.specs.OpeningState.{start};
 ghost use Rattle.sshc_run.specs.Configured.{settings_of};
-ghost use Rattle.sshc_run.specs.Headline.{IsGated, IsDone, IsKept, IsComplete};
+ghost use Rattle.sshc_run.specs.Headline.{IsGated, IsPrefix, IsDone, IsKept, IsComplete};
 ghost use Rattle.sshc_run.specs.Outcome.{Ends};
 ghost use Rattle.sshc_run.specs.ScriptRun.{run, script_run};
 ghost use Rattle.sshc_run.specs.Turning.{hosts_of};
@@ -73,6 +73,9 @@ pub fn run_script<S: Source, K: Sink, G: LocalSigner, V: Verifier>(
     // No payload is written, not even in part, unless the known hosts text accepts the host key of the first exchange.
     ensures gate { IsGated (record { host = host_text host.now port; known = known.now }) config.now.max_events
         (S.left source.old) (S.left source.new) (K.contents sink.old) (K.contents sink.new) }
+    // What is written is a front of the lines of the whole script's records, however the run ends.
+    ensures prefix { IsPrefix (λ bytes. script_run (record { host = host_text host.now port; known = known.now }) (start (settings_of config.now)) config.now.max_events bytes [])
+        (S.left source.old) (K.contents sink.old) (K.contents sink.new) }
     // Ok is the end of the whole script by the table, and all its records are written.
     ensures done { IsDone (λ bytes. script_run (record { host = host_text host.now port; known = known.now }) (start (settings_of config.now)) config.now.max_events bytes [])
         (S.left source.old) (K.contents sink.old) (K.contents sink.new) result }

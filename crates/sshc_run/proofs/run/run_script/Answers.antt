@@ -7,7 +7,7 @@ use Rattle.sshc_run.specs.KnownHosts.{Hosts}
 use Rattle.sshc_run.specs.ScriptRun.{script_run}
 use Rattle.sshc_run.proofs.Going.{table}
 use Rattle.sshc_run.proofs.Joined.{joined}
-use Rattle.sshc_run.proofs.Promises.{ends_same, gate_of, done_of, kept_of, complete_of}
+use Rattle.sshc_run.proofs.Promises.{ends_same, gate_of, prefix_of, done_of, kept_of, complete_of}
 use Rattle.sshc_run.proofs.Turns.{wrote_nothing}
 use Rattle.sshc_run.proofs.run.run_script.Goals as goal
 
@@ -61,3 +61,11 @@ returns-in-Err-clause-run g c = ([], sym (prepend-nothing _), wrote_nothing _ _,
 
 pub returns-in-Err-clause-gate : goal.returns-in-Err-clause-gate
 returns-in-Err-clause-gate g c = ([], sym (prepend-nothing _), λ no. ([], tt, wrote_nothing _ _))
+
+pub returns-in-Ok-clause-prefix : goal.returns-in-Ok-clause-prefix
+returns-in-Ok-clause-prefix g c =
+    let hosts : Hosts = record { host = host_text c.args.host.now c.args.port; known = c.args.known.now } in
+    prefix_of hosts (settings_of c.args.config.now) c.args.config.now.max_events _ _ _ _ _ _ c.run_events.result (rw c.in-Ok.ensures at c.run_events.ensures.run)
+
+pub returns-in-Err-clause-prefix : goal.returns-in-Err-clause-prefix
+returns-in-Err-clause-prefix g c = λ bytes said. wrote_nothing _ _
