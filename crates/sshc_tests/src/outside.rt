@@ -1,0 +1,79 @@
+//! The outside of a run: a signer that signs nothing, a verifier that accepts nothing, and a source and a sink that take
+//! a byte at a time.
+
+ghost use Rattle.std.specs.Prelude.{[], false, Some};
+
+use sshc_key::{
+    Asker, HashAlg, KeyData, LocalSigner, PrivateKey, SignRefused, Signature, Verifier,
+};
+use sshc_wire::{Failed, MemSink, MemSource, NoMemory, Sink, Source};
+
+/// Has no memory for any signature.
+#[derive(Debug, Drop)]
+pub(crate) struct NoSigner;
+
+impl LocalSigner for NoSigner {
+    ghost calls = { λ _. [] };
+
+    ghost refusals = { λ _. 0 };
+
+    fn sign(
+        &mut self,
+        _by: Asker,
+        _key: &PrivateKey,
+        _hash: Option<HashAlg>,
+        _bytes: &[u8],
+    ) -> Result<Vec<u8>, SignRefused> {
+        Err(SignRefused::NoMemory)
+    }
+}
+
+/// Accepts no signature.
+#[derive(Debug, Drop)]
+pub(crate) struct AcceptsNone;
+
+impl Verifier for AcceptsNone {
+    ghost accepts = { λ _ _ _ _. false };
+
+    fn verifies(&self, _key: &KeyData, _bytes: &[u8], _sig: &Signature) -> Result<bool, NoMemory> {
+        Ok(false)
+    }
+}
+
+/// Bytes in memory that come one at a time.
+#[derive(Debug, Drop)]
+pub(crate) struct SlowSource {
+    pub(crate) source: MemSource,
+}
+
+impl Source for SlowSource {
+    ghost left = { λ s. Some s.source.left };
+
+    ghost faults = { λ s. s.source.faults };
+
+    ghost reads = { λ s. s.source.calls };
+
+    fn read(&mut self, buf: &mut [u8]) -> Result<usize, Failed> {
+        let most = buf.len().min(1);
+        self.source.read(&mut buf[..most])
+    }
+}
+
+/// A list of bytes in memory that takes one byte at a time.
+#[derive(Debug, Drop)]
+pub(crate) struct SlowSink {
+    pub(crate) sink: MemSink,
+}
+
+impl Sink for SlowSink {
+    ghost contents = { λ s. Some s.sink.contents };
+
+    ghost faults = { λ s. s.sink.faults };
+
+    ghost writes = { λ s. s.sink.calls };
+
+    fn write(&mut self, piece: &[u8]) -> Result<usize, Failed> {
+        let most = piece.len().min(1);
+        self.sink.write(&piece[..most])
+    }
+}
