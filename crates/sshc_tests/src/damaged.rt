@@ -90,7 +90,7 @@ fn a_moment_may_not_fall(rt: HostRuntime) -> Result<(), Fail> {
 
 #[test]
 fn fields_outside_their_grammar_are_bad(rt: HostRuntime) -> Result<(), Fail> {
-    let rows: [(&str, usize, &[u8], u64, usize); 12] = [
+    let rows: [(&str, usize, &[u8], u64, usize); 18] = [
         ("an unknown sort of key", 26, b"\x03", 13, 0),
         ("no key with a blob", 26, b"\0", 13, 0),
         ("a plain key as a certificate", 26, b"\x02", 13, 0),
@@ -103,6 +103,12 @@ fn fields_outside_their_grammar_are_bad(rt: HostRuntime) -> Result<(), Fail> {
         ("a password that is no text", 174, b"\xc3\x28", 143, 45),
         ("a password that is too short", 170, b"\0\0\0\x01", 143, 45),
         ("a packet of the transport", 189, b"\x14", 176, 82),
+        ("a byte behind a KEXINIT", 3, b"\x0a", 0, 0),
+        ("a byte behind an exchange", 16, b"\x7f", 13, 0),
+        ("an exchange a byte short", 16, b"\x7d", 13, 0),
+        ("a byte behind a request", 146, b"\x1e", 143, 45),
+        ("a request a byte short", 146, b"\x1c", 143, 45),
+        ("a packet behind the script's end", 209, b"\x0b", 206, 179),
     ];
     for (case, at, bytes, place, written) in rows {
         let script = login_with(rt.alloc(), at, bytes)?;

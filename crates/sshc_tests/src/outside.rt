@@ -1,30 +1,82 @@
 //! The outside of a run: a signer that signs nothing, a verifier that accepts nothing, and a source and a sink that take
 //! a byte at a time.
 
-ghost use Rattle.std.specs.Prelude.{[], false, Some};
+ghost use Rattle.std.specs.Prelude.{◌≡◌, ◌++◌, ◌∷◌, [], false, Some, None, OnOk, OnErr, map};
 
 use sshc_key::{
     Asker, HashAlg, KeyData, LocalSigner, PrivateKey, SignRefused, Signature, Verifier,
 };
-use sshc_wire::{Failed, MemSink, MemSource, NoMemory, Sink, Source};
+use sshc_wire::{Failed, MemSink, MemSource, NoMemory, Octets, Sink, Source};
+use std::alloc::Global;
 
-/// Has no memory for any signature.
+/// A call of the signer.
 #[derive(Debug, Drop)]
-pub(crate) struct NoSigner;
+struct Refused {
+    by: Asker,
+    key: PrivateKey,
+    hash: Option<HashAlg>,
+    bytes: Octets,
+}
 
-impl LocalSigner for NoSigner {
-    ghost calls = { λ _. [] };
+/// Refuses each signature, and keeps the calls.
+#[derive(Debug, Drop)]
+pub(crate) struct RefusingSigner {
+    alloc: Global,
+    calls: Vec<Refused>,
+    refusals: u64,
+}
 
-    ghost refusals = { λ _. 0 };
+impl RefusingSigner {
+    pub(crate) fn new(alloc: Global) -> RefusingSigner {
+        RefusingSigner {
+            alloc,
+            calls: Vec::new(alloc),
+            refusals: 0,
+        }
+    }
+
+    /// Keeps a call.
+    fn keep(
+        &mut self,
+        by: Asker,
+        key: &PrivateKey,
+        hash: Option<HashAlg>,
+        bytes: &[u8],
+    ) -> Result<(), NoMemory>
+        ensures ok { OnOk result (self.new.calls.items ≡ self.old.calls.items ++ (record { by = by; key = key.now; hash = hash; bytes = bytes.now }) ∷ []) }
+        ensures err { OnErr result (self.new.calls.items ≡ self.old.calls.items) }
+        ensures same { self.new.refusals ≡ self.old.refusals }
+    {
+        let call = Refused {
+            by,
+            key: key.copy()?,
+            hash,
+            bytes: Octets::from_slice(self.alloc, bytes)?,
+        };
+        self.calls.push(call)?;
+        Ok(())
+    }
+}
+
+impl LocalSigner for RefusingSigner {
+    ghost calls = { λ s. map (λ c. record { by = c.by; key = c.key; hash = c.hash; bytes = c.bytes; answer = None }) s.calls.items };
+
+    ghost refusals = { λ s. s.refusals };
 
     fn sign(
         &mut self,
-        _by: Asker,
-        _key: &PrivateKey,
-        _hash: Option<HashAlg>,
-        _bytes: &[u8],
+        by: Asker,
+        key: &PrivateKey,
+        hash: Option<HashAlg>,
+        bytes: &[u8],
     ) -> Result<Vec<u8>, SignRefused> {
-        Err(SignRefused::NoMemory)
+        match self.keep(by, key, hash, bytes) {
+            Ok(()) => {
+                self.refusals = self.refusals.saturating_add(1);
+                Err(SignRefused::Refused)
+            }
+            Err(NoMemory) => Err(SignRefused::NoMemory),
+        }
     }
 }
 

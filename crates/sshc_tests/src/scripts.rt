@@ -1,6 +1,6 @@
 //! The script of a password login, its lines, and runs of scripts.
 
-use crate::outside::{AcceptsNone, NoSigner};
+use crate::outside::{AcceptsNone, RefusingSigner};
 use sshc_auth::Ended;
 use sshc_run::{Config, RunError, run_script};
 use sshc_wire::{MemSink, MemSource, NoMemory, Sink, Source};
@@ -63,7 +63,29 @@ pub(crate) fn script_of(alloc: Global, events: &[&[u8]]) -> Result<Vec<u8>, NoMe
     Ok(script)
 }
 
-/// Runs a script for a host at a port, with a known hosts text and a bound on its events.
+/// Runs a script by these settings, for the host of the known hosts text.
+pub(crate) fn run_by<S: Source, K: Sink>(
+    alloc: Global,
+    config: &Config,
+    known: &str,
+    source: &mut S,
+    sink: &mut K,
+) -> Result<Ended, RunError> {
+    let mut signer = RefusingSigner::new(alloc);
+    run_script(
+        alloc,
+        config,
+        "localhost",
+        13265,
+        known,
+        &mut signer,
+        &AcceptsNone,
+        source,
+        sink,
+    )
+}
+
+/// Runs a script by the settings that a client has unless it is told others, with a bound on its events.
 pub(crate) fn run_over<S: Source, K: Sink>(
     alloc: Global,
     known: &str,
@@ -75,17 +97,7 @@ pub(crate) fn run_over<S: Source, K: Sink>(
         return Err(RunError::NoMemory);
     };
     config.max_events = max_events;
-    run_script(
-        alloc,
-        &config,
-        "localhost",
-        13265,
-        known,
-        &mut NoSigner,
-        &AcceptsNone,
-        source,
-        sink,
-    )
+    run_by(alloc, &config, known, source, sink)
 }
 
 /// What a run answers, and what it writes.
@@ -100,6 +112,14 @@ pub(crate) fn run_of(alloc: Global, known: &str, max_events: u32, script: Vec<u8
     let mut source = MemSource::new(script, Vec::new(alloc));
     let mut sink = MemSink::new(Vec::new(alloc), Vec::new(alloc));
     let answer = run_over(alloc, known, max_events, &mut source, &mut sink);
+    Outcome { answer, sink }
+}
+
+/// Runs a script by these settings over memory where nothing fails.
+pub(crate) fn run_with(alloc: Global, config: &Config, known: &str, script: Vec<u8>) -> Outcome {
+    let mut source = MemSource::new(script, Vec::new(alloc));
+    let mut sink = MemSink::new(Vec::new(alloc), Vec::new(alloc));
+    let answer = run_by(alloc, config, known, &mut source, &mut sink);
     Outcome { answer, sink }
 }
 
