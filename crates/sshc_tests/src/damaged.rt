@@ -89,6 +89,19 @@ fn a_moment_may_not_fall(rt: HostRuntime) -> Result<(), Fail> {
 }
 
 #[test]
+fn moments_that_stay_or_rise_change_nothing(rt: HostRuntime) -> Result<(), Fail> {
+    for moments in [[7u8, 7, 7, 7, 7], [0, 1, 1, 9, 200]] {
+        let mut script = script_of(rt.alloc(), LOGIN.as_slice())?;
+        for (place, moment) in PLACES.iter().zip(&moments) {
+            *script.get_mut(place.saturating_add(11)).ok_or("no moment")? = *moment;
+        }
+        let outcome = run_of(rt.alloc(), KNOWN, 8192, script);
+        assert_gives(&rt, "moments", 0, &outcome, &Ok(Ended::ScriptEnd), 195);
+    }
+    Ok(())
+}
+
+#[test]
 fn fields_outside_their_grammar_are_bad(rt: HostRuntime) -> Result<(), Fail> {
     let rows: [(&str, usize, &[u8], u64, usize); 18] = [
         ("an unknown sort of key", 26, b"\x03", 13, 0),
