@@ -7,3 +7,4 @@ pub mod Coming
 pub mod Joined
 pub mod Gated
 pub mod Promises
+pub mod WordLists

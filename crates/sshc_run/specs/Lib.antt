@@ -13,3 +13,4 @@ pub mod Turning
 pub mod Along
 pub mod Configured
 pub mod Headline
+pub mod Words

@@ -21,7 +21,7 @@ pub struct Config {
     pub keepalive_interval: Option<u64>,
     /// How many keepalives may stay unanswered; 0 sets no bound.
     pub keepalive_max: u64,
-    /// Sends no user name in the version line.
+    /// No user is authenticated: the first exchange opens the session.
     pub anonymous: bool,
     pub nodelay: bool,
     /// The most events of a script.

@@ -10,6 +10,7 @@ mod record_lines;
 mod run;
 mod script;
 mod turn;
+mod words;
 
 pub use config::Config;
 pub use error::{EventError, RunError};
@@ -18,3 +19,4 @@ pub use fields::read_event;
 pub use known_hosts_handler::{HandlerError, KnownHostsHandler};
 pub use run::run_script;
 pub use script::{NextError, RawEvent, next_event};
+pub use words::run_words;

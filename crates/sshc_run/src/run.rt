@@ -31,6 +31,8 @@ fn run_events<S: Source, G: LocalSigner, K: Sink>(
     ensures run { Ends (λ bytes. run (hosts_of gate.old) config.now.max_events 0 0 (start (settings_of config.now)) [] bytes)
         (S.left source.old) (S.left source.new) (K.contents sink.old) (K.contents sink.new) (S.reads source.old) (S.reads source.new) result }
     ensures unsigned { G.calls signer.new ≡ G.calls signer.old }
+    ensures read_later { S.faults source.old ≤ S.faults source.new }
+    ensures write_later { K.faults sink.old ≤ K.faults sink.new }
     ensures read_fault { result ≡ Err RunError.ReadFault → Rose (S.faults source.old) (S.faults source.new) }
     ensures write_fault { result ≡ Err RunError.WriteFault → Rose (K.faults sink.old) (K.faults sink.new) }
 {
@@ -81,6 +83,8 @@ pub fn run_script<S: Source, K: Sink, G: LocalSigner, V: Verifier>(
     ensures complete { IsComplete (λ bytes. script_run (record { host = host_text host.now port; known = known.now }) (start (settings_of config.now)) config.now.max_events bytes [])
         (S.left source.old) (S.faults source.old) (S.faults source.new) (K.faults sink.old) (K.faults sink.new) result }
     ensures unsigned { G.calls signer.new ≡ G.calls signer.old }
+    ensures read_later { S.faults source.old ≤ S.faults source.new }
+    ensures write_later { K.faults sink.old ≤ K.faults sink.new }
     ensures read_fault { result ≡ Err RunError.ReadFault → Rose (S.faults source.old) (S.faults source.new) }
     ensures write_fault { result ≡ Err RunError.WriteFault → Rose (K.faults sink.old) (K.faults sink.new) }
 {

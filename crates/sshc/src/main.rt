@@ -1,0 +1,52 @@
+//! The program `sshc`: it hands real streams, files, a signer and a verifier to `run_words`.
+#![tactic(auto)]
+
+mod nobody;
+
+use nobody::{RefusingSigner, RefusingVerifier};
+use sshc_run::run_words;
+use sshc_wire::{NoMemory, StdFiles, StdSink, StdSource, Text};
+use std::alloc::Global;
+use std::process::ExitCode;
+use std::{env, io};
+
+/// The status for want of memory.
+const NO_MEMORY: u8 = 20;
+
+/// The words behind the program's own name; none where they can't be had.
+fn words_of(rt: &HostRuntime) -> Result<Vec<Text>, NoMemory> {
+    let mut words = Vec::new(rt.alloc());
+    let Ok(mut given) = env::args(rt) else {
+        return Ok(words);
+    };
+    let _program = given.next();
+    for word in given {
+        words.push(Text::from_string(word)?)?;
+    }
+    Ok(words)
+}
+
+fn run(rt: &HostRuntime) -> Result<u8, NoMemory> {
+    let alloc: Global = rt.alloc();
+    let words = words_of(rt)?;
+    let mut source = StdSource::new(alloc, rt.reader())?;
+    let mut sink = StdSink::new(io::writer(rt));
+    let mut files = StdFiles::new(rt);
+    let mut signer = RefusingSigner::new(alloc);
+    Ok(run_words(
+        alloc,
+        words.as_slice(),
+        &mut files,
+        &mut signer,
+        &RefusingVerifier,
+        &mut source,
+        &mut sink,
+    ))
+}
+
+fn main(rt: HostRuntime) -> ExitCode {
+    match run(&rt) {
+        Ok(status) => ExitCode::from(status),
+        Err(NoMemory) => ExitCode::from(NO_MEMORY),
+    }
+}

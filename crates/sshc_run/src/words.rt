@@ -1,0 +1,296 @@
+//! The program's words, and what it tells of a run.
+
+ghost use Rattle.std.specs.Prelude.{◌≡◌, ◌≤◌, ℕ, List, Err, IfOk, IfSome, IsNone, string_bytes, codes, ◌++◌, ◌∷◌, []};
+ghost use Rattle.sshc_wire.specs.Faults.{Rose};
+ghost use Rattle.sshc_run.specs.Configured.{IsDefault};
+ghost use Rattle.sshc_run.specs.Outcome.{Ends};
+ghost use Rattle.sshc_run.specs.Words.{IsPort, IsScriptWords, end_name, error_name, answer_line, error_status, status_of, is_write_fault, Adds, Tells, IsKnownText, RunsBy, words_table, ScriptGives};
+
+use crate::config::Config;
+use crate::error::RunError;
+use crate::run::run_script;
+use sshc_auth::Ended;
+use sshc_key::{LocalSigner, Verifier};
+use sshc_wire::{Failed, Files, Found, NoMemory, Sink, Source, Text, write_whole};
+use std::alloc::Global;
+
+/// The status of words that the program doesn't know.
+const WORDS_STATUS: u8 = 2;
+
+/// The status of a known hosts file that is no text or can't be read.
+const KNOWN_FILE_STATUS: u8 = 3;
+
+/// The statuses of errors begin here, in the order of `RunError`.
+const NO_MEMORY_STATUS: u8 = 20;
+
+const WRITE_FAULT_STATUS: u8 = 22;
+
+/// The words `script HOST PORT KNOWN`.
+#[derive(Clone, Copy, Debug)]
+struct ScriptWords<'a> {
+    host: &'a str,
+    port: u16,
+    path: &'a str,
+}
+
+/// The port that a word of one to five decimal digits names.
+fn port_of(word: &str) -> Option<u16>
+    ensures some { IfSome result (λ port. IsPort word.now port) }
+    ensures none { IsNone result → (port : ℕ) → IsPort word.now port → ⊥ }
+{
+    if word.len() > 5 || word.starts_with('+') {
+        return None;
+    }
+    match word.parse::<u16>() {
+        Ok(port) => Some(port),
+        Err(_) => None,
+    }
+}
+
+fn end_name(ended: &Ended) -> &'static str
+    ensures { result.now ≡ end_name ended.now }
+{
+    match ended {
+        Ended::RemoteDisconnect(_) => "remote-disconnect",
+        Ended::Disconnected => "disconnected",
+        Ended::Closed => "closed",
+        Ended::ScriptEnd => "script-end",
+    }
+}
+
+/// The name of an error, with its place or line.
+fn error_name(alloc: Global, e: RunError) -> Result<String, NoMemory>
+    ensures { IfOk result (λ text. string_bytes text ≡ error_name e) }
+{
+    let name = match e {
+        RunError::NoMemory => "no-memory",
+        RunError::ReadFault => "read-fault",
+        RunError::WriteFault => "write-fault",
+        RunError::SignerFault => "signer-fault",
+        RunError::BadEvent { at } => return Ok(format!(in alloc; "bad-event {at}")?),
+        RunError::OutOfTurn { at } => return Ok(format!(in alloc; "out-of-turn {at}")?),
+        RunError::ScriptTooLong => "script-too-long",
+        RunError::TransportFailed => "transport-failed",
+        RunError::UnknownKey => "unknown-key",
+        RunError::KeyChanged { line } => return Ok(format!(in alloc; "key-changed {line}")?),
+        RunError::Decode => "decode",
+        RunError::SshKey => "ssh-key",
+        RunError::Inconsistent => "inconsistent",
+        RunError::Pending => "pending",
+        RunError::NoAuthMethod => "no-auth-method",
+        RunError::NotAuthenticated => "not-authenticated",
+        RunError::SshEncoding => "ssh-encoding",
+        RunError::InvalidDisconnect => "invalid-disconnect",
+        RunError::RecvError => "recv-error",
+        RunError::KeepaliveTimeout => "keepalive-timeout",
+        RunError::InactivityTimeout => "inactivity-timeout",
+        RunError::Unbuilt { at } => return Ok(format!(in alloc; "unbuilt {at}")?),
+    };
+    Ok(format!(in alloc; "{name}")?)
+}
+
+/// The line that tells an answer.
+fn answer_line(alloc: Global, answer: &Result<Ended, RunError>) -> Result<String, NoMemory>
+    ensures { IfOk result (λ text. string_bytes text ≡ answer_line answer.now) }
+{
+    match answer {
+        Ok(ended) => {
+            let name = end_name(ended);
+            Ok(format!(in alloc; "ended {name}\n")?)
+        }
+        Err(e) => {
+            let name = error_name(alloc, *e)?;
+            Ok(format!(in alloc; "error {name}\n")?)
+        }
+    }
+}
+
+fn error_status(e: RunError) -> u8
+    ensures { result ≡ error_status e }
+{
+    match e {
+        RunError::NoMemory => NO_MEMORY_STATUS,
+        RunError::ReadFault => 21,
+        RunError::WriteFault => WRITE_FAULT_STATUS,
+        RunError::SignerFault => 23,
+        RunError::BadEvent { .. } => 24,
+        RunError::OutOfTurn { .. } => 25,
+        RunError::ScriptTooLong => 26,
+        RunError::TransportFailed => 27,
+        RunError::UnknownKey => 28,
+        RunError::KeyChanged { .. } => 29,
+        RunError::Decode => 30,
+        RunError::SshKey => 31,
+        RunError::Inconsistent => 32,
+        RunError::Pending => 33,
+        RunError::NoAuthMethod => 34,
+        RunError::NotAuthenticated => 35,
+        RunError::SshEncoding => 36,
+        RunError::InvalidDisconnect => 37,
+        RunError::RecvError => 38,
+        RunError::KeepaliveTimeout => 39,
+        RunError::InactivityTimeout => 40,
+        RunError::Unbuilt { .. } => 41,
+    }
+}
+
+/// The status of an answer.
+fn status_of(answer: &Result<Ended, RunError>) -> u8
+    ensures { result ≡ status_of answer.now }
+{
+    match answer {
+        Ok(_) => 0,
+        Err(e) => error_status(*e),
+    }
+}
+
+/// Whether a write of the run failed.
+fn is_write_fault(answer: &Result<Ended, RunError>) -> bool
+    ensures { result ≡ is_write_fault answer.now }
+{
+    matches!(answer, Err(RunError::WriteFault))
+}
+
+/// Adds a line, and answers its status, or that of a failed write.
+fn add_line<K: Sink>(sink: &mut K, line: &str, status: u8) -> u8
+    ensures adds { Adds line.now status (K.contents sink.old) (K.contents sink.new) (K.faults sink.old) (K.faults sink.new) result }
+    ensures later { K.faults sink.old ≤ K.faults sink.new }
+{
+    match write_whole(sink, line.as_bytes()) {
+        Ok(()) => status,
+        Err(Failed::Fault) => WRITE_FAULT_STATUS,
+        Err(Failed::NoMemory) => NO_MEMORY_STATUS,
+    }
+}
+
+/// Tells the answer of a run, and answers its status. After a failed write nothing more is written.
+fn tell<K: Sink>(alloc: Global, sink: &mut K, answer: &Result<Ended, RunError>) -> u8
+    ensures tells { Tells answer.now (K.contents sink.old) (K.contents sink.new) (K.faults sink.old) (K.faults sink.new) result }
+    ensures later { K.faults sink.old ≤ K.faults sink.new }
+{
+    if is_write_fault(answer) {
+        return WRITE_FAULT_STATUS;
+    }
+    match answer_line(alloc, answer) {
+        Ok(line) => add_line(sink, line.as_str(), status_of(answer)),
+        Err(NoMemory) => NO_MEMORY_STATUS,
+    }
+}
+
+/// The words, where they are `script HOST PORT KNOWN`.
+fn script_words<'a>(words: &'a [Text]) -> Option<ScriptWords<'a>>
+    ensures some { IfSome result (λ asked. IsScriptWords words.now asked.host.now asked.port asked.path.now) }
+    ensures none { IsNone result → (host : List ℕ) (port : ℕ) (path : List ℕ) → IsScriptWords words.now host port path → ⊥ }
+{
+    if words.len() != 4 || words[0].as_str() != "script" {
+        return None;
+    }
+    match port_of(words[2].as_str()) {
+        Some(port) => Some(ScriptWords {
+            host: words[1].as_str(),
+            port,
+            path: words[3].as_str(),
+        }),
+        None => None,
+    }
+}
+
+/// Runs a script by the default settings.
+fn run_default<S: Source, K: Sink, G: LocalSigner, V: Verifier>(
+    alloc: Global,
+    asked: &ScriptWords<'_>,
+    known: &str,
+    signer: &mut G,
+    verifier: &V,
+    source: &mut S,
+    sink: &mut K,
+) -> Result<Ended, RunError>
+    ensures run { Ends (words_table asked.now.host.now asked.now.port known.now) (S.left source.old) (S.left source.new) (K.contents sink.old) (K.contents sink.new)
+        (S.reads source.old) (S.reads source.new) result }
+    ensures write_later { K.faults sink.old ≤ K.faults sink.new }
+    ensures write_fault { result ≡ Err RunError.WriteFault → Rose (K.faults sink.old) (K.faults sink.new) }
+{
+    match Config::default_in(alloc) {
+        Ok(config) => run_script(
+            alloc, &config, asked.host, asked.port, known, signer, verifier, source, sink,
+        ),
+        Err(NoMemory) => Err(RunError::NoMemory),
+    }
+}
+
+/// Runs a script by a known hosts text, and tells the answer.
+fn run_told<S: Source, K: Sink, G: LocalSigner, V: Verifier>(
+    alloc: Global,
+    asked: &ScriptWords<'_>,
+    known: &str,
+    signer: &mut G,
+    verifier: &V,
+    source: &mut S,
+    sink: &mut K,
+) -> u8
+    ensures runs { RunsBy (words_table asked.now.host.now asked.now.port known.now) (S.left source.old) (S.left source.new) (K.contents sink.old) (K.contents sink.new)
+        (S.reads source.old) (S.reads source.new) (K.faults sink.old) (K.faults sink.new) result }
+{
+    let answer = run_default(alloc, asked, known, signer, verifier, source, sink);
+    tell(alloc, sink, &answer)
+}
+
+/// Runs the words `script HOST PORT KNOWN`: the script of the source by the known hosts text of the file KNOWN, which
+/// is empty where it can't be opened.
+fn run_script_words<F: Files, S: Source, K: Sink, G: LocalSigner, V: Verifier>(
+    alloc: Global,
+    asked: &ScriptWords<'_>,
+    files: &mut F,
+    signer: &mut G,
+    verifier: &V,
+    source: &mut S,
+    sink: &mut K,
+) -> u8
+    ensures gives { ScriptGives asked.now.host.now asked.now.port asked.now.path.now (F.contents files.old) (S.left source.old) (S.left source.new)
+        (K.contents sink.old) (K.contents sink.new) (S.reads source.old) (S.reads source.new) (K.faults sink.old) (K.faults sink.new)
+        (F.read_faults files.old) (F.read_faults files.new) result }
+{
+    match files.read_text(asked.path) {
+        Ok(Found::Text(known)) => run_told(
+            alloc,
+            asked,
+            known.as_str(),
+            signer,
+            verifier,
+            source,
+            sink,
+        ),
+        Ok(Found::NotOpened) => run_told(alloc, asked, "", signer, verifier, source, sink),
+        Ok(Found::NotText) | Err(Failed::Fault) => add_line(
+            sink,
+            "error known-file\n",
+            KNOWN_FILE_STATUS,
+        ),
+        Err(Failed::NoMemory) => add_line(sink, "error no-memory\n", NO_MEMORY_STATUS),
+    }
+}
+
+/// Runs the program by its words, and answers its status: 0 where the run ended, 2 for words that it doesn't know,
+/// 3 for a known hosts file that is no text or can't be read, and 20 to 41 for the errors of a run in their order.
+pub fn run_words<F: Files, S: Source, K: Sink, G: LocalSigner, V: Verifier>(
+    alloc: Global,
+    words: &[Text],
+    files: &mut F,
+    signer: &mut G,
+    verifier: &V,
+    source: &mut S,
+    sink: &mut K,
+) -> u8
+    ensures script { (host : List ℕ) (port : ℕ) (path : List ℕ) → IsScriptWords words.now host port path →
+        ScriptGives host port path (F.contents files.old) (S.left source.old) (S.left source.new)
+        (K.contents sink.old) (K.contents sink.new) (S.reads source.old) (S.reads source.new) (K.faults sink.old) (K.faults sink.new)
+        (F.read_faults files.old) (F.read_faults files.new) result }
+    ensures other { ((host : List ℕ) (port : ℕ) (path : List ℕ) → IsScriptWords words.now host port path → ⊥) →
+        (S.left source.new ≡ S.left source.old)
+        × Adds (codes "error words" ++ 10 ∷ []) 2 (K.contents sink.old) (K.contents sink.new) (K.faults sink.old) (K.faults sink.new) result }
+{
+    match script_words(words) {
+        Some(asked) => run_script_words(alloc, &asked, files, signer, verifier, source, sink),
+        None => add_line(sink, "error words\n", WORDS_STATUS),
+    }
+}
