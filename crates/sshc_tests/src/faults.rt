@@ -1,0 +1,126 @@
+//! The login where a read or a write fails, and where bytes go one at a time.
+
+use crate::outside::{SlowSink, SlowSource};
+use crate::scripts::{
+    KNOWN, LOGIN, Outcome, WRITTEN, assert_gives, run_over, script_of, whole_events,
+};
+use sshc_auth::Ended;
+use sshc_run::RunError;
+use sshc_wire::{MemSink, MemSource, NoMemory};
+use std::alloc::Global;
+use std::test::Fail;
+
+/// Runs the login, where the calls of these numbers fail.
+fn login_failing(alloc: Global, reads: Vec<u64>, writes: Vec<u64>) -> Result<Outcome, NoMemory> {
+    let mut source = MemSource::new(script_of(alloc, LOGIN.as_slice())?, reads);
+    let mut sink = MemSink::new(Vec::new(alloc), writes);
+    let answer = run_over(alloc, KNOWN, 8192, &mut source, &mut sink);
+    Ok(Outcome { answer, sink })
+}
+
+/// Runs the login a byte at a time, where the calls of these numbers fail.
+fn slow_login_failing(
+    alloc: Global,
+    reads: Vec<u64>,
+    writes: Vec<u64>,
+) -> Result<Outcome, NoMemory> {
+    let mut source = SlowSource {
+        source: MemSource::new(script_of(alloc, LOGIN.as_slice())?, reads),
+    };
+    let mut sink = SlowSink {
+        sink: MemSink::new(Vec::new(alloc), writes),
+    };
+    let answer = run_over(alloc, KNOWN, 8192, &mut source, &mut sink);
+    let SlowSink { sink } = sink;
+    Ok(Outcome { answer, sink })
+}
+
+#[test]
+fn a_failed_read_is_told_behind_whole_events(rt: HostRuntime) -> Result<(), Fail> {
+    for read in 0..=10u64 {
+        let taken = (read / 2) as usize;
+        let written = *WRITTEN.get(taken).ok_or("no lines")?;
+        let failing = vec![in rt.alloc(); read]?;
+        let outcome = login_failing(rt.alloc(), failing, Vec::new(rt.alloc()))?;
+        assert_gives(
+            &rt,
+            "read",
+            taken,
+            &outcome,
+            &Err(RunError::ReadFault),
+            written,
+        );
+    }
+    let failing = vec![in rt.alloc(); 11u64]?;
+    let outcome = login_failing(rt.alloc(), failing, Vec::new(rt.alloc()))?;
+    assert_gives(
+        &rt,
+        "no such read",
+        11,
+        &outcome,
+        &Ok(Ended::ScriptEnd),
+        195,
+    );
+    Ok(())
+}
+
+#[test]
+fn a_read_that_fails_at_a_byte_is_told(rt: HostRuntime) -> Result<(), Fail> {
+    for read in 0..=220usize {
+        let taken = whole_events(read);
+        let written = *WRITTEN.get(taken).ok_or("no lines")?;
+        let failing = vec![in rt.alloc(); read as u64]?;
+        let outcome = slow_login_failing(rt.alloc(), failing, Vec::new(rt.alloc()))?;
+        assert_gives(
+            &rt,
+            "byte",
+            read,
+            &outcome,
+            &Err(RunError::ReadFault),
+            written,
+        );
+    }
+    Ok(())
+}
+
+#[test]
+fn a_failed_write_leaves_the_lines_before_it(rt: HostRuntime) -> Result<(), Fail> {
+    let ends = [0usize, 45, 82, 179, 192];
+    for (write, end) in ends.iter().enumerate() {
+        let failing = vec![in rt.alloc(); write as u64]?;
+        let outcome = login_failing(rt.alloc(), Vec::new(rt.alloc()), failing)?;
+        assert_gives(
+            &rt,
+            "write",
+            write,
+            &outcome,
+            &Err(RunError::WriteFault),
+            *end,
+        );
+    }
+    Ok(())
+}
+
+#[test]
+fn a_write_that_fails_at_a_byte_leaves_a_front(rt: HostRuntime) -> Result<(), Fail> {
+    for write in 0..195usize {
+        let failing = vec![in rt.alloc(); write as u64]?;
+        let outcome = slow_login_failing(rt.alloc(), Vec::new(rt.alloc()), failing)?;
+        assert_gives(
+            &rt,
+            "write",
+            write,
+            &outcome,
+            &Err(RunError::WriteFault),
+            write,
+        );
+    }
+    Ok(())
+}
+
+#[test]
+fn a_login_byte_by_byte_is_the_same(rt: HostRuntime) -> Result<(), Fail> {
+    let outcome = slow_login_failing(rt.alloc(), Vec::new(rt.alloc()), Vec::new(rt.alloc()))?;
+    assert_gives(&rt, "slowly", 0, &outcome, &Ok(Ended::ScriptEnd), 195);
+    Ok(())
+}

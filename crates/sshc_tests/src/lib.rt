@@ -1,0 +1,13 @@
+//! Tests of whole runs of scripts: a password login, its refusals, and the login's script damaged in every place.
+#![tactic(auto)]
+
+#[cfg(test)]
+mod damaged;
+#[cfg(test)]
+mod faults;
+#[cfg(test)]
+mod login;
+#[cfg(test)]
+mod outside;
+#[cfg(test)]
+mod scripts;

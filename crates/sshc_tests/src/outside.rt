@@ -1,0 +1,131 @@
+//! The outside of a run: a signer that signs nothing, a verifier that accepts nothing, and a source and a sink that take
+//! a byte at a time.
+
+ghost use Rattle.std.specs.Prelude.{◌≡◌, ◌++◌, ◌∷◌, [], false, Some, None, OnOk, OnErr, map};
+
+use sshc_key::{
+    Asker, HashAlg, KeyData, LocalSigner, PrivateKey, SignRefused, Signature, Verifier,
+};
+use sshc_wire::{Failed, MemSink, MemSource, NoMemory, Octets, Sink, Source};
+use std::alloc::Global;
+
+/// A call of the signer.
+#[derive(Debug, Drop)]
+struct Refused {
+    by: Asker,
+    key: PrivateKey,
+    hash: Option<HashAlg>,
+    bytes: Octets,
+}
+
+/// Refuses each signature, and keeps the calls.
+#[derive(Debug, Drop)]
+pub(crate) struct RefusingSigner {
+    alloc: Global,
+    calls: Vec<Refused>,
+    refusals: u64,
+}
+
+impl RefusingSigner {
+    pub(crate) fn new(alloc: Global) -> RefusingSigner {
+        RefusingSigner {
+            alloc,
+            calls: Vec::new(alloc),
+            refusals: 0,
+        }
+    }
+
+    /// Keeps a call.
+    fn keep(
+        &mut self,
+        by: Asker,
+        key: &PrivateKey,
+        hash: Option<HashAlg>,
+        bytes: &[u8],
+    ) -> Result<(), NoMemory>
+        ensures ok { OnOk result (self.new.calls.items ≡ self.old.calls.items ++ (record { by = by; key = key.now; hash = hash; bytes = bytes.now }) ∷ []) }
+        ensures err { OnErr result (self.new.calls.items ≡ self.old.calls.items) }
+        ensures same { self.new.refusals ≡ self.old.refusals }
+    {
+        let call = Refused {
+            by,
+            key: key.copy()?,
+            hash,
+            bytes: Octets::from_slice(self.alloc, bytes)?,
+        };
+        self.calls.push(call)?;
+        Ok(())
+    }
+}
+
+impl LocalSigner for RefusingSigner {
+    ghost calls = { λ s. map (λ c. record { by = c.by; key = c.key; hash = c.hash; bytes = c.bytes; answer = None }) s.calls.items };
+
+    ghost refusals = { λ s. s.refusals };
+
+    fn sign(
+        &mut self,
+        by: Asker,
+        key: &PrivateKey,
+        hash: Option<HashAlg>,
+        bytes: &[u8],
+    ) -> Result<Vec<u8>, SignRefused> {
+        match self.keep(by, key, hash, bytes) {
+            Ok(()) => {
+                self.refusals = self.refusals.saturating_add(1);
+                Err(SignRefused::Refused)
+            }
+            Err(NoMemory) => Err(SignRefused::NoMemory),
+        }
+    }
+}
+
+/// Accepts no signature.
+#[derive(Debug, Drop)]
+pub(crate) struct AcceptsNone;
+
+impl Verifier for AcceptsNone {
+    ghost accepts = { λ _ _ _ _. false };
+
+    fn verifies(&self, _key: &KeyData, _bytes: &[u8], _sig: &Signature) -> Result<bool, NoMemory> {
+        Ok(false)
+    }
+}
+
+/// Bytes in memory that come one at a time.
+#[derive(Debug, Drop)]
+pub(crate) struct SlowSource {
+    pub(crate) source: MemSource,
+}
+
+impl Source for SlowSource {
+    ghost left = { λ s. Some s.source.left };
+
+    ghost faults = { λ s. s.source.faults };
+
+    ghost reads = { λ s. s.source.calls };
+
+    fn read(&mut self, buf: &mut [u8]) -> Result<usize, Failed> {
+        let most = buf.len().min(1);
+        self.source.read(&mut buf[..most])
+    }
+}
+
+/// A list of bytes in memory that takes one byte at a time.
+#[derive(Debug, Drop)]
+pub(crate) struct SlowSink {
+    pub(crate) sink: MemSink,
+}
+
+impl Sink for SlowSink {
+    ghost contents = { λ s. Some s.sink.contents };
+
+    ghost faults = { λ s. s.sink.faults };
+
+    ghost writes = { λ s. s.sink.calls };
+
+    fn write(&mut self, piece: &[u8]) -> Result<usize, Failed> {
+        let most = piece.len().min(1);
+        self.sink.write(&piece[..most])
+    }
+}
