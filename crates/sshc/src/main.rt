@@ -1,10 +1,7 @@
 //! The program `sshc`: it hands real streams, files, a signer and a verifier to `run_words`.
 #![tactic(auto)]
 
-mod nobody;
-
-use nobody::{RefusingSigner, RefusingVerifier};
-use sshc_run::run_words;
+use sshc_run::{RefusingSigner, RefusingVerifier, run_words};
 use sshc_wire::{NoMemory, StdFiles, StdSink, StdSource, Text};
 use std::alloc::Global;
 use std::process::ExitCode;

@@ -1,8 +1,7 @@
 //! The script of a password login, its lines, and runs of scripts.
 
-use crate::outside::{AcceptsNone, RefusingSigner};
 use sshc_auth::Ended;
-use sshc_run::{Config, RunError, run_script};
+use sshc_run::{Config, RefusingSigner, RefusingVerifier, RunError, run_script};
 use sshc_wire::{MemSink, MemSource, NoMemory, Sink, Source};
 use std::alloc::Global;
 use std::process::Abort;
@@ -79,7 +78,7 @@ pub(crate) fn run_by<S: Source, K: Sink>(
         13265,
         known,
         &mut signer,
-        &AcceptsNone,
+        &RefusingVerifier,
         source,
         sink,
     )

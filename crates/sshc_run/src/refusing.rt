@@ -19,14 +19,14 @@ struct Refused {
 
 /// Refuses each signature, and keeps the calls.
 #[derive(Debug, Drop)]
-pub(crate) struct RefusingSigner {
+pub struct RefusingSigner {
     alloc: Global,
     calls: Vec<Refused>,
     refusals: u64,
 }
 
 impl RefusingSigner {
-    pub(crate) fn new(alloc: Global) -> RefusingSigner {
+    pub fn new(alloc: Global) -> RefusingSigner {
         RefusingSigner {
             alloc,
             calls: Vec::new(alloc),
@@ -81,7 +81,7 @@ impl LocalSigner for RefusingSigner {
 
 /// Accepts no signature.
 #[derive(Debug, Drop)]
-pub(crate) struct RefusingVerifier;
+pub struct RefusingVerifier;
 
 impl Verifier for RefusingVerifier {
     ghost accepts = { λ _ _ _ _. false };
