@@ -4,3 +4,4 @@ pub mod OpeningState
 pub mod Row
 pub mod OpeningTable
 pub mod Stepping
+pub mod Causes

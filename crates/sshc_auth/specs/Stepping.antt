@@ -1,6 +1,6 @@
 -- What a step does with a gate: it asks what the event's row asks, and does the rest of the row as it was told.
 -- The gate's answers are whatever its relations allow; the code calls it in between.
-use Rattle.std.specs.Prelude.{◌≡◌, ◌⊎◌, Bool, true, false, List, ◌++◌, Result, Ok, Err}
+use Rattle.std.specs.Prelude.{◌≡◌, ◌⊎◌, ℕ, Bool, true, false, List, ◌++◌, Option, Result, Ok, Err}
 use Rattle.std.specs.List.{AllByRecursion}
 use Rattle.sshc_wire.specs.declared.record.Record.{Record}
 use Rattle.sshc_wire.specs.Outgoing.{Outgoing}
@@ -10,6 +10,8 @@ use Rattle.sshc_key.specs.declared.identity.PublicKeyOrCertificate.{PublicKeyOrC
 use Rattle.sshc_auth.specs.declared.error.Error.{Error}
 use Rattle.sshc_auth.specs.declared.error.Error.TheVariants.{NoMemory}
 use Rattle.sshc_auth.specs.declared.event.Event.{Event}
+use Rattle.sshc_auth.specs.declared.event.Event.TheVariants.{PeerKexinit, ExchangeDone, Payload, Authenticate}
+use Rattle.sshc_auth.specs.declared.event.NamesChosen.{NamesChosen}
 use Rattle.sshc_auth.specs.declared.step.Asks.{Asks}
 use Rattle.sshc_auth.specs.declared.step.Asks.TheVariants as asking
 use Rattle.sshc_auth.specs.declared.step.Told.TheVariants as telling
@@ -60,20 +62,27 @@ abbrev pub StepsAfter : {E : Type 0} → (Error → E) → (Result (Unit {0}) E 
 StepsAfter {E = E} told_as tells row span result =
     (answer : Result (Unit {0}) E) × (mid : Outgoing) × Adds tells span.old mid answer × StepsAnswered told_as row (record span { old = mid }) result answer
 
+-- what a gate is told of an event, where it is an exchange
+abbrev pub told_of : {E : Type 0} → (Option (List ℕ) → NamesChosen → Result (Unit {0}) E → List Record → Type 0) → Event → Result (Unit {0}) E → List Record → Type 0
+told_of tells (ExchangeDone x) answer more = tells x.secret x.names answer more
+told_of tells PeerKexinit answer more = ⊥
+told_of tells (Payload packet) answer more = ⊥
+told_of tells (Authenticate ticket user method) answer more = ⊥
+
 -- by what the gate said of the host key
-abbrev pub StepsJudged : {E : Type 0} → (Error → E) → (Result (Unit {0}) E → List Record → Type 0) → Event → List SignCall → Span → Step E → Result Bool E → Type 0
-StepsJudged told_as tells event gained span result (Ok true) = StepsAfter told_as tells (open_row span.before event telling.Went gained) span result
+abbrev pub StepsJudged : {E : Type 0} → (Error → E) → (Option (List ℕ) → NamesChosen → Result (Unit {0}) E → List Record → Type 0) → Event → List SignCall → Span → Step E → Result Bool E → Type 0
+StepsJudged told_as tells event gained span result (Ok true) = StepsAfter told_as (told_of tells event) (open_row span.before event telling.Went gained) span result
 StepsJudged told_as tells event gained span result (Ok false) = StepsAs told_as (open_row span.before event telling.No gained) span result
 StepsJudged told_as tells event gained span result (Err e) = GateRefused e span result
 
 -- by what the row asks
-abbrev pub StepsAsked : {E : Type 0} → (Error → E) → (PublicKeyOrCertificate → Result Bool E → Type 0) → (Result (Unit {0}) E → List Record → Type 0) → Event → List SignCall → Span → Step E → Asks → Type 0
-StepsAsked told_as judges tells event gained span result asking.Nothing = StepsAs told_as (open_row span.before event telling.NotAsked gained) span result
-StepsAsked {E = E} told_as judges tells event gained span result (asking.HostKey key) =
+abbrev pub StepsAsked : {E : Type 0} → (Error → E) → (PublicKeyOrCertificate → Result Bool E → Type 0) → (Option (List ℕ) → NamesChosen → Result (Unit {0}) E → List Record → Type 0) → (List ℕ → Result (Unit {0}) E → List Record → Type 0) → Event → List SignCall → Span → Step E → Asks → Type 0
+StepsAsked told_as judges tells tells_banner event gained span result asking.Nothing = StepsAs told_as (open_row span.before event telling.NotAsked gained) span result
+StepsAsked {E = E} told_as judges tells tells_banner event gained span result (asking.HostKey key) =
     (verdict : Result Bool E) × judges key verdict × StepsJudged told_as tells event gained span result verdict
-StepsAsked told_as judges tells event gained span result asking.Exchange = StepsAfter told_as tells (open_row span.before event telling.Went gained) span result
-StepsAsked told_as judges tells event gained span result (asking.Banner text) = StepsAfter told_as tells (open_row span.before event telling.Went gained) span result
+StepsAsked told_as judges tells tells_banner event gained span result asking.Exchange = StepsAfter told_as (told_of tells event) (open_row span.before event telling.Went gained) span result
+StepsAsked told_as judges tells tells_banner event gained span result (asking.Banner text) = StepsAfter told_as (tells_banner text) (open_row span.before event telling.Went gained) span result
 
 -- the same, or memory ran out before the gate was asked
-abbrev pub StepsBy : {E : Type 0} → (Error → E) → (PublicKeyOrCertificate → Result Bool E → Type 0) → (Result (Unit {0}) E → List Record → Type 0) → Event → List SignCall → Span → Step E → Asks → Type 0
-StepsBy told_as judges tells event gained span result asks = GateRefused (told_as NoMemory) span result ⊎ StepsAsked told_as judges tells event gained span result asks
+abbrev pub StepsBy : {E : Type 0} → (Error → E) → (PublicKeyOrCertificate → Result Bool E → Type 0) → (Option (List ℕ) → NamesChosen → Result (Unit {0}) E → List Record → Type 0) → (List ℕ → Result (Unit {0}) E → List Record → Type 0) → Event → List SignCall → Span → Step E → Asks → Type 0
+StepsBy told_as judges tells tells_banner event gained span result asks = GateRefused (told_as NoMemory) span result ⊎ StepsAsked told_as judges tells tells_banner event gained span result asks

@@ -1,10 +1,11 @@
 //! Who judges host keys, and is told how the opening goes.
 
-ghost use Rattle.std.specs.Prelude.{◌≡◌, ◌≤◌, ℕ, List, Result, Bool, OnErr};
+ghost use Rattle.std.specs.Prelude.{◌≡◌, ◌≤◌, ℕ, List, Option, Result, Bool, OnErr, option_copied};
 ghost use Rattle.sshc_wire.specs.Faults.{Rose};
 ghost use Rattle.sshc_wire.specs.declared.record.Record.{Record as Said};
 ghost use Rattle.sshc_key.specs.declared.identity.PublicKeyOrCertificate.{PublicKeyOrCertificate as HostKey};
 ghost use Rattle.sshc_auth.specs.declared.error.Error.{Error as Refusal};
+ghost use Rattle.sshc_auth.specs.declared.event.NamesChosen.{NamesChosen as Names};
 ghost use Rattle.sshc_auth.specs.Stepping.{Adds};
 
 use crate::error::Error;
@@ -22,8 +23,12 @@ pub trait Gate {
     /// The answers that a gate may give for a host key.
     ghost judges: { Self → HostKey → Result Bool Self.Error → Type 0 };
 
-    /// What a call that adds answers to tickets may answer, and the records that it then adds.
-    ghost tells: { Result (Unit {0}) Self.Error → List Said → Type 0 };
+    /// What a gate may answer that is told of an exchange, by its secret and its names, and the answers to tickets that
+    /// it then adds.
+    ghost tells: { Option (List ℕ) → Names → Result (Unit {0}) Self.Error → List Said → Type 0 };
+
+    /// The same of a banner, by its text.
+    ghost tells_banner: { List ℕ → Result (Unit {0}) Self.Error → List Said → Type 0 };
 
     /// How an error of the opening is told.
     ghost told_as: { Refusal → Self.Error };
@@ -45,14 +50,14 @@ pub trait Gate {
         names: &NamesChosen,
         out: &mut Outbox,
     ) -> Result<(), Self::Error>
-        ensures added { Adds tells out.old out.new result }
+        ensures added { Adds (tells (option_copied secret.entry) names.now) out.old out.new result }
         ensures cause { OnErr result (Rose (refusals self.old) (refusals self.new)) }
         ensures later { refusals self.old ≤ refusals self.new }
         ensures kept { setting self.new ≡ setting self.old };
 
     /// The server's banner (RFC 4252, section 5.4). It may add answers to tickets.
     fn auth_banner(&mut self, banner: &str, out: &mut Outbox) -> Result<(), Self::Error>
-        ensures added { Adds tells out.old out.new result }
+        ensures added { Adds (tells_banner banner.now) out.old out.new result }
         ensures cause { OnErr result (Rose (refusals self.old) (refusals self.new)) }
         ensures later { refusals self.old ≤ refusals self.new }
         ensures kept { setting self.new ≡ setting self.old };

@@ -1,6 +1,7 @@
 //! The opening: from the first key exchange to an authenticated user.
 
 ghost use Rattle.std.specs.Prelude.{◌≡◌, ◌≤◌, List, IfOk, true, false};
+ghost use Rattle.sshc_auth.specs.Causes.{HasCause};
 ghost use Rattle.sshc_auth.specs.OpeningState.{start, shut};
 ghost use Rattle.sshc_auth.specs.OpeningTable.{open_row, asked_of, exchange_asks_at, FitsAsked, payload_row, authenticate_row, packet_row_in};
 ghost use Rattle.sshc_auth.specs.Row.{Follows, Steps, since, resolved};
@@ -250,6 +251,8 @@ impl Opening {
         ensures closed { self.old.closed ≡ true → (result ≡ Step.Closed) × (self.new ≡ self.old) × (out.new ≡ out.old) }
         ensures row { self.old.closed ≡ false → Steps (open_row self.old event.now told (since (S.calls signer.old) (S.calls signer.new)))
             self.old self.new out.old out.new (S.calls signer.old) (S.calls signer.new) result }
+        // A refusal's cause, by the opening and the event alone.
+        ensures cause { HasCause told self.old event.now result }
         ensures unsigned { S.calls signer.new ≡ S.calls signer.old }
         ensures later { S.refusals signer.old ≤ S.refusals signer.new }
     {

@@ -1,5 +1,6 @@
 use Rattle.sshc_auth.specs.OpeningTable.{open_row}
 use Rattle.sshc_auth.specs.Row.{since}
+use Rattle.sshc_auth.proofs.CauseLaws.{follows_cause}
 use Rattle.sshc_auth.proofs.Rows.{went, opened, refused}
 use Rattle.sshc_auth.proofs.opening.Opening.apply.Goals as goal
 
@@ -19,3 +20,8 @@ pub returns-in-Err-clause-row : goal.returns-in-Err-clause-row
 returns-in-Err-clause-row g c = λ fresh.
     let calls = g.S.LocalSigner.calls c.args.signer.now in
     rw c.shut-in-Err.ensures (refused (open_row c.args.self.now c.args.event.now c.args.told (since calls calls)) c.args.self.now c.row.new.self c.args.out.now c.row.new.out calls c.in-Err.e (c.in-Err.ensures.row (since calls calls)))
+
+pub returns-in-Err-clause-cause : goal.returns-in-Err-clause-cause
+returns-in-Err-clause-cause g c =
+    let calls = g.S.LocalSigner.calls c.args.signer.now in
+    follows_cause c.args.self.now c.row.new.self c.args.event.now c.args.told (since calls calls) c.args.out.now c.row.new.out c.in-Err.e (c.in-Err.ensures.row (since calls calls))
