@@ -4,3 +4,4 @@ pub mod MatchingLines
 pub mod Judgement
 pub mod HostsFile
 pub mod Learning
+pub mod SaidRefusals

@@ -1,5 +1,6 @@
 use Rattle.sshc_hosts.specs.Judgement.{IsUnreadable}
-use Rattle.sshc_hosts.proofs.Refusals.{errors_by, read_lines-refuses}
+use Rattle.sshc_hosts.specs.SaidRefusals.{read_lines-refuses}
+use Rattle.sshc_hosts.proofs.Refusals.{errors_by}
 use Rattle.sshc_hosts.proofs.judgement.known_host_keys_text.Goals as goal
 
 pub returns-clause-refusal : goal.returns-clause-refusal
