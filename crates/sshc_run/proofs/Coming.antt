@@ -1,25 +1,52 @@
 -- A run that has come so far goes on, or ends. Nothing here looks into the table.
-use Rattle.std.proofs.Common.{◌≡◌, ℕ, suc, ◌+◌, ◌-◌, ◌<◌, ◌≤◌, List, [], ◌∷◌, ◌++◌, length, Option, Result, ap, sym, ◌∙◌, subst, append_assoc, length-append, arith}
+use Rattle.std.proofs.Common.{◌≡◌, ◌⊎◌, inl, inr, refl, ℕ, suc, ◌+◌, ◌-◌, ◌<◌, ◌≤◌, List, [], ◌∷◌, ◌++◌, length, Option, Result, ap, sym, ◌∙◌, subst, append_assoc, length-append, arith}
 use Rattle.std.proofs.lemmas.List.Concat.{flat_map-append}
 use Rattle.sshc_wire.specs.Contents.{prepend, append, WroteFront, append-nothing, prepend-nothing, append-append, prepend-prepend}
 use Rattle.sshc_wire.specs.declared.record.Record.{Record}
 use Rattle.sshc_auth.specs.declared.ended.Ended.{Ended}
 use Rattle.sshc_run.specs.declared.error.RunError.{RunError}
 use Rattle.sshc_run.specs.Along.{Along, IsAlong}
-use Rattle.sshc_run.specs.Outcome.{Ending, told, cut, unread, ending_of, IsExact, EndsAs, Ends}
+use Rattle.sshc_run.specs.Outcome.{Ending, told, cut, unread, ending_of, IsCut, IsExact, EndsAs, Ends}
 use Rattle.sshc_run.specs.RecordLines.{line, lines}
 use Rattle.sshc_run.specs.ScriptRun.{Run, after}
+use Rattle.sshc_run.specs.Turn.{RunStop}
 use Rattle.sshc_run.specs.Turning.{BringsOn}
 
+-- ---- fronts of two lists in a row
+
+-- a front of nothing
+pub nothing_front : (front more : List ℕ) → [] ≡ front ++ more → front ≡ []
+nothing_front [] more is = refl
+nothing_front (b ∷ front) more is = absurd cc
+
+-- a front of two lists is a front of the first, or all of it and a front of the second
+abbrev FrontOfTwo : List ℕ → List ℕ → List ℕ → List ℕ → Type 0
+FrontOfTwo a b front more = ((rest : List ℕ) × (a ≡ front ++ rest)) ⊎ ((part : List ℕ) × (front ≡ a ++ part) × (b ≡ part ++ more))
+
+longer_front : (c : ℕ) (a b front more : List ℕ) → FrontOfTwo a b front more → FrontOfTwo (c ∷ a) b (c ∷ front) more
+longer_front c a b front more (inl (rest, is)) = inl (rest, ap (λ bytes. c ∷ bytes) is)
+longer_front c a b front more (inr (part, is, behind)) = inr (part, ap (λ bytes. c ∷ bytes) is, behind)
+
+front_of_two : (a b front more : List ℕ) → a ++ b ≡ front ++ more → FrontOfTwo a b front more
+front_of_two [] b front more is = inr (front, refl, is)
+front_of_two (c ∷ a) b [] more is = inl (c ∷ a, refl)
+front_of_two (c ∷ a) b (d ∷ front) more is =
+    let same : c ≡ d = cc in
+    let tails : a ++ b ≡ front ++ more = cc in
+    subst (λ (x : ℕ). FrontOfTwo (c ∷ a) b (x ∷ front) more) same (longer_front c a b front more (front_of_two a b front more tails))
+
+-- ---- the invariant
+
 -- at the start
-pub along_none : {S : Type 0} (first : S) (table : ℕ → ℕ → ℕ → S → List ℕ → Run) (max : ℕ) (s : S) (left held : Option (List ℕ)) (reads : ℕ) → s ≡ first → IsAlong first table max 0 0 0 s left left held held reads reads
-along_none {S = S} first table max s left held reads is = (
+pub along_none : {S : Type 0} (first : S) (table : ℕ → ℕ → ℕ → S → List ℕ → Run) (max : ℕ) (s : S) (left held : Option (List ℕ)) (reads : ℕ) → IsCut (table max 0 0 first []).stop → s ≡ first → IsAlong first table max 0 0 0 s left left held held reads reads
+along_none {S = S} first table max s left held reads ends is = (
   [],
   [],
   record {
     read = sym (prepend-nothing left);
     wrote = sym (append-nothing held);
     on = λ more. let m : max ≡ max - 0 = omega arith in ap (λ n. table n 0 0 first more) m ∙ ap (λ (x : S). table (max - 0) 0 0 x more) (sym is);
+    just = λ front more none. subst (λ bytes. IsCut (table max 0 0 first bytes).stop) (sym (nothing_front front more none)) ends;
     count = omega arith;
   },
 )
@@ -30,6 +57,17 @@ lines_two a b held mid now first second =
 
 after_two : (a b : List Record) (r : Run) → after a (after b r) ≡ after (a ++ b) r
 after_two a b r = ap (λ (x : List Record). record { records = x; stop = r.stop }) (sym (append_assoc a b r.records))
+
+-- on a front of what came before and of one turn's bytes the run goes to its end
+cut_more : {S : Type 0} (first : S) (table : ℕ → ℕ → ℕ → S → List ℕ → Run) (max turns place last : ℕ) (s : S) (script left held now : Option (List ℕ)) (reads reads' : ℕ) (given : List ℕ) (records : List Record) (given' : List ℕ) (n : ℕ) → max - turns ≡ suc n →
+    (front more : List ℕ) → Along first table max turns place last s script left held now reads reads' given records →
+    ((m : ℕ) (part rest : List ℕ) → given' ≡ part ++ rest → IsCut (table (suc m) place last s part).stop) → FrontOfTwo given given' front more → IsCut (table max 0 0 first front).stop
+cut_more first table max turns place last s script left held now reads reads' given records given' n one front more so_far just (inl (rest, is)) = so_far.just front rest is
+cut_more first table max turns place last s script left held now reads reads' given records given' n one front more so_far just (inr (part, is, behind)) =
+    let here : (table max 0 0 first front).stop ≡ (table (suc n) place last s part).stop =
+    ap (λ bytes. (table max 0 0 first bytes).stop) is ∙ ap (λ (r : Run). r.stop) (so_far.on part) ∙ ap (λ m. (table m place last s part).stop) one
+    in
+    subst (λ (x : RunStop). IsCut x) (sym here) (just n part more behind)
 
 -- after one turn more
 pub along_more : {S : Type 0} (first : S) (table : ℕ → ℕ → ℕ → S → List ℕ → Run) (max turns place last : ℕ) (s : S) (place' last' : ℕ) (s' : S) (script left left' held now now' : Option (List ℕ)) (reads reads' reads'' : ℕ) → turns < max →
@@ -47,9 +85,20 @@ along_more first table max turns place last s place' last' s' script left left' 
             ap (table max 0 0 first) (append_assoc given given' more) ∙ so_far.on (given' ++ more)
             ∙ ap (λ n. after records (table n place last s (given' ++ more))) one ∙ ap (after records) (brings.on (max - (turns + 1)) more)
             ∙ after_two records records' (table (max - (turns + 1)) place' last' s' more);
+        just = λ front more is. cut_more first table max turns place last s script left held now reads reads' given records given' (max - (turns + 1)) one front more so_far brings.just (front_of_two given given' front more is);
         count = omega (arith, so_far.count, count, length-append given given');
       },
     )
+
+cut_end_front : {S : Type 0} (first : S) (table : ℕ → ℕ → ℕ → S → List ℕ → Run) (max turns place last : ℕ) (s : S) (script left held now : Option (List ℕ)) (reads reads' : ℕ) (given : List ℕ) (records : List Record) (given' : List ℕ)
+    (front : List ℕ) (b : ℕ) (more : List ℕ) → Along first table max turns place last s script left held now reads reads' given records →
+    ((part : List ℕ) (c : ℕ) (rest : List ℕ) → given' ≡ part ++ c ∷ rest → IsCut (table (max - turns) place last s part).stop) → FrontOfTwo given given' front (b ∷ more) → IsCut (table max 0 0 first front).stop
+cut_end_front first table max turns place last s script left held now reads reads' given records given' front b more so_far just (inl (rest, is)) = so_far.just front rest is
+cut_end_front first table max turns place last s script left held now reads reads' given records given' front b more so_far just (inr (part, is, behind)) =
+    let here : (table max 0 0 first front).stop ≡ (table (max - turns) place last s part).stop =
+    ap (λ bytes. (table max 0 0 first bytes).stop) is ∙ ap (λ (r : Run). r.stop) (so_far.on part)
+    in
+    subst (λ (x : RunStop). IsCut x) (sym here) (just part b more behind)
 
 exact_end : {S : Type 0} (first : S) (table : ℕ → ℕ → ℕ → S → List ℕ → Run) (max turns place last : ℕ) (s : S) (script left left' held now now' : Option (List ℕ)) (reads reads' : ℕ) (given : List ℕ) (records : List Record) (given' : List ℕ) (a : Result Ended RunError) →
     Along first table max turns place last s script left held now reads reads' given records → IsExact (table (max - turns) place last s) given' left' now now' a → IsExact (table max 0 0 first) (given ++ given') left' held now' a
@@ -61,6 +110,9 @@ exact_end first table max turns place last s script left left' held now now' rea
       stop = ap (λ (x : Run). x.stop) here ∙ exact.stop;
       rest = λ more e.
           ap (table max 0 0 first) (append_assoc given given' more) ∙ so_far.on (given' ++ more) ∙ ap (after records) (exact.rest more e) ∙ sym here;
+      just = λ front b more is.
+          cut_end_front first table max turns place last s script left held now reads reads' given records given' front b more so_far exact.just (front_of_two given given' front (b ∷ more) is);
+      whole = exact.whole;
     }
 
 cut_end : {S : Type 0} (first : S) (table : ℕ → ℕ → ℕ → S → List ℕ → Run) (max turns place last : ℕ) (s : S) (script left held now now' : Option (List ℕ)) (reads reads' : ℕ) (given : List ℕ) (records : List Record) (given' : List ℕ) →

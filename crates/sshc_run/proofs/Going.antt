@@ -1,5 +1,5 @@
 -- A run by its first event.
-use Rattle.std.proofs.Common.{◌≡◌, ℕ, suc, ◌+◌, ◌≤◌, List, [], ◌∷◌, ◌++◌, length, Option, Some, None, Result, Ok, Err, refl, ap, sym, ◌∙◌, inl, inr, append_assoc, arith}
+use Rattle.std.proofs.Common.{◌≡◌, ℕ, zero, suc, ◌+◌, ◌≤◌, List, [], ◌∷◌, ◌++◌, length, Option, Some, None, Result, Ok, Err, refl, ap, sym, ◌∙◌, inl, inr, append_assoc, arith}
 use Rattle.std.specs.Option.{IfNone}
 use Rattle.std.proofs.lemmas.List.{append-nil}
 use Rattle.std.proofs.lemmas.List.Concat.{flat_map-append}
@@ -13,14 +13,16 @@ use Rattle.sshc_run.specs.declared.error.RunError.TheVariants as errors
 use Rattle.sshc_run.specs.declared.script.NextError.{NextError}
 use Rattle.sshc_run.specs.declared.script.NextError.TheVariants as nexts
 use Rattle.sshc_run.specs.KnownHosts.{Hosts}
-use Rattle.sshc_run.specs.Outcome.{Ending, told, cut, unread, ending_of, stop_as, IsExact, EndsAs, Ends}
+use Rattle.sshc_run.specs.Outcome.{Ending, told, cut, unread, ending_of, stop_as, IsCut, IsExact, EndsAs, Ends}
 use Rattle.sshc_run.specs.Reading.{IsNoEvent, IsBad, IsWhole, Gave, NextGives}
 use Rattle.sshc_run.specs.RecordLines.{line, lines}
-use Rattle.sshc_run.specs.Script.{Head, End, Bad, Whole, front, frame_at, size_of}
+use Rattle.sshc_run.specs.Script.{Frame, Head, Front, End, Bad, Whole, front, frame_at, size_of}
 use Rattle.sshc_run.specs.ScriptRun.{Run, run, run_on, after, stopped_run}
 use Rattle.sshc_run.specs.Turn.{Turn, Onward, goes_on, opened, stopped, RunStop, ended, refused, turn}
 use Rattle.sshc_run.specs.Turning.{stop_next, StopsBy, TakeAs, TakeGives, TurnGives, LimitGives}
+use Rattle.sshc_run.proofs.Caused.{turn_unended}
 use Rattle.sshc_run.proofs.Fronts.{none_more}
+use Rattle.sshc_run.proofs.Longer.{front_more}
 use Rattle.sshc_run.proofs.Turns.{wrote_nothing}
 
 -- the run of a script, with no answers of the signer
@@ -55,6 +57,47 @@ stopping_by t goes_on r stop h = absurd cc
 stopping_by t opened r stop h = absurd cc
 stopping_by t (stopped x) r stop h = let same : x ≡ stop = cc in ap (λ (y : RunStop). record { records = t.records; stop = y }) same
 
+-- on nothing the run is at the script's end
+pub run_nothing : (hosts : Hosts) (n place last : ℕ) (s : OpeningState) (answers : List _) → (run hosts n place last s answers []).stop ≡ ended ends.ScriptEnd
+unfolding run
+run_nothing hosts zero place last s answers = refl
+run_nothing hosts (suc n) place last s answers = rw (front_nothing last, run) refl
+
+-- ---- fronts of an event's bytes
+
+-- where no event stands whole, the run goes to the end
+none_cut : (hosts : Hosts) (n place last : ℕ) (s : OpeningState) (bytes : List ℕ) → IsNoEvent last bytes → IsCut (table hosts (suc n) place last s bytes).stop
+none_cut hosts n place last s bytes (inl nothing) = inl (ap (λ (r : Run). r.stop) (run_end hosts n place last s bytes nothing))
+none_cut hosts n place last s bytes (inr bad) = inr (place, ap (λ (r : Run). r.stop) (run_bad hosts n place last s bytes bad))
+
+not_nothing : (part : List ℕ) (b : ℕ) (more : List ℕ) → [] ≡ part ++ b ∷ more → ⊥
+not_nothing [] b more is = cc
+not_nothing (c ∷ part) b more is = cc
+
+-- a shorter front of a whole event's bytes is no event
+shorter_by : (last : ℕ) (head : Head) (bytes part : List ℕ) (b : ℕ) (more : List ℕ) (f : Front) → front last part ≡ f → IsWhole last head bytes → bytes ≡ part ++ b ∷ more → IsNoEvent last part
+shorter_by last head bytes part b more End f whole is = inl f
+shorter_by last head bytes part b more Bad f whole is = inr f
+shorter_by last head bytes part b more (Whole h rest) f whole is =
+    let longer : Whole head [] ≡ Whole h (rest ++ b ∷ more) = sym (whole.is []) ∙ ap (front last) (append-nil bytes ∙ is) ∙ front_more last part (b ∷ more) h rest f in
+    let nothing : [] ≡ rest ++ b ∷ more = cc in
+    absurd (not_nothing rest b more nothing)
+
+no_shorter : (last : ℕ) (head : Head) (bytes part : List ℕ) (b : ℕ) (more : List ℕ) → IsWhole last head bytes → bytes ≡ part ++ b ∷ more → IsNoEvent last part
+no_shorter last head bytes part b more whole is = shorter_by last head bytes part b more (front last part) refl whole is
+
+-- nor is a front of bytes that are no event
+none_by : (last : ℕ) (bytes part : List ℕ) (b : ℕ) (more : List ℕ) (f : Front) → front last part ≡ f → front last bytes ≡ Bad → bytes ≡ part ++ b ∷ more → IsNoEvent last part
+none_by last bytes part b more End f bad is = inl f
+none_by last bytes part b more Bad f bad is = inr f
+none_by last bytes part b more (Whole h rest) f bad is =
+    let clash : Bad ≡ Whole h (rest ++ b ∷ more) = sym bad ∙ ap (front last) is ∙ front_more last part (b ∷ more) h rest f in absurd cc
+
+no_front : (last : ℕ) (bytes part : List ℕ) (b : ℕ) (more : List ℕ) → front last bytes ≡ Bad → bytes ≡ part ++ b ∷ more → IsNoEvent last part
+no_front last bytes part b more bad is = none_by last bytes part b more (front last part) refl bad is
+
+-- ---- a read that gives no event
+
 -- the script ends
 pub end_ends : (hosts : Hosts) (place last : ℕ) (s : OpeningState) (script left held : Option (List ℕ)) (reads reads' : ℕ) → script ≡ left → IsAtEnd left → reads' ≤ reads + 1 →
     (n : ℕ) → Ends (table hosts (suc n) place last s) script left held held reads reads' (Ok ends.ScriptEnd)
@@ -66,6 +109,8 @@ end_ends hosts place last s script left held reads reads' same end count n =
         all = rw none (sym (append-nothing held));
         stop = rw none refl;
         rest = λ more e. ap (table hosts (suc n) place last s) (none_more left more e end);
+        just = λ part b more is. absurd (not_nothing part b more is);
+        whole = λ done. end;
       },
       omega (arith, count),
     )
@@ -78,6 +123,8 @@ bad_ends hosts place last s left held bytes bad n =
       all = rw none (sym (append-nothing held));
       stop = rw none refl;
       rest = λ more e. run_bad hosts n place last s (bytes ++ more) (bad.all more e) ∙ sym none;
+      just = λ part b more is. none_cut hosts n place last s part (no_front last bytes part b more bad.given is);
+      whole = λ done. absurd cc;
     }
 
 no_event_records : (hosts : Hosts) (place last : ℕ) (s : OpeningState) (bytes : List ℕ) (n : ℕ) → IsNoEvent last bytes → (table hosts (suc n) place last s bytes).records ≡ []
@@ -94,9 +141,28 @@ next_ends hosts place last s script left held reads reads' nexts.Bad e (bytes, g
 
 -- ---- an event that is taken
 
+-- a turn that stops the run doesn't end it
+stop_is : (next : Onward) (stop : RunStop) → stop_next next ≡ Some stop → next ≡ stopped stop
+stop_is goes_on stop is = absurd cc
+stop_is opened stop is = absurd cc
+stop_is (stopped x) stop is = let same : x ≡ stop = cc in ap stopped same
+
+unended : (hosts : Hosts) (s : OpeningState) (frame : Frame) (t : Turn) (a : Result Ended RunError) (e : Ended) → turn hosts s frame [] ≡ t → stop_next t.next ≡ Some (stop_as a) → a ≡ Ok e → ⊥
+unended hosts s frame t a e is stops ends =
+    turn_unended hosts s frame [] e (ap (λ (x : Turn). x.next) is ∙ stop_is t.next (stop_as a) stops ∙ ap (λ (x : Result Ended RunError). stopped (stop_as x)) ends)
+
 -- the signer's answers are none, before a turn and after it
 abbrev Left : Turn → Type 0
 Left t = t.left ≡ []
+
+-- on a front of its bytes the run goes to the end
+taken_front : (hosts : Hosts) (place last : ℕ) (s : OpeningState) (head : Head) (t : Turn) (bytes : List ℕ) (n : ℕ) (part more : List ℕ) → turn hosts s (frame_at place head) [] ≡ t → stop_next t.next ≡ None → IsWhole last head bytes → bytes ≡ part ++ more →
+    IsCut (table hosts (suc n) place last s part).stop
+taken_front hosts place last s head t bytes n part [] is on whole parts =
+    let same : part ++ [] ≡ bytes ++ [] = sym parts ∙ sym (append-nil bytes) in
+    let here = run_whole hosts n place last s part head [] t (ap (front last) (sym (append-nil part) ∙ same) ∙ whole.is []) is in
+    inl (ap (λ (r : Run). r.stop) (here ∙ going_by t t.next _ on) ∙ run_nothing hosts n (place + size_of head) head.0 t.state t.left)
+taken_front hosts place last s head t bytes n part (b ∷ more) is on whole parts = none_cut hosts n place last s part (no_shorter last head bytes part b more whole parts)
 
 -- where the run goes on after an event
 taken_on : (hosts : Hosts) (place last : ℕ) (s s' : OpeningState) (head : Head) (t : Turn) (script left held now : Option (List ℕ)) (reads reads' : ℕ) (bytes : List ℕ) → turn hosts s (frame_at place head) [] ≡ t → Left t →
@@ -113,6 +179,7 @@ taken_on hosts place last s s' head t script left held now reads reads' bytes is
         run_whole hosts n place last s (bytes ++ more) head more t (whole.is more) is ∙ going_by t t.next _ on
         ∙ ap (λ (x : OpeningState). after t.records (run hosts n (place + size_of head) head.0 x t.left more)) (sym state)
         ∙ ap (λ (answers : List _). after t.records (run hosts n (place + size_of head) head.0 s' answers more)) none;
+    just = λ n part more parts. taken_front hosts place last s head t bytes n part more is on whole parts;
   },
   count,
 )
@@ -125,7 +192,13 @@ stops_exact hosts place last s head t left held now bytes a is whole stops n =
     λ more. run_whole hosts n place last s (bytes ++ more) head more t (whole.is more) is ∙ stopping_by t t.next _ (stop_as a) stops.0
     in
     let here : table hosts (suc n) place last s bytes ≡ record { records = t.records; stop = stop_as a } = ap (table hosts (suc n) place last s) (sym (append-nil bytes)) ∙ stopped_so [] in
-    record { all = rw here stops.1; stop = rw here refl; rest = λ more e. stopped_so more ∙ sym here }
+    record {
+      all = rw here stops.1;
+      stop = rw here refl;
+      rest = λ more e. stopped_so more ∙ sym here;
+      just = λ part b more parts. none_cut hosts n place last s part (no_shorter last head bytes part b more whole parts);
+      whole = λ done. absurd (unended hosts s (frame_at place head) t a ends.ScriptEnd is stops.0 done);
+    }
 
 -- the records of a turn are the first of its run's
 first_by : (t : Turn) (next : Onward) (r : Run) → (rest : List Record) × ((run_on t next r).records ≡ t.records ++ rest)
@@ -162,6 +235,11 @@ taken_gives hosts place last s place' last' s' head t script left held now reads
 
 -- ---- the limit
 
+-- a shorter front of one byte is nothing
+limit_front : (hosts : Hosts) (place last : ℕ) (s : OpeningState) (b : ℕ) (part : List ℕ) (c : ℕ) (more : List ℕ) → b ∷ [] ≡ part ++ c ∷ more → IsCut (table hosts 0 place last s part).stop
+limit_front hosts place last s b [] c more is = inl (run_nothing hosts 0 place last s [])
+limit_front hosts place last s b (x ∷ part) c more is = let nothing : [] ≡ part ++ c ∷ more = cc in absurd (not_nothing part c more nothing)
+
 -- at the limit
 pub limit_ends : (hosts : Hosts) (place last : ℕ) (s : OpeningState) (script left held : Option (List ℕ)) (reads reads' : ℕ) (a : Result Ended RunError) → LimitGives script left a → reads' ≤ reads + 1 →
     Ends (table hosts 0 place last s) script left held held reads reads' a
@@ -169,32 +247,24 @@ unfolding run
 limit_ends hosts place last s script left held reads reads' (Ok ends.ScriptEnd) (same, end) count = (
   [],
   same ∙ sym (prepend-nothing left),
-  record { all = sym (append-nothing held); stop = refl; rest = λ more e. ap (table hosts 0 place last s) (none_more left more e end) },
+  record {
+    all = sym (append-nothing held);
+    stop = refl;
+    rest = λ more e. ap (table hosts 0 place last s) (none_more left more e end);
+    just = λ part b more is. absurd (not_nothing part b more is);
+    whole = λ done. end;
+  },
   omega (arith, count),
 )
 limit_ends hosts place last s script left held reads reads' (Ok ends.Disconnected) h count = absurd h
 limit_ends hosts place last s script left held reads reads' (Ok ends.Closed) h count = absurd h
 limit_ends hosts place last s script left held reads reads' (Ok (ends.RemoteDisconnect info)) h count = absurd h
-limit_ends hosts place last s script left held reads reads' (Err errors.ScriptTooLong) (b, given) count =
-    (b ∷ [], given, record { all = sym (append-nothing held); stop = refl; rest = λ more e. refl }, omega (arith, count))
+limit_ends hosts place last s script left held reads reads' (Err errors.ScriptTooLong) (b, given) count = (
+  b ∷ [],
+  given,
+  record { all = sym (append-nothing held); stop = refl; rest = λ more e. refl; just = λ part c more is. limit_front hosts place last s b part c more is; whole = λ done. absurd cc },
+  omega (arith, count),
+)
 limit_ends hosts place last s script left held reads reads' (Err errors.ReadFault) same count = ([], same ∙ sym (prepend-nothing left), sym (append-nothing held), omega (arith, count))
 limit_ends hosts place last s script left held reads reads' (Err errors.NoMemory) same count = ([], same ∙ sym (prepend-nothing left), wrote_nothing held [], omega (arith, count))
-limit_ends hosts place last s script left held reads reads' (Err errors.WriteFault) h count = absurd h
-limit_ends hosts place last s script left held reads reads' (Err errors.SignerFault) h count = absurd h
-limit_ends hosts place last s script left held reads reads' (Err (errors.BadEvent x)) h count = absurd h
-limit_ends hosts place last s script left held reads reads' (Err (errors.OutOfTurn x)) h count = absurd h
-limit_ends hosts place last s script left held reads reads' (Err errors.TransportFailed) h count = absurd h
-limit_ends hosts place last s script left held reads reads' (Err errors.UnknownKey) h count = absurd h
-limit_ends hosts place last s script left held reads reads' (Err (errors.KeyChanged x)) h count = absurd h
-limit_ends hosts place last s script left held reads reads' (Err errors.Decode) h count = absurd h
-limit_ends hosts place last s script left held reads reads' (Err errors.SshKey) h count = absurd h
-limit_ends hosts place last s script left held reads reads' (Err errors.Inconsistent) h count = absurd h
-limit_ends hosts place last s script left held reads reads' (Err errors.Pending) h count = absurd h
-limit_ends hosts place last s script left held reads reads' (Err errors.NoAuthMethod) h count = absurd h
-limit_ends hosts place last s script left held reads reads' (Err errors.NotAuthenticated) h count = absurd h
-limit_ends hosts place last s script left held reads reads' (Err errors.SshEncoding) h count = absurd h
-limit_ends hosts place last s script left held reads reads' (Err errors.InvalidDisconnect) h count = absurd h
-limit_ends hosts place last s script left held reads reads' (Err errors.RecvError) h count = absurd h
-limit_ends hosts place last s script left held reads reads' (Err errors.KeepaliveTimeout) h count = absurd h
-limit_ends hosts place last s script left held reads reads' (Err errors.InactivityTimeout) h count = absurd h
-limit_ends hosts place last s script left held reads reads' (Err (errors.Unbuilt x)) h count = absurd h
+limit_ends hosts place last s script left held reads reads' (Err e) h count = absurd h

@@ -2,6 +2,7 @@
 pub mod Fronts
 pub mod Lines
 pub mod Turns
+pub mod Caused
 pub mod Going
 pub mod Coming
 pub mod Joined

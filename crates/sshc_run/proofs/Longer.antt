@@ -46,7 +46,7 @@ sized_more_by false last n bytes more head rest out h =
     sized_by false last n (bytes ++ more) (is_in_more n bytes more out)
     ∙ rw (take-append-le n bytes more size, drop-append-le n bytes more size) (whole_more (head_at last (take n bytes)) (drop n bytes) more head rest whole)
 
-front_more : (last : ℕ) (bytes more : List ℕ) (head : Head) (rest : List ℕ) → front last bytes ≡ Whole head rest → front last (bytes ++ more) ≡ Whole head (rest ++ more)
+pub front_more : (last : ℕ) (bytes more : List ℕ) (head : Head) (rest : List ℕ) → front last bytes ≡ Whole head rest → front last (bytes ++ more) ≡ Whole head (rest ++ more)
 unfolding front
 front_more last [] more head rest h = absurd cc
 front_more last (a ∷ []) more head rest h = absurd cc

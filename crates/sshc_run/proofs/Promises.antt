@@ -73,11 +73,14 @@ same_table table given bytes script (Some more) held written a read said exact =
     let same : bytes ≡ given ++ more = cc in
     ap table same ∙ exact.rest more refl
 
-pub done_of : (table : List ℕ → Run) (script left held written : Option (List ℕ)) (reads reads' : ℕ) (a : Result Ended RunError) → Ends table script left held written reads reads' a → IsDone table script held written a
+pub done_of : (table : List ℕ → Run) (script left held written : Option (List ℕ)) (reads reads' : ℕ) (a : Result Ended RunError) → Ends table script left held written reads reads' a → IsDone table script left held written a
 done_of table script left held written reads reads' (Err e) ends = tt
-done_of table script left held written reads reads' (Ok e) (given, read, exact, count) = λ bytes said.
-    let same : table bytes ≡ table given = same_table table given bytes script left held written (Ok e) read said exact in
-    (ap (λ (r : Run). r.stop) same ∙ exact.stop, exact.all ∙ ap (λ (r : Run). append held (lines r.records)) (sym same))
+done_of table script left held written reads reads' (Ok e) (given, read, exact, count) = (
+  λ end. exact.whole (ap Ok end),
+  λ bytes said.
+      (let same : table bytes ≡ table given = same_table table given bytes script left held written (Ok e) read said exact in
+      (ap (λ (r : Run). r.stop) same ∙ exact.stop, exact.all ∙ ap (λ (r : Run). append held (lines r.records)) (sym same))),
+)
 
 kept_as : (ending : Ending) (table : List ℕ → Run) (given : List ℕ) (left held written : Option (List ℕ)) (e : RunError) → EndsAs ending table given left held written (Err e) → KeptBy ending table given held written e
 kept_as told table given left held written e by = (by.stop, by.all)
@@ -106,22 +109,4 @@ complete_of table script left held written counts counts' reads reads' writes wr
 complete_of table script left held written counts counts' reads reads' writes writes' (Err errors.NoMemory) ends r w = λ bytes e said good quiet still. inr refl
 complete_of table script left held written counts counts' reads reads' writes writes' (Err errors.ReadFault) ends r w = λ bytes e said good quiet still. absurd (quiet (r refl))
 complete_of table script left held written counts counts' reads reads' writes writes' (Err errors.WriteFault) ends r w = λ bytes e said good quiet still. absurd (still (w refl))
-complete_of table script left held written counts counts' reads reads' writes writes' (Err errors.SignerFault) (given, read, exact, count) r w = λ bytes e said good quiet still. absurd (refused_not table given bytes script left held written e errors.SignerFault read said good exact)
-complete_of table script left held written counts counts' reads reads' writes writes' (Err (errors.BadEvent at)) (given, read, exact, count) r w = λ bytes e said good quiet still. absurd (refused_not table given bytes script left held written e (errors.BadEvent at) read said good exact)
-complete_of table script left held written counts counts' reads reads' writes writes' (Err (errors.OutOfTurn at)) (given, read, exact, count) r w = λ bytes e said good quiet still. absurd (refused_not table given bytes script left held written e (errors.OutOfTurn at) read said good exact)
-complete_of table script left held written counts counts' reads reads' writes writes' (Err errors.ScriptTooLong) (given, read, exact, count) r w = λ bytes e said good quiet still. absurd (refused_not table given bytes script left held written e errors.ScriptTooLong read said good exact)
-complete_of table script left held written counts counts' reads reads' writes writes' (Err errors.TransportFailed) (given, read, exact, count) r w = λ bytes e said good quiet still. absurd (refused_not table given bytes script left held written e errors.TransportFailed read said good exact)
-complete_of table script left held written counts counts' reads reads' writes writes' (Err errors.UnknownKey) (given, read, exact, count) r w = λ bytes e said good quiet still. absurd (refused_not table given bytes script left held written e errors.UnknownKey read said good exact)
-complete_of table script left held written counts counts' reads reads' writes writes' (Err (errors.KeyChanged at)) (given, read, exact, count) r w = λ bytes e said good quiet still. absurd (refused_not table given bytes script left held written e (errors.KeyChanged at) read said good exact)
-complete_of table script left held written counts counts' reads reads' writes writes' (Err errors.Decode) (given, read, exact, count) r w = λ bytes e said good quiet still. absurd (refused_not table given bytes script left held written e errors.Decode read said good exact)
-complete_of table script left held written counts counts' reads reads' writes writes' (Err errors.SshKey) (given, read, exact, count) r w = λ bytes e said good quiet still. absurd (refused_not table given bytes script left held written e errors.SshKey read said good exact)
-complete_of table script left held written counts counts' reads reads' writes writes' (Err errors.Inconsistent) (given, read, exact, count) r w = λ bytes e said good quiet still. absurd (refused_not table given bytes script left held written e errors.Inconsistent read said good exact)
-complete_of table script left held written counts counts' reads reads' writes writes' (Err errors.Pending) (given, read, exact, count) r w = λ bytes e said good quiet still. absurd (refused_not table given bytes script left held written e errors.Pending read said good exact)
-complete_of table script left held written counts counts' reads reads' writes writes' (Err errors.NoAuthMethod) (given, read, exact, count) r w = λ bytes e said good quiet still. absurd (refused_not table given bytes script left held written e errors.NoAuthMethod read said good exact)
-complete_of table script left held written counts counts' reads reads' writes writes' (Err errors.NotAuthenticated) (given, read, exact, count) r w = λ bytes e said good quiet still. absurd (refused_not table given bytes script left held written e errors.NotAuthenticated read said good exact)
-complete_of table script left held written counts counts' reads reads' writes writes' (Err errors.SshEncoding) (given, read, exact, count) r w = λ bytes e said good quiet still. absurd (refused_not table given bytes script left held written e errors.SshEncoding read said good exact)
-complete_of table script left held written counts counts' reads reads' writes writes' (Err errors.InvalidDisconnect) (given, read, exact, count) r w = λ bytes e said good quiet still. absurd (refused_not table given bytes script left held written e errors.InvalidDisconnect read said good exact)
-complete_of table script left held written counts counts' reads reads' writes writes' (Err errors.RecvError) (given, read, exact, count) r w = λ bytes e said good quiet still. absurd (refused_not table given bytes script left held written e errors.RecvError read said good exact)
-complete_of table script left held written counts counts' reads reads' writes writes' (Err errors.KeepaliveTimeout) (given, read, exact, count) r w = λ bytes e said good quiet still. absurd (refused_not table given bytes script left held written e errors.KeepaliveTimeout read said good exact)
-complete_of table script left held written counts counts' reads reads' writes writes' (Err errors.InactivityTimeout) (given, read, exact, count) r w = λ bytes e said good quiet still. absurd (refused_not table given bytes script left held written e errors.InactivityTimeout read said good exact)
-complete_of table script left held written counts counts' reads reads' writes writes' (Err (errors.Unbuilt at)) (given, read, exact, count) r w = λ bytes e said good quiet still. absurd (refused_not table given bytes script left held written e (errors.Unbuilt at) read said good exact)
+complete_of table script left held written counts counts' reads reads' writes writes' (Err x) (given, read, exact, count) r w = λ bytes e said good quiet still. absurd (refused_not table given bytes script left held written e x read said good exact)

@@ -15,6 +15,8 @@ use Rattle.sshc_auth.specs.declared.ended.Ended.{Ended}
 use Rattle.sshc_auth.specs.declared.error.Error.{Error}
 use Rattle.sshc_auth.specs.declared.error.Error.TheVariants as auths
 use Rattle.sshc_auth.specs.declared.event.Event.{Event}
+use Rattle.sshc_auth.specs.declared.event.Event.TheVariants as events
+use Rattle.sshc_auth.specs.declared.event.NamesChosen.{NamesChosen}
 use Rattle.sshc_auth.specs.declared.step.Asks.{Asks}
 use Rattle.sshc_auth.specs.declared.step.Asks.TheVariants as asking
 use Rattle.sshc_auth.specs.declared.step.Step.{Step}
@@ -23,7 +25,7 @@ use Rattle.sshc_auth.specs.declared.step.Told.TheVariants as telling
 use Rattle.sshc_auth.specs.OpeningState.{OpeningState, shut}
 use Rattle.sshc_auth.specs.OpeningTable.{open_row, asked_of}
 use Rattle.sshc_auth.specs.Row.{Row, Next, stays, opens, ends as ends_with, refuses, unanswered, Says, Steps, since}
-use Rattle.sshc_auth.specs.Stepping.{Span, map_step, GateRefused, StepsAs, StepsAfter, StepsAnswered, StepsJudged, StepsAsked, StepsBy}
+use Rattle.sshc_auth.specs.Stepping.{Span, map_step, told_of, GateRefused, StepsAs, StepsAfter, StepsAnswered, StepsJudged, StepsAsked, StepsBy}
 use Rattle.sshc_run.specs.declared.error.EventError.{EventError}
 use Rattle.sshc_run.specs.declared.error.EventError.TheVariants as reads
 use Rattle.sshc_run.specs.declared.error.RunError.{RunError}
@@ -74,6 +76,18 @@ after_took place row span result none unmuted (answer, mid, (more, (ok, nothing)
     let still : mid.records ≡ [] = records ∙ ap (λ rs. rs ++ more) none ∙ nothing in
     answered_took place row (record span { old = mid }) result answer ok still (muted ∙ unmuted) does
 
+-- the same of an exchange of which the gate is told
+told_nothing : (event : Event) (answer : Result (Unit {0}) HandlerError) (more : List Record) → told_of (λ (secret : Option (List ℕ)) (names : NamesChosen) (x : Result (Unit {0}) HandlerError) (said : List Record). AddsNothing x said) event answer more → AddsNothing answer more
+told_nothing events.PeerKexinit answer more never = absurd never
+told_nothing (events.ExchangeDone x) answer more nothing = nothing
+told_nothing (events.Payload packet) answer more never = absurd never
+told_nothing (events.Authenticate ticket user method) answer more never = absurd never
+
+exchange_took : (place : ℕ) (event : Event) (row : Row) (span : Span) (result : Step HandlerError) → span.old.records ≡ [] → span.old.muted ≡ false →
+    StepsAfter Client (told_of (λ secret names. AddsNothing) event) row span result → Took (row_turn place span.before [] row) place result span.after span.new.records
+exchange_took place event row span result none unmuted (answer, mid, (more, nothing, resolved, records, muted), does) =
+    after_took place row span result none unmuted (answer, mid, (more, told_nothing event answer more nothing, resolved, records, muted), does)
+
 refused_took : (place : ℕ) (e : HandlerError) (span : Span) (result : Step HandlerError) → span.old.records ≡ [] →
     GateRefused e span result → Took (stops (shut span.before) [] (handler_error_of place e)) place result span.after span.new.records
 refused_took place e span result none (is, same, kept, calls) = rw is (inr (ap (λ (o : Outgoing). o.records) kept ∙ none, same, refl))
@@ -83,13 +97,13 @@ want_took : (t : Turn) (place : ℕ) (e : HandlerError) (span : Span) (result : 
 want_took t place e span result none want (is, same, kept, calls) = rw is (inl (ap (λ (o : Outgoing). o.records) kept ∙ none, ap (λ x. Some (Err x)) want))
 
 verdict_took : (place : ℕ) (event : Event) (span : Span) (result : Step HandlerError) (said : Result Bool HandlerError) → span.old.records ≡ [] → span.old.muted ≡ false →
-    StepsJudged Client AddsNothing event [] span result said → Took (judged_turn place span.before event [] said) place result span.after span.new.records
-verdict_took place event span result (Ok true) none unmuted does = after_took place (open_row span.before event telling.Went []) span result none unmuted does
+    StepsJudged Client (λ secret names. AddsNothing) event [] span result said → Took (judged_turn place span.before event [] said) place result span.after span.new.records
+verdict_took place event span result (Ok true) none unmuted does = exchange_took place event (open_row span.before event telling.Went []) span result none unmuted does
 verdict_took place event span result (Ok false) none unmuted does = as_took place (open_row span.before event telling.No []) span result none unmuted does
 verdict_took place event span result (Err e) none unmuted does = refused_took place e span result none does
 
 want_judged : (t : Turn) (place : ℕ) (event : Event) (span : Span) (result : Step HandlerError) (said : Result Bool HandlerError) → said ≡ Err (Key key_errors.NoMemory) → span.old.records ≡ [] →
-    StepsJudged Client AddsNothing event [] span result said → Took t place result span.after span.new.records
+    StepsJudged Client (λ secret names. AddsNothing) event [] span result said → Took t place result span.after span.new.records
 want_judged t place event span result (Ok true) is none does = absurd cc
 want_judged t place event span result (Ok false) is none does = absurd cc
 want_judged t place event span result (Err e) is none does =
@@ -97,28 +111,28 @@ want_judged t place event span result (Err e) is none does =
     want_took t place e span result none (ap (handler_error_of place) same) does
 
 judged_took : (hosts : Hosts) (place : ℕ) (event : Event) (key : PublicKeyOrCertificate) (span : Span) (result : Step HandlerError) (said : Result Bool HandlerError) → span.old.records ≡ [] → span.old.muted ≡ false →
-    Judges hosts key said → StepsJudged Client AddsNothing event [] span result said → Took (judged_turn place span.before event [] (verdict hosts key)) place result span.after span.new.records
+    Judges hosts key said → StepsJudged Client (λ secret names. AddsNothing) event [] span result said → Took (judged_turn place span.before event [] (verdict hosts key)) place result span.after span.new.records
 judged_took hosts place event key span result said none unmuted (inl is) does = rw (sym is) (verdict_took place event span result said none unmuted does)
 judged_took hosts place event key span result said none unmuted (inr want) does = want_judged (judged_turn place span.before event [] (verdict hosts key)) place event span result said want none does
 
 asked_took : (hosts : Hosts) (place : ℕ) (event : Event) (span : Span) (result : Step HandlerError) (asks : Asks) → span.old.records ≡ [] → span.old.muted ≡ false →
-    StepsAsked Client (Judges hosts) AddsNothing event [] span result asks → Took (asked_turn hosts place span.before event [] asks) place result span.after span.new.records
+    StepsAsked Client (Judges hosts) (λ secret names. AddsNothing) (λ text. AddsNothing) event [] span result asks → Took (asked_turn hosts place span.before event [] asks) place result span.after span.new.records
 asked_took hosts place event span result asking.Nothing none unmuted does = as_took place (open_row span.before event telling.NotAsked []) span result none unmuted does
 asked_took hosts place event span result (asking.HostKey key) none unmuted (said, judged, does) = judged_took hosts place event key span result said none unmuted judged does
-asked_took hosts place event span result asking.Exchange none unmuted does = after_took place (open_row span.before event telling.Went []) span result none unmuted does
+asked_took hosts place event span result asking.Exchange none unmuted does = exchange_took place event (open_row span.before event telling.Went []) span result none unmuted does
 asked_took hosts place event span result (asking.Banner text) none unmuted does = after_took place (open_row span.before event telling.Went []) span result none unmuted does
 
 by_took : (hosts : Hosts) (place : ℕ) (event : Event) (span : Span) (result : Step HandlerError) (asks : Asks) → span.old.records ≡ [] → span.old.muted ≡ false →
-    StepsBy Client (Judges hosts) AddsNothing event [] span result asks → Took (asked_turn hosts place span.before event [] asks) place result span.after span.new.records
+    StepsBy Client (Judges hosts) (λ secret names. AddsNothing) (λ text. AddsNothing) event [] span result asks → Took (asked_turn hosts place span.before event [] asks) place result span.after span.new.records
 by_took hosts place event span result asks none unmuted (inl refused) = want_took (asked_turn hosts place span.before event [] asks) place (Client auths.NoMemory) span result none refl refused
 by_took hosts place event span result asks none unmuted (inr does) = asked_took hosts place event span result asks none unmuted does
 
 -- a step that asks the signer nothing is the table's turn
 pub step_took : (hosts : Hosts) (place : ℕ) (event : Event) (span : Span) (result : Step HandlerError) (asks : Asks) → span.old.records ≡ [] → span.old.muted ≡ false → span.calls' ≡ span.calls →
-    StepsBy Client (Judges hosts) AddsNothing event (since span.calls span.calls') span result asks → Took (asked_turn hosts place span.before event [] asks) place result span.after span.new.records
+    StepsBy Client (Judges hosts) (λ secret names. AddsNothing) (λ text. AddsNothing) event (since span.calls span.calls') span result asks → Took (asked_turn hosts place span.before event [] asks) place result span.after span.new.records
 step_took hosts place event span result asks none unmuted unsigned does =
     let nothing : since span.calls span.calls' ≡ [] = ap (since span.calls) unsigned ∙ drop-length span.calls in
-    by_took hosts place event span result asks none unmuted (subst (λ (gained : List SignCall). StepsBy Client (Judges hosts) AddsNothing event gained span result asks) nothing does)
+    by_took hosts place event span result asks none unmuted (subst (λ (gained : List SignCall). StepsBy Client (Judges hosts) (λ secret names. AddsNothing) (λ text. AddsNothing) event gained span result asks) nothing does)
 
 -- ---- what is written
 

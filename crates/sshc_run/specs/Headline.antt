@@ -1,12 +1,13 @@
 -- The promises of a whole run, over its table.
 use Rattle.std.specs.Prelude.{◌≡◌, ◌⊎◌, ℕ, Bool, false, List, [], ◌∷◌, Option, Some, None, Result, Ok, Err}
-use Rattle.sshc_wire.specs.Contents.{prepend, append, WroteFront}
+use Rattle.sshc_wire.specs.Contents.{prepend, append, WroteFront, IsAtEnd}
 use Rattle.sshc_wire.specs.Faults.{Rose}
 use Rattle.sshc_wire.specs.Records.{IsPayload}
 use Rattle.sshc_wire.specs.declared.record.Record.{Record}
 use Rattle.sshc_key.specs.declared.identity.PublicKeyOrCertificate.{PublicKeyOrCertificate}
 use Rattle.sshc_auth.specs.HostKey.{host_key}
 use Rattle.sshc_auth.specs.declared.ended.Ended.{Ended}
+use Rattle.sshc_auth.specs.declared.ended.Ended.TheVariants.{ScriptEnd}
 use Rattle.sshc_auth.specs.declared.event.Event.{Event}
 use Rattle.sshc_auth.specs.declared.event.Event.TheVariants as events
 use Rattle.sshc_run.specs.declared.error.EventError.{EventError}
@@ -25,33 +26,40 @@ use Rattle.sshc_run.specs.Turn.{ended, refused}
 
 -- ---- the host key of the first exchange
 
-abbrev pub says_yes : Result Bool HandlerError → Bool
-says_yes (Ok accepted) = accepted
-says_yes (Err e) = false
+-- what the known hosts text says of a host key; of none it says no
+abbrev pub said_of_key : Hosts → Option PublicKeyOrCertificate → Result Bool HandlerError
+said_of_key hosts None = Ok false
+said_of_key hosts (Some key) = verdict hosts key
 
-abbrev pub is_key_accepted : Hosts → Option PublicKeyOrCertificate → Bool
-is_key_accepted hosts None = false
-is_key_accepted hosts (Some key) = says_yes (verdict hosts key)
+-- what it says of an exchange that can be read
+abbrev pub said_by : Hosts → Result Event EventError → Option (Result Bool HandlerError)
+said_by hosts (Ok (events.ExchangeDone x)) = Some (said_of_key hosts (host_key x.key))
+said_by hosts (Ok events.PeerKexinit) = None
+said_by hosts (Ok (events.Payload packet)) = None
+said_by hosts (Ok (events.Authenticate ticket user method)) = None
+said_by hosts (Err e) = None
 
--- whether the known hosts text accepts the host key of an exchange, or else what is said of the events behind it
-abbrev pub accepted_by_event : Hosts → Result Event EventError → Bool → Bool
-accepted_by_event hosts (Ok (events.ExchangeDone x)) later = is_key_accepted hosts (host_key x.key)
-accepted_by_event hosts (Ok events.PeerKexinit) later = later
-accepted_by_event hosts (Ok (events.Payload packet)) later = later
-accepted_by_event hosts (Ok (events.Authenticate ticket user method)) later = later
-accepted_by_event hosts (Err e) later = false
+-- what it says of an event that is an exchange, or else of the events behind it
+abbrev pub said_at : EventKind → Hosts → List ℕ → Option (Result Bool HandlerError) → Option (Result Bool HandlerError)
+said_at kinds.ExchangeDone hosts fields later = said_by hosts (exchange_done_of fields)
+said_at kinds.PeerKexinit hosts fields later = later
+said_at kinds.Payload hosts fields later = later
+said_at kinds.Authenticate hosts fields later = later
+said_at kinds.Later hosts fields later = later
 
-abbrev pub accepted_by : EventKind → Hosts → List ℕ → Bool → Bool
-accepted_by kinds.ExchangeDone hosts fields later = accepted_by_event hosts (exchange_done_of fields) later
-accepted_by kinds.PeerKexinit hosts fields later = later
-accepted_by kinds.Payload hosts fields later = later
-accepted_by kinds.Authenticate hosts fields later = later
-accepted_by kinds.Later hosts fields later = later
+-- what it says of the first exchange among these events; nothing where there is none or it can't be read
+unfoldable pub said_of_first : Hosts → List Frame → Option (Result Bool HandlerError)
+said_of_first hosts [] = None
+said_of_first hosts (frame ∷ frames) = said_at frame.kind hosts frame.fields (said_of_first hosts frames)
+
+abbrev pub is_yes : Option (Result Bool HandlerError) → Bool
+is_yes None = false
+is_yes (Some (Ok accepted)) = accepted
+is_yes (Some (Err e)) = false
 
 -- whether the known hosts text accepts the host key of the first exchange among these events
-unfoldable pub is_accepted : Hosts → List Frame → Bool
-is_accepted hosts [] = false
-is_accepted hosts (frame ∷ frames) = accepted_by frame.kind hosts frame.fields (is_accepted hosts frames)
+abbrev pub is_accepted : Hosts → List Frame → Bool
+is_accepted hosts frames = is_yes (said_of_first hosts frames)
 
 -- ---- the promises
 
@@ -69,11 +77,12 @@ IsGated hosts max script left held written =
 abbrev pub IsPrefix : (List ℕ → Run) → Option (List ℕ) → Option (List ℕ) → Option (List ℕ) → Type 0
 IsPrefix table script held written = (bytes : List ℕ) → script ≡ Some bytes → WroteFront held written (lines (table bytes).records)
 
--- with Ok the table ends the whole script so, and all its records are written
-abbrev pub IsDone : (List ℕ → Run) → Option (List ℕ) → Option (List ℕ) → Option (List ℕ) → Result Ended RunError → Type 0
-IsDone table script held written (Ok e) =
-    (bytes : List ℕ) → script ≡ Some bytes → ((table bytes).stop ≡ ended e) × (written ≡ append held (lines (table bytes).records))
-IsDone table script held written (Err e) = Unit {0}
+-- with Ok the table ends the whole script so, and all its records are written; at the script's end nothing is left of it
+abbrev pub IsDone : (List ℕ → Run) → Option (List ℕ) → Option (List ℕ) → Option (List ℕ) → Option (List ℕ) → Result Ended RunError → Type 0
+IsDone table script left held written (Ok e) =
+    (e ≡ ScriptEnd → IsAtEnd left)
+    × ((bytes : List ℕ) → script ≡ Some bytes → ((table bytes).stop ≡ ended e) × (written ≡ append held (lines (table bytes).records)))
+IsDone table script left held written (Err e) = Unit {0}
 
 -- a cut write leaves less; every other error has all records of the events before it and those that its own row gives first,
 -- and is the table's over the bytes that were given, but for a failed read
@@ -86,12 +95,12 @@ abbrev pub IsKept : (List ℕ → Run) → Option (List ℕ) → Option (List �
 IsKept table script left held written (Ok e) = Unit {0}
 IsKept table script left held written (Err e) = (given : List ℕ) × (script ≡ prepend given left) × KeptBy (ending_of (Err e)) table given held written e
 
--- a script is valid where the table refuses no event of it
-abbrev pub IsValidScript : (List ℕ → Run) → List ℕ → Type 0
-IsValidScript table script = (e : Ended) × ((table script).stop ≡ ended e)
+-- a script is valid where the table ends it so, and refuses no event of it
+abbrev pub IsValidScript : (List ℕ → Run) → List ℕ → Ended → Type 0
+IsValidScript table script e = (table script).stop ≡ ended e
 
--- a valid script gives Ok or want of memory, where no count rises
+-- a valid script gives its end or want of memory, where no count rises
 abbrev pub IsComplete : (List ℕ → Run) → Option (List ℕ) → ℕ → ℕ → ℕ → ℕ → Result Ended RunError → Type 0
 IsComplete table script reads reads' writes writes' answer =
-    (bytes : List ℕ) (e : Ended) → script ≡ Some bytes → (table bytes).stop ≡ ended e → (Rose reads reads' → ⊥) → (Rose writes writes' → ⊥) →
+    (bytes : List ℕ) (e : Ended) → script ≡ Some bytes → IsValidScript table bytes e → (Rose reads reads' → ⊥) → (Rose writes writes' → ⊥) →
     (answer ≡ Ok e) ⊎ (answer ≡ Err errors.NoMemory)

@@ -13,4 +13,5 @@ pub mod Turning
 pub mod Along
 pub mod Configured
 pub mod Headline
+pub mod Causes
 pub mod Words

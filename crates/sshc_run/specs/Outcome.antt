@@ -1,7 +1,8 @@
 -- What a run has given, written and answered.
-use Rattle.std.specs.Prelude.{◌≡◌, ℕ, List, ◌++◌, Option, Some, Result, Ok, Err}
-use Rattle.sshc_wire.specs.Contents.{prepend, append, WroteFront}
+use Rattle.std.specs.Prelude.{◌≡◌, ◌⊎◌, ℕ, List, ◌∷◌, ◌++◌, Option, Some, Result, Ok, Err}
+use Rattle.sshc_wire.specs.Contents.{prepend, append, WroteFront, IsAtEnd}
 use Rattle.sshc_auth.specs.declared.ended.Ended.{Ended}
+use Rattle.sshc_auth.specs.declared.ended.Ended.TheVariants.{ScriptEnd}
 use Rattle.sshc_run.specs.declared.error.RunError.{RunError}
 use Rattle.sshc_run.specs.declared.error.RunError.TheVariants as errors
 use Rattle.sshc_run.specs.Reading.{ReadFor}
@@ -27,11 +28,19 @@ abbrev pub stop_as : Result Ended RunError → RunStop
 stop_as (Ok e) = ended e
 stop_as (Err e) = refused e
 
--- the answer is the table's over the bytes that were given, and no byte that is left would change it; all records are written
+-- the run goes to the end of its bytes: they end between two events, or inside one
+abbrev pub IsCut : RunStop → Type 0
+IsCut stop = (stop ≡ ended ScriptEnd) ⊎ ((place : ℕ) × (stop ≡ refused (errors.BadEvent place)))
+
+-- the answer is the table's over the bytes that were given, and no byte that is left would change it; all records are written.
+-- No byte was taken past what decided: on each shorter front of the bytes the run goes to its end. At the script's end nothing
+-- is left.
 pub record IsExact (table : List ℕ → Run) (given : List ℕ) (left held written : Option (List ℕ)) (answer : Result Ended RunError) : Type 0 where
   pub all : written ≡ append held (lines (table given).records)
   pub stop : (table given).stop ≡ stop_as answer
   pub rest : (more : List ℕ) → left ≡ Some more → table (given ++ more) ≡ table given
+  pub just : (front : List ℕ) (b : ℕ) (more : List ℕ) → given ≡ front ++ b ∷ more → IsCut (table front).stop
+  pub whole : answer ≡ Ok ScriptEnd → IsAtEnd left
 
 -- a cut write leaves a front of the lines, a failed read all lines of the whole events that were given
 abbrev pub EndsAs : Ending → (List ℕ → Run) → List ℕ → Option (List ℕ) → Option (List ℕ) → Option (List ℕ) → Result Ended RunError → Type 0

@@ -70,7 +70,9 @@ impl Gate for KnownHostsHandler {
 
     ghost judges = { λ h key answer. Judges (record { host = h.host; known = h.known }) key answer };
 
-    ghost tells = { AddsNothing };
+    ghost tells = { λ _ _. AddsNothing };
+
+    ghost tells_banner = { λ _. AddsNothing };
 
     ghost told_as = { λ e. errors.Client e };
 

@@ -78,7 +78,7 @@ pub fn run_script<S: Source, K: Sink, G: LocalSigner, V: Verifier>(
         (S.left source.old) (K.contents sink.old) (K.contents sink.new) }
     // Ok is the end of the whole script by the table, and all its records are written.
     ensures done { IsDone (λ bytes. script_run (record { host = host_text host.now port; known = known.now }) (start (settings_of config.now)) config.now.max_events bytes [])
-        (S.left source.old) (K.contents sink.old) (K.contents sink.new) result }
+        (S.left source.old) (S.left source.new) (K.contents sink.old) (K.contents sink.new) result }
     // Every error but WriteFault and NoMemory has all records of the events before it, and those of its own row.
     ensures kept { IsKept (λ bytes. script_run (record { host = host_text host.now port; known = known.now }) (start (settings_of config.now)) config.now.max_events bytes [])
         (S.left source.old) (S.left source.new) (K.contents sink.old) (K.contents sink.new) result }

@@ -1,15 +1,15 @@
-use Rattle.std.proofs.Common.{arith, refl, subst, ap, ◌∙◌, ◌≡◌, ◌-◌, Some}
+use Rattle.std.proofs.Common.{[], inl, arith, refl, subst, ap, ◌∙◌, ◌≡◌, ◌-◌, Some}
 use Rattle.sshc_auth.specs.OpeningState.{start}
 use Rattle.sshc_run.specs.Configured.{settings_of}
 use Rattle.sshc_run.specs.Outcome.{Ends}
 use Rattle.sshc_run.specs.Turning.{hosts_of}
 use Rattle.sshc_run.proofs.Coming.{along_none, along_more, along_ends, turn_ends}
-use Rattle.sshc_run.proofs.Going.{table, limit_ends}
+use Rattle.sshc_run.proofs.Going.{table, run_nothing, limit_ends}
 use Rattle.sshc_run.proofs.run.run_events.Goals as goal
 
 pub loop-turn-init : goal.loop-turn-init
 loop-turn-init g c = record {
-  along = along_none _ _ _ _ _ _ _ (rw c.is_some.ensures at c.new.ensures);
+  along = along_none _ _ _ _ _ _ _ (inl (run_nothing (hosts_of c.args.gate.now) c.args.config.now.max_events 0 0 (start (settings_of c.args.config.now)) [])) (rw c.is_some.ensures at c.new.ensures);
   same = refl;
   unsigned = refl;
   place = omega arith;
