@@ -8,5 +8,6 @@ pub mod Coming
 pub mod Joined
 pub mod Gated
 pub mod Promises
+pub mod CausedRuns
 pub mod WordLists
 pub mod Longer

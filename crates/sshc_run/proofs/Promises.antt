@@ -66,7 +66,7 @@ prefix_of hosts settings max script left held written reads reads' a (given, rea
     (prefix_by hosts settings max given bytes script left held written read said (wrote_some (ending_of a) (table hosts max 0 0 (start settings)) given left held written a by))
 
 -- the table says the same of the whole script as of what was given
-same_table : (table : List ℕ → Run) (given bytes : List ℕ) (script left held written : Option (List ℕ)) (a : Result Ended RunError) → script ≡ prepend given left → script ≡ Some bytes → IsExact table given left held written a → table bytes ≡ table given
+pub same_table : (table : List ℕ → Run) (given bytes : List ℕ) (script left held written : Option (List ℕ)) (a : Result Ended RunError) → script ≡ prepend given left → script ≡ Some bytes → IsExact table given left held written a → table bytes ≡ table given
 same_table table given bytes script None held written a read said exact = let e : Some bytes ≡ None = sym said ∙ read in absurd cc
 same_table table given bytes script (Some more) held written a read said exact =
     let e : Some bytes ≡ Some (given ++ more) = sym said ∙ read in

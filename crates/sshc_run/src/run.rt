@@ -4,6 +4,7 @@ ghost use Rattle.std.specs.Prelude.{◌≡◌, ◌≤◌, [], Err};
 ghost use Rattle.sshc_wire.specs.Faults.{Rose};
 ghost use Rattle.sshc_hosts.specs.HostText.{host_text};
 ghost use Rattle.sshc_auth.specs.OpeningState.{start};
+ghost use Rattle.sshc_run.specs.Causes.{IsCaused};
 ghost use Rattle.sshc_run.specs.Configured.{settings_of};
 ghost use Rattle.sshc_run.specs.Headline.{IsGated, IsPrefix, IsDone, IsKept, IsComplete};
 ghost use Rattle.sshc_run.specs.Outcome.{Ends};
@@ -85,6 +86,8 @@ pub fn run_script<S: Source, K: Sink, G: LocalSigner, V: Verifier>(
     // A script that the table refuses no event of is answered so, or with want of memory, where nothing fails.
     ensures complete { IsComplete (λ bytes. script_run (record { host = host_text host.now port; known = known.now }) (start (settings_of config.now)) config.now.max_events bytes [])
         (S.left source.old) (S.faults source.old) (S.faults source.new) (K.faults sink.old) (K.faults sink.new) result }
+    // Each end and each error comes by its cause in the script's own words: its events, their places, the known hosts text.
+    ensures causes { IsCaused (record { host = host_text host.now port; known = known.now }) config.now.anonymous config.now.max_events (S.left source.old) result }
     ensures unsigned { G.calls signer.new ≡ G.calls signer.old }
     ensures read_later { S.faults source.old ≤ S.faults source.new }
     ensures write_later { K.faults sink.old ≤ K.faults sink.new }

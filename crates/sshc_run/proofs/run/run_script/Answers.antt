@@ -5,6 +5,7 @@ use Rattle.sshc_auth.specs.OpeningState.{start}
 use Rattle.sshc_run.specs.Configured.{settings_of}
 use Rattle.sshc_run.specs.KnownHosts.{Hosts}
 use Rattle.sshc_run.specs.ScriptRun.{script_run}
+use Rattle.sshc_run.proofs.CausedRuns.{caused_of}
 use Rattle.sshc_run.proofs.Going.{table}
 use Rattle.sshc_run.proofs.Joined.{joined}
 use Rattle.sshc_run.proofs.Promises.{ends_same, gate_of, prefix_of, done_of, kept_of, complete_of}
@@ -69,3 +70,15 @@ returns-in-Ok-clause-prefix g c =
 
 pub returns-in-Err-clause-prefix : goal.returns-in-Err-clause-prefix
 returns-in-Err-clause-prefix g c = λ bytes said. wrote_nothing _ _
+
+pub returns-in-Ok-clause-causes : goal.returns-in-Ok-clause-causes
+returns-in-Ok-clause-causes g c =
+    let hosts : Hosts = record { host = host_text c.args.host.now c.args.port; known = c.args.known.now } in
+    let settings = settings_of c.args.config.now in
+    let max = c.args.config.now.max_events in
+    let ends = ends_same (table hosts max 0 0 (start settings)) (λ (bytes : List ℕ). script_run hosts (start settings) max bytes []) _ _ _ _ _ _ c.run_events.result
+    (λ bytes. joined hosts max 0 0 (start settings) [] bytes) (rw c.in-Ok.ensures at c.run_events.ensures.run) in
+    caused_of hosts settings max _ _ _ _ _ _ c.run_events.result ends
+
+pub returns-in-Err-clause-causes : goal.returns-in-Err-clause-causes
+returns-in-Err-clause-causes g c = λ bytes said. tt
