@@ -210,9 +210,9 @@ caused_exact hosts settings max script left held written given a read exact = λ
 
 -- each answer has its cause
 pub caused_of : (hosts : Hosts) (settings : Settings) (max : ℕ) (script left held written : Option (List ℕ)) (reads reads' : ℕ) (a : Result Ended RunError) →
-    Ends (λ bytes. script_run hosts (start settings) max bytes []) script left held written reads reads' a → IsCaused hosts settings.anonymous max script a
-caused_of hosts settings max script left held written reads reads' (Ok e) (given, read, exact, count) = caused_exact hosts settings max script left held written given (Ok e) read exact
+    Ends max 0 0 (λ bytes. script_run hosts (start settings) max bytes []) script left held written reads reads' a → IsCaused hosts settings.anonymous max script a
+caused_of hosts settings max script left held written reads reads' (Ok e) (given, read, exact, count, few) = caused_exact hosts settings max script left held written given (Ok e) read exact
 caused_of hosts settings max script left held written reads reads' (Err errors.NoMemory) by = λ bytes said. tt
 caused_of hosts settings max script left held written reads reads' (Err errors.ReadFault) by = λ bytes said. tt
 caused_of hosts settings max script left held written reads reads' (Err errors.WriteFault) by = λ bytes said. tt
-caused_of hosts settings max script left held written reads reads' (Err e) (given, read, exact, count) = caused_exact hosts settings max script left held written given (Err e) read exact
+caused_of hosts settings max script left held written reads reads' (Err e) (given, read, exact, count, few) = caused_exact hosts settings max script left held written given (Err e) read exact

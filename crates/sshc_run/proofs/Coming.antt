@@ -6,8 +6,9 @@ use Rattle.sshc_wire.specs.declared.record.Record.{Record}
 use Rattle.sshc_auth.specs.declared.ended.Ended.{Ended}
 use Rattle.sshc_run.specs.declared.error.RunError.{RunError}
 use Rattle.sshc_run.specs.Along.{Along, IsAlong}
-use Rattle.sshc_run.specs.Outcome.{Ending, told, cut, unread, ending_of, IsCut, IsExact, EndsAs, Ends}
+use Rattle.sshc_run.specs.Outcome.{Ending, told, cut, unread, ending_of, IsCut, IsExact, EndsAs, HoldsAtMost, Ends}
 use Rattle.sshc_run.specs.RecordLines.{line, lines}
+use Rattle.sshc_run.specs.Script.{events}
 use Rattle.sshc_run.specs.ScriptRun.{Run, after}
 use Rattle.sshc_run.specs.Turn.{RunStop}
 use Rattle.sshc_run.specs.Turning.{BringsOn}
@@ -46,6 +47,10 @@ along_none {S = S} first table max s left held reads ends is = (
     read = sym (prepend-nothing left);
     wrote = sym (append-nothing held);
     on = λ more. let m : max ≡ max - 0 = omega arith in ap (λ n. table n 0 0 first more) m ∙ ap (λ (x : S). table (max - 0) 0 0 x more) (sym is);
+    counts = λ n more.
+        (let none : 0 + n ≡ n = omega arith in
+        let same = ap (λ m. length (events m 0 0 more)) none in
+        omega (arith, same));
     just = λ front more none. subst (λ bytes. IsCut (table max 0 0 first bytes).stop) (sym (nothing_front front more none)) ends;
     count = omega arith;
   },
@@ -69,6 +74,28 @@ cut_more first table max turns place last s script left held now reads reads' gi
     in
     subst (λ (x : RunStop). IsCut x) (sym here) (just n part more behind)
 
+-- one event more is counted
+counts_more : (turns place last place' last' : ℕ) (given given' : List ℕ) (n : ℕ) (more : List ℕ) →
+    ((m : ℕ) (rest : List ℕ) → length (events (turns + m) 0 0 (given ++ rest)) ≡ turns + length (events m place last rest)) →
+    ((m : ℕ) (rest : List ℕ) → length (events (suc m) place last (given' ++ rest)) ≡ suc (length (events m place' last' rest))) →
+    length (events (turns + 1 + n) 0 0 ((given ++ given') ++ more)) ≡ turns + 1 + length (events n place' last' more)
+counts_more turns place last place' last' given given' n more counts one =
+    let parts : length (events (turns + 1 + n) 0 0 ((given ++ given') ++ more)) ≡ length (events (turns + suc n) 0 0 (given ++ (given' ++ more))) =
+    ap (λ bytes. length (events (turns + 1 + n) 0 0 bytes)) (append_assoc given given' more) ∙ ap (λ m. length (events m 0 0 (given ++ (given' ++ more)))) (omega arith)
+    in
+    let before = counts (suc n) (given' ++ more) in
+    let last_one = one n more in
+    omega (arith, parts, before, last_one)
+
+-- a turn's bytes hold at most the events that were left
+holds_more : (max turns place last : ℕ) (given given' : List ℕ) → turns ≤ max → ((m : ℕ) (rest : List ℕ) → length (events (turns + m) 0 0 (given ++ rest)) ≡ turns + length (events m place last rest)) →
+    HoldsAtMost (max - turns) place last given' → HoldsAtMost max 0 0 (given ++ given')
+holds_more max turns place last given given' le counts few =
+    let one : turns + suc (max - turns) ≡ suc max = omega arith in
+    let whole = ap (λ m. length (events m 0 0 (given ++ given'))) one in
+    let parts = counts (suc (max - turns)) given' in
+    omega (arith, few, whole, parts)
+
 -- after one turn more
 pub along_more : {S : Type 0} (first : S) (table : ℕ → ℕ → ℕ → S → List ℕ → Run) (max turns place last : ℕ) (s : S) (place' last' : ℕ) (s' : S) (script left left' held now now' : Option (List ℕ)) (reads reads' reads'' : ℕ) → turns < max →
     IsAlong first table max turns place last s script left held now reads reads' →
@@ -85,6 +112,7 @@ along_more first table max turns place last s place' last' s' script left left' 
             ap (table max 0 0 first) (append_assoc given given' more) ∙ so_far.on (given' ++ more)
             ∙ ap (λ n. after records (table n place last s (given' ++ more))) one ∙ ap (after records) (brings.on (max - (turns + 1)) more)
             ∙ after_two records records' (table (max - (turns + 1)) place' last' s' more);
+        counts = λ n more. counts_more turns place last place' last' given given' n more so_far.counts brings.counts;
         just = λ front more is. cut_more first table max turns place last s script left held now reads reads' given records given' (max - (turns + 1)) one front more so_far brings.just (front_of_two given given' front more is);
         count = omega (arith, so_far.count, count, length-append given given');
       },
@@ -139,20 +167,22 @@ ends_as unread first table max turns place last s script left left' held now now
 
 -- where it ends
 pub along_ends : {S : Type 0} (first : S) (table : ℕ → ℕ → ℕ → S → List ℕ → Run) (max turns place last : ℕ) (s : S) (script left left' held now now' : Option (List ℕ)) (reads reads' reads'' : ℕ) (a : Result Ended RunError) →
-    IsAlong first table max turns place last s script left held now reads reads' → Ends (table (max - turns) place last s) left left' now now' reads' reads'' a → Ends (table max 0 0 first) script left' held now' reads reads'' a
-along_ends first table max turns place last s script left left' held now now' reads reads' reads'' a (given, records, so_far) (given', read, by, count) = (
+    turns ≤ max → IsAlong first table max turns place last s script left held now reads reads' →
+    Ends (max - turns) place last (table (max - turns) place last s) left left' now now' reads' reads'' a → Ends max 0 0 (table max 0 0 first) script left' held now' reads reads'' a
+along_ends first table max turns place last s script left left' held now now' reads reads' reads'' a le (given, records, so_far) (given', read, by, count, few) = (
   given ++ given',
   so_far.read ∙ ap (prepend given) read ∙ prepend-prepend given given' left',
   ends_as (ending_of a) first table max turns place last s script left left' held now now' reads reads' given records given' a so_far by,
   omega (arith, so_far.count, count, length-append given given'),
+  holds_more max turns place last given given' le so_far.counts few,
 )
 
 -- the same where a turn was left
 pub turn_ends : {S : Type 0} (first : S) (table : ℕ → ℕ → ℕ → S → List ℕ → Run) (max turns place last : ℕ) (s : S) (script left left' held now now' : Option (List ℕ)) (reads reads' reads'' : ℕ) (a : Result Ended RunError) → turns < max →
-    IsAlong first table max turns place last s script left held now reads reads' → ((n : ℕ) → Ends (table (suc n) place last s) left left' now now' reads' reads'' a) → Ends (table max 0 0 first) script left' held now' reads reads'' a
+    IsAlong first table max turns place last s script left held now reads reads' → ((n : ℕ) → Ends (suc n) place last (table (suc n) place last s) left left' now now' reads' reads'' a) → Ends max 0 0 (table max 0 0 first) script left' held now' reads reads'' a
 turn_ends first table max turns place last s script left left' held now now' reads reads' reads'' a lt so_far ends =
     let one : suc (max - (turns + 1)) ≡ max - turns = omega arith in
-    along_ends first table max turns place last s script left left' held now now' reads reads' reads'' a so_far (subst (λ n. Ends (table n place last s) left left' now now' reads' reads'' a) one (ends (max - (turns + 1))))
+    along_ends first table max turns place last s script left left' held now now' reads reads' reads'' a (omega arith) so_far (subst (λ n. Ends n place last (table n place last s) left left' now now' reads' reads'' a) one (ends (max - (turns + 1))))
 
 -- one byte more
 pub one_more : (bytes : List ℕ) (old new : Option (List ℕ)) → length bytes ≤ 1 → 0 < length bytes → old ≡ prepend bytes new → (b : ℕ) × (old ≡ prepend (b ∷ []) new)

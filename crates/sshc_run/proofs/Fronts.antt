@@ -16,7 +16,7 @@ use Rattle.sshc_run.specs.declared.script.NextError.{NextError}
 use Rattle.sshc_run.specs.declared.script.NextError.TheVariants as nexts
 use Rattle.sshc_run.specs.Script.{Head, Bad, whole_front, sized_front, front, head_at, kind_numbered, size_of}
 use Rattle.sshc_run.specs.Gives.{Fails}
-use Rattle.sshc_run.specs.Reading.{IsNoEvent, IsBad, IsWhole, Gave, ReadFor, NextGives}
+use Rattle.sshc_run.specs.Reading.{IsNoEvent, IsOneAtMost, IsBad, IsWhole, Gave, ReadFor, NextGives}
 
 drop_more : (n : ℕ) (bytes : List ℕ) → drop 1 (drop n bytes) ≡ drop (suc n) bytes
 drop_more zero bytes = refl
@@ -166,12 +166,24 @@ whole_event last n reads reads' taken head body old mid new size is low high ful
   ),
 )
 
+-- a length and so many bytes are one event, or none
+one_by : (last : ℕ) (bytes : List ℕ) (r : Result Head EventError) → front last bytes ≡ whole_front r [] → IsOneAtMost last bytes
+one_by last bytes (Ok head) is = inr (head, is)
+one_by last bytes (Err e) is = inl (inr is)
+
 -- an event that was refused, as the reader tells it
 pub event_failed : (last n reads reads' : ℕ) (x : EventError) (e : NextError) (head body : List ℕ) (old mid new : Option (List ℕ)) → length head ≡ 4 → n ≡ from_be_bytes w32 head → 9 ≤ n → n ≤ 262144 → length body ≡ n →
     old ≡ prepend head mid → mid ≡ prepend body new → Fails x (head_at last body) → reads' ≤ reads + length head + length body + 1 →
     e ≡ (elim x [ events.NoMemory ↦ nexts.NoMemory | events.Bad ↦ nexts.Bad | events.Unbuilt ↦ nexts.Bad ]) → NextGives last old new reads reads' (Err e)
 event_failed last n reads reads' events.NoMemory e head body old mid new size is low high full first second fails count told =
-    rw told (head ++ body, two_parts _ _ _ _ _ first second, omega (arith, count, length-append head body))
+    rw told (
+      head ++ body,
+      two_parts _ _ _ _ _ first second,
+      (
+        one_by last (head ++ body) (head_at last body) (ap (front last) (sym (append-nil (head ++ body))) ∙ whole_is last n head body [] size is low high full),
+        omega (arith, count, length-append head body),
+      ),
+    )
 event_failed last n reads reads' events.Bad e head body old mid new size is low high full first second fails count told =
     rw told (bad_event last n reads reads' head body old mid new size is low high full first second (rw fails refl) count)
 event_failed last n reads reads' events.Unbuilt e head body old mid new size is low high full first second fails count told =
@@ -182,7 +194,7 @@ pub first_failed : (last reads reads' : ℕ) (failed : Failed) (e : NextError) (
     e ≡ (elim failed [ failures.Fault ↦ nexts.ReadFault | failures.NoMemory ↦ nexts.NoMemory ]) →
     (given : List ℕ) × (length given < 4) × (old ≡ prepend given new) × (reads' ≤ reads + length given + 1) → NextGives last old new reads reads' (Err e)
 first_failed last reads reads' failures.Fault e old new is (given, short, first, count) = rw is (given, first, (front_short last given short, count))
-first_failed last reads reads' failures.NoMemory e old new is (given, short, first, count) = rw is (given, first, count)
+first_failed last reads reads' failures.NoMemory e old new is (given, short, first, count) = rw is (given, first, (inl (front_short last given short), count))
 
 pub second_failed : (last n reads mid_reads reads' : ℕ) (failed : Failed) (e : NextError) (head : List ℕ) (old mid new : Option (List ℕ)) → length head ≡ 4 → n ≡ from_be_bytes w32 head → old ≡ prepend head mid →
     e ≡ (elim failed [ failures.Fault ↦ nexts.ReadFault | failures.NoMemory ↦ nexts.NoMemory ]) → mid_reads ≤ reads + length head →
@@ -194,7 +206,11 @@ second_failed last n reads mid_reads reads' failures.Fault e head old mid new le
       (inr (front_head last head given len ∙ sized_short last (from_be_bytes w32 head) given (omega (arith, size, short))), omega (arith, before, count, length-append head given)),
     )
 second_failed last n reads mid_reads reads' failures.NoMemory e head old mid new len size first is before (given, short, second, count) =
-    rw is (head ++ given, two_parts _ _ _ _ _ first second, omega (arith, before, count, length-append head given))
+    rw is (
+      head ++ given,
+      two_parts _ _ _ _ _ first second,
+      (inl (inr (front_head last head given len ∙ sized_short last (from_be_bytes w32 head) given (omega (arith, size, short)))), omega (arith, before, count, length-append head given)),
+    )
 
 pub not_empty : (n : ℕ) → false ≡ eqb n 0 → 0 < n
 not_empty zero h = cc

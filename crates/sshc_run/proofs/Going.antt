@@ -13,15 +13,15 @@ use Rattle.sshc_run.specs.declared.error.RunError.TheVariants as errors
 use Rattle.sshc_run.specs.declared.script.NextError.{NextError}
 use Rattle.sshc_run.specs.declared.script.NextError.TheVariants as nexts
 use Rattle.sshc_run.specs.KnownHosts.{Hosts}
-use Rattle.sshc_run.specs.Outcome.{Ending, told, cut, unread, ending_of, stop_as, IsCut, IsExact, EndsAs, Ends}
-use Rattle.sshc_run.specs.Reading.{IsNoEvent, IsBad, IsWhole, Gave, NextGives}
+use Rattle.sshc_run.specs.Outcome.{Ending, told, cut, unread, ending_of, stop_as, IsCut, IsExact, EndsAs, HoldsAtMost, Ends}
+use Rattle.sshc_run.specs.Reading.{IsNoEvent, IsOneAtMost, IsBad, IsWhole, Gave, NextGives}
 use Rattle.sshc_run.specs.RecordLines.{line, lines}
-use Rattle.sshc_run.specs.Script.{Frame, Head, Front, End, Bad, Whole, front, frame_at, size_of}
+use Rattle.sshc_run.specs.Script.{Frame, Head, Front, End, Bad, Whole, front, frame_at, size_of, events}
 use Rattle.sshc_run.specs.ScriptRun.{Run, run, run_on, after, stopped_run}
 use Rattle.sshc_run.specs.Turn.{Turn, Onward, goes_on, opened, stopped, RunStop, ended, refused, turn}
 use Rattle.sshc_run.specs.Turning.{stop_next, StopsBy, TakeAs, TakeGives, TurnGives, LimitGives}
 use Rattle.sshc_run.proofs.Caused.{turn_unended}
-use Rattle.sshc_run.proofs.Fronts.{none_more}
+use Rattle.sshc_run.proofs.Fronts.{none_more, front_short}
 use Rattle.sshc_run.proofs.Longer.{front_more}
 use Rattle.sshc_run.proofs.Turns.{wrote_nothing}
 
@@ -96,11 +96,41 @@ none_by last bytes part b more (Whole h rest) f bad is =
 no_front : (last : ℕ) (bytes part : List ℕ) (b : ℕ) (more : List ℕ) → front last bytes ≡ Bad → bytes ≡ part ++ b ∷ more → IsNoEvent last part
 no_front last bytes part b more bad is = none_by last bytes part b more (front last part) refl bad is
 
+-- ---- how many events some bytes hold
+
+none_held : (n place last : ℕ) (bytes : List ℕ) → IsNoEvent last bytes → HoldsAtMost n place last bytes
+unfolding events
+none_held n place last bytes (inl nothing) = rw (nothing, events) (omega arith)
+none_held n place last bytes (inr bad) = rw (bad, events) (omega arith)
+
+events_nothing : (n place last : ℕ) → events n place last [] ≡ []
+unfolding events
+events_nothing zero place last = refl
+events_nothing (suc n) place last = rw (front_nothing last, events) refl
+
+-- nothing holds no event
+pub nothing_held : (n place last : ℕ) → HoldsAtMost n place last []
+nothing_held n place last = none_held n place last [] (inl (front_nothing last))
+
+event_counted : (n place last : ℕ) (bytes : List ℕ) (head : Head) (rest : List ℕ) → front last bytes ≡ Whole head rest → length (events (suc n) place last bytes) ≡ suc (length (events n (place + size_of head) head.0 rest))
+unfolding events
+event_counted n place last bytes head rest is = rw (is, events) refl
+
+one_held : (n place last : ℕ) (bytes : List ℕ) → IsOneAtMost last bytes → HoldsAtMost (suc n) place last bytes
+one_held n place last bytes (inl none) = none_held (suc n) place last bytes none
+one_held n place last bytes (inr (head, is)) =
+    let one = event_counted (suc n) place last bytes head [] is in
+    let nothing = ap length (events_nothing (suc n) (place + size_of head) head.0) in
+    omega (arith, one, nothing)
+
+whole_held : (n place last : ℕ) (head : Head) (bytes : List ℕ) → IsWhole last head bytes → HoldsAtMost (suc n) place last bytes
+whole_held n place last head bytes whole = one_held n place last bytes (inr (head, ap (front last) (sym (append-nil bytes)) ∙ whole.is []))
+
 -- ---- a read that gives no event
 
 -- the script ends
 pub end_ends : (hosts : Hosts) (place last : ℕ) (s : OpeningState) (script left held : Option (List ℕ)) (reads reads' : ℕ) → script ≡ left → IsAtEnd left → reads' ≤ reads + 1 →
-    (n : ℕ) → Ends (table hosts (suc n) place last s) script left held held reads reads' (Ok ends.ScriptEnd)
+    (n : ℕ) → Ends (suc n) place last (table hosts (suc n) place last s) script left held held reads reads' (Ok ends.ScriptEnd)
 end_ends hosts place last s script left held reads reads' same end count n =
     let none : table hosts (suc n) place last s [] ≡ stopped_run (ended ends.ScriptEnd) = run_end hosts n place last s [] (front_nothing last) in (
       [],
@@ -113,6 +143,7 @@ end_ends hosts place last s script left held reads reads' same end count n =
         whole = λ done. end;
       },
       omega (arith, count),
+      none_held (suc n) place last [] (inl (front_nothing last)),
     )
 
 -- an event that can't be read
@@ -133,11 +164,11 @@ no_event_records hosts place last s bytes n (inr bad) = ap (λ (r : Run). r.reco
 
 -- what a refused read means for the run
 pub next_ends : (hosts : Hosts) (place last : ℕ) (s : OpeningState) (script left held : Option (List ℕ)) (reads reads' : ℕ) (x : NextError) (e : RunError) → NextGives last script left reads reads' (Err x) →
-    e ≡ (elim x [ nexts.NoMemory ↦ errors.NoMemory | nexts.ReadFault ↦ errors.ReadFault | nexts.Bad ↦ errors.BadEvent place ]) → (n : ℕ) → Ends (table hosts (suc n) place last s) script left held held reads reads' (Err e)
-next_ends hosts place last s script left held reads reads' nexts.NoMemory e (bytes, given, count) is n = rw is (bytes, given, wrote_nothing held _, count)
+    e ≡ (elim x [ nexts.NoMemory ↦ errors.NoMemory | nexts.ReadFault ↦ errors.ReadFault | nexts.Bad ↦ errors.BadEvent place ]) → (n : ℕ) → Ends (suc n) place last (table hosts (suc n) place last s) script left held held reads reads' (Err e)
+next_ends hosts place last s script left held reads reads' nexts.NoMemory e (bytes, given, (one, count)) is n = rw is (bytes, given, wrote_nothing held _, count, one_held n place last bytes one)
 next_ends hosts place last s script left held reads reads' nexts.ReadFault e (bytes, given, (none, count)) is n =
-    rw is (bytes, given, rw (no_event_records hosts place last s bytes n none) (sym (append-nothing held)), count)
-next_ends hosts place last s script left held reads reads' nexts.Bad e (bytes, given, (bad, count)) is n = rw is (bytes, given, bad_ends hosts place last s left held bytes bad n, count)
+    rw is (bytes, given, rw (no_event_records hosts place last s bytes n none) (sym (append-nothing held)), count, none_held (suc n) place last bytes none)
+next_ends hosts place last s script left held reads reads' nexts.Bad e (bytes, given, (bad, count)) is n = rw is (bytes, given, bad_ends hosts place last s left held bytes bad n, count, none_held (suc n) place last bytes (inr bad.given))
 
 -- ---- an event that is taken
 
@@ -179,6 +210,7 @@ taken_on hosts place last s s' head t script left held now reads reads' bytes is
         run_whole hosts n place last s (bytes ++ more) head more t (whole.is more) is ∙ going_by t t.next _ on
         ∙ ap (λ (x : OpeningState). after t.records (run hosts n (place + size_of head) head.0 x t.left more)) (sym state)
         ∙ ap (λ (answers : List _). after t.records (run hosts n (place + size_of head) head.0 s' answers more)) none;
+    counts = λ n more. event_counted n place last (bytes ++ more) head more (whole.is more);
     just = λ n part more parts. taken_front hosts place last s head t bytes n part more is on whole parts;
   },
   count,
@@ -231,7 +263,7 @@ pub taken_gives : (hosts : Hosts) (place last : ℕ) (s : OpeningState) (place' 
 taken_gives hosts place last s place' last' s' head t script left held now reads reads' None is none (bytes, given, (whole, count)) gives moved =
     rw (moved.0, moved.1) (taken_on hosts place last s s' head t script left held now reads reads' bytes is none given whole count gives)
 taken_gives hosts place last s place' last' s' head t script left held now reads reads' (Some a) is none (bytes, given, (whole, count)) gives moved =
-    λ n. (bytes, given, taken_ends (ending_of a) hosts place last s head t left held now bytes a is whole gives n, omega (arith, count))
+    λ n. (bytes, given, taken_ends (ending_of a) hosts place last s head t left held now bytes a is whole gives n, omega (arith, count), whole_held n place last head bytes whole)
 
 -- ---- the limit
 
@@ -242,7 +274,7 @@ limit_front hosts place last s b (x ∷ part) c more is = let nothing : [] ≡ p
 
 -- at the limit
 pub limit_ends : (hosts : Hosts) (place last : ℕ) (s : OpeningState) (script left held : Option (List ℕ)) (reads reads' : ℕ) (a : Result Ended RunError) → LimitGives script left a → reads' ≤ reads + 1 →
-    Ends (table hosts 0 place last s) script left held held reads reads' a
+    Ends 0 place last (table hosts 0 place last s) script left held held reads reads' a
 unfolding run
 limit_ends hosts place last s script left held reads reads' (Ok ends.ScriptEnd) (same, end) count = (
   [],
@@ -255,6 +287,7 @@ limit_ends hosts place last s script left held reads reads' (Ok ends.ScriptEnd) 
     whole = λ done. end;
   },
   omega (arith, count),
+  none_held 0 place last [] (inl (front_nothing last)),
 )
 limit_ends hosts place last s script left held reads reads' (Ok ends.Disconnected) h count = absurd h
 limit_ends hosts place last s script left held reads reads' (Ok ends.Closed) h count = absurd h
@@ -264,7 +297,8 @@ limit_ends hosts place last s script left held reads reads' (Err errors.ScriptTo
   given,
   record { all = sym (append-nothing held); stop = refl; rest = λ more e. refl; just = λ part c more is. limit_front hosts place last s b part c more is; whole = λ done. absurd cc },
   omega (arith, count),
+  none_held 0 place last (b ∷ []) (front_short last (b ∷ []) (omega arith)),
 )
-limit_ends hosts place last s script left held reads reads' (Err errors.ReadFault) same count = ([], same ∙ sym (prepend-nothing left), sym (append-nothing held), omega (arith, count))
-limit_ends hosts place last s script left held reads reads' (Err errors.NoMemory) same count = ([], same ∙ sym (prepend-nothing left), wrote_nothing held [], omega (arith, count))
+limit_ends hosts place last s script left held reads reads' (Err errors.ReadFault) same count = ([], same ∙ sym (prepend-nothing left), sym (append-nothing held), omega (arith, count), none_held 0 place last [] (inl (front_nothing last)))
+limit_ends hosts place last s script left held reads reads' (Err errors.NoMemory) same count = ([], same ∙ sym (prepend-nothing left), wrote_nothing held [], omega (arith, count), none_held 0 place last [] (inl (front_nothing last)))
 limit_ends hosts place last s script left held reads reads' (Err e) h count = absurd h

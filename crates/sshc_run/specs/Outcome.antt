@@ -1,5 +1,5 @@
 -- What a run has given, written and answered.
-use Rattle.std.specs.Prelude.{◌≡◌, ◌⊎◌, ℕ, List, ◌∷◌, ◌++◌, Option, Some, Result, Ok, Err}
+use Rattle.std.specs.Prelude.{◌≡◌, ◌⊎◌, ℕ, suc, ◌≤◌, List, ◌∷◌, ◌++◌, length, Option, Some, Result, Ok, Err}
 use Rattle.sshc_wire.specs.Contents.{prepend, append, WroteFront, IsAtEnd}
 use Rattle.sshc_auth.specs.declared.ended.Ended.{Ended}
 use Rattle.sshc_auth.specs.declared.ended.Ended.TheVariants.{ScriptEnd}
@@ -7,6 +7,7 @@ use Rattle.sshc_run.specs.declared.error.RunError.{RunError}
 use Rattle.sshc_run.specs.declared.error.RunError.TheVariants as errors
 use Rattle.sshc_run.specs.Reading.{ReadFor}
 use Rattle.sshc_run.specs.RecordLines.{lines}
+use Rattle.sshc_run.specs.Script.{events}
 use Rattle.sshc_run.specs.ScriptRun.{Run}
 use Rattle.sshc_run.specs.Turn.{RunStop, ended, refused}
 
@@ -48,7 +49,12 @@ EndsAs told table given left held written answer = IsExact table given left held
 EndsAs cut table given left held written answer = WroteFront held written (lines (table given).records)
 EndsAs unread table given left held written answer = written ≡ append held (lines (table given).records)
 
--- the bytes that the source gave, and what came of them
-abbrev pub Ends : (List ℕ → Run) → Option (List ℕ) → Option (List ℕ) → Option (List ℕ) → Option (List ℕ) → ℕ → ℕ → Result Ended RunError → Type 0
-Ends table script left held written reads reads' answer =
-    (given : List ℕ) × (script ≡ prepend given left) × EndsAs (ending_of answer) table given left held written answer × ReadFor reads reads' given
+-- the bytes hold at most so many whole events, from a place and a moment
+abbrev pub HoldsAtMost : ℕ → ℕ → ℕ → List ℕ → Type 0
+HoldsAtMost n place last bytes = length (events (suc n) place last bytes) ≤ n
+
+-- the bytes that the source gave, at most so many events, and what came of them
+abbrev pub Ends : ℕ → ℕ → ℕ → (List ℕ → Run) → Option (List ℕ) → Option (List ℕ) → Option (List ℕ) → Option (List ℕ) → ℕ → ℕ → Result Ended RunError → Type 0
+Ends n place last table script left held written reads reads' answer =
+    (given : List ℕ) × (script ≡ prepend given left) × EndsAs (ending_of answer) table given left held written answer
+    × ReadFor reads reads' given × HoldsAtMost n place last given

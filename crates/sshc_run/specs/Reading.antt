@@ -1,5 +1,5 @@
 -- What taking an event from a source gives, by the bytes that the source gave.
-use Rattle.std.specs.Prelude.{◌≡◌, ℕ, ◌+◌, ◌≤◌, ◌⊎◌, List, ◌++◌, length, Option, Some, None, Result, Ok, Err}
+use Rattle.std.specs.Prelude.{◌≡◌, ℕ, ◌+◌, ◌≤◌, ◌⊎◌, List, [], ◌++◌, length, Option, Some, None, Result, Ok, Err}
 use Rattle.sshc_wire.specs.Contents.{prepend, IsAtEnd}
 use Rattle.sshc_run.specs.declared.script.NextError.{NextError}
 use Rattle.sshc_run.specs.declared.script.NextError.TheVariants as nexts
@@ -24,6 +24,10 @@ pub record IsBad (last : ℕ) (new : Option (List ℕ)) (bytes : List ℕ) : Typ
 abbrev pub IsNoEvent : ℕ → List ℕ → Type 0
 IsNoEvent last bytes = (front last bytes ≡ End) ⊎ (front last bytes ≡ Bad)
 
+-- these bytes are at most one event, and nothing behind it
+abbrev pub IsOneAtMost : ℕ → List ℕ → Type 0
+IsOneAtMost last bytes = IsNoEvent last bytes ⊎ ((head : Head) × (front last bytes ≡ Whole head []))
+
 -- the reads that were made, but for the last, moved at least a byte each
 abbrev pub ReadFor : ℕ → ℕ → List ℕ → Type 0
 ReadFor before now bytes = now ≤ before + length bytes + 1
@@ -33,4 +37,4 @@ NextGives last old new reads reads' (Ok None) = (old ≡ new) × IsAtEnd new × 
 NextGives last old new reads reads' (Ok (Some head)) = Gave old new (λ bytes. IsWhole last head bytes × (reads' ≤ reads + length bytes))
 NextGives last old new reads reads' (Err nexts.Bad) = Gave old new (λ bytes. IsBad last new bytes × ReadFor reads reads' bytes)
 NextGives last old new reads reads' (Err nexts.ReadFault) = Gave old new (λ bytes. IsNoEvent last bytes × ReadFor reads reads' bytes)
-NextGives last old new reads reads' (Err nexts.NoMemory) = Gave old new (λ bytes. ReadFor reads reads' bytes)
+NextGives last old new reads reads' (Err nexts.NoMemory) = Gave old new (λ bytes. IsOneAtMost last bytes × ReadFor reads reads' bytes)

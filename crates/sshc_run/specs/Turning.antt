@@ -15,6 +15,7 @@ use Rattle.sshc_run.specs.Handled.{Handled}
 use Rattle.sshc_run.specs.KnownHosts.{Hosts}
 use Rattle.sshc_run.specs.Outcome.{Ending, told, cut, unread, ending_of, stop_as, IsCut, Ends}
 use Rattle.sshc_run.specs.RecordLines.{lines}
+use Rattle.sshc_run.specs.Script.{events}
 use Rattle.sshc_run.specs.ScriptRun.{Run, after}
 use Rattle.sshc_run.specs.Turn.{Turn, Onward, goes_on, opened, stopped, RunStop, handler_error_of}
 
@@ -55,11 +56,12 @@ abbrev pub TakeGives : Turn → OpeningState → Option (List ℕ) → Option (L
 TakeGives t s held now None = (stop_next t.next ≡ None) × (now ≡ append held (lines t.records)) × (s ≡ t.state)
 TakeGives t s held now (Some answer) = TakeAs (ending_of answer) t held now answer
 
--- these bytes bring the run on: whatever follows them, the run gives these records and goes on from the new point; on each
--- front of them it goes to its end
+-- these bytes are one event and bring the run on: whatever follows them, the run gives these records and goes on from the new
+-- point; on each front of them it goes to its end
 pub record BringsOn {S : Type 0} (table : ℕ → ℕ → ℕ → S → List ℕ → Run) (place last : ℕ) (s : S) (place' last' : ℕ) (s' : S) (given : List ℕ) (records : List Record) : Type 0 where
   pub within : place' ≤ place + 262148
   pub on : (n : ℕ) (more : List ℕ) → table (suc n) place last s (given ++ more) ≡ after records (table n place' last' s' more)
+  pub counts : (n : ℕ) (more : List ℕ) → length (events (suc n) place last (given ++ more)) ≡ suc (length (events n place' last' more))
   pub just : (n : ℕ) (front more : List ℕ) → given ≡ front ++ more → IsCut (table (suc n) place last s front).stop
 
 -- one turn, by its answer: the run goes on, or ends as its table says
@@ -67,7 +69,7 @@ abbrev pub TurnGives : {S : Type 0} → (ℕ → ℕ → ℕ → S → List ℕ 
 TurnGives table place last s place' last' s' script left held now reads reads' None =
     (given : List ℕ) × (records : List Record) × (script ≡ prepend given left) × (now ≡ append held (lines records))
     × BringsOn table place last s place' last' s' given records × (reads' ≤ reads + length given)
-TurnGives table place last s place' last' s' script left held now reads reads' (Some answer) = (n : ℕ) → Ends (table (suc n) place last s) script left held now reads reads' answer
+TurnGives table place last s place' last' s' script left held now reads reads' (Some answer) = (n : ℕ) → Ends (suc n) place last (table (suc n) place last s) script left held now reads reads' answer
 
 -- at the limit the next byte says whether the script goes on
 abbrev pub LimitGives : Option (List ℕ) → Option (List ℕ) → Result Ended RunError → Type 0

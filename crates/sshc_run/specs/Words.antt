@@ -131,7 +131,7 @@ default_events = 8192
 abbrev pub RunsBy : (List ℕ → Run) → Option (List ℕ) → Option (List ℕ) → Option (List ℕ) → Option (List ℕ) → ℕ → ℕ → ℕ → ℕ → ℕ → Type 0
 RunsBy table script left held written reads reads' faults faults' status =
     (answer : Result Ended RunError) × (mid : Option (List ℕ)) × (between : ℕ)
-    × Ends table script left held mid reads reads' answer × (faults ≤ between) × Tells answer mid written between faults' status
+    × Ends default_events 0 0 table script left held mid reads reads' answer × (faults ≤ between) × Tells answer mid written between faults' status
 
 -- the table of a run by words
 abbrev pub words_table : List ℕ → ℕ → List ℕ → List ℕ → Run

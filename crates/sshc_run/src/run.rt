@@ -8,7 +8,7 @@ ghost use Rattle.sshc_run.specs.Causes.{IsCaused};
 ghost use Rattle.sshc_run.specs.Configured.{settings_of};
 ghost use Rattle.sshc_run.specs.Headline.{IsGated, IsPrefix, IsDone, IsKept, IsComplete};
 ghost use Rattle.sshc_run.specs.Outcome.{Ends};
-ghost use Rattle.sshc_run.specs.ScriptRun.{run, script_run};
+ghost use Rattle.sshc_run.specs.ScriptRun.{script_run};
 ghost use Rattle.sshc_run.specs.Turning.{hosts_of};
 
 use crate::config::Config;
@@ -29,7 +29,7 @@ fn run_events<S: Source, G: LocalSigner, K: Sink>(
     signer: &mut G,
     sink: &mut K,
 ) -> Result<Ended, RunError>
-    ensures run { Ends (λ bytes. run (hosts_of gate.old) config.now.max_events 0 0 (start (settings_of config.now)) [] bytes)
+    ensures run { Ends config.now.max_events 0 0 (λ bytes. script_run (hosts_of gate.old) (start (settings_of config.now)) config.now.max_events bytes [])
         (S.left source.old) (S.left source.new) (K.contents sink.old) (K.contents sink.new) (S.reads source.old) (S.reads source.new) result }
     ensures unsigned { G.calls signer.new ≡ G.calls signer.old }
     ensures read_later { S.faults source.old ≤ S.faults source.new }
@@ -69,7 +69,7 @@ pub fn run_script<S: Source, K: Sink, G: LocalSigner, V: Verifier>(
     sink: &mut K,
 ) -> Result<Ended, RunError>
     // What was given, what was written and what is answered, by the opening table over the script's events.
-    ensures run { Ends (λ bytes. script_run (record { host = host_text host.now port; known = known.now }) (start (settings_of config.now)) config.now.max_events bytes [])
+    ensures run { Ends config.now.max_events 0 0 (λ bytes. script_run (record { host = host_text host.now port; known = known.now }) (start (settings_of config.now)) config.now.max_events bytes [])
         (S.left source.old) (S.left source.new) (K.contents sink.old) (K.contents sink.new) (S.reads source.old) (S.reads source.new) result }
     // No payload is written, not even in part, unless the known hosts text accepts the host key of the first exchange.
     ensures gate { IsGated (record { host = host_text host.now port; known = known.now }) config.now.max_events

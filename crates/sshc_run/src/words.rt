@@ -4,7 +4,7 @@ ghost use Rattle.std.specs.Prelude.{◌≡◌, ◌≤◌, ℕ, List, Err, IfOk, 
 ghost use Rattle.sshc_wire.specs.Faults.{Rose};
 ghost use Rattle.sshc_run.specs.Configured.{IsDefault};
 ghost use Rattle.sshc_run.specs.Outcome.{Ends};
-ghost use Rattle.sshc_run.specs.Words.{IsPort, IsScriptWords, end_name, error_name, answer_line, error_status, status_of, is_write_fault, Adds, Tells, IsKnownText, RunsBy, words_table, ScriptGives};
+ghost use Rattle.sshc_run.specs.Words.{IsPort, IsScriptWords, default_events, end_name, error_name, answer_line, error_status, status_of, is_write_fault, Adds, Tells, IsKnownText, RunsBy, words_table, ScriptGives};
 
 use crate::config::Config;
 use crate::error::RunError;
@@ -205,7 +205,7 @@ fn run_default<S: Source, K: Sink, G: LocalSigner, V: Verifier>(
     source: &mut S,
     sink: &mut K,
 ) -> Result<Ended, RunError>
-    ensures run { Ends (words_table asked.now.host.now asked.now.port known.now) (S.left source.old) (S.left source.new) (K.contents sink.old) (K.contents sink.new)
+    ensures run { Ends default_events 0 0 (words_table asked.now.host.now asked.now.port known.now) (S.left source.old) (S.left source.new) (K.contents sink.old) (K.contents sink.new)
         (S.reads source.old) (S.reads source.new) result }
     ensures write_later { K.faults sink.old ≤ K.faults sink.new }
     ensures write_fault { result ≡ Err RunError.WriteFault → Rose (K.faults sink.old) (K.faults sink.new) }

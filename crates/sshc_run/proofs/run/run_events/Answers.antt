@@ -4,12 +4,14 @@ use Rattle.sshc_run.specs.Configured.{settings_of}
 use Rattle.sshc_run.specs.Outcome.{Ends}
 use Rattle.sshc_run.specs.Turning.{hosts_of}
 use Rattle.sshc_run.proofs.Coming.{along_none, along_more, along_ends, turn_ends}
+use Rattle.sshc_run.proofs.Promises.{by_events}
 use Rattle.sshc_run.proofs.Going.{table, run_nothing, limit_ends}
 use Rattle.sshc_run.proofs.run.run_events.Goals as goal
 
 pub loop-turn-init : goal.loop-turn-init
 loop-turn-init g c = record {
   along = along_none _ _ _ _ _ _ _ (inl (run_nothing (hosts_of c.args.gate.now) c.args.config.now.max_events 0 0 (start (settings_of c.args.config.now)) [])) (rw c.is_some.ensures at c.new.ensures);
+  turns = omega arith;
   same = refl;
   unsigned = refl;
   place = omega arith;
@@ -25,6 +27,7 @@ loop-turn-preserved g c =
     let gives = rw c.loop-turn.invariant.same at c.in_default.ensures.gives in
     record {
       along = along_more (start (settings_of c.args.config.now)) (table (hosts_of c.args.gate.now)) _ _ _ _ _ _ _ _ _ _ _ _ _ _ _ _ _ c.loop-turn-test.true c.loop-turn.invariant.along gives;
+      turns = omega (arith, c.loop-turn-test.true);
       same = c.one_turn.ensures.same ∙ c.loop-turn.invariant.same;
       unsigned = c.one_turn.ensures.unsigned ∙ c.loop-turn.invariant.unsigned;
       place = omega (arith, c.loop-turn.invariant.place, gives.4.within);
@@ -35,7 +38,8 @@ loop-turn-preserved g c =
 pub returns-in-Some-clause-run : goal.returns-in-Some-clause-run
 returns-in-Some-clause-run g c =
     let gives = rw c.loop-turn.invariant.same at c.in-Some.ensures.gives in
-    turn_ends (start (settings_of c.args.config.now)) (table (hosts_of c.args.gate.now)) _ _ _ _ _ _ _ _ _ _ _ _ _ _ c.in-Some.answer c.loop-turn-test.true c.loop-turn.invariant.along gives
+    by_events (hosts_of c.args.gate.now) (settings_of c.args.config.now) c.args.config.now.max_events _ _ _ _ _ _ c.in-Some.answer
+    (turn_ends (start (settings_of c.args.config.now)) (table (hosts_of c.args.gate.now)) _ _ _ _ _ _ _ _ _ _ _ _ _ _ c.in-Some.answer c.loop-turn-test.true c.loop-turn.invariant.along gives)
 
 pub returns-in-Some-clause-unsigned : goal.returns-in-Some-clause-unsigned
 returns-in-Some-clause-unsigned g c = c.one_turn.ensures.unsigned ∙ c.loop-turn.invariant.unsigned
@@ -50,6 +54,7 @@ pub returns-clause-run : goal.returns-clause-run
 returns-clause-run g c =
     let none : 0 ≡ c.args.config.now.max_events - c.loop-turn.turn = omega (arith, c.loop-turn-test.false) in
     let ends = limit_ends (hosts_of c.args.gate.now) c.loop-turn.at.place c.loop-turn.at.last c.loop-turn.at.opening _ _ (g.K.Sink.contents c.loop-turn.sink) _ _ c.at_limit.result c.at_limit.ensures.gives c.at_limit.ensures.count in
-    along_ends (start (settings_of c.args.config.now)) (table (hosts_of c.args.gate.now)) _ _ _ _ _ _ _ _ _ _ _ _ _ _ c.at_limit.result c.loop-turn.invariant.along
-    (subst (λ n. Ends (table (hosts_of c.args.gate.now) n c.loop-turn.at.place c.loop-turn.at.last c.loop-turn.at.opening) (g.S.Source.left c.loop-turn.source) (g.S.Source.left c.at_limit.new.source)
-    (g.K.Sink.contents c.loop-turn.sink) (g.K.Sink.contents c.loop-turn.sink) (g.S.Source.reads c.loop-turn.source) (g.S.Source.reads c.at_limit.new.source) c.at_limit.result) none ends)
+    by_events (hosts_of c.args.gate.now) (settings_of c.args.config.now) c.args.config.now.max_events _ _ _ _ _ _ c.at_limit.result
+    (along_ends (start (settings_of c.args.config.now)) (table (hosts_of c.args.gate.now)) _ _ _ _ _ _ _ _ _ _ _ _ _ _ c.at_limit.result (omega (arith, c.loop-turn.invariant.turns)) c.loop-turn.invariant.along
+    (subst (λ n. Ends n c.loop-turn.at.place c.loop-turn.at.last (table (hosts_of c.args.gate.now) n c.loop-turn.at.place c.loop-turn.at.last c.loop-turn.at.opening) (g.S.Source.left c.loop-turn.source) (g.S.Source.left c.at_limit.new.source)
+    (g.K.Sink.contents c.loop-turn.sink) (g.K.Sink.contents c.loop-turn.sink) (g.S.Source.reads c.loop-turn.source) (g.S.Source.reads c.at_limit.new.source) c.at_limit.result) none ends))

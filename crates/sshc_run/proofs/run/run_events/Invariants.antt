@@ -11,6 +11,7 @@ invariant-loop-turn g l =
     record {
       along : IsAlong (start (settings_of l.config)) (table (hosts_of l.initial.gate)) l.config.max_events l.turn l.at.place l.at.last l.at.opening
           (g.S.Source.left l.initial.source) (g.S.Source.left l.source) (g.K.Sink.contents l.initial.sink) (g.K.Sink.contents l.sink) (g.S.Source.reads l.initial.source) (g.S.Source.reads l.source);
+      turns : l.turn ≤ l.config.max_events;
       same : hosts_of l.gate ≡ hosts_of l.initial.gate;
       unsigned : g.G.LocalSigner.calls l.signer ≡ g.G.LocalSigner.calls l.initial.signer;
       place : l.at.place ≤ 262148 * l.turn;
