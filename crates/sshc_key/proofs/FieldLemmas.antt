@@ -22,7 +22,7 @@ no_fault_of_key : (o : Option Key) → key_or_fault o ≡ read_failed → ⊥
 no_fault_of_key None e = cc
 no_fault_of_key (Some k) e = cc
 
-no_fault_of_text : (text : List ℕ) → decoded_key text ≡ read_failed → ⊥
+pub no_fault_of_text : (text : List ℕ) → decoded_key text ≡ read_failed → ⊥
 unfolding decoded_key
 no_fault_of_text text e = of_result _ e
   where

@@ -9,3 +9,4 @@ mod Nested
 mod Readable
 mod PairFormats
 mod FieldLemmas
+mod LineLemmas

@@ -1,8 +1,10 @@
 -- Keys in files: what a loader answers by the files as they are told, and which faults it may answer.
 -- The definitions look the path up in a list of files and part a whole text; the code asks the files for it.
-use Rattle.std.specs.Prelude.{◌≡◌, ℕ, Bool, ◌≤◌, List, length, nat_lt, ◌==◌, bytes_eq, Option, Some, None, Result, Ok, Err, IsErrOf, if◌then◌else◌}
+use Rattle.std.specs.Prelude.{◌≡◌, ℕ, Bool, false, not, ◌≤◌, List, [], ◌∷◌, length, map, find, nat_lt, ◌==◌, bytes_eq, Option, Some, None, option_map, Result, Ok, Err, IsErrOf, if◌then◌else◌}
 use Rattle.std.specs.List.{position_or_len, before_first, after_first}
-use Rattle.std.specs.Str.{trim_end}
+use Rattle.std.specs.Char.{is_whitespace}
+use Rattle.std.specs.Str.{chars, encode_utf8_all, trim, trim_start, trim_end}
+use Rattle.std.specs.Str.Lines.{lines}
 use Rattle.sshc_wire.specs.declared.files.Found.{Found}
 use Rattle.sshc_wire.specs.declared.files.Found.TheVariants as found
 use Rattle.sshc_wire.specs.Contents.{bytes_of, found_in}
@@ -38,6 +40,10 @@ pub record HasReadCause {T : Type 0} (before now : ℕ) (result : Result T Error
   pub later : before ≤ now
   pub fault : IsErrOf result ReadFault → Rose before now
 
+-- what stands before and after the first that passes
+abbrev pub at_first : (ℕ → Bool) → List ℕ → Option (List ℕ × List ℕ)
+at_first test all = if nat_lt (position_or_len test all) (length all) then Some (before_first test all, after_first test all) else None
+
 -- ---- certificate files: a name, the base64 of a certificate and what follows, with single spaces between them
 
 abbrev pub is_space : ℕ → Bool
@@ -45,7 +51,7 @@ is_space b = b == 32
 
 -- what stands before and after the first space
 unfoldable pub at_space : List ℕ → Option (List ℕ × List ℕ)
-at_space text = if nat_lt (position_or_len is_space text) (length text) then Some (before_first is_space text, after_first is_space text) else None
+at_space text = at_first is_space text
 
 -- the key has to be a certificate of this name
 abbrev pub named_certificate : List ℕ → Key → Result Key Error
@@ -73,3 +79,52 @@ certificate_found (found.Text text) = certificate_in text
 -- the certificate of the file at a path
 abbrev pub certificate_at_path : List ℕ → Told → Result Key Error
 certificate_at_path path files = certificate_found (found_in (bytes_of files path))
+
+-- ---- public key files: a line with the base64 of a key, or with a name, that base64 and a comment
+
+-- neither blank nor begun by `#`
+abbrev pub is_key_line : List ℕ → Bool
+is_key_line [] = false
+is_key_line (b ∷ line) = not (b == 35)
+
+-- the first such line, after white space at its two ends is trimmed
+unfoldable pub key_line : List ℕ → Option (List ℕ)
+key_line text = find is_key_line (map trim (lines text))
+
+-- what stands before and after the first character that is white space
+unfoldable pub at_white_space : List ℕ → Option (List ℕ × List ℕ)
+at_white_space text = option_map (λ parts. (encode_utf8_all parts.0, encode_utf8_all parts.1)) (at_first is_whitespace (chars text))
+
+-- the first word of what follows the name, and the trimmed comment behind it
+abbrev pub with_comment : List ℕ → Option (List ℕ × List ℕ) → List ℕ × List ℕ
+with_comment key None = (key, [])
+with_comment key (Some parts) = (parts.0, trim parts.1)
+
+abbrev pub after_name : List ℕ → Option (List ℕ × List ℕ) → List ℕ × List ℕ
+after_name line None = (line, [])
+after_name line (Some parts) = with_comment (trim_start parts.1) (at_white_space (trim_start parts.1))
+
+-- the base64 and the comment of a line: one word is the base64; else it is the second word, and what follows, trimmed, is the comment
+unfoldable pub key_fields : List ℕ → List ℕ × List ℕ
+key_fields line = after_name line (at_white_space line)
+
+abbrev pub commented_key : List ℕ → Result Key Error → Result (Key × List ℕ) Error
+commented_key comment (Ok key) = Ok (key, comment)
+commented_key comment (Err e) = Err e
+
+abbrev pub key_of_line : Option (List ℕ) → Result (Key × List ℕ) Error
+key_of_line None = Err CouldNotReadKey
+key_of_line (Some line) = commented_key (key_fields line).1 (decoded_key (key_fields line).0)
+
+-- the key of a file's text, with its comment
+unfoldable pub public_key_in : List ℕ → Result (Key × List ℕ) Error
+public_key_in text = key_of_line (key_line text)
+
+abbrev pub public_key_found : Found → Result (Key × List ℕ) Error
+public_key_found found.NotOpened = Err CouldNotReadKey
+public_key_found found.NotText = Err Utf8
+public_key_found (found.Text text) = public_key_in text
+
+-- the key of the file at a path
+abbrev pub public_key_at_path : List ℕ → Told → Result (Key × List ℕ) Error
+public_key_at_path path files = public_key_found (found_in (bytes_of files path))

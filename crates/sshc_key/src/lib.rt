@@ -25,7 +25,7 @@ pub use algorithm::{ALL_KEY_TYPES, Algorithm, EcdsaCurve, HashAlg};
 pub use error::Error;
 pub use identity::{PrivateKeyWithHashAlg, PublicKeyOrCertificate};
 pub use key_data::{CertType, Certificate, KeyData};
-pub use key_files::load_openssh_certificate;
+pub use key_files::{load_openssh_certificate, load_public_key};
 pub use key_text::{PublicKeyBase64, PublicKeyExt, parse_public_key_base64};
 pub use nesting::check_cert_nesting;
 pub use pair::{PairData, PrivateKey};
