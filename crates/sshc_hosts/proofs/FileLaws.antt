@@ -11,7 +11,8 @@ use Rattle.sshc_key.specs.declared.error.Error.{Error}
 use Rattle.sshc_key.specs.declared.error.Error.TheVariants.{Utf8}
 use Rattle.sshc_hosts.specs.Judgement.{judged}
 use Rattle.sshc_hosts.specs.Learning.{Learns, once_learned}
-use Rattle.sshc_hosts.specs.HostsFile.{Told, text_found, text_at, judged_at, AnswersBy, LearnsAt, LearnsIn}
+use Rattle.sshc_key.specs.KeyFiles.{Told, AnswersBy}
+use Rattle.sshc_hosts.specs.HostsFile.{text_found, text_at, judged_at, LearnsAt, LearnsIn}
 
 -- the bytes of a file, none where there is no file
 held : Option (List ℕ) → List ℕ

@@ -5,16 +5,12 @@ use Rattle.std.specs.Str.{is_utf8}
 use Rattle.sshc_wire.specs.Contents.{bytes_of, with_text}
 use Rattle.sshc_wire.specs.Faults.{Rose}
 use Rattle.sshc_wire.specs.Reads.{◌>>=◌}
-use Rattle.sshc_key.specs.Gives.{Fails}
+use Rattle.sshc_key.specs.KeyFiles.{Told}
 use Rattle.sshc_key.specs.KeyGrammar.{Key}
 use Rattle.sshc_key.specs.declared.error.Error.{Error}
 use Rattle.sshc_key.specs.declared.error.Error.TheVariants.{NoHomeDir, Utf8, ReadFault, WriteFault, NoMemory}
 use Rattle.sshc_hosts.specs.Learning.{learned, once_learned}
 use Rattle.sshc_hosts.specs.Judgement.{KnownKey, known_keys, judged, IsRefusal}
-
--- paths and their bytes
-abbrev pub Told : Type 0
-Told = List (List ℕ × List ℕ)
 
 -- the known hosts of a home
 abbrev pub home_path : List ℕ → List ℕ
@@ -35,25 +31,6 @@ known_keys_at path host files = text_at files path >>= (λ text. known_keys text
 
 abbrev pub judged_at : List ℕ → List ℕ → Key → Told → Result Bool Error
 judged_at path host key files = text_at files path >>= (λ text. judged text host key)
-
--- a failed read is answered as such, and each other error is the one said
-abbrev pub FailsReading : {Y : Type 0} → Error → Result Y Error → Type 0
-FailsReading ReadFault said = Unit {0}
-FailsReading e said = Fails e said
-
-abbrev pub GivesReading : {X Y : Type 0} → (X → Y) → Result X Error → Result Y Error → Type 0
-GivesReading view (Ok x) said = said ≡ Ok (view x)
-GivesReading view (Err e) said = FailsReading e said
-
--- where the files are told, what the call answers is what is said of them, or that a read failed
-abbrev pub AnswersBy : {X Y : Type 0} → (X → Y) → Result X Error → Option Told → (Told → Result Y Error) → Type 0
-AnswersBy view result None said = Unit {0}
-AnswersBy view result (Some files) said = GivesReading view result (said files)
-
--- a count never falls, and a failed read is answered only where it rose
-pub record HasReadCause {T : Type 0} (before now : ℕ) (result : Result T Error) : Type 0 where
-  pub later : before ≤ now
-  pub fault : IsErrOf result ReadFault → Rose before now
 
 -- why reading a file refuses, and why a call over a file's text does
 abbrev pub IsReadingRefusal : Error → Type 0

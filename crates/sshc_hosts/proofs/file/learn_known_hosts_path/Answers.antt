@@ -4,7 +4,8 @@ use Rattle.std.specs.Str.{IsUtf8}
 use Rattle.sshc_wire.specs.Contents.{with_text}
 use Rattle.sshc_key.specs.KeyGrammar.{Key}
 use Rattle.sshc_key.specs.declared.error.Error.{Error}
-use Rattle.sshc_hosts.specs.HostsFile.{Told, text_at, AnswersBy, LearnsIn}
+use Rattle.sshc_key.specs.KeyFiles.{Told, AnswersBy}
+use Rattle.sshc_hosts.specs.HostsFile.{text_at, LearnsIn}
 use Rattle.sshc_hosts.specs.Learning.{Learns}
 use Rattle.sshc_hosts.proofs.FileLaws.{learns_in}
 use Rattle.sshc_hosts.proofs.file.learn_known_hosts_path.Goals as goal

@@ -1,0 +1,5 @@
+-- Facts that the answers cite.
+pub mod WordLists
+pub mod Parts
+pub mod KeyLines
+pub mod Answers

@@ -1,0 +1,5 @@
+pub mod Port
+pub mod Adding
+pub mod Asked
+pub mod Told
+pub mod HostsWords
