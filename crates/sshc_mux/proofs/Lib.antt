@@ -8,6 +8,7 @@ mod TableLemmas
 mod NumberLemmas
 mod AccountLemmas
 mod TurnLemmas
+mod FrontLemmas
 mod PromptLemmas
 mod NumbersLemmas
 mod CallLemmas
