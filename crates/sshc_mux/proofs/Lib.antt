@@ -14,4 +14,5 @@ mod NumbersLemmas
 mod CallLemmas
 mod LifeLemmas
 mod AccountLaw
+mod ClosingLaw
 mod QuietLemmas
