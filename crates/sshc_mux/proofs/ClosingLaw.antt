@@ -1,5 +1,5 @@
 -- The peer's close ends a life of a number.
-use Rattle.std.proofs.Common.{◌≡◌, ℕ, Bool, true, false, List, [], ◌∷◌, ◌++◌, if◌then◌else◌, Option, Some, None, refl, ap, sym, subst, ◌∙◌}
+use Rattle.std.proofs.Common.{◌≡◌, ℕ, Bool, true, false, List, [], ◌∷◌, ◌++◌, if◌then◌else◌, Option, Some, refl, ap, sym, subst, ◌∙◌}
 use Rattle.std.proofs.lemmas.List.{append-nil}
 use Rattle.sshc_mux.specs.declared.chunk.Stream.{Stream}
 use Rattle.sshc_mux.specs.ChannelState.{ChannelState, TableState, channel_of}
@@ -7,7 +7,7 @@ use Rattle.sshc_mux.specs.Packets.{Packet, Close}
 use Rattle.sshc_mux.specs.ChannelTable.{Effect, said_by, removed, closed, unmoved, close_peer}
 use Rattle.sshc_mux.specs.ChannelTable.Opens.{next_number}
 use Rattle.sshc_mux.specs.ChannelTable.Ends.{is_sent, last_packets}
-use Rattle.sshc_mux.specs.ChannelAccount.{Call, ran, no_channels, with_new, taken, packets_by, bytes_in, pending, Stands, Orderly, IsMade, Closing}
+use Rattle.sshc_mux.specs.ChannelAccount.{Call, ran, no_channels, with_new, packets_by, bytes_in, pending, Stands, Orderly, IsMade, Closing}
 use Rattle.sshc_mux.proofs.AccountLemmas.{bytes-append, orderly_then}
 use Rattle.sshc_mux.proofs.NumbersLemmas.{number_of, without_same}
 use Rattle.sshc_mux.proofs.CallLemmas.{packets-own}

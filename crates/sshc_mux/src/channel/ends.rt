@@ -1,6 +1,6 @@
 //! What a channel takes to send, and its ends (RFC 4254, sections 5.2 and 5.3).
 
-ghost use Rattle.std.specs.Prelude.{◌≡◌, ◌==◌, if◌then◌else◌, length, [], true, OnOk, OnErr};
+ghost use Rattle.std.specs.Prelude.{◌≡◌, ◌==◌, if◌then◌else◌, length, [], true, false, IsOk, OnOk, OnErr};
 ghost use Rattle.sshc_mux.specs.ChannelTable.{Turned};
 ghost use Rattle.sshc_mux.specs.ChannelTable.Sending.{flushed};
 ghost use Rattle.sshc_mux.specs.ChannelTable.Ends.{takes, with_pending, data_turn, eof_turn, close_turn};
@@ -28,7 +28,8 @@ impl Channel {
         exchanging: bool,
         out: &mut Outbox,
     ) -> Result<(), NoMemory>
-        ensures { Turned (data_turn stream body.now exchanging self.old) self.old self.new out.old out.new result }
+        ensures turn { Turned (data_turn stream body.now exchanging self.old) self.old self.new out.old out.new result }
+        ensures succeeds { takes self.old ≡ false → IsOk result }
     {
         if !self.takes() || body.len() == 0 {
             return Ok(());
