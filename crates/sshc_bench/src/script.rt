@@ -11,6 +11,7 @@ const EXCHANGED: &[u8] =
 
 /// A request of `alice` by a password, around its ticket.
 const ASKED: &[u8] = b"\0\0\0\x1d\0\0\0\0\0\0\0\0\x10";
+
 const BY_PASSWORD: &[u8] = b"\0\0\0\x05alice\x01\0\0\0\x02pw";
 
 /// The peer accepts the service.
