@@ -1,62 +1,17 @@
-//! A measurement of the channel table: pieces of 32 KiB through so many channels, told as counts.
+//! Measurements, told as counts.
 //!
-//! The first argument is how many channels there are, the second how many calls of 32 KiB are made, over the channels in turn.
+//! The words `channels CHANNELS CALLS` hand bytes to a channel table, `script EVENTS` runs a script over memory. No words
+//! run both in small.
 #![tactic(auto)]
 
-use sshc_mux::{ChannelId, ChannelTable};
-use sshc_wire::{NoMemory, Outbox, Record};
-use std::alloc::Global;
+mod channels;
+mod script;
+
+use crate::channels::tell_channels;
+use crate::script::tell_script;
 use std::env;
 
-/// How many bytes a call hands in.
-const CALL: usize = 32_768;
-
-/// What the outboxes held.
-#[derive(Clone, Copy, Debug)]
-struct Counts {
-    payloads: u64,
-    bytes: u64,
-}
-
-impl Counts {
-    fn add(&mut self, out: &Outbox) {
-        for said in out.as_slice() {
-            if let Record::Payload(payload) = said {
-                self.payloads = self.payloads.saturating_add(1);
-                self.bytes = self.bytes.saturating_add(payload.as_slice().len() as u64);
-            }
-        }
-    }
-}
-
-/// A table of established channels.
-fn opened(alloc: Global, channels: u32) -> Result<ChannelTable, NoMemory> {
-    let mut table = ChannelTable::new(alloc);
-    for _ in 0..channels {
-        let id = table.open_user(2_097_152, 32_768, None)?;
-        let _ = table.confirm(id, id.0, u32::MAX, 32_768);
-    }
-    Ok(table)
-}
-
-/// Hands the bytes in, call by call over the channels in turn.
-fn sent(alloc: Global, channels: u32, calls: u32) -> Result<Counts, NoMemory> {
-    let mut table = opened(alloc, channels)?;
-    let body = Vec::from_elem(alloc, 0x5a, CALL)?;
-    let mut counts = Counts {
-        payloads: 0,
-        bytes: 0,
-    };
-    for call in 0..calls {
-        let mut out = Outbox::new(alloc);
-        let channel = call.checked_rem(channels).unwrap_or(0).saturating_add(1);
-        table.data(ChannelId(channel), body.as_slice(), false, &mut out)?;
-        counts.add(&out);
-    }
-    Ok(counts)
-}
-
-/// The number in an argument, or the other where there is none.
+/// The number in a word, or the other where there is none.
 fn number_or(word: Option<String>, other: u32) -> u32 {
     match word {
         Some(word) => word.as_str().parse::<u32>().unwrap_or(other),
@@ -67,12 +22,14 @@ fn number_or(word: Option<String>, other: u32) -> u32 {
 fn main(rt: HostRuntime) -> anyhow::Result<()> {
     let mut words = env::args(&rt)?;
     let _program = words.next();
-    let channels = number_or(words.next(), 3);
-    let calls = number_or(words.next(), 10);
-    let counts = sent(rt.alloc(), channels, calls)?;
-    println!(rt;
-        "{channels} channels, {calls} calls: {} payloads of {} bytes",
-        counts.payloads, counts.bytes
-    )?;
-    Ok(())
+    let Some(name) = words.next() else {
+        tell_channels(&rt, 3, 10)?;
+        return tell_script(&rt, 12);
+    };
+    let first = words.next();
+    match name.as_str() {
+        "channels" => tell_channels(&rt, number_or(first, 3), number_or(words.next(), 10)),
+        "script" => tell_script(&rt, number_or(first, 12)),
+        _ => Ok(println!(rt; "channels CHANNELS CALLS, or script EVENTS")?),
+    }
 }

@@ -9,7 +9,7 @@ use Rattle.sshc_mux.specs.ChannelTable.Opens.{above, free_or, free_from, next_nu
 use Rattle.sshc_mux.specs.ChannelTable.Sending.{Turn}
 use Rattle.sshc_mux.specs.ChannelTable.Ends.{takes, is_sent, last_packets, data_turn, eof_turn, close_turn}
 use Rattle.sshc_mux.specs.ChannelTable.Windows.{grant_turn, received_turn}
-use Rattle.sshc_mux.specs.ChannelAccount.{Call, OpenUser, ReserveServer, SettleServer, Confirm, Fail, Bytes, AskEof, AskClose, PeerClose, Grant, FlushAll, Received, called, opened, ran, no_channels, marked, taken, packets_by, bytes_in, pending, gain, gain_in, granted, Stands, Orderly, has_eof, IsMade, Account}
+use Rattle.sshc_mux.specs.ChannelAccount.{Call, OpenUser, ReserveServer, SettleServer, Confirm, Fail, Bytes, AskEof, AskClose, PeerClose, Grant, FlushAll, Received, called, opened, ran, no_channels, marked, taken, packets_by, bytes_in, pending, gain, gain_in, granted, Stands, Orderly, has_eof, IsMade, Account, with_new}
 use Rattle.sshc_mux.proofs.AccountLemmas.{Sound, bytes-append, orderly_then}
 use Rattle.sshc_mux.specs.Places.{numbers}
 use Rattle.sshc_mux.proofs.NumbersLemmas.{has, or_false, Apart, has_none, number_of, numbers-with, apart_without, apart_append, numbers-flushed}
@@ -200,10 +200,18 @@ fresh : (n : ℕ) (c : ChannelState) → IsMade n c → Fresh n c
 fresh n c (inl (window, packet, ticket, is)) = let P : ChannelState → Type 0 = λ x. Fresh n x in subst P (sym is) (record { number = refl; pending = refl; eof = refl; close = refl; taking = refl })
 fresh n c (inr (recipient, window, packet, own, is)) = let P : ChannelState → Type 0 = λ x. Fresh n x in subst P (sym is) (record { number = refl; pending = refl; eof = refl; close = refl; taking = refl })
 
-pub account : (before after : List Call) (n : ℕ) (start end : ChannelState) → next_number (ran before no_channels).table ≡ Some n → IsMade n start → Stands n after (made start (ran before no_channels).table) →
-    channel_of n (ran after (made start (ran before no_channels).table)).table.channels ≡ Some end →
-    Account n start after (packets_by n (ran after (made start (ran before no_channels).table)).said) end (granted n after (made start (ran before no_channels).table))
-account before after n start end free makes stands there =
+-- a life from the channel as it was made to the channel after the calls, told by how far its ends have come
+pub record MadeLife (n : ℕ) (start end : ChannelState) (life : List Call) (packets : List Packet) (grants : ℕ) (after : TableState) : Type 0 where
+  pub balance : bytes_in packets ++ pending end.pending ≡ taken n life
+  pub within : length (bytes_in packets) ≤ start.window + grants
+  pub order : Orderly false false packets (is_sent end.eof) (is_sent end.close)
+  pub sound : Sound end
+  pub apart : Apart (numbers after.channels)
+
+pub made_life : (before after : List Call) (n : ℕ) (start end : ChannelState) → next_number (ran before no_channels).table ≡ Some n → IsMade n start → Stands n after (with_new before start) →
+    channel_of n (ran after (with_new before start)).table.channels ≡ Some end →
+    MadeLife n start end after (packets_by n (ran after (with_new before start)).said) (granted n after (with_new before start)) (ran after (with_new before start)).table
+made_life before after n start end free makes stands there =
     let t : TableState = (ran before no_channels).table in
     let new : Fresh n start = fresh n start makes in
     let none : channel_of n t.channels ≡ None = next_none t n free in
@@ -212,14 +220,28 @@ account before after n start end free makes stands there =
     let sound : Sound start = record { eof = λ h. new.pending; close = λ h. new.pending; last = λ h. let no : false ≡ true = sym new.close ∙ h in absurd (cc) } in
     let all = life n after (made start t) start end apart2 sound (found_last n t.channels start none new.number) stands there in
     let ps : List Packet = packets_by n (ran after (made start t)).said in
-    let balance : bytes_in ps ++ pending end.pending ≡ taken n after =
-    all.balance ∙ ap (λ (ws : List Waiting). pending ws ++ (if takes start then taken n after else [])) new.pending ∙ ap (λ (b : Bool). if b then taken n after else []) new.taking in
     let P : Bool → Type 0 = λ e. Orderly e (is_sent start.close) ps (is_sent end.eof) (is_sent end.close) in
     let Q : Bool → Type 0 = λ k. Orderly false k ps (is_sent end.eof) (is_sent end.close) in
-    let order : Orderly false false ps (is_sent end.eof) (is_sent end.close) = subst Q new.close (subst P new.eof all.order) in
     record {
-      balance = balance;
+      balance = all.balance ∙ ap (λ (ws : List Waiting). pending ws ++ (if takes start then taken n after else [])) new.pending ∙ ap (λ (b : Bool). if b then taken n after else []) new.taking;
       within = omega (arith, all.within);
-      order = (is_sent end.eof, is_sent end.close, order);
-      whole = λ h. sym (append-nil (bytes_in ps)) ∙ ap (λ (ws : List Waiting). bytes_in ps ++ pending ws) (sym (all.sound.eof (eof_told false false ps (is_sent end.eof) (is_sent end.close) order h))) ∙ balance;
+      order = subst Q new.close (subst P new.eof all.order);
+      sound = all.sound;
+      apart = ran_apart after (made start t) apart2;
+    }
+
+pub account : (before after : List Call) (n : ℕ) (start end : ChannelState) → next_number (ran before no_channels).table ≡ Some n → IsMade n start → Stands n after (with_new before start) →
+    channel_of n (ran after (with_new before start)).table.channels ≡ Some end →
+    Account n start after (packets_by n (ran after (with_new before start)).said) end (granted n after (with_new before start))
+account before after n start end free makes stands there =
+    let all = made_life before after n start end free makes stands there in
+    let ps : List Packet = packets_by n (ran after (with_new before start)).said in
+    record {
+      balance = all.balance;
+      within = all.within;
+      order = (is_sent end.eof, is_sent end.close, all.order);
+      whole = λ h.
+          sym (append-nil (bytes_in ps))
+          ∙ ap (λ (ws : List Waiting). bytes_in ps ++ pending ws) (sym (all.sound.eof (eof_told false false ps (is_sent end.eof) (is_sent end.close) all.order h)))
+          ∙ all.balance;
     }

@@ -8,9 +8,11 @@ mod TableLemmas
 mod NumberLemmas
 mod AccountLemmas
 mod TurnLemmas
+mod FrontLemmas
 mod PromptLemmas
 mod NumbersLemmas
 mod CallLemmas
 mod LifeLemmas
 mod AccountLaw
+mod ClosingLaw
 mod QuietLemmas

@@ -49,7 +49,7 @@ drop-past (suc n) [] h = refl
 drop-past (suc n) (b ∷ bytes) h = drop-past n bytes (omega arith)
 
 -- what is at most as long as the bytes is as good as the bound that it was cut from
-take-min : (n count : ℕ) (bytes : List ℕ) → count ≡ min (length bytes) n → take n bytes ≡ take count bytes
+pub take-min : (n count : ℕ) (bytes : List ℕ) → count ≡ min (length bytes) n → take n bytes ≡ take count bytes
 take-min n count bytes is =
     elim (cases_lt n (length bytes)) [
       | inl h ↦ let same : count ≡ n = omega arith in ap (λ (k : ℕ). take k bytes) (sym same)

@@ -157,6 +157,23 @@ EachLifeHasItsAccount =
     Stands n life (with_new before start) → channel_of n (ran life (with_new before start)).table.channels ≡ Some end →
     Account n start life (packets_by n (ran life (with_new before start)).said) end (granted n life (with_new before start))
 
+-- The peer's close of the number n ends a life: among all that was written our close stands once, and no bytes and no EOF behind it; what
+-- was sent is a front of what was taken; and the number is free.
+pub record Closing (n : ℕ) (life : List Call) (packets : List Packet) (after : TableState) : Type 0 where
+  pub once : (eof : Bool) × Orderly false false packets eof true
+  pub front : (rest : List (Stream × ℕ)) × (bytes_in packets ++ rest ≡ taken n life)
+  pub free : channel_of n after.channels ≡ None
+
+-- The same lives, where the channel is established when the peer's close comes.
+abbrev pub EachCloseEndsALife : Type 0
+EachCloseEndsALife =
+    (before life : List Call) (n : ℕ) (start end : ChannelState) →
+    next_number (ran before no_channels).table ≡ Some n → IsMade n start →
+    Stands n life (with_new before start) → channel_of n (ran life (with_new before start)).table.channels ≡ Some end → end.established ≡ true →
+    Closing n life
+    (packets_by n (ran life (with_new before start)).said ++ packets_by n (called (PeerClose n) (ran life (with_new before start)).table).said)
+    (called (PeerClose n) (ran life (with_new before start)).table).table
+
 -- a call that tells of an exchange that runs sends no bytes, and no more does one that only ends or adjusts
 abbrev pub ExchangesAreQuiet : Type 0
 ExchangesAreQuiet = (call : Call) (t : TableState) → may_send call ≡ false → bytes_in (packets_in (called call t).said) ≡ []

@@ -17,7 +17,7 @@ use Rattle.sshc_mux.specs.Packets.{Packet, packet_text, payloads}
 use Rattle.sshc_mux.specs.ChannelTable.Sending.{Turn, flushed}
 use Rattle.sshc_mux.specs.ChannelTable.Opens.{awaited, confirmed, reserved_by}
 use Rattle.sshc_mux.specs.ChannelTable.Windows.{grant_turn, adjusts}
-use Rattle.sshc_mux.specs.ChannelTable.Ends.{last_packets, is_sent}
+use Rattle.sshc_mux.specs.ChannelTable.Ends.{takes, last_packets, is_sent}
 
 -- a packet, with the number of the channel that wrote it and the peer's number
 pub record Said : Type 0 where
@@ -129,6 +129,14 @@ recipient_in (Some c) = if c.established then Some c.recipient else None
 abbrev pub close_sent_in : Option ChannelState → Bool
 close_sent_in None = false
 close_sent_in (Some c) = is_sent c.close
+
+-- bytes are taken for the channel of this number
+abbrev pub takes_in : Option ChannelState → Bool
+takes_in None = false
+takes_in (Some c) = takes c
+
+abbrev pub takes_at : ℕ → TableState → Bool
+takes_at n t = takes_in (channel_of n t.channels)
 
 -- the window that is left after a grant
 abbrev pub granted_in : Option ChannelState → ℕ → Bool → Option ℕ

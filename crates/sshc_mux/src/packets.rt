@@ -2,7 +2,7 @@
 
 ghost use Rattle.std.specs.Prelude.{◌≡◌, ◌+◌, ◌++◌, ◌≤◌, ◌<◌, ◌^◌, length, IfOk, OnOk, OnErr};
 ghost use Rattle.sshc_wire.specs.Outgoing.{shown};
-ghost use Rattle.sshc_mux.specs.Packets.{packet_text, Piece, Eof, Close, Adjust, payloads};
+ghost use Rattle.sshc_mux.specs.Packets.{packet_text, piece_text, Piece, Eof, Close, Adjust, payloads};
 ghost use Rattle.sshc_mux.specs.ChannelTable.Sending.{cut, pieces_of};
 
 use crate::chunk::Stream;
@@ -10,7 +10,13 @@ use crate::msg;
 use sshc_wire::{NoMemory, Octets, Outbox, Record, put_bytes, put_u32};
 use std::alloc::Global;
 
-/// A piece of a channel's bytes.
+/// How many bytes of a data packet stand before the piece: its number, the recipient and the length.
+const DATA_HEAD: usize = 9;
+
+/// The same of an extended data packet, which has a code too.
+const EXTENDED_HEAD: usize = 13;
+
+/// A piece of a channel's bytes, each of which is written once.
 fn piece_record(
     alloc: Global,
     recipient: u32,
@@ -20,18 +26,36 @@ fn piece_record(
     requires { length piece.now < 2 ^ 32 }
     ensures { IfOk result (λ r. r ≡ Record.Payload (packet_text recipient (Piece stream piece.now))) }
 {
-    let mut packet = Vec::new(alloc);
     match stream {
-        Stream::Data => {
-            packet.push(msg::CHANNEL_DATA)?;
-            put_u32(&mut packet, recipient)?;
-        }
-        Stream::Extended(code) => {
-            packet.push(msg::CHANNEL_EXTENDED_DATA)?;
-            put_u32(&mut packet, recipient)?;
-            put_u32(&mut packet, code)?;
-        }
+        Stream::Data => data_record(alloc, recipient, piece),
+        Stream::Extended(code) => extended_record(alloc, recipient, code, piece),
     }
+}
+
+fn data_record(alloc: Global, recipient: u32, piece: &[u8]) -> Result<Record, NoMemory>
+    requires { length piece.now < 2 ^ 32 }
+    ensures { IfOk result (λ r. r ≡ Record.Payload (piece_text recipient Stream.Data piece.now)) }
+{
+    let mut packet = Vec::with_capacity(alloc, DATA_HEAD + piece.len())?;
+    packet.push(msg::CHANNEL_DATA)?;
+    put_u32(&mut packet, recipient)?;
+    put_bytes(&mut packet, piece)?;
+    Ok(Record::Payload(Octets::from_vec(packet)?))
+}
+
+fn extended_record(
+    alloc: Global,
+    recipient: u32,
+    code: u32,
+    piece: &[u8],
+) -> Result<Record, NoMemory>
+    requires { length piece.now < 2 ^ 32 }
+    ensures { IfOk result (λ r. r ≡ Record.Payload (piece_text recipient (Stream.Extended code) piece.now)) }
+{
+    let mut packet = Vec::with_capacity(alloc, EXTENDED_HEAD + piece.len())?;
+    packet.push(msg::CHANNEL_EXTENDED_DATA)?;
+    put_u32(&mut packet, recipient)?;
+    put_u32(&mut packet, code)?;
     put_bytes(&mut packet, piece)?;
     Ok(Record::Payload(Octets::from_vec(packet)?))
 }
@@ -96,8 +120,17 @@ pub(crate) fn push_all(said: Vec<Record>, out: &mut Outbox) -> Result<(), NoMemo
     ensures same { out.new.muted ≡ out.old.muted }
 {
     out.reserve(said.len())?;
+    push_all_reserved(said, out);
+    Ok(())
+}
+
+/// Hands the records to the outbox, in which there is room for them.
+pub(crate) fn push_all_reserved(said: Vec<Record>, out: &mut Outbox)
+    requires { length said.items ≤ out.old.room }
+    ensures added { out.new.records ≡ out.old.records ++ shown out.old.muted said.items }
+    ensures same { out.new.muted ≡ out.old.muted }
+{
     for packet in said {
         out.push_reserved(packet);
     }
-    Ok(())
 }

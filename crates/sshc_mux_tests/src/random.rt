@@ -1,8 +1,9 @@
 //! Random lists of calls on several channels, each answer and payload compared with the plain program's.
 
 use crate::plain::{Plain, Said};
+use crate::worked::payload_of;
 use sshc_mux::{ChannelId, ChannelTable, Stream};
-use sshc_wire::{NoMemory, Outbox, Record};
+use sshc_wire::{NoMemory, Outbox};
 use std::alloc::Global;
 use std::process::Abort;
 use std::test::Fail;
@@ -364,13 +365,11 @@ fn received(
 fn same_payloads(rt: &impl Abort, out: &Outbox, said: &Said, list: u32) {
     assert_eq!(rt; out.as_slice().len(), said.len(), "payloads of list {list}");
     for (got, want) in out.as_slice().iter().zip(said.as_slice()) {
-        if let Record::Payload(payload) = got {
-            assert_eq!(rt;
-                payload.as_slice(),
-                want.as_slice(),
-                "a payload of list {list}"
-            );
-        }
+        assert_eq!(rt;
+            payload_of(got),
+            Some(want.as_slice()),
+            "a payload of list {list}"
+        );
     }
 }
 

@@ -14,13 +14,19 @@ fn opened(alloc: Global, window: u32, packet: u32) -> Result<(ChannelTable, Chan
     Ok((table, id))
 }
 
+/// The packet in a record.
+pub(crate) fn payload_of(said: &Record) -> Option<&[u8]> {
+    match said {
+        Record::Payload(payload) => Some(payload.as_slice()),
+        _ => None,
+    }
+}
+
 /// The outbox holds these payloads and no more.
 fn payloads_are(rt: &impl Abort, row: &str, out: &Outbox, wants: &[&[u8]]) {
     assert_eq!(rt; out.as_slice().len(), wants.len(), "{row}");
     for (got, want) in out.as_slice().iter().zip(wants) {
-        if let Record::Payload(payload) = got {
-            assert_eq!(rt; payload.as_slice(), *want, "{row}");
-        }
+        assert_eq!(rt; payload_of(got), Some(*want), "{row}");
     }
 }
 
@@ -114,6 +120,116 @@ fn opens_are_answered_once(rt: HostRuntime) -> Result<(), Fail> {
 }
 
 #[test]
+fn ends_asked_before_the_confirmation_go_after_it(rt: HostRuntime) -> Result<(), Fail> {
+    let mut table = ChannelTable::new(rt.alloc());
+    let mut out = Outbox::new(rt.alloc());
+    let id = table.open_user(100, 7, None)?;
+    table.eof(id, &mut out)?;
+    table.close_own(id, &mut out)?;
+    assert_eq!(rt; table.confirm(id, 5, 4, 9), Ok(None));
+    payloads_are(&rt, "before the grant", &out, &[]);
+    assert!(rt; !table.close_sent(id));
+    assert_eq!(rt; table.grant(id, 0, true, &mut out)?, Some(4));
+    let wants: [&[u8]; 2] = [b"\x60\0\0\0\x05", b"\x61\0\0\0\x05"];
+    payloads_are(&rt, "a grant of 0 while an exchange runs", &out, &wants);
+
+    let mut out = Outbox::new(rt.alloc());
+    let id = table.reserve_server(5, 4, 9, 100)?;
+    table.close_own(id, &mut out)?;
+    assert!(rt; table.settle_server(id, true));
+    table.data(id, b"a", false, &mut out)?;
+    payloads_are(&rt, "data that isn't taken", &out, &[]);
+    table.eof(id, &mut out)?;
+    payloads_are(&rt, "an EOF before the next grant", &out, &wants);
+    assert!(rt; table.close_sent(id));
+    Ok(())
+}
+
+#[test]
+fn bytes_before_the_confirmation_wait(rt: HostRuntime) -> Result<(), Fail> {
+    let mut table = ChannelTable::new(rt.alloc());
+    let mut out = Outbox::new(rt.alloc());
+    let id = table.open_user(100, 7, None)?;
+    table.data(id, b"ab", false, &mut out)?;
+    table.extended_data(id, 1, b"cde", false, &mut out)?;
+    assert_eq!(rt; table.grant(id, 9, false, &mut out)?, None);
+    assert_eq!(rt; table.sender_window_size(id), 0);
+    table.flush_all(&mut out)?;
+    payloads_are(&rt, "before the confirmation", &out, &[]);
+    assert!(rt; table.has_any_pending_data());
+    assert_eq!(rt; table.confirm(id, 5, 4, 9), Ok(None));
+    table.flush_all(&mut out)?;
+    let wants: [&[u8]; 2] = [
+        b"\x5e\0\0\0\x05\0\0\0\x02ab",
+        b"\x5f\0\0\0\x05\0\0\0\x01\0\0\0\x02cd",
+    ];
+    payloads_are(&rt, "a piece has bytes of one call", &out, &wants);
+    assert_eq!(rt; table.sender_window_size(id), 0);
+    assert!(rt; table.has_pending_data(id));
+    Ok(())
+}
+
+#[test]
+fn a_muted_outbox_drops_packets(rt: HostRuntime) -> Result<(), Fail> {
+    let (mut table, id) = opened(rt.alloc(), 4, 9)?;
+    let mut out = Outbox::new(rt.alloc());
+    out.mute();
+    table.data(id, b"abcdef", false, &mut out)?;
+    payloads_are(&rt, "muted", &out, &[]);
+    assert_eq!(rt; table.sender_window_size(id), 0);
+    Ok(())
+}
+
+#[test]
+fn a_closed_channel_stands_until_the_peers_close(rt: HostRuntime) -> Result<(), Fail> {
+    let (mut table, id) = opened(rt.alloc(), 100, 100)?;
+    let mut out = Outbox::new(rt.alloc());
+    table.close_own(id, &mut out)?;
+    let mut out = Outbox::new(rt.alloc());
+    assert_eq!(rt; table.recipient(id), Some(5));
+    assert_eq!(rt; table.grant(id, 1, false, &mut out)?, Some(101));
+    assert!(rt; table.received(id, 1_000, 100, &mut out)?);
+    let wants: [&[u8]; 1] = [b"\x5d\0\0\0\x05\0\0\0\x64"];
+    payloads_are(&rt, "more than our window", &out, &wants);
+
+    let (mut table, id) = opened(rt.alloc(), 0, 100)?;
+    let mut out = Outbox::new(rt.alloc());
+    table.data(id, b"a", false, &mut out)?;
+    assert!(rt; table.close_peer(id, &mut out)?);
+    payloads_are(&rt, "the peer's close", &out, &[b"\x61\0\0\0\x05"]);
+    assert!(rt; !table.has_any_pending_data());
+    Ok(())
+}
+
+#[test]
+fn a_number_that_no_channel_has_is_nothing(rt: HostRuntime) -> Result<(), Fail> {
+    let mut table = ChannelTable::new(rt.alloc());
+    let mut out = Outbox::new(rt.alloc());
+    let gone = table.reserve_server(5, 4, 9, 100)?;
+    assert!(rt; table.settle_server(gone, false));
+    for id in [gone, ChannelId(0), ChannelId(u32::MAX)] {
+        assert!(rt; !table.settle_server(id, true));
+        assert_eq!(rt; table.confirm(id, 5, 4, 9), Err(MuxError::Inconsistent));
+        assert_eq!(rt; table.fail(id), None);
+        table.data(id, b"a", false, &mut out)?;
+        table.extended_data(id, 1, b"a", false, &mut out)?;
+        table.eof(id, &mut out)?;
+        table.close_own(id, &mut out)?;
+        assert!(rt; !table.close_peer(id, &mut out)?);
+        assert_eq!(rt; table.grant(id, 1, false, &mut out)?, None);
+        assert!(rt; !table.received(id, 1, 100, &mut out)?);
+        assert!(rt; !table.is_established(id) && !table.close_sent(id));
+        assert!(rt; !table.has_pending_data(id) && !table.has_any_pending_data());
+        assert_eq!(rt; table.sender_window_size(id), 0);
+        assert_eq!(rt; table.recipient(id), None);
+    }
+    table.flush_all(&mut out)?;
+    payloads_are(&rt, "no channel", &out, &[]);
+    assert_eq!(rt; table.open_user(100, 0, None)?, ChannelId(2));
+    Ok(())
+}
+
+#[test]
 fn ends_are_sent_once(rt: HostRuntime) -> Result<(), Fail> {
     let (mut table, id) = opened(rt.alloc(), 100, 100)?;
     let mut out = Outbox::new(rt.alloc());
@@ -131,5 +247,6 @@ fn ends_are_sent_once(rt: HostRuntime) -> Result<(), Fail> {
     assert!(rt; !table.close_peer(id, &mut out)?);
     assert!(rt; !table.is_established(id));
     payloads_are(&rt, "close", &out, &[b"\x61\0\0\0\x05"]);
+    assert_eq!(rt; table.confirm(id, 5, 4, 9), Err(MuxError::Inconsistent));
     Ok(())
 }

@@ -13,7 +13,7 @@ use std::alloc::Global;
 
 impl Channel {
     /// For how many bytes there is room now.
-    fn room(&self, exchanging: bool) -> u32
+    pub(super) fn room(&self, exchanging: bool) -> u32
         ensures room { result ≡ room_of exchanging self.now }
         ensures within { result ≤ self.now.window }
         ensures size { 0 < result → 0 < self.now.packet_size }

@@ -1,6 +1,6 @@
 //! A channel's windows (RFC 4254, section 5.2).
 
-ghost use Rattle.std.specs.Prelude.{◌≡◌, [], IfOk};
+ghost use Rattle.std.specs.Prelude.{◌≡◌, [], false, IfOk, IsOk};
 ghost use Rattle.sshc_mux.specs.ChannelTable.{Turned};
 ghost use Rattle.sshc_mux.specs.ChannelTable.Windows.{grant_turn, received_turn, adjusts};
 
@@ -44,6 +44,7 @@ impl Channel {
     ) -> Result<bool, NoMemory>
         ensures turn { Turned (received_turn len target self.old) self.old self.new out.old out.new result }
         ensures answer { IfOk result (λ wrote. wrote ≡ adjusts len target self.old) }
+        ensures succeeds { adjusts len target self.old ≡ false → IsOk result }
     {
         if !self.is_established {
             return Ok(false);

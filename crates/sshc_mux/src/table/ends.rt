@@ -1,6 +1,7 @@
 //! EOF and close, ours and the peer's (RFC 4254, section 5.3).
 
-ghost use Rattle.std.specs.Prelude.{◌≡◌, IfOk};
+ghost use Rattle.std.specs.Prelude.{◌≡◌, IfOk, IsOk, None, false};
+ghost use Rattle.sshc_mux.specs.ChannelState.{channel_of};
 ghost use Rattle.sshc_mux.specs.ChannelAccount.{called, AskEof, AskClose, PeerClose};
 ghost use Rattle.sshc_mux.specs.ChannelTable.{Did, is_established};
 
@@ -11,7 +12,8 @@ use sshc_wire::{NoMemory, Outbox};
 impl ChannelTable {
     /// Asks for EOF, which is sent once, behind all bytes that were taken.
     pub fn eof(&mut self, id: ChannelId, out: &mut Outbox) -> Result<(), NoMemory>
-        ensures { Did (called (AskEof id.0) self.old) self.old self.new out.old out.new result }
+        ensures did { Did (called (AskEof id.0) self.old) self.old self.new out.old out.new result }
+        ensures succeeds { channel_of id.0 self.old.channels ≡ None → IsOk result }
     {
         let alloc = self.alloc;
         match place(self.channels.as_slice(), &self.listed, id.0) {
@@ -25,7 +27,8 @@ impl ChannelTable {
 
     /// Asks for our close, which is sent once, behind all bytes that were taken and EOF.
     pub fn close_own(&mut self, id: ChannelId, out: &mut Outbox) -> Result<(), NoMemory>
-        ensures { Did (called (AskClose id.0) self.old) self.old self.new out.old out.new result }
+        ensures did { Did (called (AskClose id.0) self.old) self.old self.new out.old out.new result }
+        ensures succeeds { channel_of id.0 self.old.channels ≡ None → IsOk result }
     {
         let alloc = self.alloc;
         match place(self.channels.as_slice(), &self.listed, id.0) {
@@ -41,6 +44,7 @@ impl ChannelTable {
     pub fn close_peer(&mut self, id: ChannelId, out: &mut Outbox) -> Result<bool, NoMemory>
         ensures closed { Did (called (PeerClose id.0) self.old) self.old self.new out.old out.new result }
         ensures answer { IfOk result (λ known. known ≡ is_established id.0 self.old) }
+        ensures succeeds { is_established id.0 self.old ≡ false → IsOk result }
     {
         match place(self.channels.as_slice(), &self.listed, id.0) {
             Some(at) if self.channels[at].is_established() => {

@@ -1,8 +1,8 @@
 //! Data, and the flush of all channels (RFC 4254, section 5.2).
 
-ghost use Rattle.std.specs.Prelude.{◌≡◌, ◌++◌, OnOk};
+ghost use Rattle.std.specs.Prelude.{◌≡◌, ◌++◌, OnOk, IsOk, false};
 ghost use Rattle.sshc_mux.specs.ChannelAccount.{called, Bytes, FlushAll};
-ghost use Rattle.sshc_mux.specs.ChannelTable.{Did, all_flushed, all_said, records_of};
+ghost use Rattle.sshc_mux.specs.ChannelTable.{Did, all_flushed, all_said, records_of, takes_at};
 
 use crate::channel::Channel;
 use crate::chunk::Stream;
@@ -20,7 +20,8 @@ impl ChannelTable {
         exchanging: bool,
         out: &mut Outbox,
     ) -> Result<(), NoMemory>
-        ensures { Did (called (Bytes id.0 Stream.Data body.now exchanging) self.old) self.old self.new out.old out.new result }
+        ensures did { Did (called (Bytes id.0 Stream.Data body.now exchanging) self.old) self.old self.new out.old out.new result }
+        ensures succeeds { takes_at id.0 self.old ≡ false → IsOk result }
     {
         self.take(id, Stream::Data, body, exchanging, out)
     }
@@ -34,7 +35,8 @@ impl ChannelTable {
         exchanging: bool,
         out: &mut Outbox,
     ) -> Result<(), NoMemory>
-        ensures { Did (called (Bytes id.0 (Stream.Extended ext) body.now exchanging) self.old) self.old self.new out.old out.new result }
+        ensures did { Did (called (Bytes id.0 (Stream.Extended ext) body.now exchanging) self.old) self.old self.new out.old out.new result }
+        ensures succeeds { takes_at id.0 self.old ≡ false → IsOk result }
     {
         self.take(id, Stream::Extended(ext), body, exchanging, out)
     }
@@ -47,7 +49,8 @@ impl ChannelTable {
         exchanging: bool,
         out: &mut Outbox,
     ) -> Result<(), NoMemory>
-        ensures { Did (called (Bytes id.0 stream body.now exchanging) self.old) self.old self.new out.old out.new result }
+        ensures did { Did (called (Bytes id.0 stream body.now exchanging) self.old) self.old self.new out.old out.new result }
+        ensures succeeds { takes_at id.0 self.old ≡ false → IsOk result }
     {
         let alloc = self.alloc;
         match place(self.channels.as_slice(), &self.listed, id.0) {

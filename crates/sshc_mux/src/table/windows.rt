@@ -1,8 +1,8 @@
 //! Grants of the peer's, and what it uses of our windows (RFC 4254, section 5.2).
 
-ghost use Rattle.std.specs.Prelude.{◌≡◌, IfOk};
+ghost use Rattle.std.specs.Prelude.{◌≡◌, IfOk, IsOk, false};
 ghost use Rattle.sshc_mux.specs.ChannelAccount.{called, Grant, Received};
-ghost use Rattle.sshc_mux.specs.ChannelTable.{Did, granted_at, adjusted_at};
+ghost use Rattle.sshc_mux.specs.ChannelTable.{Did, is_established, granted_at, adjusted_at};
 
 use crate::table::{ChannelId, ChannelTable, place};
 use sshc_wire::{NoMemory, Outbox};
@@ -18,6 +18,7 @@ impl ChannelTable {
     ) -> Result<Option<u32>, NoMemory>
         ensures granted { Did (called (Grant id.0 amount exchanging) self.old) self.old self.new out.old out.new result }
         ensures answer { IfOk result (λ left. left ≡ granted_at id.0 amount exchanging self.old) }
+        ensures succeeds { is_established id.0 self.old ≡ false → IsOk result }
     {
         let alloc = self.alloc;
         match place(self.channels.as_slice(), &self.listed, id.0) {
@@ -40,6 +41,7 @@ impl ChannelTable {
     ) -> Result<bool, NoMemory>
         ensures received { Did (called (Received id.0 len target) self.old) self.old self.new out.old out.new result }
         ensures answer { IfOk result (λ wrote. wrote ≡ adjusted_at id.0 len target self.old) }
+        ensures succeeds { adjusted_at id.0 len target self.old ≡ false → IsOk result }
     {
         let alloc = self.alloc;
         match place(self.channels.as_slice(), &self.listed, id.0) {

@@ -1,4 +1,5 @@
 use Rattle.sshc_mux.proofs.AccountLaw.{account}
+use Rattle.sshc_mux.proofs.ClosingLaw.{closing}
 use Rattle.sshc_mux.proofs.PromptLemmas.{flush_fits, flush_empties}
 use Rattle.sshc_mux.proofs.QuietLemmas.{quiet}
 use Rattle.sshc_mux.proofs.NumberLemmas.{next_is}
@@ -6,6 +7,9 @@ use Rattle.sshc_mux.proofs.law.account.Goals as goal
 
 pub returns-clause-account : goal.returns-clause-account
 returns-clause-account c = λ before life n start end free makes stands there. account before life n start end free makes stands there
+
+pub returns-clause-closing : goal.returns-clause-closing
+returns-clause-closing c = λ before life n start end free makes stands there up. closing before life n start end free makes stands there up
 
 pub returns-clause-quiet : goal.returns-clause-quiet
 returns-clause-quiet c = λ call t h. quiet call t h

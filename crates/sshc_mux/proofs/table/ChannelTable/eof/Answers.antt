@@ -4,8 +4,8 @@ use Rattle.sshc_mux.proofs.LifeLemmas.{eof_number}
 use Rattle.sshc_mux.proofs.ListedLemmas.{listed_set, turned_number}
 use Rattle.sshc_mux.proofs.table.ChannelTable.eof.Goals as goal
 
-pub returns-in-Some : goal.returns-in-Some
-returns-in-Some c = rw (← c.self.view_is) (did_turn _ _ _ _ _ _ _ _ c.args.out.now c.ask_eof.new.out _ c.as_slice.ensures.value c.in-Some.ensures c.index_mut-channel.ensures.value c.ask_eof.ensures)
+pub returns-in-Some-clause-did : goal.returns-in-Some-clause-did
+returns-in-Some-clause-did c = rw (← c.self.view_is) (did_turn _ _ _ _ _ _ _ _ c.args.out.now c.ask_eof.new.out _ c.as_slice.ensures.value c.in-Some.ensures c.index_mut-channel.ensures.value c.ask_eof.ensures)
 
 pub invariant_of-self : goal.invariant_of-self
 invariant_of-self c =

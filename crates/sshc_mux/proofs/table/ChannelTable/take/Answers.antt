@@ -4,10 +4,10 @@ use Rattle.sshc_mux.proofs.LifeLemmas.{data_number}
 use Rattle.sshc_mux.proofs.ListedLemmas.{listed_set, turned_number}
 use Rattle.sshc_mux.proofs.table.ChannelTable.take.Goals as goal
 
-pub returns-in-Some : goal.returns-in-Some
-returns-in-Some c = rw (← c.self.view_is) (did_turn _ _ _ _ _ _ _ _ c.args.out.now c.data.new.out _ c.as_slice.ensures.value c.in-Some.ensures c.index_mut-channel.ensures.value c.data.ensures)
+pub returns-in-Some-clause-did : goal.returns-in-Some-clause-did
+returns-in-Some-clause-did c = rw (← c.self.view_is) (did_turn _ _ _ _ _ _ _ _ c.args.out.now c.data.new.out _ c.as_slice.ensures.value c.in-Some.ensures c.index_mut-channel.ensures.value c.data.ensures.turn)
 
 pub invariant_of-self : goal.invariant_of-self
 invariant_of-self c =
     listed_set _ _ _ _ _ c.self.invariant c.index_mut-channel.ensures.value
-    (turned_number (data_turn c.args.stream c.args.body.now c.args.exchanging) _ _ c.args.out.now c.data.new.out _ (data_number c.args.stream c.args.body.now c.args.exchanging) c.data.ensures)
+    (turned_number (data_turn c.args.stream c.args.body.now c.args.exchanging) _ _ c.args.out.now c.data.new.out _ (data_number c.args.stream c.args.body.now c.args.exchanging) c.data.ensures.turn)

@@ -1,7 +1,7 @@
 use Rattle.std.proofs.Common.{◌≡◌, ◌++◌, ◌≤◌, length}
 use Rattle.std.specs.Vec.Iter.{into_iter_items}
 use Rattle.sshc_wire.specs.Outgoing.{shown}
-use Rattle.sshc_mux.proofs.packets.push_all.Given as goal
+use Rattle.sshc_mux.proofs.packets.push_all_reserved.Given as goal
 
 abbrev pub invariant-loop-packet : goal.invariant-loop-packet
 invariant-loop-packet l =
