@@ -1,6 +1,5 @@
 -- The program's words, the line that tells how a run was answered, and the status.
 use Rattle.std.specs.Prelude.{◌≡◌, ◌⊎◌, ℕ, ◌≤◌, ◌<◌, Bool, true, false, List, [], ◌∷◌, ◌++◌, length, Option, Result, Ok, Err, codes}
-use Rattle.std.specs.Str.Parse.{IsNumeral, digits_value}
 use Rattle.std.specs.Fmt.{decimal}
 use Rattle.sshc_wire.specs.Contents.{append, WroteFront, IsFound}
 use Rattle.sshc_wire.specs.Faults.{Rose}
@@ -12,14 +11,12 @@ use Rattle.sshc_auth.specs.declared.opening.Settings.{Settings}
 use Rattle.sshc_auth.specs.OpeningState.{start}
 use Rattle.sshc_run.specs.declared.error.RunError.{RunError}
 use Rattle.sshc_run.specs.declared.error.RunError.TheVariants as errors
+use Rattle.sshc_words.specs.Adding.{Adds}
+use Rattle.sshc_words.specs.Port.{IsPort}
 use Rattle.sshc_run.specs.Outcome.{Ends}
 use Rattle.sshc_run.specs.ScriptRun.{Run, script_run}
 
 -- ---- the words
-
--- one to five decimal digits, at most 65535
-abbrev pub IsPort : List ℕ → ℕ → Type 0
-IsPort word port = (length word ≤ 5) × IsNumeral 10 word × (digits_value 10 word ≡ port) × (port < 65536)
 
 -- `script HOST PORT KNOWN`
 abbrev pub IsScriptWords : List (List ℕ) → List ℕ → ℕ → List ℕ → Type 0
@@ -93,13 +90,7 @@ abbrev pub status_of : Result Ended RunError → ℕ
 status_of (Ok e) = 0
 status_of (Err e) = error_status e
 
--- ---- a line that the program adds
-
--- the line was written and the status is its own; or it was cut, and the status is 22 where the sink failed, else 20
-abbrev pub Adds : List ℕ → ℕ → Option (List ℕ) → Option (List ℕ) → ℕ → ℕ → ℕ → Type 0
-Adds line own held now faults faults' status =
-    ((status ≡ own) × (now ≡ append held line))
-    ⊎ (WroteFront held now line × (((status ≡ 22) × Rose faults faults') ⊎ (status ≡ 20)))
+-- ---- the line that tells a run
 
 -- a write of the run failed
 abbrev pub is_write_fault : Result Ended RunError → Bool

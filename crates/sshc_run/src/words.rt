@@ -4,26 +4,22 @@ ghost use Rattle.std.specs.Prelude.{◌≡◌, ◌≤◌, ℕ, List, Err, IfOk, 
 ghost use Rattle.sshc_wire.specs.Faults.{Rose};
 ghost use Rattle.sshc_run.specs.Configured.{IsDefault};
 ghost use Rattle.sshc_run.specs.Outcome.{Ends};
-ghost use Rattle.sshc_run.specs.Words.{IsPort, IsScriptWords, default_events, end_name, error_name, answer_line, error_status, status_of, is_write_fault, Adds, Tells, IsKnownText, RunsBy, words_table, ScriptGives};
+ghost use Rattle.sshc_words.specs.Adding.{Adds};
+ghost use Rattle.sshc_words.specs.Asked.{Asked, Asks};
+ghost use Rattle.sshc_words.specs.HostsWords.{outside, AskedGives};
+ghost use Rattle.sshc_run.specs.Words.{IsScriptWords, default_events, end_name, error_name, answer_line, error_status, status_of, is_write_fault, Tells, IsKnownText, RunsBy, words_table, ScriptGives};
 
 use crate::config::Config;
 use crate::error::RunError;
 use crate::run::run_script;
 use sshc_auth::Ended;
 use sshc_key::{LocalSigner, Verifier};
-use sshc_wire::{Failed, Files, Found, NoMemory, Sink, Source, Text, write_whole};
+use sshc_wire::{Failed, Files, Found, NoMemory, Sink, Source, Text};
+use sshc_words::{
+    KNOWN_FILE_STATUS, NO_MEMORY_STATUS, WORDS_STATUS, WRITE_FAULT_STATUS, add_line, port_of,
+    run_hosts_words,
+};
 use std::alloc::Global;
-
-/// The status of words that the program doesn't know.
-const WORDS_STATUS: u8 = 2;
-
-/// The status of a known hosts file that is no text or can't be read.
-const KNOWN_FILE_STATUS: u8 = 3;
-
-/// The statuses of errors begin here, in the order of `RunError`.
-const NO_MEMORY_STATUS: u8 = 20;
-
-const WRITE_FAULT_STATUS: u8 = 22;
 
 /// The words `script HOST PORT KNOWN`.
 #[derive(Clone, Copy, Debug)]
@@ -31,20 +27,6 @@ struct ScriptWords<'a> {
     host: &'a str,
     port: u16,
     path: &'a str,
-}
-
-/// The port that a word of one to five decimal digits names.
-fn port_of(word: &str) -> Option<u16>
-    ensures some { IfSome result (λ port. IsPort word.now port) }
-    ensures none { IsNone result → (port : ℕ) → IsPort word.now port → ⊥ }
-{
-    if word.len() > 5 || word.starts_with('+') {
-        return None;
-    }
-    match word.parse::<u16>() {
-        Ok(port) => Some(port),
-        Err(_) => None,
-    }
 }
 
 fn end_name(ended: &Ended) -> &'static str
@@ -149,18 +131,6 @@ fn is_write_fault(answer: &Result<Ended, RunError>) -> bool
     ensures { result ≡ is_write_fault answer.now }
 {
     matches!(answer, Err(RunError::WriteFault))
-}
-
-/// Adds a line, and answers its status, or that of a failed write.
-fn add_line<K: Sink>(sink: &mut K, line: &str, status: u8) -> u8
-    ensures adds { Adds line.now status (K.contents sink.old) (K.contents sink.new) (K.faults sink.old) (K.faults sink.new) result }
-    ensures later { K.faults sink.old ≤ K.faults sink.new }
-{
-    match write_whole(sink, line.as_bytes()) {
-        Ok(()) => status,
-        Err(Failed::Fault) => WRITE_FAULT_STATUS,
-        Err(Failed::NoMemory) => NO_MEMORY_STATUS,
-    }
 }
 
 /// Tells the answer of a run, and answers its status. After a failed write nothing more is written.
@@ -270,8 +240,28 @@ fn run_script_words<F: Files, S: Source, K: Sink, G: LocalSigner, V: Verifier>(
     }
 }
 
-/// Runs the program by its words, and answers its status: 0 where the run ended, 2 for words that it doesn't know,
-/// 3 for a known hosts file that is no text or can't be read, and 20 to 41 for the errors of a run in their order.
+/// Runs words that are no script's: those of known hosts, or none that the program knows.
+fn run_other_words<F: Files, K: Sink>(
+    alloc: Global,
+    words: &[Text],
+    files: &mut F,
+    sink: &mut K,
+) -> u8
+    ensures hosts { (asked : Asked) → Asks words.now asked → AskedGives asked
+        (outside (F.contents files.old) (F.read_faults files.old) (F.append_faults files.old) (K.contents sink.old) (K.faults sink.old))
+        (outside (F.contents files.new) (F.read_faults files.new) (F.append_faults files.new) (K.contents sink.new) (K.faults sink.new)) result }
+    ensures other { ((asked : Asked) → Asks words.now asked → ⊥) → (F.contents files.new ≡ F.contents files.old)
+        × Adds (codes "error words" ++ 10 ∷ []) 2 (K.contents sink.old) (K.contents sink.new) (K.faults sink.old) (K.faults sink.new) result }
+{
+    match run_hosts_words(alloc, words, files, sink) {
+        Some(status) => status,
+        None => add_line(sink, "error words\n", WORDS_STATUS),
+    }
+}
+
+/// Runs the program by its words, and answers its status: 0 where the run ended or known hosts answered, 1 for an unknown
+/// key, 2 for words that it doesn't know, 3 for a known hosts file that is no text or can't be read, 4 for one that can't
+/// be added to, 5 for a word KEY that can't be read, and 20 to 41 for the errors of a run in their order.
 pub fn run_words<F: Files, S: Source, K: Sink, G: LocalSigner, V: Verifier>(
     alloc: Global,
     words: &[Text],
@@ -281,16 +271,22 @@ pub fn run_words<F: Files, S: Source, K: Sink, G: LocalSigner, V: Verifier>(
     source: &mut S,
     sink: &mut K,
 ) -> u8
+    // `script HOST PORT KNOWN`: the run, and the line that tells its answer.
     ensures script { (host : List ℕ) (port : ℕ) (path : List ℕ) → IsScriptWords words.now host port path →
         ScriptGives host port path (F.contents files.old) (S.left source.old) (S.left source.new)
         (K.contents sink.old) (K.contents sink.new) (S.reads source.old) (S.reads source.new) (K.faults sink.old) (K.faults sink.new)
         (F.read_faults files.old) (F.read_faults files.new) result }
-    ensures other { ((host : List ℕ) (port : ℕ) (path : List ℕ) → IsScriptWords words.now host port path → ⊥) →
-        (S.left source.new ≡ S.left source.old)
+    // `hosts check`, `hosts keys` and `hosts learn`: the answer of known hosts, told; nothing is read from the source.
+    ensures hosts { (asked : Asked) → Asks words.now asked → (S.left source.new ≡ S.left source.old) × AskedGives asked
+        (outside (F.contents files.old) (F.read_faults files.old) (F.append_faults files.old) (K.contents sink.old) (K.faults sink.old))
+        (outside (F.contents files.new) (F.read_faults files.new) (F.append_faults files.new) (K.contents sink.new) (K.faults sink.new)) result }
+    // Other words: nothing is read, and the files stay as they were.
+    ensures other { ((host : List ℕ) (port : ℕ) (path : List ℕ) → IsScriptWords words.now host port path → ⊥) → ((asked : Asked) → Asks words.now asked → ⊥) →
+        (S.left source.new ≡ S.left source.old) × (F.contents files.new ≡ F.contents files.old)
         × Adds (codes "error words" ++ 10 ∷ []) 2 (K.contents sink.old) (K.contents sink.new) (K.faults sink.old) (K.faults sink.new) result }
 {
     match script_words(words) {
         Some(asked) => run_script_words(alloc, &asked, files, signer, verifier, source, sink),
-        None => add_line(sink, "error words\n", WORDS_STATUS),
+        None => run_other_words(alloc, words, files, sink),
     }
 }

@@ -1,5 +1,6 @@
 use Rattle.std.proofs.Common.{◌≤◌, ◌∙◌, length, sym, arith}
-use Rattle.sshc_words.proofs.WordLists.{five_words, same_word, at_place}
+use Rattle.sshc_words.specs.WordLaws.{same_word, at_place}
+use Rattle.sshc_words.proofs.WordLists.{five_words}
 use Rattle.sshc_words.proofs.Parts.{asks_by}
 use Rattle.sshc_words.proofs.asked.hosts_words.Goals as goal
 
