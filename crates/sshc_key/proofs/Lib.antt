@@ -10,3 +10,4 @@ mod Readable
 mod PairFormats
 mod FieldLemmas
 mod LineLemmas
+mod Base64Again

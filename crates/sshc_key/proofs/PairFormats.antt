@@ -1,5 +1,6 @@
 -- Key pairs are formats.
-use Rattle.std.proofs.Common.{◌≡◌, ℕ, true, List, ◌++◌, Option, Some, None, Err, refl, sym, ap, subst, ◌∙◌}
+use Rattle.std.proofs.Common.{◌≡◌, ℕ, true, List, ◌++◌, length, drop, Option, Some, None, Ok, Err, refl, sym, ap, subst, ◌∙◌}
+use Rattle.std.proofs.Math.Seq.{drop-append_seam}
 use Rattle.sshc_wire.specs.Wire.{string_text, IsShort}
 use Rattle.sshc_wire.specs.Reads.{Reader}
 use Rattle.sshc_wire.specs.Format.{IsFormat, both, tested, partly, chosen, named, told_as}
@@ -10,7 +11,8 @@ use Rattle.sshc_key.specs.declared.kind.Known.{Known}
 use Rattle.sshc_key.specs.declared.kind.Known.TheVariants.{Dsa, Ecdsa, Ed25519, Rsa, SkEcdsaSha2NistP256, SkEd25519}
 use Rattle.sshc_key.specs.AlgorithmNames.{curve_name, known_name, known_named}
 use Rattle.sshc_key.specs.KeyGrammar.{IsMpint, IsPoint, IsOfLength}
-use Rattle.sshc_key.specs.PairGrammar.{Pair, dsa_pair, ecdsa_pair, ed25519_pair, rsa_pair, pair_kind, pair_fields_text, pair_text, ends_public, PairFits, dsa_pair_at, ecdsa_pair_at, ed25519_pair_at, rsa_pair_at, with_pair, pair_named, pair_name_at, pair_fields_at, pair_at}
+use Rattle.sshc_key.specs.PairCode.{KeyPair}
+use Rattle.sshc_key.specs.PairGrammar.{Pair, dsa_pair, ecdsa_pair, ed25519_pair, rsa_pair, pair_in, pair_kind, pair_fields_text, pair_text, text_or_nothing, key_pair_text, ends_public, PairFits, dsa_pair_at, ecdsa_pair_at, ed25519_pair_at, rsa_pair_at, with_pair, pair_named, pair_name_at, pair_fields_at, pair_at}
 use Rattle.sshc_key.proofs.FieldsGrammar.{octets, mpints, points, sized, curves, IsCurveName, name_fits, named_so, Two, Three}
 use Rattle.sshc_key.proofs.NameLemmas.{some, some_is}
 use Rattle.sshc_key.proofs.TagLemmas.{known_is, stands}
@@ -159,3 +161,9 @@ has_pair (rsa_pair n e d iqmp p q) = refl
 pub pairs : IsFormat pair_text PairFits pair_at
 unfolding pair_at
 pairs = told_as pair_text PairFits (λ p h. (refl, h.1)) (λ p h. (refl, (((stands (pair_kind p)).text.0, has_pair p), h))) (chosen pair_kind names pair_fields)
+
+-- what was written behind other bytes is read again
+pub written_pair_is_read : (old new : List ℕ) (k : KeyPair) → new ≡ old ++ key_pair_text k → (p : Pair) (rest : List ℕ) → pair_in k.public.0 k.pair ≡ Some p → PairFits p → pair_at (drop (length old) new ++ rest) ≡ Ok (p, rest)
+written_pair_is_read old new k written p rest is fits =
+    let behind : drop (length old) new ≡ pair_text p = ap (drop (length old)) written ∙ (drop-append_seam old (key_pair_text k) ∙ ap text_or_nothing is) in
+    ap (λ (t : List ℕ). pair_at (t ++ rest)) behind ∙ pairs.again p rest fits

@@ -1,6 +1,6 @@
 //! Keys as base64 in lines.
 
-ghost use Rattle.std.specs.Prelude.{◌≡◌, ◌↔◌, ◌≤◌, ◌++◌, ℕ, List, Some, filter, IfOk, OnOk, string_bytes};
+ghost use Rattle.std.specs.Prelude.{◌≡◌, ◌↔◌, ◌≤◌, ◌++◌, ℕ, List, Some, Ok, filter, IfOk, OnOk, string_bytes};
 ghost use Rattle.sshc_key.specs.Algorithms.{algorithm_of, key_base64, commented_text, openssh_text};
 ghost use Rattle.sshc_key.specs.KeyGrammar.{Key, key_text, Fits};
 ghost use Rattle.sshc_key.specs.KeyText.{is_no_line_end, decoded_key};
@@ -57,7 +57,10 @@ pub trait PublicKeyBase64 {
 
     /// The blob in padded base64.
     fn public_key_base64(&self) -> Result<String, NoMemory>
-        ensures { IfOk result (λ t. string_bytes t ≡ key_base64 (key self.now)) };
+        ensures text { IfOk result (λ t. string_bytes t ≡ key_base64 (key self.now)) }
+        // What was written is read again.
+        ensures again { IfOk result (λ t. Fits (key self.now) → markers (key_text (key self.now)) ≤ 8
+            → decoded_key (string_bytes t) ≡ Ok (key self.now)) };
 }
 
 impl PublicKeyBase64 for PublicKey {
@@ -68,6 +71,7 @@ impl PublicKeyBase64 for PublicKey {
         key_bytes(self.comment.allocator(), &self.key)
     }
 
+    #[tactic(auto, using(crate::proofs::Base64Again::base64_is_read))]
     fn public_key_base64(&self) -> Result<String, NoMemory> {
         let blob = self.public_key_bytes()?;
         Ok(STANDARD.encode(self.comment.allocator(), &blob)?)

@@ -1,9 +1,9 @@
 //! Writes key pairs (draft-miller-ssh-agent, section 3.2).
 
-ghost use Rattle.std.specs.Prelude.{◌≡◌, ◌++◌, OnErr, OnOk};
+ghost use Rattle.std.specs.Prelude.{◌≡◌, ◌++◌, ℕ, List, Some, Ok, OnErr, OnOk, drop, length};
 ghost use Rattle.sshc_wire.specs.Wire.{string_text};
 ghost use Rattle.sshc_key.specs.AlgorithmNames.{known_name};
-ghost use Rattle.sshc_key.specs.PairGrammar.{pair_in, text_or_nothing, key_pair_text};
+ghost use Rattle.sshc_key.specs.PairGrammar.{Pair, PairFits, pair_at, pair_in, text_or_nothing, key_pair_text};
 ghost use Rattle.sshc_key.specs.View.{view};
 
 use crate::key_data::KeyData;
@@ -114,8 +114,12 @@ fn put_pair(out: &mut Vec<u8>, key: &PrivateKey) -> Result<(), NoMemory>
 }
 
 /// Writes a key pair, as the name of its algorithm and its parts. Of parts of two algorithms nothing is written.
+#[tactic(auto, using(crate::proofs::PairFormats::written_pair_is_read))]
 pub fn write_key_pair(out: &mut Vec<u8>, key: &PrivateKey) -> Result<(), NoMemory>
     ensures ok { OnOk result (out.new.items ≡ out.old.items ++ key_pair_text key.now) }
+    // What was written of a pair of the grammar is read again, whatever follows it.
+    ensures again { OnOk result ((p : Pair) (rest : List ℕ) → pair_in key.now.public.0 key.now.pair ≡ Some p → PairFits p
+        → pair_at (drop (length out.old.items) out.new.items ++ rest) ≡ Ok (p, rest)) }
     ensures err { OnErr result (out.new.items ≡ out.old.items) }
 {
     let mut text = Vec::new(*out.allocator());
