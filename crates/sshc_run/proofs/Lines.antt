@@ -4,7 +4,7 @@ use Rattle.std.proofs.lemmas.List.{take-append-drop, take_more, append-nil}
 use Rattle.std.proofs.lemmas.List.Concat.{flat_map-append}
 use Rattle.sshc_wire.specs.declared.record.Record.{Record}
 use Rattle.sshc_run.specs.RecordLines.{line, lines}
-use Rattle.sshc_wire.specs.Contents.{append, WroteFront, wrote_more}
+use Rattle.sshc_wire.specs.Contents.{append, WroteFront, append-append, wrote_more}
 
 lines_split : (rs : List Record) (i : ℕ) (r : Record) → i < length rs → r ≡ get_or rs i r → lines rs ≡ lines (take i rs) ++ line r ++ lines (drop (i + 1) rs)
 lines_split rs i r lt is =
@@ -17,3 +17,12 @@ pub cut_line : (rs : List Record) (i : ℕ) (r : Record) (a b c : Option (List �
     b ≡ append a (lines (take i rs)) → WroteFront b c (line r) → WroteFront a c (lines rs)
 cut_line rs i r a b c lt is first cut =
     rw (lines_split rs i r lt is) (wrote_more a b c (lines (take i rs)) (line r) (lines (drop (i + 1) rs)) first cut)
+
+-- one line more
+pub next_line : (rs : List Record) (i : ℕ) (r : Record) (a b c : Option (List ℕ)) → i < length rs → r ≡ get_or rs i r →
+    b ≡ append a (lines (take i rs)) → c ≡ append b (line r) → c ≡ append a (lines (take (i + 1) rs))
+next_line rs i r a b c lt is first more =
+    let one : lines (take (i + 1) rs) ≡ lines (take i rs) ++ line r =
+    ap lines (take_more rs i r lt ∙ ap (λ x. take i rs ++ x ∷ []) (sym is)) ∙ flat_map-append line (take i rs) (r ∷ []) ∙ ap (λ t. lines (take i rs) ++ t) (append-nil (line r))
+    in
+    more ∙ ap (λ o. append o (line r)) first ∙ append-append a (lines (take i rs)) (line r) ∙ ap (append a) (sym one)

@@ -1,7 +1,7 @@
 //! Writes records as lines.
 
 ghost use Rattle.std.specs.Prelude.{◌≡◌, ◌+◌, ◌≤◌, IfOk, OnOk, OnErr, length, string_bytes};
-ghost use Rattle.sshc_wire.specs.Contents.{append, WroteFront};
+ghost use Rattle.sshc_wire.specs.Contents.{append, WroteFront, WritesMove, WritesFor};
 ghost use Rattle.sshc_wire.specs.Faults.{HasCause};
 ghost use Rattle.sshc_run.specs.RecordLines.{line, lines};
 
@@ -23,6 +23,8 @@ fn line_of(alloc: Global, said: &Record) -> Result<String, NoMemory>
 fn write_line<K: Sink>(alloc: Global, sink: &mut K, said: &Record) -> Result<(), Failed>
     ensures whole { OnOk result (K.contents sink.new ≡ append (K.contents sink.old) (line said.now)) }
     ensures cut { OnErr result (WroteFront (K.contents sink.old) (K.contents sink.new) (line said.now)) }
+    ensures moved { OnOk result (WritesMove (K.contents sink.old) (K.contents sink.new) (K.writes sink.old) (K.writes sink.new)) }
+    ensures writes { OnErr result (WritesFor (K.contents sink.old) (K.contents sink.new) (K.writes sink.old) (K.writes sink.new)) }
     ensures cause { HasCause (K.faults sink.old) (K.faults sink.new) result }
 {
     match line_of(alloc, said) {
@@ -35,6 +37,8 @@ fn write_line<K: Sink>(alloc: Global, sink: &mut K, said: &Record) -> Result<(),
 pub fn write_lines<K: Sink>(alloc: Global, sink: &mut K, records: &[Record]) -> Result<(), Failed>
     ensures whole { OnOk result (K.contents sink.new ≡ append (K.contents sink.old) (lines records.now)) }
     ensures cut { OnErr result (WroteFront (K.contents sink.old) (K.contents sink.new) (lines records.now)) }
+    ensures moved { OnOk result (WritesMove (K.contents sink.old) (K.contents sink.new) (K.writes sink.old) (K.writes sink.new)) }
+    ensures writes { OnErr result (WritesFor (K.contents sink.old) (K.contents sink.new) (K.writes sink.old) (K.writes sink.new)) }
     ensures cause { HasCause (K.faults sink.old) (K.faults sink.new) result }
 {
     for said in records {

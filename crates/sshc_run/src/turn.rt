@@ -1,6 +1,7 @@
 //! One event of a script: it is taken, and its records are written.
 
 ghost use Rattle.std.specs.Prelude.{◌≡◌, ◌≢◌, ◌+◌, ◌<◌, ◌≤◌, ◌^◌, [], Some, None, Err, IfNone, true, false};
+ghost use Rattle.sshc_wire.specs.Contents.{WritesMove, WritesFor};
 ghost use Rattle.sshc_wire.specs.Faults.{Rose};
 ghost use Rattle.sshc_auth.specs.OpeningTable.{asked_of};
 ghost use Rattle.sshc_run.specs.Outcome.{Ends};
@@ -160,6 +161,8 @@ fn step_event<G: LocalSigner, K: Sink>(
     ensures moved { (at.new.place ≡ at.old.place) × (at.new.last ≡ at.old.last) }
     ensures same { hosts_of gate.new ≡ hosts_of gate.old }
     ensures unsigned { G.calls signer.new ≡ G.calls signer.old }
+    ensures moved_writes { IfNone result (WritesMove (K.contents sink.old) (K.contents sink.new) (K.writes sink.old) (K.writes sink.new)) }
+    ensures writes { WritesFor (K.contents sink.old) (K.contents sink.new) (K.writes sink.old) (K.writes sink.new) }
     ensures write_later { K.faults sink.old ≤ K.faults sink.new }
     ensures write_fault { result ≡ Some (Err RunError.WriteFault) → Rose (K.faults sink.old) (K.faults sink.new) }
     ensures no_read { result ≢ Some (Err RunError.ReadFault) }
@@ -186,6 +189,8 @@ fn take_event<G: LocalSigner, K: Sink>(
     ensures moved { (at.new.place ≡ at.old.place) × (at.new.last ≡ at.old.last) }
     ensures same { hosts_of gate.new ≡ hosts_of gate.old }
     ensures unsigned { G.calls signer.new ≡ G.calls signer.old }
+    ensures moved_writes { IfNone result (WritesMove (K.contents sink.old) (K.contents sink.new) (K.writes sink.old) (K.writes sink.new)) }
+    ensures writes { WritesFor (K.contents sink.old) (K.contents sink.new) (K.writes sink.old) (K.writes sink.new) }
     ensures write_later { K.faults sink.old ≤ K.faults sink.new }
     ensures write_fault { result ≡ Some (Err RunError.WriteFault) → Rose (K.faults sink.old) (K.faults sink.new) }
     ensures no_read { result ≢ Some (Err RunError.ReadFault) }
@@ -218,6 +223,8 @@ pub fn one_turn<S: Source, G: LocalSigner, K: Sink>(
     ensures same { hosts_of gate.new ≡ hosts_of gate.old }
     ensures unsigned { G.calls signer.new ≡ G.calls signer.old }
     ensures read_later { S.faults source.old ≤ S.faults source.new }
+    ensures moved_writes { IfNone result (WritesMove (K.contents sink.old) (K.contents sink.new) (K.writes sink.old) (K.writes sink.new)) }
+    ensures writes { WritesFor (K.contents sink.old) (K.contents sink.new) (K.writes sink.old) (K.writes sink.new) }
     ensures write_later { K.faults sink.old ≤ K.faults sink.new }
     ensures read_fault { result ≡ Some (Err RunError.ReadFault) → Rose (S.faults source.old) (S.faults source.new) }
     ensures write_fault { result ≡ Some (Err RunError.WriteFault) → Rose (K.faults sink.old) (K.faults sink.new) }

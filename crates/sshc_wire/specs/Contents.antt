@@ -1,6 +1,6 @@
 -- What sources, sinks and files tell of the bytes that they hold. What isn't told is none.
 -- One equation serves told and untold contents; the code keeps positions and buffers.
-use Rattle.std.proofs.Common.{◌≡◌, ℕ, List, [], ◌∷◌, ◌++◌, Option, Some, None, refl, ap, sym, ◌∙◌, append_assoc}
+use Rattle.std.proofs.Common.{◌≡◌, ℕ, ◌+◌, ◌≤◌, List, [], ◌∷◌, ◌++◌, length, Option, Some, None, refl, ap, sym, ◌∙◌, append_assoc, length-append, arith}
 use Rattle.std.proofs.lemmas.List.{append-nil}
 use Rattle.std.specs.Prelude.{bytes_eq, if◌then◌else◌}
 use Rattle.std.specs.Option.{option_map, IfSome}
@@ -23,6 +23,14 @@ IsAtEnd left = IfSome left (λ rest. rest ≡ [])
 -- a front of the whole was written
 abbrev pub WroteFront : Option (List ℕ) → Option (List ℕ) → List ℕ → Type 0
 WroteFront old new whole = (front rest : List ℕ) × (whole ≡ front ++ rest) × (new ≡ append old front)
+
+-- each write moved a byte of what was written
+abbrev pub WritesMove : Option (List ℕ) → Option (List ℕ) → ℕ → ℕ → Type 0
+WritesMove old new writes writes' = (part : List ℕ) × (new ≡ append old part) × (writes' ≤ writes + length part)
+
+-- each write but the last did
+abbrev pub WritesFor : Option (List ℕ) → Option (List ℕ) → ℕ → ℕ → Type 0
+WritesFor old new writes writes' = (part : List ℕ) × (new ≡ append old part) × (writes' ≤ writes + length part + 1)
 
 -- the bytes of the first file of this path
 abbrev pub bytes_of : List (List ℕ × List ℕ) → List ℕ → Option (List ℕ)
@@ -62,6 +70,22 @@ append-nothing (Some x) = ap Some (append-nil x)
 pub append-append : (o : Option (List ℕ)) (a b : List ℕ) → append (append o a) b ≡ append o (a ++ b)
 append-append None a b = refl
 append-append (Some x) a b = ap Some (append_assoc x a b)
+
+-- writes that each moved a byte, and then writes more
+
+pub no_writes : (o : Option (List ℕ)) (writes : ℕ) → WritesMove o o writes writes
+no_writes o writes = ([], sym (append-nothing o), omega arith)
+
+pub writes_on : (a b c : Option (List ℕ)) (writes mid writes' : ℕ) → WritesMove a b writes mid → WritesMove b c mid writes' → WritesMove a c writes writes'
+writes_on a b c writes mid writes' (part, is, few) (part', is', few') =
+    (part ++ part', is' ∙ ap (λ o. append o part') is ∙ append-append a part part', omega (arith, few, few', length-append part part'))
+
+pub writes_end : (a b c : Option (List ℕ)) (writes mid writes' : ℕ) → WritesMove a b writes mid → WritesFor b c mid writes' → WritesFor a c writes writes'
+writes_end a b c writes mid writes' (part, is, few) (part', is', few') =
+    (part ++ part', is' ∙ ap (λ o. append o part') is ∙ append-append a part part', omega (arith, few, few', length-append part part'))
+
+pub moved_for : (a b : Option (List ℕ)) (writes writes' : ℕ) → WritesMove a b writes writes' → WritesFor a b writes writes'
+moved_for a b writes writes' (part, is, few) = (part, is, omega (arith, few))
 
 -- what was written before, and then a front of a part of what was due
 pub wrote_more : (a b c : Option (List ℕ)) (before part after : List ℕ) → b ≡ append a before → WroteFront b c part → WroteFront a c (before ++ part ++ after)

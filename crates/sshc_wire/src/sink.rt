@@ -1,7 +1,7 @@
 //! Where bytes go.
 
 ghost use Rattle.std.specs.Prelude.{◌≡◌, ℕ, ◌+◌, ◌<◌, ◌≤◌, List, length, take, Option, IfOk, OnOk, OnErr};
-ghost use Rattle.sshc_wire.specs.Contents.{append, WroteFront};
+ghost use Rattle.sshc_wire.specs.Contents.{append, WroteFront, WritesFor};
 ghost use Rattle.sshc_wire.specs.Faults.{CountsOne, HasCause};
 
 use crate::source::Failed;
@@ -34,6 +34,7 @@ pub fn write_whole<K: Sink>(sink: &mut K, piece: &[u8]) -> Result<(), Failed>
     ensures cause { HasCause (K.faults sink.old) (K.faults sink.new) result }
     ensures moved { OnOk result (K.writes sink.new ≤ K.writes sink.old + length piece.now) }
     ensures counted { K.writes sink.new ≤ K.writes sink.old + length piece.now + 1 }
+    ensures writes { OnErr result (WritesFor (K.contents sink.old) (K.contents sink.new) (K.writes sink.old) (K.writes sink.new)) }
 {
     let mut written = 0usize;
     while written < piece.len() {

@@ -1,4 +1,5 @@
 use Rattle.std.proofs.Common.{[], inl, arith, refl, subst, ap, ◌∙◌, ◌≡◌, ◌-◌, Some}
+use Rattle.sshc_wire.specs.Contents.{no_writes, writes_on, writes_end, moved_for}
 use Rattle.sshc_auth.specs.OpeningState.{start}
 use Rattle.sshc_run.specs.Configured.{settings_of}
 use Rattle.sshc_run.specs.Outcome.{Ends}
@@ -16,6 +17,7 @@ loop-turn-init g c = record {
   unsigned = refl;
   place = omega arith;
   reads = omega arith;
+  moved = no_writes _ _;
   writes = omega arith;
 }
 
@@ -32,6 +34,7 @@ loop-turn-preserved g c =
       unsigned = c.one_turn.ensures.unsigned ∙ c.loop-turn.invariant.unsigned;
       place = omega (arith, c.loop-turn.invariant.place, gives.4.within);
       reads = omega (arith, c.loop-turn.invariant.reads, c.one_turn.ensures.read_later);
+      moved = writes_on _ _ _ _ _ _ c.loop-turn.invariant.moved (c.in_default.ensures.moved_writes);
       writes = omega (arith, c.loop-turn.invariant.writes, c.one_turn.ensures.write_later);
     }
 
@@ -58,3 +61,9 @@ returns-clause-run g c =
     (along_ends (start (settings_of c.args.config.now)) (table (hosts_of c.args.gate.now)) _ _ _ _ _ _ _ _ _ _ _ _ _ _ c.at_limit.result (omega (arith, c.loop-turn.invariant.turns)) c.loop-turn.invariant.along
     (subst (λ n. Ends n c.loop-turn.at.place c.loop-turn.at.last (table (hosts_of c.args.gate.now) n c.loop-turn.at.place c.loop-turn.at.last c.loop-turn.at.opening) (g.S.Source.left c.loop-turn.source) (g.S.Source.left c.at_limit.new.source)
     (g.K.Sink.contents c.loop-turn.sink) (g.K.Sink.contents c.loop-turn.sink) (g.S.Source.reads c.loop-turn.source) (g.S.Source.reads c.at_limit.new.source) c.at_limit.result) none ends))
+
+pub returns-in-Some-clause-writes : goal.returns-in-Some-clause-writes
+returns-in-Some-clause-writes g c = writes_end _ _ _ _ _ _ c.loop-turn.invariant.moved c.one_turn.ensures.writes
+
+pub returns-clause-writes : goal.returns-clause-writes
+returns-clause-writes g c = moved_for _ _ _ _ c.loop-turn.invariant.moved

@@ -1,4 +1,5 @@
 use Rattle.std.proofs.Common.{◌≡◌, ◌*◌, ◌≤◌}
+use Rattle.sshc_wire.specs.Contents.{WritesMove}
 use Rattle.sshc_auth.specs.OpeningState.{start}
 use Rattle.sshc_run.specs.Along.{IsAlong}
 use Rattle.sshc_run.specs.Configured.{settings_of}
@@ -16,5 +17,6 @@ invariant-loop-turn g l =
       unsigned : g.G.LocalSigner.calls l.signer ≡ g.G.LocalSigner.calls l.initial.signer;
       place : l.at.place ≤ 262148 * l.turn;
       reads : g.S.Source.faults l.initial.source ≤ g.S.Source.faults l.source;
+      moved : WritesMove (g.K.Sink.contents l.initial.sink) (g.K.Sink.contents l.sink) (g.K.Sink.writes l.initial.sink) (g.K.Sink.writes l.sink);
       writes : g.K.Sink.faults l.initial.sink ≤ g.K.Sink.faults l.sink;
     }

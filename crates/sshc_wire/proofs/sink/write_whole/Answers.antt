@@ -1,4 +1,4 @@
-use Rattle.std.proofs.Common.{arith, ◌<◌, ◌-◌, length, take, drop, sym, ◌∙◌, length-take, length-drop}
+use Rattle.std.proofs.Common.{arith, ◌≡◌, ◌<◌, ◌-◌, length, take, drop, sym, ◌∙◌, length-take, length-drop}
 use Rattle.std.proofs.lemmas.List.{take-append-drop}
 use Rattle.sshc_wire.proofs.Pieces.{written_more, within_piece}
 use Rattle.sshc_wire.proofs.sink.write_whole.Goals as goal
@@ -19,4 +19,12 @@ returns-in-Err-clause-cut g c = (
   drop c.loop-written.written c.args.piece.now,
   sym (take-append-drop c.loop-written.written c.args.piece.now),
   c.in-Err.ensures.none ∙ c.loop-written.invariant.wrote,
+)
+
+pub returns-in-Err-clause-writes : goal.returns-in-Err-clause-writes
+returns-in-Err-clause-writes g c = (
+  take c.loop-written.written c.args.piece.now,
+  c.in-Err.ensures.none ∙ c.loop-written.invariant.wrote,
+  (let size : length (take c.loop-written.written c.args.piece.now) ≡ c.loop-written.written = grind (arith, length-take, c.loop-written.invariant.within) in
+      omega (arith, size, c.loop-written.invariant.counted, c.write.ensures.counted)),
 )
