@@ -65,300 +65,250 @@ fn fresh(alloc: Global, number: u32, by_user: bool, own_window: u32) -> Plain {
     }
 }
 
-/// One random call on both tables, with equal answers.
-fn step(
-    rt: &impl Abort,
+/// The table and the plain one, with what each said.
+#[derive(Debug, Drop)]
+struct Both {
     alloc: Global,
-    numbers: &mut Numbers,
-    table: &mut ChannelTable,
-    plain: &mut PlainTable,
-    out: &mut Outbox,
-    said: &mut Said,
-) -> Result<(), NoMemory> {
-    let number = numbers.below(6).wrapping_sub(numbers.below(2));
-    let id = ChannelId(number);
-    let at = plain.place(number);
-    let amount = numbers.below(12);
-    let exchanging = numbers.below(4) == 0;
-    match numbers.below(14) {
-        0 => open(rt, alloc, amount, table, plain),
-        1 => reserve(rt, alloc, amount, table, plain),
-        2 => settle(rt, id, at, amount > 2, table, plain),
-        3 | 4 => confirm(rt, id, at, amount, table, plain),
-        5 => fail(rt, id, at, table, plain),
-        6 | 7 => data(
-            rt, alloc, id, at, amount, exchanging, table, plain, out, said,
-        ),
-        8 => end(alloc, id, at, amount > 3, table, plain, out, said),
-        9 => close(rt, alloc, id, at, table, plain, out, said),
-        10 | 11 => grant(
-            rt, alloc, id, at, amount, exchanging, table, plain, out, said,
-        ),
-        12 => flush(alloc, table, plain, out, said),
-        _ => received(rt, alloc, id, at, amount, table, plain, out, said),
-    }
+    table: ChannelTable,
+    plain: PlainTable,
+    out: Outbox,
+    said: Said,
 }
 
-fn open(
-    rt: &impl Abort,
-    alloc: Global,
-    amount: u32,
-    table: &mut ChannelTable,
-    plain: &mut PlainTable,
-) -> Result<(), NoMemory> {
-    let number = plain.next();
-    let id = table.open_user(amount, amount / 2, None)?;
-    assert_eq!(rt; id.0, number);
-    let mut channel = fresh(alloc, number, true, amount);
-    channel.packet_size = amount / 2;
-    plain.channels.push(channel)?;
-    plain.last = number;
-    Ok(())
-}
-
-fn reserve(
-    rt: &impl Abort,
-    alloc: Global,
-    amount: u32,
-    table: &mut ChannelTable,
-    plain: &mut PlainTable,
-) -> Result<(), NoMemory> {
-    let number = plain.next();
-    let id = table.reserve_server(7, amount, amount / 3, 100)?;
-    assert_eq!(rt; id.0, number);
-    let mut channel = fresh(alloc, number, false, 100);
-    channel.recipient = 7;
-    channel.window = amount;
-    channel.packet_size = amount / 3;
-    plain.channels.push(channel)?;
-    plain.last = number;
-    Ok(())
-}
-
-fn settle(
-    rt: &impl Abort,
+/// The channel that a call is for: its number, and its place in the plain table, if it stands there.
+#[derive(Clone, Copy, Debug)]
+struct Named {
     id: ChannelId,
     at: Option<usize>,
-    accept: bool,
-    table: &mut ChannelTable,
-    plain: &mut PlainTable,
-) -> Result<(), NoMemory> {
-    let answer = table.settle_server(id, accept);
-    let mut waits = false;
-    if let Some(at) = at
-        && at < plain.channels.len()
-        && !plain.channels[at].by_user
-        && !plain.channels[at].established
-    {
-        waits = true;
-        if accept {
-            let channel = &mut plain.channels[at];
-            channel.established = true;
-        } else {
-            let _ = plain.channels.remove(at);
+}
+
+impl Both {
+    fn new(alloc: Global) -> Both {
+        Both {
+            alloc,
+            table: ChannelTable::new(alloc),
+            plain: PlainTable {
+                channels: Vec::new(alloc),
+                last: 0,
+            },
+            out: Outbox::new(alloc),
+            said: Vec::new(alloc),
         }
     }
-    assert_eq!(rt; answer, waits);
-    Ok(())
-}
 
-fn confirm(
-    rt: &impl Abort,
-    id: ChannelId,
-    at: Option<usize>,
-    amount: u32,
-    table: &mut ChannelTable,
-    plain: &mut PlainTable,
-) -> Result<(), NoMemory> {
-    let answer = table.confirm(id, 5, amount, amount / 2);
-    let mut waits = false;
-    if let Some(at) = at
-        && at < plain.channels.len()
-        && plain.channels[at].by_user
-        && !plain.channels[at].established
-    {
-        waits = true;
-        let channel = &mut plain.channels[at];
-        channel.established = true;
-        channel.recipient = 5;
-        channel.window = amount;
+    /// One random call on both tables, with equal answers.
+    fn step(&mut self, rt: &impl Abort, numbers: &mut Numbers) -> Result<(), NoMemory> {
+        let number = numbers.below(6).wrapping_sub(numbers.below(2));
+        let named = Named {
+            id: ChannelId(number),
+            at: self.plain.place(number),
+        };
+        let amount = numbers.below(12);
+        let exchanging = numbers.below(4) == 0;
+        match numbers.below(14) {
+            0 => self.open(rt, amount),
+            1 => self.reserve(rt, amount),
+            2 => self.settle(rt, named, amount > 2),
+            3 | 4 => self.confirm(rt, named, amount),
+            5 => self.fail(rt, named),
+            6 | 7 => self.data(rt, named, amount, exchanging),
+            8 => self.end(named, amount > 3),
+            9 => self.close(rt, named),
+            10 | 11 => self.grant(rt, named, amount, exchanging),
+            12 => self.flush(),
+            _ => self.received(rt, named, amount),
+        }
+    }
+
+    fn open(&mut self, rt: &impl Abort, amount: u32) -> Result<(), NoMemory> {
+        let number = self.plain.next();
+        let id = self.table.open_user(amount, amount / 2, None)?;
+        assert_eq!(rt; id.0, number);
+        let mut channel = fresh(self.alloc, number, true, amount);
         channel.packet_size = amount / 2;
+        self.plain.channels.push(channel)?;
+        self.plain.last = number;
+        Ok(())
     }
-    assert_eq!(rt; answer.is_ok(), waits);
-    Ok(())
-}
 
-fn fail(
-    rt: &impl Abort,
-    id: ChannelId,
-    at: Option<usize>,
-    table: &mut ChannelTable,
-    plain: &mut PlainTable,
-) -> Result<(), NoMemory> {
-    let answer = table.fail(id);
-    let mut waits = false;
-    if let Some(at) = at
-        && at < plain.channels.len()
-        && plain.channels[at].by_user
-        && !plain.channels[at].established
-    {
-        waits = true;
-        let _ = plain.channels.remove(at);
+    fn reserve(&mut self, rt: &impl Abort, amount: u32) -> Result<(), NoMemory> {
+        let number = self.plain.next();
+        let id = self.table.reserve_server(7, amount, amount / 3, 100)?;
+        assert_eq!(rt; id.0, number);
+        let mut channel = fresh(self.alloc, number, false, 100);
+        channel.recipient = 7;
+        channel.window = amount;
+        channel.packet_size = amount / 3;
+        self.plain.channels.push(channel)?;
+        self.plain.last = number;
+        Ok(())
     }
-    assert_eq!(rt; answer.is_some(), waits);
-    Ok(())
-}
 
-fn data(
-    rt: &impl Abort,
-    alloc: Global,
-    id: ChannelId,
-    at: Option<usize>,
-    amount: u32,
-    exchanging: bool,
-    table: &mut ChannelTable,
-    plain: &mut PlainTable,
-    out: &mut Outbox,
-    said: &mut Said,
-) -> Result<(), NoMemory> {
-    let mut body = Vec::new(alloc);
-    for byte in 0..amount {
-        body.push((byte & 0xff) as u8)?;
-    }
-    let stream = if amount % 3 == 0 {
-        table.extended_data(id, amount, body.as_slice(), exchanging, out)?;
-        Stream::Extended(amount)
-    } else {
-        table.data(id, body.as_slice(), exchanging, out)?;
-        Stream::Data
-    };
-    if let Some(at) = at
-        && at < plain.channels.len()
-    {
-        let channel = &mut plain.channels[at];
-        channel.data(alloc, stream, body.as_slice(), exchanging, said)?;
-        assert_eq!(rt;
-            table.has_pending_data(id),
-            !plain.channels[at].parts.is_empty()
-        );
-    }
-    Ok(())
-}
-
-fn end(
-    alloc: Global,
-    id: ChannelId,
-    at: Option<usize>,
-    is_eof: bool,
-    table: &mut ChannelTable,
-    plain: &mut PlainTable,
-    out: &mut Outbox,
-    said: &mut Said,
-) -> Result<(), NoMemory> {
-    if is_eof {
-        table.eof(id, out)?;
-    } else {
-        table.close_own(id, out)?;
-    }
-    if let Some(at) = at
-        && at < plain.channels.len()
-    {
-        let channel = &mut plain.channels[at];
-        if is_eof {
-            channel.eof(alloc, said)?;
-        } else {
-            channel.close(alloc, said)?;
+    fn settle(&mut self, rt: &impl Abort, named: Named, accept: bool) -> Result<(), NoMemory> {
+        let answer = self.table.settle_server(named.id, accept);
+        let mut waits = false;
+        if let Some(at) = named.at
+            && at < self.plain.channels.len()
+            && !self.plain.channels[at].by_user
+            && !self.plain.channels[at].established
+        {
+            waits = true;
+            if accept {
+                let channel = &mut self.plain.channels[at];
+                channel.established = true;
+            } else {
+                let _ = self.plain.channels.remove(at);
+            }
         }
+        assert_eq!(rt; answer, waits);
+        Ok(())
     }
-    Ok(())
-}
 
-fn close(
-    rt: &impl Abort,
-    alloc: Global,
-    id: ChannelId,
-    at: Option<usize>,
-    table: &mut ChannelTable,
-    plain: &mut PlainTable,
-    out: &mut Outbox,
-    said: &mut Said,
-) -> Result<(), NoMemory> {
-    let answer = table.close_peer(id, out)?;
-    let mut stood = false;
-    if let Some(at) = at
-        && at < plain.channels.len()
-        && plain.channels[at].established
-    {
-        stood = true;
-        let mut channel = plain.channels.remove(at);
-        channel.answer_close(alloc, said)?;
+    fn confirm(&mut self, rt: &impl Abort, named: Named, amount: u32) -> Result<(), NoMemory> {
+        let answer = self.table.confirm(named.id, 5, amount, amount / 2);
+        let mut waits = false;
+        if let Some(at) = named.at
+            && at < self.plain.channels.len()
+            && self.plain.channels[at].by_user
+            && !self.plain.channels[at].established
+        {
+            waits = true;
+            let channel = &mut self.plain.channels[at];
+            channel.established = true;
+            channel.recipient = 5;
+            channel.window = amount;
+            channel.packet_size = amount / 2;
+        }
+        assert_eq!(rt; answer.is_ok(), waits);
+        Ok(())
     }
-    assert_eq!(rt; answer, stood);
-    Ok(())
-}
 
-fn grant(
-    rt: &impl Abort,
-    alloc: Global,
-    id: ChannelId,
-    at: Option<usize>,
-    amount: u32,
-    exchanging: bool,
-    table: &mut ChannelTable,
-    plain: &mut PlainTable,
-    out: &mut Outbox,
-    said: &mut Said,
-) -> Result<(), NoMemory> {
-    let answer = table.grant(id, amount, exchanging, out)?;
-    let mut left = None;
-    if let Some(at) = at
-        && at < plain.channels.len()
-        && plain.channels[at].established
-    {
-        let channel = &mut plain.channels[at];
-        channel.grant(alloc, amount, exchanging, said)?;
-        left = Some(channel.window);
+    fn fail(&mut self, rt: &impl Abort, named: Named) -> Result<(), NoMemory> {
+        let answer = self.table.fail(named.id);
+        let mut waits = false;
+        if let Some(at) = named.at
+            && at < self.plain.channels.len()
+            && self.plain.channels[at].by_user
+            && !self.plain.channels[at].established
+        {
+            waits = true;
+            let _ = self.plain.channels.remove(at);
+        }
+        assert_eq!(rt; answer.is_some(), waits);
+        Ok(())
     }
-    assert_eq!(rt; answer, left);
-    Ok(())
-}
 
-fn flush(
-    alloc: Global,
-    table: &mut ChannelTable,
-    plain: &mut PlainTable,
-    out: &mut Outbox,
-    said: &mut Said,
-) -> Result<(), NoMemory> {
-    table.flush_all(out)?;
-    for channel in plain.channels.iter_mut() {
-        channel.flush(alloc, false, said)?;
+    fn data(
+        &mut self,
+        rt: &impl Abort,
+        named: Named,
+        amount: u32,
+        exchanging: bool,
+    ) -> Result<(), NoMemory> {
+        let mut body = Vec::new(self.alloc);
+        for byte in 0..amount {
+            body.push((byte & 0xff) as u8)?;
+        }
+        let body = body.as_slice();
+        let stream = if amount % 3 == 0 {
+            self.table
+                .extended_data(named.id, amount, body, exchanging, &mut self.out)?;
+            Stream::Extended(amount)
+        } else {
+            self.table.data(named.id, body, exchanging, &mut self.out)?;
+            Stream::Data
+        };
+        if let Some(at) = named.at
+            && at < self.plain.channels.len()
+        {
+            let channel = &mut self.plain.channels[at];
+            channel.data(self.alloc, stream, body, exchanging, &mut self.said)?;
+            let waits = !channel.parts.is_empty();
+            assert_eq!(rt; self.table.has_pending_data(named.id), waits);
+        }
+        Ok(())
     }
-    Ok(())
-}
 
-fn received(
-    rt: &impl Abort,
-    alloc: Global,
-    id: ChannelId,
-    at: Option<usize>,
-    amount: u32,
-    table: &mut ChannelTable,
-    plain: &mut PlainTable,
-    out: &mut Outbox,
-    said: &mut Said,
-) -> Result<(), NoMemory> {
-    let answer = table.received(id, u64::from(amount), 20, out)?;
-    let mut adjusted = false;
-    if let Some(at) = at
-        && at < plain.channels.len()
-        && plain.channels[at].established
-    {
-        let channel = &mut plain.channels[at];
-        adjusted = channel.received(alloc, amount, 20, said)?;
+    fn end(&mut self, named: Named, is_eof: bool) -> Result<(), NoMemory> {
+        if is_eof {
+            self.table.eof(named.id, &mut self.out)?;
+        } else {
+            self.table.close_own(named.id, &mut self.out)?;
+        }
+        if let Some(at) = named.at
+            && at < self.plain.channels.len()
+        {
+            let channel = &mut self.plain.channels[at];
+            if is_eof {
+                channel.eof(self.alloc, &mut self.said)?;
+            } else {
+                channel.close(self.alloc, &mut self.said)?;
+            }
+        }
+        Ok(())
     }
-    assert_eq!(rt; answer, adjusted);
-    Ok(())
+
+    fn close(&mut self, rt: &impl Abort, named: Named) -> Result<(), NoMemory> {
+        let answer = self.table.close_peer(named.id, &mut self.out)?;
+        let mut stood = false;
+        if let Some(at) = named.at
+            && at < self.plain.channels.len()
+            && self.plain.channels[at].established
+        {
+            stood = true;
+            let mut channel = self.plain.channels.remove(at);
+            channel.answer_close(self.alloc, &mut self.said)?;
+        }
+        assert_eq!(rt; answer, stood);
+        Ok(())
+    }
+
+    fn grant(
+        &mut self,
+        rt: &impl Abort,
+        named: Named,
+        amount: u32,
+        exchanging: bool,
+    ) -> Result<(), NoMemory> {
+        let answer = self
+            .table
+            .grant(named.id, amount, exchanging, &mut self.out)?;
+        let mut left = None;
+        if let Some(at) = named.at
+            && at < self.plain.channels.len()
+            && self.plain.channels[at].established
+        {
+            let channel = &mut self.plain.channels[at];
+            channel.grant(self.alloc, amount, exchanging, &mut self.said)?;
+            left = Some(channel.window);
+        }
+        assert_eq!(rt; answer, left);
+        Ok(())
+    }
+
+    fn flush(&mut self) -> Result<(), NoMemory> {
+        self.table.flush_all(&mut self.out)?;
+        for channel in self.plain.channels.iter_mut() {
+            channel.flush(self.alloc, false, &mut self.said)?;
+        }
+        Ok(())
+    }
+
+    fn received(&mut self, rt: &impl Abort, named: Named, amount: u32) -> Result<(), NoMemory> {
+        let answer = self
+            .table
+            .received(named.id, u64::from(amount), 20, &mut self.out)?;
+        let mut adjusted = false;
+        if let Some(at) = named.at
+            && at < self.plain.channels.len()
+            && self.plain.channels[at].established
+        {
+            let channel = &mut self.plain.channels[at];
+            adjusted = channel.received(self.alloc, amount, 20, &mut self.said)?;
+        }
+        assert_eq!(rt; answer, adjusted);
+        Ok(())
+    }
 }
 
 /// The payloads are those of the plain program, in its order.
@@ -407,29 +357,14 @@ fn same_channels(rt: &impl Abort, table: &ChannelTable, plain: &PlainTable, list
 
 #[test]
 fn random_lists_of_calls(rt: HostRuntime) -> Result<(), Fail> {
-    let alloc = rt.alloc();
     let mut numbers = Numbers(2026);
     for list in 0..10_000 {
-        let mut table = ChannelTable::new(alloc);
-        let mut plain = PlainTable {
-            channels: Vec::new(alloc),
-            last: 0,
-        };
-        let mut out = Outbox::new(alloc);
-        let mut said = Vec::new(alloc);
+        let mut both = Both::new(rt.alloc());
         for _ in 0..30 {
-            step(
-                &rt,
-                alloc,
-                &mut numbers,
-                &mut table,
-                &mut plain,
-                &mut out,
-                &mut said,
-            )?;
+            both.step(&rt, &mut numbers)?;
         }
-        same_payloads(&rt, &out, &said, list);
-        same_channels(&rt, &table, &plain, list);
+        same_payloads(&rt, &both.out, &both.said, list);
+        same_channels(&rt, &both.table, &both.plain, list);
     }
     Ok(())
 }
