@@ -11,3 +11,4 @@ pub mod Promises
 pub mod CausedRuns
 pub mod WordLists
 pub mod Longer
+pub mod StandardFacts
