@@ -2,6 +2,8 @@
 #![tactic(auto)]
 
 #[cfg(test)]
+mod calls;
+#[cfg(test)]
 mod damaged;
 #[cfg(test)]
 mod faults;
@@ -11,3 +13,5 @@ mod login;
 mod outside;
 #[cfg(test)]
 mod scripts;
+#[cfg(test)]
+mod words;

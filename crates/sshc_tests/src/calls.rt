@@ -1,0 +1,132 @@
+//! Each public call of the opening and of runs that takes memory, with ample memory.
+
+use crate::scripts::{EXCHANGE, KEXINIT, KNOWN, LOGIN, PASSWORD, script_of};
+use sshc_auth::{
+    Asks, Event, ExchangeFlag, ExchangeKey, Method, Opening, Outbox, Phase, Record, Step, Ticket,
+    Told, host_key_of, write_auth_request,
+};
+use sshc_key::PublicKeyOrCertificate;
+use sshc_run::{
+    Config, EventKind, KnownHostsHandler, NextError, RefusingSigner, next_event, read_event,
+};
+use sshc_wire::{MemSource, NoMemory, Octets, Text};
+use std::alloc::Global;
+use std::test::Fail;
+
+/// The fields of an event: what stands behind its length, moment and kind.
+fn fields(event: &[u8]) -> &[u8] {
+    event.get(13..).unwrap_or_default()
+}
+
+/// The event of the login's exchange.
+fn exchange(alloc: Global) -> Result<Event, Fail> {
+    Ok(read_event(
+        alloc,
+        Phase::Exchanging,
+        EventKind::ExchangeDone,
+        fields(EXCHANGE),
+    )?)
+}
+
+fn password(alloc: Global) -> Result<Method, NoMemory> {
+    Ok(Method::Password {
+        password: Text::from_str(alloc, "pw")?,
+    })
+}
+
+/// An opening that has taken the login's exchange.
+fn in_service(alloc: Global, out: &mut Outbox) -> Result<Opening, Fail> {
+    let mut opening = Opening::new(alloc, 2_097_152, false, false);
+    let mut gate = KnownHostsHandler::new(alloc, "localhost", 13265, KNOWN)?;
+    let mut signer = RefusingSigner::new(alloc);
+    let _ = opening.step(&Event::PeerKexinit, &mut gate, &mut signer, out);
+    let _ = opening.step(&exchange(alloc)?, &mut gate, &mut signer, out);
+    Ok(opening)
+}
+
+#[test]
+fn settings_are_the_default_ones(rt: HostRuntime) -> Result<(), Fail> {
+    let config = Config::default_in(rt.alloc())?;
+    assert_eq!(rt; config.client_id.as_str(), "SSH-2.0-russh_0.65.1");
+    assert_eq!(rt; config.window_size, 2_097_152);
+    assert_eq!(rt; config.maximum_packet_size, 32768);
+    assert_eq!(rt; config.max_events, 8192);
+    assert!(rt; !config.anonymous && !config.agent_asks);
+    Ok(())
+}
+
+#[test]
+fn events_are_taken_and_read(rt: HostRuntime) -> Result<(), Fail> {
+    let script = script_of(rt.alloc(), LOGIN.as_slice())?;
+    let mut source = MemSource::new(script, Vec::new(rt.alloc()));
+    let mut sizes = Vec::new(rt.alloc());
+    for _ in 0..6 {
+        if let Some(event) = next_event(rt.alloc(), &mut source, 0)? {
+            sizes.push(event.size())?;
+        }
+    }
+    assert_eq!(rt; sizes.as_slice(), [13u64, 130, 33, 30, 14].as_slice());
+    let event = read_event(
+        rt.alloc(),
+        Phase::Service,
+        EventKind::Authenticate,
+        fields(PASSWORD),
+    )?;
+    let wanted = Event::Authenticate {
+        ticket: Ticket(1),
+        user: Text::from_str(rt.alloc(), "alice")?,
+        method: password(rt.alloc())?,
+    };
+    assert_eq!(rt; event, wanted);
+    let mut short = MemSource::new(
+        Vec::from_slice(rt.alloc(), &KEXINIT[..4])?,
+        Vec::new(rt.alloc()),
+    );
+    assert!(rt; matches!(next_event(rt.alloc(), &mut short, 0), Err(NextError::Bad)));
+    Ok(())
+}
+
+#[test]
+fn the_key_of_an_exchange_is_asked_for(rt: HostRuntime) -> Result<(), Fail> {
+    let event = exchange(rt.alloc())?;
+    let Event::ExchangeDone(done) = &event else {
+        return Err("no exchange".into());
+    };
+    let found = host_key_of(rt.alloc(), &done.key)?;
+    assert!(rt; matches!(&found, Some(PublicKeyOrCertificate::PublicKey { .. })));
+    assert!(rt; host_key_of(rt.alloc(), &ExchangeKey::Missing)?.is_none());
+    let mut opening = Opening::new(rt.alloc(), 2_097_152, false, false);
+    let mut out = Outbox::new(rt.alloc());
+    let mut signer = RefusingSigner::new(rt.alloc());
+    assert!(rt; matches!(opening.asks(&event)?, Asks::Nothing));
+    let step = opening.apply(&Event::PeerKexinit, Told::NotAsked, &mut signer, &mut out);
+    assert!(rt; matches!(step, Step::Went));
+    assert_eq!(rt; opening.flag(), ExchangeFlag::Peer);
+    assert!(rt; matches!(opening.asks(&event)?, Asks::HostKey(_)));
+    Ok(())
+}
+
+#[test]
+fn an_exchange_that_is_accepted_asks_for_the_user(rt: HostRuntime) -> Result<(), Fail> {
+    let mut out = Outbox::new(rt.alloc());
+    let opening = in_service(rt.alloc(), &mut out)?;
+    assert_eq!(rt; opening.phase(), Phase::Service);
+    assert_eq!(rt; opening.session_id(), b"session-id".as_slice());
+    let kex = Text::from_str(rt.alloc(), "curve25519-sha256")?;
+    assert_eq!(rt; out.as_slice().first(), Some(&Record::KexDone { kex }));
+    Ok(())
+}
+
+#[test]
+fn a_password_request_is_written(rt: HostRuntime) -> Result<(), Fail> {
+    let method = password(rt.alloc())?.copy()?;
+    assert!(rt; method == password(rt.alloc())?);
+    let mut packet = Vec::new(rt.alloc());
+    write_auth_request(&mut packet, "alice", &method)?;
+    let wanted =
+        b"\x32\0\0\0\x05alice\0\0\0\x0essh-connection\0\0\0\x08password\0\0\0\0\x02pw".as_slice();
+    assert_eq!(rt; packet.as_slice(), wanted);
+    let copied = Octets::from_slice(rt.alloc(), wanted)?;
+    assert_eq!(rt; copied.as_slice(), packet.as_slice());
+    Ok(())
+}
