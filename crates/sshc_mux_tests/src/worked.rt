@@ -201,6 +201,36 @@ fn a_closed_channel_stands_until_the_peers_close(rt: HostRuntime) -> Result<(), 
     Ok(())
 }
 
+/// Whether a call tells of a channel of this number.
+fn is_named(table: &mut ChannelTable, id: ChannelId, out: &mut Outbox) -> Result<bool, NoMemory> {
+    let settled = table.settle_server(id, true);
+    let confirmed = table.confirm(id, 5, 4, 9).is_ok();
+    let failed = table.fail(id).is_some();
+    let closed = table.close_peer(id, out)?;
+    let granted = table.grant(id, 1, false, out)?.is_some();
+    let received = table.received(id, 1, 100, out)?;
+    Ok(settled || confirmed || failed || closed || granted || received)
+}
+
+/// Hands in bytes and asks for both ends.
+fn ask_all(table: &mut ChannelTable, id: ChannelId, out: &mut Outbox) -> Result<(), NoMemory> {
+    table.data(id, b"a", false, out)?;
+    table.extended_data(id, 1, b"a", false, out)?;
+    table.eof(id, out)?;
+    table.close_own(id, out)?;
+    table.flush_all(out)
+}
+
+/// Whether something is told of a channel of this number.
+fn is_told(table: &ChannelTable, id: ChannelId) -> bool {
+    table.is_established(id)
+        || table.close_sent(id)
+        || table.has_pending_data(id)
+        || table.has_any_pending_data()
+        || table.sender_window_size(id) > 0
+        || table.recipient(id).is_some()
+}
+
 #[test]
 fn a_number_that_no_channel_has_is_nothing(rt: HostRuntime) -> Result<(), Fail> {
     let mut table = ChannelTable::new(rt.alloc());
@@ -208,22 +238,10 @@ fn a_number_that_no_channel_has_is_nothing(rt: HostRuntime) -> Result<(), Fail> 
     let gone = table.reserve_server(5, 4, 9, 100)?;
     assert!(rt; table.settle_server(gone, false));
     for id in [gone, ChannelId(0), ChannelId(u32::MAX)] {
-        assert!(rt; !table.settle_server(id, true));
-        assert_eq!(rt; table.confirm(id, 5, 4, 9), Err(MuxError::Inconsistent));
-        assert_eq!(rt; table.fail(id), None);
-        table.data(id, b"a", false, &mut out)?;
-        table.extended_data(id, 1, b"a", false, &mut out)?;
-        table.eof(id, &mut out)?;
-        table.close_own(id, &mut out)?;
-        assert!(rt; !table.close_peer(id, &mut out)?);
-        assert_eq!(rt; table.grant(id, 1, false, &mut out)?, None);
-        assert!(rt; !table.received(id, 1, 100, &mut out)?);
-        assert!(rt; !table.is_established(id) && !table.close_sent(id));
-        assert!(rt; !table.has_pending_data(id) && !table.has_any_pending_data());
-        assert_eq!(rt; table.sender_window_size(id), 0);
-        assert_eq!(rt; table.recipient(id), None);
+        ask_all(&mut table, id, &mut out)?;
+        let is_there = is_named(&mut table, id, &mut out)? || is_told(&table, id);
+        assert!(rt; !is_there, "{}", id.0);
     }
-    table.flush_all(&mut out)?;
     payloads_are(&rt, "no channel", &out, &[]);
     assert_eq!(rt; table.open_user(100, 0, None)?, ChannelId(2));
     Ok(())
