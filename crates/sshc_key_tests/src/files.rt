@@ -1,0 +1,150 @@
+//! Files of public keys and of certificates.
+
+use sshc_key::{Error, PublicKeyBase64, load_openssh_certificate, load_public_key};
+use sshc_wire::{MemFiles, NoMemory, Octets, Text};
+use std::alloc::Global;
+use std::test::Fail;
+
+pub const KEY: &str = "AAAAC3NzaC1lZDI1NTE5AAAAIK2pr+Bfus1hvPof4Wb/plZCzSbqadHH0u+/f4ODtKnE";
+
+/// A certificate that `ssh-keygen -s` made for an ed25519 key.
+pub const CERTIFICATE: &str =
+    "AAAAIHNzaC1lZDI1NTE5LWNlcnQtdjAxQG9wZW5zc2guY29tAAAAIKd0QZDMYHnzknLNkbEpxxdCadHoDIongf+KkDpUZJQPAAAAIEsEJKWbd/ZmmDx3JZr2QhO2oj9Jz48JfoGPgmj1+r3PAAAAAAAAAAcAAAABAAAAB3VzZXIgaWQAAAAQAAAABWFsaWNlAAAAA2JvYgAAAABeC+EAAAAAAHDb2IAAAAA/AAAADWZvcmNlLWNvbW1hbmQAAAAGAAAAAmxzAAAADnNvdXJjZS1hZGRyZXNzAAAADgAAAAoxMC4wLjAuMC84AAAAcAAAABVwZXJtaXQtWDExLWZvcndhcmRpbmcAAAAAAAAAF3Blcm1pdC1hZ2VudC1mb3J3YXJkaW5nAAAAAAAAABZwZXJtaXQtcG9ydC1mb3J3YXJkaW5nAAAAAAAAAA5wZXJtaXQtdXNlci1yYwAAAAAAAAAAAAAAMwAAAAtzc2gtZWQyNTUxOQAAACBLBCSlm3f2Zpg8dyWa9kITtqI/Sc+PCX6Bj4Jo9fq9zwAAAFMAAAALc3NoLWVkMjU1MTkAAABAKwyZ14dVezNCm+omoUIxagByPS6yHpVX9vGsfwExzVziTfPxQ22ia+Efrqpy3SdyjVBZ6jTWd4M3dnAMy/QhAQ==";
+
+/// A file at `key`. The calls of these numbers fail.
+fn file(alloc: Global, bytes: &[u8], failing: Vec<u64>) -> Result<MemFiles, NoMemory> {
+    let mut contents = Vec::new(alloc);
+    contents.push((
+        Text::from_str(alloc, "key")?,
+        Octets::from_slice(alloc, bytes)?,
+    ))?;
+    Ok(MemFiles::new(contents, failing))
+}
+
+/// The base64 and the comment of the key in a file of this text.
+fn loaded(alloc: Global, text: &str) -> Result<(String, Text), Error> {
+    let mut files = file(alloc, text.as_bytes(), Vec::new(alloc))?;
+    let key = load_public_key(alloc, &mut files, "key")?;
+    let base64 = key.public_key_base64()?;
+    Ok((base64, key.comment.copy()?))
+}
+
+/// The line of the key in a file of this text.
+fn loaded_line(alloc: Global, text: &str) -> Result<String, Error> {
+    let mut files = file(alloc, text.as_bytes(), Vec::new(alloc))?;
+    let key = load_public_key(alloc, &mut files, "key")?;
+    Ok(key.to_openssh()?)
+}
+
+fn key_error(alloc: Global, files: &mut MemFiles, path: &str) -> Option<Error> {
+    load_public_key(alloc, files, path).err()
+}
+
+fn certificate_error(alloc: Global, files: &mut MemFiles, path: &str) -> Option<Error> {
+    load_openssh_certificate(alloc, files, path).err()
+}
+
+#[test]
+fn public_key_files(rt: HostRuntime) -> Result<(), Fail> {
+    let alloc = rt.alloc();
+    for (before, behind, comment) in [
+        ("ssh-ed25519 ", " my comment\n", "my comment"),
+        (
+            "# a comment line\r\n\r\nssh-ed25519\t",
+            "  tabs and crlf \r\n",
+            "tabs and crlf",
+        ),
+        ("", "", ""),
+        ("\n  \u{a0}", "\u{2003}\n", ""),
+        (
+            "  # no key\nanother-name\u{2003}",
+            "\u{a0}a # sign\nb",
+            "a # sign",
+        ),
+    ] {
+        let text = format!(in alloc; "{before}{KEY}{behind}")?;
+        let (base64, found) = loaded(alloc, text.as_str())?;
+        assert_eq!(rt; base64.as_str(), KEY, "{text}");
+        assert_eq!(rt; found.as_str(), comment, "{text}");
+    }
+    let line = format!(in alloc; "ssh-ed25519 {KEY} my comment")?;
+    assert_eq!(rt; loaded_line(alloc, line.as_str())?.as_str(), line.as_str());
+    Ok(())
+}
+
+#[test]
+fn files_without_a_public_key(rt: HostRuntime) -> Result<(), Fail> {
+    let alloc = rt.alloc();
+    for (bytes, want) in [
+        (b"".as_slice(), Error::CouldNotReadKey),
+        (
+            b"# a comment\n\n \t\n  # another".as_slice(),
+            Error::CouldNotReadKey,
+        ),
+        (b"ssh-ed25519 AAAA".as_slice(), Error::SshKey),
+        (b"ssh-ed25519 AAA comment".as_slice(), Error::Decode),
+        (b"ssh-ed25519".as_slice(), Error::Decode),
+        (b"\xff".as_slice(), Error::Utf8),
+    ] {
+        let mut files = file(alloc, bytes, vec![in alloc; 2u64]?)?;
+        assert_eq!(rt; key_error(alloc, &mut files, "key"), Some(want));
+        assert_eq!(rt;
+            key_error(alloc, &mut files, "absent"),
+            Some(Error::CouldNotReadKey)
+        );
+        assert_eq!(rt; key_error(alloc, &mut files, "key"), Some(Error::ReadFault));
+        assert_eq!(rt; key_error(alloc, &mut files, "key"), Some(want));
+    }
+    Ok(())
+}
+
+#[test]
+fn certificate_files(rt: HostRuntime) -> Result<(), Fail> {
+    let alloc = rt.alloc();
+    for (name, behind, want) in [
+        ("ssh-ed25519-cert-v01@openssh.com ", " user@host\n", None),
+        ("ssh-ed25519-cert-v01@openssh.com ", " \r\n\u{2003}", None),
+        ("ssh-rsa-cert-v01@openssh.com ", "", Some(Error::SshKey)),
+        (
+            "ssh-ed25519-cert-v01@openssh.com  ",
+            "",
+            Some(Error::SshKey),
+        ),
+        (
+            "ssh-ed25519-cert-v01@openssh.com A",
+            "",
+            Some(Error::Decode),
+        ),
+        ("", "", Some(Error::CouldNotReadKey)),
+    ] {
+        let text = format!(in alloc; "{name}{CERTIFICATE}{behind}")?;
+        let mut files = file(alloc, text.as_str().as_bytes(), vec![in alloc; 1u64]?)?;
+        assert_eq!(rt; certificate_error(alloc, &mut files, "key"), want, "{name}");
+        assert_eq!(rt;
+            certificate_error(alloc, &mut files, "key"),
+            Some(Error::ReadFault)
+        );
+        assert_eq!(rt;
+            certificate_error(alloc, &mut files, "absent"),
+            Some(Error::CouldNotReadKey)
+        );
+    }
+    Ok(())
+}
+
+#[test]
+fn files_without_a_certificate(rt: HostRuntime) -> Result<(), Fail> {
+    let alloc = rt.alloc();
+    let mut files = file(alloc, &[0xff], Vec::new(alloc))?;
+    assert_eq!(rt;
+        certificate_error(alloc, &mut files, "key"),
+        Some(Error::Utf8)
+    );
+    let line = format!(in alloc; "ssh-ed25519 {KEY}")?;
+    let mut files = file(alloc, line.as_str().as_bytes(), Vec::new(alloc))?;
+    assert_eq!(rt;
+        certificate_error(alloc, &mut files, "key"),
+        Some(Error::SshKey)
+    );
+    Ok(())
+}

@@ -1,0 +1,177 @@
+//! What must hold of a blob in the grammar: it is read whole and written back, and no front of it is read.
+
+use crate::vector::{Vector, blob_of};
+use sshc_key::{
+    Error, KeyData, PublicKey, PublicKeyBase64, PublicKeyExt, Signature, parse_public_key,
+    parse_public_key_base64, parse_whole_public_key, read_key_pair, read_signature, write_key_pair,
+};
+use sshc_wire::{Cursor, NoMemory, put_bytes, put_text, put_u32};
+use std::alloc::Global;
+
+/// The line of a blob that was read and written back.
+fn said(alloc: Global, blob: &[u8]) -> anyhow::Result<Option<String>> {
+    let text = format!(in alloc;
+        "{} bytes are read and written back, and their fronts are refused",
+        blob.len()
+    )?;
+    Ok(Some(text))
+}
+
+/// Whether fronts of this length are tried: of a long blob the first 200 and the last 8 lengths, and one in sixteen between.
+fn is_tried(length: usize, whole: usize) -> bool {
+    length < 200 || whole.saturating_sub(length) <= 8 || length & 15 == 0
+}
+
+fn no_front_is_a_key(alloc: Global, blob: &[u8]) -> bool {
+    for length in 0..blob.len() {
+        if is_tried(length, blob.len()) {
+            let read = parse_whole_public_key(alloc, &blob[..length]);
+            if read.err() != Some(Error::SshKey) {
+                return false;
+            }
+        }
+    }
+    true
+}
+
+fn is_certificate(key: &PublicKey) -> bool {
+    match &key.key {
+        KeyData::Certificate(certificate) => {
+            let _ = &certificate.nonce;
+            true
+        }
+        _ => false,
+    }
+}
+
+fn is_read_from_text(alloc: Global, key: &PublicKey, base64: &str) -> Result<bool, Error> {
+    let read = parse_public_key_base64(alloc, base64)?;
+    Ok(read == *key)
+}
+
+fn is_read_from_front(alloc: Global, key: &PublicKey, blob: &[u8]) -> Result<bool, Error> {
+    let read = PublicKey::decode(alloc, blob)?;
+    Ok(read == *key)
+}
+
+fn is_written_as(key: &PublicKey, blob: &[u8], base64: &str) -> Result<bool, NoMemory> {
+    let bytes = key.public_key_bytes()?;
+    let text = key.public_key_base64()?;
+    Ok(bytes.as_slice() == blob && text.as_str() == base64)
+}
+
+/// Whether the key is this blob and base64, and is read from them by each call.
+fn is_this_key(alloc: Global, key: &PublicKey, blob: &[u8], base64: &str) -> Result<bool, Error> {
+    Ok(
+        is_written_as(key, blob, base64)?
+            && is_read_from_text(alloc, key, base64)?
+            && is_read_from_front(alloc, key, blob)?,
+    )
+}
+
+/// Whether the blob is a key, or a certificate, with this base64.
+fn is_key_blob(alloc: Global, blob: &[u8], base64: &str, certificate: bool) -> Result<bool, Error> {
+    let key = parse_whole_public_key(alloc, blob)?;
+    Ok(is_certificate(&key) == certificate && is_this_key(alloc, &key, blob, base64)?)
+}
+
+pub fn key_verdict(
+    alloc: Global,
+    vector: &Vector<'_>,
+    certificate: bool,
+) -> anyhow::Result<Option<String>> {
+    let blob = blob_of(alloc, vector.base64)?;
+    if is_key_blob(alloc, &blob, vector.base64, certificate)? && no_front_is_a_key(alloc, &blob) {
+        said(alloc, &blob)
+    } else {
+        Ok(None)
+    }
+}
+
+/// The bytes of the key at the front, as they are written.
+pub fn key_bytes(alloc: Global, blob: &[u8]) -> Result<Vec<u8>, Error> {
+    let key = parse_public_key(alloc, blob)?;
+    Ok(key.public_key_bytes()?)
+}
+
+/// The bytes of a signature, by the wire's own calls.
+fn signature_bytes(alloc: Global, signature: &Signature) -> Result<Vec<u8>, NoMemory> {
+    let mut out = Vec::new(alloc);
+    put_text(&mut out, signature.name.as_str())?;
+    put_bytes(&mut out, signature.body.as_slice())?;
+    if let Some(sk) = signature.sk {
+        out.push(sk.flags)?;
+        put_u32(&mut out, sk.counter)?;
+    }
+    Ok(out)
+}
+
+fn no_front_is_a_signature(alloc: Global, blob: &[u8]) -> bool {
+    for length in 0..blob.len() {
+        if is_tried(length, blob.len()) {
+            let read = read_signature(alloc, &mut Cursor::new(&blob[..length]));
+            if read.err() != Some(Error::SshEncoding) {
+                return false;
+            }
+        }
+    }
+    true
+}
+
+/// Whether the blob is one signature, which is written so.
+fn is_signature_blob(alloc: Global, blob: &[u8]) -> Result<bool, Error> {
+    let mut c = Cursor::new(blob);
+    let signature = read_signature(alloc, &mut c)?;
+    let written = signature_bytes(alloc, &signature)?;
+    Ok(c.rest().is_empty() && written.as_slice() == blob)
+}
+
+pub fn signature_verdict(alloc: Global, vector: &Vector<'_>) -> anyhow::Result<Option<String>> {
+    let blob = blob_of(alloc, vector.base64)?;
+    if is_signature_blob(alloc, &blob)? && no_front_is_a_signature(alloc, &blob) {
+        said(alloc, &blob)
+    } else {
+        Ok(None)
+    }
+}
+
+fn no_front_is_a_pair(alloc: Global, blob: &[u8]) -> bool {
+    for length in 0..blob.len() {
+        if is_tried(length, blob.len()) {
+            let read = read_key_pair(alloc, &mut Cursor::new(&blob[..length]));
+            if read.err() != Some(Error::SshEncoding) {
+                return false;
+            }
+        }
+    }
+    true
+}
+
+/// Whether the blob is one key pair, which is written so.
+fn is_pair_blob(alloc: Global, blob: &[u8]) -> Result<bool, Error> {
+    let mut c = Cursor::new(blob);
+    let pair = read_key_pair(alloc, &mut c)?;
+    let mut written = Vec::new(alloc);
+    write_key_pair(&mut written, &pair)?;
+    Ok(c.rest().is_empty() && written.as_slice() == blob)
+}
+
+pub fn pair_verdict(alloc: Global, vector: &Vector<'_>) -> anyhow::Result<Option<String>> {
+    let blob = blob_of(alloc, vector.base64)?;
+    if is_pair_blob(alloc, &blob)? && no_front_is_a_pair(alloc, &blob) {
+        said(alloc, &blob)
+    } else {
+        Ok(None)
+    }
+}
+
+/// A key and a byte more: the key is read from the front, and the whole is no key.
+pub fn longer_verdict(alloc: Global, vector: &Vector<'_>) -> anyhow::Result<Option<String>> {
+    let blob = blob_of(alloc, vector.base64)?;
+    let whole = parse_whole_public_key(alloc, &blob).err();
+    let front = key_bytes(alloc, &blob)?;
+    if whole != Some(Error::SshKey) || !blob.starts_with(&front) {
+        return Ok(None);
+    }
+    Ok(Some(format!(in alloc; "its front of {} bytes is the key", front.len())?))
+}
