@@ -1,7 +1,10 @@
 //! Calls over files and homes.
 
 use crate::keys::{FOUR_LINES, K1, K2, K2X};
-use sshc_hosts::{check_known_hosts, check_known_hosts_path, known_host_keys_path};
+use sshc_hosts::{
+    check_known_hosts, check_known_hosts_path, known_host_keys, known_host_keys_path,
+    learn_known_hosts, learn_known_hosts_path,
+};
 use sshc_key::{Error, parse_public_key_base64};
 use sshc_wire::{MemFiles, Octets, Text};
 use std::alloc::Global;
@@ -77,6 +80,124 @@ fn judges_by_homes(rt: HostRuntime) -> Result<(), Fail> {
             want,
             "row {name}"
         );
+    }
+    Ok(())
+}
+
+/// The bytes of the file, where there is one.
+fn held<'a>(files: &'a MemFiles, path: &str) -> Option<&'a [u8]> {
+    for (name, bytes) in files.contents() {
+        if name.as_str() == path {
+            return Some(bytes.as_slice());
+        }
+    }
+    None
+}
+
+#[test]
+fn lists_by_homes(rt: HostRuntime) -> Result<(), Fail> {
+    let alloc = rt.alloc();
+    let mut files = some_files(alloc, Vec::new(alloc))?;
+    let found = known_host_keys(alloc, &mut files, "h", 22, Some("/home/a"))?;
+    let want = parse_public_key_base64(alloc, K1)?;
+    assert_eq!(rt; found.len(), 1);
+    assert_eq!(rt; found[0].0, 1);
+    assert!(rt; found[0].1.key == want.key);
+    let found = known_host_keys(alloc, &mut files, "h", 22, Some("/home/b"))?;
+    assert!(rt; found.is_empty());
+    assert!(rt;
+        matches!(
+            known_host_keys(alloc, &mut files, "h", 22, None),
+            Err(Error::NoHomeDir)
+        )
+    );
+    Ok(())
+}
+
+/// A line of its own in a file that is there, in a new one and in a home; then the key is accepted.
+#[test]
+fn learns_in_files(rt: HostRuntime) -> Result<(), Fail> {
+    let alloc = rt.alloc();
+    let mut files = some_files(alloc, Vec::new(alloc))?;
+    let key = parse_public_key_base64(alloc, K1)?;
+    for (name, path, home, before) in [
+        ("a file", "known", None, FOUR_LINES),
+        ("no file", "absent", None, "\n"),
+        (
+            "a home",
+            "/home/a/.ssh/known_hosts",
+            Some("/home/a"),
+            "h ssh-ed25519 AAAAC3NzaC1lZDI1NTE5AAAAIJdD7y3aLq454yWBdwLWbieU1ebz9/cu7/QEXn9OIeZJ\n",
+        ),
+        (
+            "a new home",
+            "/home/b/.ssh/known_hosts",
+            Some("/home/b"),
+            "\n",
+        ),
+    ] {
+        let learned = match home {
+            Some(_) => learn_known_hosts(alloc, &mut files, "g", 2222, &key, home),
+            None => learn_known_hosts_path(alloc, &mut files, "g", 2222, &key, path),
+        };
+        assert_eq!(rt; learned, Ok(()), "row {name}");
+        let want = format!(in alloc; "{before}[g]:2222 ssh-ed25519 {K1}\n")?;
+        assert!(rt; held(&files, path) == Some(want.as_bytes()), "row {name}");
+        assert_eq!(rt;
+            check_known_hosts_path(alloc, &mut files, "g", 2222, &key, path),
+            Ok(true),
+            "row {name}"
+        );
+    }
+    assert_eq!(rt;
+        learn_known_hosts(alloc, &mut files, "g", 2222, &key, None),
+        Err(Error::NoHomeDir)
+    );
+    Ok(())
+}
+
+/// A failed read, a failed append and a file that is no text: the files keep what they had.
+#[test]
+fn keeps_files_at_faults(rt: HostRuntime) -> Result<(), Fail> {
+    let alloc = rt.alloc();
+    let key = parse_public_key_base64(alloc, K1)?;
+    for (name, path, failing, want) in [
+        ("a failed read", "known", Some(0u64), Error::ReadFault),
+        ("a failed append", "known", Some(1), Error::WriteFault),
+        (
+            "a failed append of a new file",
+            "absent",
+            Some(1),
+            Error::WriteFault,
+        ),
+        ("no text", "bytes", None, Error::Utf8),
+    ] {
+        let failing = match failing {
+            Some(call) => vec![in alloc; call]?,
+            None => Vec::new(alloc),
+        };
+        let mut files = some_files(alloc, failing)?;
+        let before = some_files(alloc, Vec::new(alloc))?;
+        assert_eq!(rt;
+            learn_known_hosts_path(alloc, &mut files, "h", 22, &key, path),
+            Err(want),
+            "row {name}"
+        );
+        assert!(rt; files.contents() == before.contents(), "row {name}");
+    }
+    Ok(())
+}
+
+#[test]
+fn lists_at_faults(rt: HostRuntime) -> Result<(), Fail> {
+    let alloc = rt.alloc();
+    let mut files = some_files(alloc, vec![in alloc; 0u64]?)?;
+    for (name, path, want) in [
+        ("a failed read", "known", Error::ReadFault),
+        ("no text", "bytes", Error::Utf8),
+    ] {
+        let found = known_host_keys_path(alloc, &mut files, "h", 22, path);
+        assert!(rt; found.err() == Some(want), "row {name}");
     }
     Ok(())
 }

@@ -9,35 +9,43 @@ use std::test::Fail;
 const ECDSA: &str =
     "AAAAE2VjZHNhLXNoYTItbmlzdHAyNTYAAAAIbmlzdHAyNTYAAABBBJXJgLseWYIY+wQK10jNvNo5jSM1PCfIHpq++M0AHKZbveuHnm+savTYFofmPC0VxEo4GdMjTVTrgnxhrfApAnE=";
 
-/// Written by hand, with several names, algorithms, a blank line, a comment line and a comment behind a key.
+/// The base64 of an RSA key, from `ssh-keygen -q -t rsa -b 2048 -N '' -C rsa@example -f rsa`.
+const RSA: &str =
+    "AAAAB3NzaC1yc2EAAAADAQABAAABAQDRz6fayHGWh8OHB+QCZeWvFcR+oVY5an6Bh11gb76IpbXYsNXLxWSjoA8cgD13Gjj8CT1g5ce13AODSjmVUlGyzh7QKnXyjZK2Sk4C7Yt8kZVQiGO2o/RRYR8X1E/4ZzTTxe8Hf2Hi70u9eDyR1FwIbtJI63lOKAwgkc/GwhP+4R0FhsVa7ofZgXX8tDWngePdZf2jnHSeVRqB6dVD1mjUulw5x6zFRLd01O/2GW2mAX4PxSWgaq88nOoGh76uUJ+7FH42Em4UtX1p2S8uZBw9izMVulxpNqH78eBJCQ1ChGKWseoNKf5p4vODUJnqQ+lxDQ4/yEJuywz+/u51hbdD";
+
+/// Written by hand, with several names, ports and algorithms, a blank line, a comment line and comments behind keys.
 const PLAIN: &str =
     "host.example,192.0.2.7 ssh-ed25519 AAAAC3NzaC1lZDI1NTE5AAAAIJdD7y3aLq454yWBdwLWbieU1ebz9/cu7/QEXn9OIeZJ\n\
 \n\
 # a comment\n\
 host.example ecdsa-sha2-nistp256 AAAAE2VjZHNhLXNoYTItbmlzdHAyNTYAAAAIbmlzdHAyNTYAAABBBJXJgLseWYIY+wQK10jNvNo5jSM1PCfIHpq++M0AHKZbveuHnm+savTYFofmPC0VxEo4GdMjTVTrgnxhrfApAnE=\n\
 [host.example]:2222 ssh-ed25519 AAAAC3NzaC1lZDI1NTE5AAAAIA6rWI3G1sz07DnfFlrouTcysQlj2P+jpNSOEWD9OJ3X a comment with spaces\n\
+[192.0.2.7]:2222,[host.example]:2222 ssh-rsa AAAAB3NzaC1yc2EAAAADAQABAAABAQDRz6fayHGWh8OHB+QCZeWvFcR+oVY5an6Bh11gb76IpbXYsNXLxWSjoA8cgD13Gjj8CT1g5ce13AODSjmVUlGyzh7QKnXyjZK2Sk4C7Yt8kZVQiGO2o/RRYR8X1E/4ZzTTxe8Hf2Hi70u9eDyR1FwIbtJI63lOKAwgkc/GwhP+4R0FhsVa7ofZgXX8tDWngePdZf2jnHSeVRqB6dVD1mjUulw5x6zFRLd01O/2GW2mAX4PxSWgaq88nOoGh76uUJ+7FH42Em4UtX1p2S8uZBw9izMVulxpNqH78eBJCQ1ChGKWseoNKf5p4vODUJnqQ+lxDQ4/yEJuywz+/u51hbdD rsa@example\n\
 other.example ssh-ed25519 AAAAC3NzaC1lZDI1NTE5AAAAILIG2T/B0l0gaqj3puu510tu9N1OkQ4znY3LYuEm5zCF\n\
 ";
 
 /// The same after `ssh-keygen -q -H -f hashed`, which splits the names of a line.
 const HASHED: &str =
-    "|1|E00o+GwK8kFit3E4kjQ9+DIU1hY=|C5hYve3jD7yow+PtF7l3dEmQJv0= ssh-ed25519 AAAAC3NzaC1lZDI1NTE5AAAAIJdD7y3aLq454yWBdwLWbieU1ebz9/cu7/QEXn9OIeZJ\n\
-|1|AODDrPdDEfY0pH1ul/b63j9tHkU=|h8NWgpn21xSI1ACiXYbw3zFLxak= ssh-ed25519 AAAAC3NzaC1lZDI1NTE5AAAAIJdD7y3aLq454yWBdwLWbieU1ebz9/cu7/QEXn9OIeZJ\n\
+    "|1|3kLddJMWKVtLlXH5JvZ73aJFz78=|tifuykX9aW8waAUDQcjzGK5C+Nw= ssh-ed25519 AAAAC3NzaC1lZDI1NTE5AAAAIJdD7y3aLq454yWBdwLWbieU1ebz9/cu7/QEXn9OIeZJ\n\
+|1|hLP/YkjmGRODG/HCnbeFWxoOQt4=|bUUmnSq8f/IUU4S6eNfu3nZqNKo= ssh-ed25519 AAAAC3NzaC1lZDI1NTE5AAAAIJdD7y3aLq454yWBdwLWbieU1ebz9/cu7/QEXn9OIeZJ\n\
 \n\
 # a comment\n\
-|1|TBeyFgRC+y7gEcofVjeUMbfoBpI=|xMYZi3puX/s9+QP9++03hDIzIxU= ecdsa-sha2-nistp256 AAAAE2VjZHNhLXNoYTItbmlzdHAyNTYAAAAIbmlzdHAyNTYAAABBBJXJgLseWYIY+wQK10jNvNo5jSM1PCfIHpq++M0AHKZbveuHnm+savTYFofmPC0VxEo4GdMjTVTrgnxhrfApAnE=\n\
-|1|6KBjGkRfoeASfqah4Y/5CQF4SdQ=|na3OyY51QELdFZrApisI5e8SJhU= ssh-ed25519 AAAAC3NzaC1lZDI1NTE5AAAAIA6rWI3G1sz07DnfFlrouTcysQlj2P+jpNSOEWD9OJ3X a comment with spaces\n\
-|1|306OEinYU5LCaeQeEG2eyb4Larw=|2Oh2pxDAAMy+KXGkk8vXX72XX3Q= ssh-ed25519 AAAAC3NzaC1lZDI1NTE5AAAAILIG2T/B0l0gaqj3puu510tu9N1OkQ4znY3LYuEm5zCF\n\
+|1|uk64TBqfIwKQVoCw9sSQUUReIWs=|wjaeCw6CAaAH0oa1lppG6jLy7cI= ecdsa-sha2-nistp256 AAAAE2VjZHNhLXNoYTItbmlzdHAyNTYAAAAIbmlzdHAyNTYAAABBBJXJgLseWYIY+wQK10jNvNo5jSM1PCfIHpq++M0AHKZbveuHnm+savTYFofmPC0VxEo4GdMjTVTrgnxhrfApAnE=\n\
+|1|/Fk8nn/mAjaf8qddirAAbCX/djM=|7og8WFUWBPNTGlCf3sUc6ucMXPw= ssh-ed25519 AAAAC3NzaC1lZDI1NTE5AAAAIA6rWI3G1sz07DnfFlrouTcysQlj2P+jpNSOEWD9OJ3X a comment with spaces\n\
+|1|4XYW+3oRnOU3adXO4/vfJ1R0oX0=|y5Y63Vc1FDlh6FTTecZ+5Ib8vDs= ssh-rsa AAAAB3NzaC1yc2EAAAADAQABAAABAQDRz6fayHGWh8OHB+QCZeWvFcR+oVY5an6Bh11gb76IpbXYsNXLxWSjoA8cgD13Gjj8CT1g5ce13AODSjmVUlGyzh7QKnXyjZK2Sk4C7Yt8kZVQiGO2o/RRYR8X1E/4ZzTTxe8Hf2Hi70u9eDyR1FwIbtJI63lOKAwgkc/GwhP+4R0FhsVa7ofZgXX8tDWngePdZf2jnHSeVRqB6dVD1mjUulw5x6zFRLd01O/2GW2mAX4PxSWgaq88nOoGh76uUJ+7FH42Em4UtX1p2S8uZBw9izMVulxpNqH78eBJCQ1ChGKWseoNKf5p4vODUJnqQ+lxDQ4/yEJuywz+/u51hbdD rsa@example\n\
+|1|g5ARLukBON9lg79MN6XC7KVKzXM=|o0R/tVY9UwWVQf0dUMGexYb/M+Q= ssh-rsa AAAAB3NzaC1yc2EAAAADAQABAAABAQDRz6fayHGWh8OHB+QCZeWvFcR+oVY5an6Bh11gb76IpbXYsNXLxWSjoA8cgD13Gjj8CT1g5ce13AODSjmVUlGyzh7QKnXyjZK2Sk4C7Yt8kZVQiGO2o/RRYR8X1E/4ZzTTxe8Hf2Hi70u9eDyR1FwIbtJI63lOKAwgkc/GwhP+4R0FhsVa7ofZgXX8tDWngePdZf2jnHSeVRqB6dVD1mjUulw5x6zFRLd01O/2GW2mAX4PxSWgaq88nOoGh76uUJ+7FH42Em4UtX1p2S8uZBw9izMVulxpNqH78eBJCQ1ChGKWseoNKf5p4vODUJnqQ+lxDQ4/yEJuywz+/u51hbdD rsa@example\n\
+|1|gGwy21BuTwRt6MzWB5bjE++IBnM=|XYkO1PGpYmbPnlQiQ2+lCkpCZkQ= ssh-ed25519 AAAAC3NzaC1lZDI1NTE5AAAAILIG2T/B0l0gaqj3puu510tu9N1OkQ4znY3LYuEm5zCF\n\
 ";
 
-/// The plain text with CR at each line's end, from `sed 's/$/\r/' plain`.
+/// The plain text with CR at each line's end, from `sed 's/$/\r/' plain`. ssh-keygen doesn't hash it.
 const CRLF: &str =
-    "host.example,192.0.2.7 ssh-ed25519 AAAAC3NzaC1lZDI1NTE5AAAAIJdD7y3aLq454yWBdwLWbieU1ebz9/cu7/QEXn9OIeZJ\n\
-\n\
-# a comment\n\
-host.example ecdsa-sha2-nistp256 AAAAE2VjZHNhLXNoYTItbmlzdHAyNTYAAAAIbmlzdHAyNTYAAABBBJXJgLseWYIY+wQK10jNvNo5jSM1PCfIHpq++M0AHKZbveuHnm+savTYFofmPC0VxEo4GdMjTVTrgnxhrfApAnE=\n\
-[host.example]:2222 ssh-ed25519 AAAAC3NzaC1lZDI1NTE5AAAAIA6rWI3G1sz07DnfFlrouTcysQlj2P+jpNSOEWD9OJ3X a comment with spaces\n\
-other.example ssh-ed25519 AAAAC3NzaC1lZDI1NTE5AAAAILIG2T/B0l0gaqj3puu510tu9N1OkQ4znY3LYuEm5zCF\n\
+    "host.example,192.0.2.7 ssh-ed25519 AAAAC3NzaC1lZDI1NTE5AAAAIJdD7y3aLq454yWBdwLWbieU1ebz9/cu7/QEXn9OIeZJ\r\n\
+\r\n\
+# a comment\r\n\
+host.example ecdsa-sha2-nistp256 AAAAE2VjZHNhLXNoYTItbmlzdHAyNTYAAAAIbmlzdHAyNTYAAABBBJXJgLseWYIY+wQK10jNvNo5jSM1PCfIHpq++M0AHKZbveuHnm+savTYFofmPC0VxEo4GdMjTVTrgnxhrfApAnE=\r\n\
+[host.example]:2222 ssh-ed25519 AAAAC3NzaC1lZDI1NTE5AAAAIA6rWI3G1sz07DnfFlrouTcysQlj2P+jpNSOEWD9OJ3X a comment with spaces\r\n\
+[192.0.2.7]:2222,[host.example]:2222 ssh-rsa AAAAB3NzaC1yc2EAAAADAQABAAABAQDRz6fayHGWh8OHB+QCZeWvFcR+oVY5an6Bh11gb76IpbXYsNXLxWSjoA8cgD13Gjj8CT1g5ce13AODSjmVUlGyzh7QKnXyjZK2Sk4C7Yt8kZVQiGO2o/RRYR8X1E/4ZzTTxe8Hf2Hi70u9eDyR1FwIbtJI63lOKAwgkc/GwhP+4R0FhsVa7ofZgXX8tDWngePdZf2jnHSeVRqB6dVD1mjUulw5x6zFRLd01O/2GW2mAX4PxSWgaq88nOoGh76uUJ+7FH42Em4UtX1p2S8uZBw9izMVulxpNqH78eBJCQ1ChGKWseoNKf5p4vODUJnqQ+lxDQ4/yEJuywz+/u51hbdD rsa@example\r\n\
+other.example ssh-ed25519 AAAAC3NzaC1lZDI1NTE5AAAAILIG2T/B0l0gaqj3puu510tu9N1OkQ4znY3LYuEm5zCF\r\n\
 ";
 
 /// What `ssh-keygen -F NAME -f FILE` finds, by the lines and their keys.
@@ -57,21 +65,28 @@ fn finds_what_ssh_keygen_finds(rt: HostRuntime) -> Result<(), Fail> {
             PLAIN,
             "192.0.2.7",
             22,
-            [(1, K1)].as_slice(),
+            [(1u64, K1)].as_slice(),
         ),
         (
-            "plain, a port",
+            "plain, a port, two algorithms",
             PLAIN,
             "host.example",
             2222,
-            [(5, K2)].as_slice(),
+            [(5u64, K2), (6, RSA)].as_slice(),
+        ),
+        (
+            "plain, another name at a port",
+            PLAIN,
+            "192.0.2.7",
+            2222,
+            [(6u64, RSA)].as_slice(),
         ),
         (
             "plain, last line",
             PLAIN,
             "other.example",
             22,
-            [(6, K3)].as_slice(),
+            [(7u64, K3)].as_slice(),
         ),
         ("plain, absent", PLAIN, "absent.example", 22, none),
         (
@@ -79,28 +94,35 @@ fn finds_what_ssh_keygen_finds(rt: HostRuntime) -> Result<(), Fail> {
             HASHED,
             "host.example",
             22,
-            [(1, K1), (5, ECDSA)].as_slice(),
+            [(1u64, K1), (5, ECDSA)].as_slice(),
         ),
         (
             "hashed, second name",
             HASHED,
             "192.0.2.7",
             22,
-            [(2, K1)].as_slice(),
+            [(2u64, K1)].as_slice(),
         ),
         (
-            "hashed, a port",
+            "hashed, a port, two algorithms",
             HASHED,
             "host.example",
             2222,
-            [(6, K2)].as_slice(),
+            [(6u64, K2), (8, RSA)].as_slice(),
+        ),
+        (
+            "hashed, another name at a port",
+            HASHED,
+            "192.0.2.7",
+            2222,
+            [(7u64, RSA)].as_slice(),
         ),
         (
             "hashed, last line",
             HASHED,
             "other.example",
             22,
-            [(7, K3)].as_slice(),
+            [(9u64, K3)].as_slice(),
         ),
         ("hashed, absent", HASHED, "absent.example", 22, none),
         (
@@ -108,28 +130,35 @@ fn finds_what_ssh_keygen_finds(rt: HostRuntime) -> Result<(), Fail> {
             CRLF,
             "host.example",
             22,
-            [(1, K1), (4, ECDSA)].as_slice(),
+            [(1u64, K1), (4, ECDSA)].as_slice(),
         ),
         (
             "CR, second name",
             CRLF,
             "192.0.2.7",
             22,
-            [(1, K1)].as_slice(),
+            [(1u64, K1)].as_slice(),
         ),
         (
-            "CR, a port",
+            "CR, a port, two algorithms",
             CRLF,
             "host.example",
             2222,
-            [(5, K2)].as_slice(),
+            [(5u64, K2), (6, RSA)].as_slice(),
+        ),
+        (
+            "CR, another name at a port",
+            CRLF,
+            "192.0.2.7",
+            2222,
+            [(6u64, RSA)].as_slice(),
         ),
         (
             "CR, last line",
             CRLF,
             "other.example",
             22,
-            [(6, K3)].as_slice(),
+            [(7u64, K3)].as_slice(),
         ),
         ("CR, absent", CRLF, "absent.example", 22, none),
     ] {

@@ -13,3 +13,7 @@ mod keygen;
 mod keys;
 #[cfg(test)]
 mod learning;
+#[cfg(test)]
+mod long;
+#[cfg(test)]
+mod words;
