@@ -17,18 +17,11 @@ fn said(alloc: Global, blob: &[u8]) -> anyhow::Result<Option<String>> {
     Ok(Some(text))
 }
 
-/// Whether fronts of this length are tried: of a long blob the first 200 and the last 8 lengths, and one in sixteen between.
-fn is_tried(length: usize, whole: usize) -> bool {
-    length < 200 || whole.saturating_sub(length) <= 8 || length & 15 == 0
-}
-
 fn no_front_is_a_key(alloc: Global, blob: &[u8]) -> bool {
     for length in 0..blob.len() {
-        if is_tried(length, blob.len()) {
-            let read = parse_whole_public_key(alloc, &blob[..length]);
-            if read.err() != Some(Error::SshKey) {
-                return false;
-            }
+        let read = parse_whole_public_key(alloc, &blob[..length]);
+        if read.err() != Some(Error::SshKey) {
+            return false;
         }
     }
     true
@@ -108,11 +101,9 @@ fn signature_bytes(alloc: Global, signature: &Signature) -> Result<Vec<u8>, NoMe
 
 fn no_front_is_a_signature(alloc: Global, blob: &[u8]) -> bool {
     for length in 0..blob.len() {
-        if is_tried(length, blob.len()) {
-            let read = read_signature(alloc, &mut Cursor::new(&blob[..length]));
-            if read.err() != Some(Error::SshEncoding) {
-                return false;
-            }
+        let read = read_signature(alloc, &mut Cursor::new(&blob[..length]));
+        if read.err() != Some(Error::SshEncoding) {
+            return false;
         }
     }
     true
@@ -137,11 +128,9 @@ pub fn signature_verdict(alloc: Global, vector: &Vector<'_>) -> anyhow::Result<O
 
 fn no_front_is_a_pair(alloc: Global, blob: &[u8]) -> bool {
     for length in 0..blob.len() {
-        if is_tried(length, blob.len()) {
-            let read = read_key_pair(alloc, &mut Cursor::new(&blob[..length]));
-            if read.err() != Some(Error::SshEncoding) {
-                return false;
-            }
+        let read = read_key_pair(alloc, &mut Cursor::new(&blob[..length]));
+        if read.err() != Some(Error::SshEncoding) {
+            return false;
         }
     }
     true
