@@ -14,4 +14,6 @@ mod outside;
 #[cfg(test)]
 mod scripts;
 #[cfg(test)]
+mod system;
+#[cfg(test)]
 mod words;
