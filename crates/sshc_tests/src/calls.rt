@@ -87,6 +87,7 @@ fn events_are_taken_and_read(rt: HostRuntime) -> Result<(), Fail> {
 }
 
 #[test]
+#[tactic(auto, unfolding(sshc_auth::specs::OpeningTable::asked_of))]
 fn the_key_of_an_exchange_is_asked_for(rt: HostRuntime) -> Result<(), Fail> {
     let event = exchange(rt.alloc())?;
     let Event::ExchangeDone(done) = &event else {
