@@ -6,7 +6,7 @@ use Rattle.sshc_wire.specs.declared.record.Record.{Record}
 use Rattle.sshc_wire.specs.declared.record.Record.TheVariants.{Payload}
 use Rattle.sshc_mux.specs.declared.chunk.Stream.{Stream}
 use Rattle.sshc_mux.specs.declared.chunk.Stream.TheVariants as Streams
-use Rattle.sshc_mux.specs.declared.msg.TheConstants.{CHANNEL_WINDOW_ADJUST, CHANNEL_DATA, CHANNEL_EXTENDED_DATA, CHANNEL_EOF, CHANNEL_CLOSE}
+use Rattle.sshc_wire.specs.declared.msg.TheConstants.{CHANNEL_WINDOW_ADJUST, CHANNEL_DATA, CHANNEL_EXTENDED_DATA, CHANNEL_EOF, CHANNEL_CLOSE}
 
 pub data Packet : Type 0 where
   Piece : (stream : Stream) → (bytes : List ℕ) → Packet

@@ -5,7 +5,6 @@ mod channel;
 mod chunk;
 mod error;
 mod law;
-mod msg;
 mod packets;
 mod table;
 mod waiting;

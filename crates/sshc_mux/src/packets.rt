@@ -6,8 +6,7 @@ ghost use Rattle.sshc_mux.specs.Packets.{packet_text, piece_text, Piece, Eof, Cl
 ghost use Rattle.sshc_mux.specs.ChannelTable.Sending.{cut, pieces_of};
 
 use crate::chunk::Stream;
-use crate::msg;
-use sshc_wire::{NoMemory, Octets, Outbox, Record, put_bytes, put_u32};
+use sshc_wire::{NoMemory, Octets, Outbox, Record, msg, put_bytes, put_u32};
 use std::alloc::Global;
 
 /// How many bytes of a data packet stand before the piece: its number, the recipient and the length.
