@@ -81,10 +81,11 @@ abbrev pub HoldsNoText : Option Told → List ℕ → Type 0
 HoldsNoText None path = Unit {0}
 HoldsNoText (Some files) path = text_at files path ≡ Err Utf8
 
--- a count never falls, and a failed write is answered only where it rose
+-- a count never falls; a failed write is answered only where it rose, and with every other answer it stays
 pub record HasWriteCause {T : Type 0} (before now : ℕ) (result : Result T Error) : Type 0 where
   pub later : before ≤ now
   pub fault : IsErrOf result WriteFault → Rose before now
+  pub same : (IsErrOf result WriteFault → ⊥) → now ≡ before
 
 -- why adding to a file refuses, and why learning does
 abbrev pub IsAddingRefusal : Error → Type 0

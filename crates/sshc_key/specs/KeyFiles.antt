@@ -35,10 +35,11 @@ abbrev pub AnswersBy : {X Y : Type 0} → (X → Y) → Result X Error → Optio
 AnswersBy view result None said = Unit {0}
 AnswersBy view result (Some files) said = GivesReading view result (said files)
 
--- a count never falls, and a failed read is answered only where it rose
+-- a count never falls; a failed read is answered only where it rose, and with every other answer it stays
 pub record HasReadCause {T : Type 0} (before now : ℕ) (result : Result T Error) : Type 0 where
   pub later : before ≤ now
   pub fault : IsErrOf result ReadFault → Rose before now
+  pub same : (IsErrOf result ReadFault → ⊥) → now ≡ before
 
 -- what stands before and after the first that passes
 abbrev pub at_first : (ℕ → Bool) → List ℕ → Option (List ℕ × List ℕ)

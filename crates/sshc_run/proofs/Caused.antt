@@ -1,6 +1,6 @@
 -- Each turn's refusal has its cause in the script's own words, and a turn that goes on brings the script as far as its kind says.
-use Rattle.std.proofs.Common.{◌≡◌, ◌⊎◌, inl, inr, ℕ, Bool, true, false, List, [], ◌∷◌, Option, Some, None, Result, Ok, Err, IfErr, refl, ap, sym, ◌∙◌, subst, arith}
-use Rattle.std.specs.Prelude.{bytes_eq, codes, if◌then◌else◌}
+use Rattle.std.proofs.Common.{◌≡◌, inl, inr, ℕ, Bool, true, false, List, [], ◌∷◌, Option, Some, None, Result, Ok, Err, IfErr, refl, ap, sym, ◌∙◌, subst, arith}
+use Rattle.std.specs.Prelude.{codes, if◌then◌else◌}
 use Rattle.std.proofs.lemmas.List.{append-nil}
 use Rattle.sshc_wire.specs.Lookup.{same_bytes}
 use Rattle.sshc_wire.specs.Parts.{strings}
@@ -36,13 +36,13 @@ use Rattle.sshc_run.specs.declared.error.RunError.TheVariants as errors
 use Rattle.sshc_run.specs.declared.event_kind.EventKind.{EventKind}
 use Rattle.sshc_run.specs.declared.event_kind.EventKind.TheVariants as kinds
 use Rattle.sshc_run.specs.declared.known_hosts_handler.HandlerError.{HandlerError}
-use Rattle.sshc_run.specs.declared.known_hosts_handler.HandlerError.TheVariants.{Client, Key}
+use Rattle.sshc_run.specs.declared.known_hosts_handler.HandlerError.TheVariants.{Key}
 use Rattle.sshc_run.specs.Causes.{Reached, reached_by, exchanged, IsEarlyAt, IsBadAt, IsUnbuiltAt}
-use Rattle.sshc_run.specs.Fields.{exchange_done_of, authenticate_of, payload_of, ended_at, event_in, built, is_built, is_exchange_number, key_at, octets_at, secret_at, names_at, u32_at, words_at, method_at}
+use Rattle.sshc_run.specs.Fields.{exchange_done_of, authenticate_of, payload_of, ended_at, built, is_built, is_exchange_number, key_at, octets_at, secret_at, names_at, u32_at, words_at, method_at}
 use Rattle.sshc_run.specs.Headline.{said_of_key, said_by}
 use Rattle.sshc_run.specs.KnownHosts.{Hosts, verdict, as_handler}
 use Rattle.sshc_run.specs.Script.{Frame}
-use Rattle.sshc_run.specs.Turn.{Turn, Onward, goes_on, opened, stopped, RunStop, ended, refused, unanswered_stop, handler_error_of, turn, row_turn, judged_turn, asked_turn, event_turn, built_turn, timely_turn, is_out_of_turn, is_kind_built}
+use Rattle.sshc_run.specs.Turn.{Turn, Onward, goes_on, opened, stopped, ended, refused, unanswered_stop, handler_error_of, turn, row_turn, judged_turn, asked_turn, event_turn, built_turn, timely_turn, is_out_of_turn}
 
 -- ---- what a turn has to show
 

@@ -1,10 +1,9 @@
 -- Each end and each refusal of a whole run has its cause in the script's own words.
-use Rattle.std.proofs.Common.{◌≡◌, ◌⊎◌, inl, inr, ℕ, Bool, true, false, List, [], ◌∷◌, Option, Some, None, Result, Ok, Err, refl, ap, sym, ◌∙◌, subst}
+use Rattle.std.proofs.Common.{◌≡◌, inl, inr, ℕ, Bool, true, false, List, [], ◌∷◌, Option, Some, None, Result, Ok, Err, refl, ap, sym, ◌∙◌, subst}
 use Rattle.std.specs.Prelude.{if◌then◌else◌}
 use Rattle.sshc_wire.specs.Contents.{prepend}
 use Rattle.sshc_wire.specs.declared.record.Record.{Record}
 use Rattle.sshc_key.specs.Signers.{SignCall}
-use Rattle.sshc_key.specs.declared.error.Error.TheVariants as key_errors
 use Rattle.sshc_auth.specs.declared.ended.Ended.{Ended}
 use Rattle.sshc_auth.specs.declared.ended.Ended.TheVariants as ends
 use Rattle.sshc_auth.specs.declared.opening.Phase.{Phase}
@@ -16,15 +15,14 @@ use Rattle.sshc_run.specs.declared.error.RunError.TheVariants as errors
 use Rattle.sshc_run.specs.declared.event_kind.EventKind.{EventKind}
 use Rattle.sshc_run.specs.declared.event_kind.EventKind.TheVariants as kinds
 use Rattle.sshc_run.specs.declared.known_hosts_handler.HandlerError.{HandlerError}
-use Rattle.sshc_run.specs.declared.known_hosts_handler.HandlerError.TheVariants.{Key}
-use Rattle.sshc_run.specs.Causes.{Reached, at_start, exchanged, reached_by, Somewhere, IsEarlyAt, IsUnbuiltAt, IsCauseAmong, IsEndAfter, HasCauseIn, IsCaused}
-use Rattle.sshc_run.specs.Headline.{said_at, said_of_first}
+use Rattle.sshc_run.specs.Causes.{Reached, reached_by, IsCauseAmong, IsEndAfter, HasCauseIn, IsCaused}
+use Rattle.sshc_run.specs.Headline.{said_of_first}
 use Rattle.sshc_run.specs.KnownHosts.{Hosts}
 use Rattle.sshc_run.specs.OpeningRun.{OpeningRun, OpeningStop, opens_before, stops_with, through, opening, behind, by_turn}
 use Rattle.sshc_run.specs.Outcome.{stop_as, IsExact, Ends}
 use Rattle.sshc_run.specs.Script.{Frame, ScriptStop, whole, bad, more, taken, stop_of}
 use Rattle.sshc_run.specs.ScriptRun.{Run, script_run, concluded, concluded_by, at_end, open_error, once_open}
-use Rattle.sshc_run.specs.Turn.{Turn, Onward, goes_on, opened, stopped, RunStop, ended, refused, unanswered_stop, turn, is_out_of_turn, is_kind_built}
+use Rattle.sshc_run.specs.Turn.{Turn, Onward, goes_on, opened, stopped, ended, refused, unanswered_stop, turn, is_out_of_turn, is_kind_built}
 use Rattle.sshc_run.proofs.Caused.{reached_of, IsSaid, IsEventCause, Shows, turn_shows}
 use Rattle.sshc_run.proofs.Promises.{same_table}
 

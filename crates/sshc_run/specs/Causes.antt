@@ -1,6 +1,6 @@
 -- Why a run ends, in the script's own words: by the kinds and places of its events and by what the known hosts text says.
 -- No row of the opening table is named here, so that an error made in the table and in the code shows.
-use Rattle.std.specs.Prelude.{◌≡◌, ◌⊎◌, ℕ, Bool, true, false, List, [], ◌∷◌, Option, Some, Result, Ok, Err, if◌then◌else◌}
+use Rattle.std.specs.Prelude.{◌≡◌, ◌⊎◌, ℕ, Bool, true, false, List, [], ◌∷◌, Option, Some, Result, Ok, Err}
 use Rattle.sshc_key.specs.declared.error.Error.TheVariants as key_errors
 use Rattle.sshc_auth.specs.declared.ended.Ended.{Ended}
 use Rattle.sshc_auth.specs.declared.ended.Ended.TheVariants.{ScriptEnd}

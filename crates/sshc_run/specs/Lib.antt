@@ -2,6 +2,7 @@ pub mod Script
 pub mod Fields
 pub mod Gives
 pub mod Handled
+pub mod Refusing
 pub mod KnownHosts
 pub mod Reading
 pub mod Turn

@@ -1,7 +1,7 @@
 -- The program's words, the line that tells how a run was answered, and the status.
-use Rattle.std.specs.Prelude.{◌≡◌, ◌⊎◌, ℕ, ◌≤◌, ◌<◌, Bool, true, false, List, [], ◌∷◌, ◌++◌, length, Option, Result, Ok, Err, codes}
+use Rattle.std.specs.Prelude.{◌≡◌, ◌⊎◌, ℕ, ◌≤◌, Bool, true, false, List, [], ◌∷◌, ◌++◌, Option, Result, Ok, Err, codes}
 use Rattle.std.specs.Fmt.{decimal}
-use Rattle.sshc_wire.specs.Contents.{append, WroteFront, IsFound}
+use Rattle.sshc_wire.specs.Contents.{IsFound}
 use Rattle.sshc_wire.specs.Faults.{Rose}
 use Rattle.sshc_wire.specs.declared.files.Found.TheVariants as found
 use Rattle.sshc_hosts.specs.HostText.{host_text}

@@ -1,12 +1,13 @@
 //! A signer that signs nothing and a verifier that accepts nothing, until signatures are asked for.
 
-ghost use Rattle.std.specs.Prelude.{◌≡◌, ◌++◌, ◌∷◌, [], false, Some, None, OnOk, OnErr, map};
+ghost use Rattle.std.specs.Prelude.{◌≡◌, ◌++◌, ◌∷◌, [], false, None, OnOk, OnErr};
 
 use sshc_key::{
     Asker, HashAlg, KeyData, LocalSigner, PrivateKey, SignRefused, Signature, Verifier,
 };
 use sshc_wire::{NoMemory, Octets};
 use std::alloc::Global;
+use std::marker::Model;
 
 /// A call of the signer.
 #[derive(Debug, Drop)]
@@ -17,7 +18,7 @@ struct Refused {
     bytes: Octets,
 }
 
-/// Refuses each signature, and keeps the calls.
+/// Refuses each signature, and keeps the calls, which contracts see as calls without an answer.
 #[derive(Debug, Drop)]
 pub struct RefusingSigner {
     alloc: Global,
@@ -25,8 +26,24 @@ pub struct RefusingSigner {
     refusals: u64,
 }
 
+impl Model for RefusingSigner {
+    ghost use Rattle.std.specs.Coded.{codes};
+    ghost use Rattle.std.specs.Prelude.{None, map};
+    ghost use Rattle.sshc_key.specs.PairCode.{key_pair_code};
+    ghost use Rattle.sshc_run.specs.Refusing.{KeptCalls};
+
+    ghost Value = { KeptCalls };
+
+    ghost coded = { Prim.hlevel (codes, key_pair_code) };
+
+    ghost view = { λ s. record { calls = map (λ c. record { by = c.by; key = c.key; hash = c.hash; bytes = c.bytes; answer = None }) s.calls.items; refusals = s.refusals } };
+}
+
 impl RefusingSigner {
-    pub fn new(alloc: Global) -> RefusingSigner {
+    /// A signer that nothing was asked of yet.
+    pub fn new(alloc: Global) -> RefusingSigner
+        ensures { result ≡ record { calls = []; refusals = 0 } }
+    {
         RefusingSigner {
             alloc,
             calls: Vec::new(alloc),
@@ -42,8 +59,8 @@ impl RefusingSigner {
         hash: Option<HashAlg>,
         bytes: &[u8],
     ) -> Result<(), NoMemory>
-        ensures ok { OnOk result (self.new.calls.items ≡ self.old.calls.items ++ (record { by = by; key = key.now; hash = hash; bytes = bytes.now }) ∷ []) }
-        ensures err { OnErr result (self.new.calls.items ≡ self.old.calls.items) }
+        ensures ok { OnOk result (self.new.calls ≡ self.old.calls ++ (record { by = by; key = key.now; hash = hash; bytes = bytes.now; answer = None }) ∷ []) }
+        ensures err { OnErr result (self.new.calls ≡ self.old.calls) }
         ensures same { self.new.refusals ≡ self.old.refusals }
     {
         let call = Refused {
@@ -58,7 +75,7 @@ impl RefusingSigner {
 }
 
 impl LocalSigner for RefusingSigner {
-    ghost calls = { λ s. map (λ c. record { by = c.by; key = c.key; hash = c.hash; bytes = c.bytes; answer = None }) s.calls.items };
+    ghost calls = { λ s. s.calls };
 
     ghost refusals = { λ s. s.refusals };
 

@@ -37,7 +37,9 @@ fn run_events<S: Source, G: LocalSigner, K: Sink>(
     ensures writes { WritesFor (K.contents sink.old) (K.contents sink.new) (K.writes sink.old) (K.writes sink.new) }
     ensures write_later { K.faults sink.old ≤ K.faults sink.new }
     ensures read_fault { result ≡ Err RunError.ReadFault → Rose (S.faults source.old) (S.faults source.new) }
+    ensures read_told { (result ≡ Err RunError.ReadFault → ⊥) → S.faults source.new ≡ S.faults source.old }
     ensures write_fault { result ≡ Err RunError.WriteFault → Rose (K.faults sink.old) (K.faults sink.new) }
+    ensures write_told { (result ≡ Err RunError.WriteFault → ⊥) → K.faults sink.new ≡ K.faults sink.old }
 {
     let mut at = Point {
         opening: Opening::new(
@@ -95,8 +97,11 @@ pub fn run_script<S: Source, K: Sink, G: LocalSigner, V: Verifier>(
     // Each write but the last moved at least a byte.
     ensures writes { WritesFor (K.contents sink.old) (K.contents sink.new) (K.writes sink.old) (K.writes sink.new) }
     ensures write_later { K.faults sink.old ≤ K.faults sink.new }
+    // A fault of the source or the sink is told, and only where its count rose.
     ensures read_fault { result ≡ Err RunError.ReadFault → Rose (S.faults source.old) (S.faults source.new) }
+    ensures read_told { (result ≡ Err RunError.ReadFault → ⊥) → S.faults source.new ≡ S.faults source.old }
     ensures write_fault { result ≡ Err RunError.WriteFault → Rose (K.faults sink.old) (K.faults sink.new) }
+    ensures write_told { (result ≡ Err RunError.WriteFault → ⊥) → K.faults sink.new ≡ K.faults sink.old }
 {
     match KnownHostsHandler::new(alloc, host, port, known) {
         Ok(mut gate) => run_events(alloc, config, &mut gate, source, signer, sink),

@@ -150,6 +150,7 @@ pub fn next_event<S: Source>(
     ensures gives { NextGives last (S.left source.old) (S.left source.new) (S.reads source.old) (S.reads source.new) result }
     ensures later { S.faults source.old ≤ S.faults source.new }
     ensures fault { result ≡ Err NextError.ReadFault → Rose (S.faults source.old) (S.faults source.new) }
+    ensures told { (result ≡ Err NextError.ReadFault → ⊥) → S.faults source.new ≡ S.faults source.old }
 {
     let head = match read_up_to(alloc, source, 4) {
         Ok(head) => head,

@@ -165,6 +165,7 @@ fn step_event<G: LocalSigner, K: Sink>(
     ensures writes { WritesFor (K.contents sink.old) (K.contents sink.new) (K.writes sink.old) (K.writes sink.new) }
     ensures write_later { K.faults sink.old ≤ K.faults sink.new }
     ensures write_fault { result ≡ Some (Err RunError.WriteFault) → Rose (K.faults sink.old) (K.faults sink.new) }
+    ensures write_told { (result ≡ Some (Err RunError.WriteFault) → ⊥) → K.faults sink.new ≡ K.faults sink.old }
     ensures no_read { result ≢ Some (Err RunError.ReadFault) }
 {
     let mut out = Outbox::new(alloc);
@@ -193,6 +194,7 @@ fn take_event<G: LocalSigner, K: Sink>(
     ensures writes { WritesFor (K.contents sink.old) (K.contents sink.new) (K.writes sink.old) (K.writes sink.new) }
     ensures write_later { K.faults sink.old ≤ K.faults sink.new }
     ensures write_fault { result ≡ Some (Err RunError.WriteFault) → Rose (K.faults sink.old) (K.faults sink.new) }
+    ensures write_told { (result ≡ Some (Err RunError.WriteFault) → ⊥) → K.faults sink.new ≡ K.faults sink.old }
     ensures no_read { result ≢ Some (Err RunError.ReadFault) }
 {
     let place = at.place;
@@ -227,7 +229,9 @@ pub fn one_turn<S: Source, G: LocalSigner, K: Sink>(
     ensures writes { WritesFor (K.contents sink.old) (K.contents sink.new) (K.writes sink.old) (K.writes sink.new) }
     ensures write_later { K.faults sink.old ≤ K.faults sink.new }
     ensures read_fault { result ≡ Some (Err RunError.ReadFault) → Rose (S.faults source.old) (S.faults source.new) }
+    ensures read_told { (result ≡ Some (Err RunError.ReadFault) → ⊥) → S.faults source.new ≡ S.faults source.old }
     ensures write_fault { result ≡ Some (Err RunError.WriteFault) → Rose (K.faults sink.old) (K.faults sink.new) }
+    ensures write_told { (result ≡ Some (Err RunError.WriteFault) → ⊥) → K.faults sink.new ≡ K.faults sink.old }
 {
     let event = match next_event(alloc, source, at.last) {
         Ok(Some(event)) => event,
@@ -248,6 +252,7 @@ pub fn at_limit<S: Source>(alloc: Global, source: &mut S) -> Result<Ended, RunEr
     ensures count { S.reads source.new ≤ S.reads source.old + 1 }
     ensures later { S.faults source.old ≤ S.faults source.new }
     ensures fault { result ≡ Err RunError.ReadFault → Rose (S.faults source.old) (S.faults source.new) }
+    ensures told { (result ≡ Err RunError.ReadFault → ⊥) → S.faults source.new ≡ S.faults source.old }
 {
     match read_up_to(alloc, source, 1) {
         Ok(bytes) => {

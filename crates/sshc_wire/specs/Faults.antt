@@ -12,7 +12,18 @@ Rose before now = min (before + 1) (2 ^ 64 - 1) ≤ now
 abbrev pub CountsOne : ℕ → ℕ → Type 0
 CountsOne before now = now ≡ min (before + 1) (2 ^ 64 - 1)
 
--- a count never falls, and a fault is answered only where it rose
+-- a count never falls; a fault is answered only where it rose, and with every other answer it stays
 pub record HasCause {T : Type 0} (before now : ℕ) (result : Result T Failed) : Type 0 where
   pub later : before ≤ now
   pub fault : IsErrOf result Fault → Rose before now
+  pub same : (IsErrOf result Fault → ⊥) → now ≡ before
+
+-- what contracts see of a stream over the system: how often it was called, and how often that failed
+pub record Counted : Type 0 where
+  pub calls : ℕ
+  pub faults : ℕ
+
+-- what contracts see of the system's files: how often a read and an append failed
+pub record CountedFiles : Type 0 where
+  pub read_faults : ℕ
+  pub append_faults : ℕ

@@ -1,6 +1,6 @@
 //! Real streams and files, which tell no contents. Each is proved against its trait; that the real thing behaves so is not.
 
-ghost use Rattle.std.specs.Prelude.{None, Err, OnErr, ◌≡◌, ◌≤◌};
+ghost use Rattle.std.specs.Prelude.{None, Err, OnErr, IfOk, ◌≡◌, ◌≤◌};
 ghost use Rattle.sshc_wire.specs.Faults.{Rose};
 
 use crate::error::NoMemory;
@@ -11,6 +11,7 @@ use crate::text::Text;
 use std::alloc::Global;
 use std::fs::OpenOptions;
 use std::io::{BufReader, ErrorKind, Read, Write};
+use std::marker::Model;
 use std::path::Path;
 use std::{fs, io};
 
@@ -22,8 +23,19 @@ pub struct StdSource<R> {
     faults: u64,
 }
 
+impl<R> Model for StdSource<R> {
+    ghost use Rattle.sshc_wire.specs.Faults.{Counted};
+
+    ghost Value = { Counted };
+
+    ghost view = { λ s. record { calls = s.reads; faults = s.faults } };
+}
+
 impl<R: Read + Drop> StdSource<R> {
-    pub fn new(alloc: Global, inner: R) -> Result<StdSource<R>, NoMemory> {
+    /// A source that wasn't read yet.
+    pub fn new(alloc: Global, inner: R) -> Result<StdSource<R>, NoMemory>
+        ensures { IfOk result (λ s. s ≡ record { calls = 0; faults = 0 }) }
+    {
         match BufReader::new(alloc, inner) {
             Ok(inner) => Ok(StdSource {
                 inner,
@@ -40,7 +52,7 @@ impl<R: Read> Source for StdSource<R> {
 
     ghost faults = { λ s. s.faults };
 
-    ghost reads = { λ s. s.reads };
+    ghost reads = { λ s. s.calls };
 
     fn read(&mut self, buf: &mut [u8]) -> Result<usize, Failed> {
         self.reads = self.reads.saturating_add(1);
@@ -62,8 +74,19 @@ pub struct StdSink<W> {
     faults: u64,
 }
 
+impl<W> Model for StdSink<W> {
+    ghost use Rattle.sshc_wire.specs.Faults.{Counted};
+
+    ghost Value = { Counted };
+
+    ghost view = { λ s. record { calls = s.writes; faults = s.faults } };
+}
+
 impl<W> StdSink<W> {
-    pub fn new(inner: W) -> StdSink<W> {
+    /// A sink that wasn't written to yet.
+    pub fn new(inner: W) -> StdSink<W>
+        ensures { result ≡ record { calls = 0; faults = 0 } }
+    {
         StdSink {
             inner,
             writes: 0,
@@ -77,7 +100,7 @@ impl<W: Write> Sink for StdSink<W> {
 
     ghost faults = { λ s. s.faults };
 
-    ghost writes = { λ s. s.writes };
+    ghost writes = { λ s. s.calls };
 
     fn write(&mut self, piece: &[u8]) -> Result<usize, Failed> {
         self.writes = self.writes.saturating_add(1);
@@ -106,8 +129,19 @@ pub struct StdFiles<'a, R> {
     append_faults: u64,
 }
 
+impl<'a, R> Model for StdFiles<'a, R> {
+    ghost use Rattle.sshc_wire.specs.Faults.{CountedFiles};
+
+    ghost Value = { CountedFiles };
+
+    ghost view = { λ s. record { read_faults = s.read_faults; append_faults = s.append_faults } };
+}
+
 impl<'a, R: std::rt::Files + AllocGlobal> StdFiles<'a, R> {
-    pub fn new(system: &'a R) -> StdFiles<'a, R> {
+    /// Files that nothing was asked of yet.
+    pub fn new(system: &'a R) -> StdFiles<'a, R>
+        ensures { result ≡ record { read_faults = 0; append_faults = 0 } }
+    {
         StdFiles {
             system,
             alloc: system.alloc(),
@@ -121,6 +155,7 @@ impl<'a, R: std::rt::Files + AllocGlobal> StdFiles<'a, R> {
 fn failed(error: io::Error, faults: &mut u64) -> Failed
     ensures later { faults.old ≤ faults.new }
     ensures fault { result ≡ Failed.Fault → Rose faults.old faults.new }
+    ensures same { (result ≡ Failed.Fault → ⊥) → faults.new ≡ faults.old }
 {
     if error.kind() == ErrorKind::OutOfMemory {
         return Failed::NoMemory;

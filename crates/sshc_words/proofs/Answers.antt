@@ -12,7 +12,7 @@ seen_err M e None said h = tt
 seen_err M e (Some files) said h = h
 
 pub cause_ok : {A M : Type 0} (before now : ℕ) (v : Vec A M) → HasReadCause {T = Vec A M} before now (Ok v) → HasReadCause {T = List A} before now (Ok v.items)
-cause_ok before now v h = record { later = h.later; fault = λ is. absurd cc }
+cause_ok before now v h = record { later = h.later; fault = λ is. absurd cc; same = λ no. h.same (λ is. absurd cc) }
 
 pub cause_err : {A M : Type 0} (before now : ℕ) (e : Error) → HasReadCause {T = Vec A M} before now (Err e) → HasReadCause {T = List A} before now (Err e)
-cause_err before now e h = record { later = h.later; fault = λ is. h.fault cc }
+cause_err before now e h = record { later = h.later; fault = λ is. h.fault cc; same = λ no. h.same (λ is. no cc) }

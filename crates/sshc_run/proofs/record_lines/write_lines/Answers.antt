@@ -1,16 +1,16 @@
-use Rattle.std.proofs.Common.{arith, sym}
+use Rattle.std.proofs.Common.{refl, sym, ◌∙◌}
 use Rattle.std.proofs.lemmas.Result.{err_from_is_err_and}
 use Rattle.sshc_wire.specs.Contents.{append-nothing, no_writes, writes_on, writes_end}
 use Rattle.sshc_run.proofs.Lines.{cut_line, next_line}
 use Rattle.sshc_run.proofs.record_lines.write_lines.Goals as goal
 
 pub loop-said-init : goal.loop-said-init
-loop-said-init g c = record { wrote = sym (append-nothing _); later = omega arith; moved = no_writes _ _ }
+loop-said-init g c = record { wrote = sym (append-nothing _); same = refl; moved = no_writes _ _ }
 
 pub loop-said-preserved : goal.loop-said-preserved
 loop-said-preserved g c = record {
   wrote = next_line _ _ _ _ _ _ c.loop-said-test.true c.said-item.is c.loop-said.invariant.wrote c.in_ok-write_line.ensures.whole;
-  later = omega (arith, c.loop-said.invariant.later, c.in_ok-write_line.ensures.cause.later);
+  same = c.in_ok-write_line.ensures.cause.same (λ e. absurd cc) ∙ c.loop-said.invariant.same;
   moved = writes_on _ _ _ _ _ _ c.loop-said.invariant.moved c.in_ok-write_line.ensures.moved;
 }
 

@@ -1,4 +1,4 @@
-use Rattle.std.proofs.Common.{◌≡◌, ◌≤◌, take}
+use Rattle.std.proofs.Common.{◌≡◌, take}
 use Rattle.sshc_wire.specs.Contents.{append, WritesMove}
 use Rattle.sshc_run.specs.RecordLines.{lines}
 use Rattle.sshc_run.proofs.record_lines.write_lines.Given as goal
@@ -7,6 +7,6 @@ abbrev pub invariant-loop-said : goal.invariant-loop-said
 invariant-loop-said g l =
     record {
       wrote : g.K.Sink.contents l.sink ≡ append (g.K.Sink.contents l.initial.sink) (lines (take l.said-index l.records));
-      later : g.K.Sink.faults l.initial.sink ≤ g.K.Sink.faults l.sink;
+      same : g.K.Sink.faults l.sink ≡ g.K.Sink.faults l.initial.sink;
       moved : WritesMove (g.K.Sink.contents l.initial.sink) (g.K.Sink.contents l.sink) (g.K.Sink.writes l.initial.sink) (g.K.Sink.writes l.sink);
     }

@@ -16,9 +16,9 @@ loop-turn-init g c = record {
   same = refl;
   unsigned = refl;
   place = omega arith;
-  reads = omega arith;
+  reads = refl;
   moved = no_writes _ _;
-  writes = omega arith;
+  writes = refl;
 }
 
 pub one_turn-requires : goal.one_turn-requires
@@ -33,9 +33,9 @@ loop-turn-preserved g c =
       same = c.one_turn.ensures.same ∙ c.loop-turn.invariant.same;
       unsigned = c.one_turn.ensures.unsigned ∙ c.loop-turn.invariant.unsigned;
       place = omega (arith, c.loop-turn.invariant.place, gives.4.within);
-      reads = omega (arith, c.loop-turn.invariant.reads, c.one_turn.ensures.read_later);
+      reads = c.in_default.ensures.read_told (λ e. absurd cc) ∙ c.loop-turn.invariant.reads;
       moved = writes_on _ _ _ _ _ _ c.loop-turn.invariant.moved (c.in_default.ensures.moved_writes);
-      writes = omega (arith, c.loop-turn.invariant.writes, c.one_turn.ensures.write_later);
+      writes = c.in_default.ensures.write_told (λ e. absurd cc) ∙ c.loop-turn.invariant.writes;
     }
 
 pub returns-in-Some-clause-run : goal.returns-in-Some-clause-run

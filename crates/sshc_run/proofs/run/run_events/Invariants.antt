@@ -16,7 +16,7 @@ invariant-loop-turn g l =
       same : hosts_of l.gate ≡ hosts_of l.initial.gate;
       unsigned : g.G.LocalSigner.calls l.signer ≡ g.G.LocalSigner.calls l.initial.signer;
       place : l.at.place ≤ 262148 * l.turn;
-      reads : g.S.Source.faults l.initial.source ≤ g.S.Source.faults l.source;
+      reads : g.S.Source.faults l.source ≡ g.S.Source.faults l.initial.source;
       moved : WritesMove (g.K.Sink.contents l.initial.sink) (g.K.Sink.contents l.sink) (g.K.Sink.writes l.initial.sink) (g.K.Sink.writes l.sink);
-      writes : g.K.Sink.faults l.initial.sink ≤ g.K.Sink.faults l.sink;
+      writes : g.K.Sink.faults l.sink ≡ g.K.Sink.faults l.initial.sink;
     }

@@ -1,11 +1,8 @@
-use Rattle.std.proofs.Common.{ℕ, List, [], arith, sym}
+use Rattle.std.proofs.Common.{[], arith, sym}
 use Rattle.sshc_wire.specs.Contents.{prepend-nothing}
 use Rattle.sshc_hosts.specs.HostText.{host_text}
-use Rattle.sshc_auth.specs.OpeningState.{start}
 use Rattle.sshc_run.specs.Configured.{settings_of}
 use Rattle.sshc_run.specs.KnownHosts.{Hosts}
-use Rattle.sshc_run.specs.Outcome.{HoldsAtMost}
-use Rattle.sshc_run.specs.ScriptRun.{script_run}
 use Rattle.sshc_run.proofs.CausedRuns.{caused_of}
 use Rattle.sshc_run.proofs.Going.{nothing_held}
 use Rattle.sshc_run.proofs.Promises.{gate_of, prefix_of, done_of, kept_of, complete_of}

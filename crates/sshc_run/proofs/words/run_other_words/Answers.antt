@@ -1,6 +1,3 @@
-use Rattle.std.proofs.Common.{ℕ, Option, Some, None, refl, ap}
-use Rattle.sshc_words.specs.Asked.{Asked}
-use Rattle.sshc_words.specs.HostsWords.{Outside, HostsGives}
 use Rattle.sshc_run.proofs.words.run_other_words.Goals as goal
 
 pub returns-in-None-clause-hosts : goal.returns-in-None-clause-hosts

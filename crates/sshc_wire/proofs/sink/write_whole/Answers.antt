@@ -7,7 +7,7 @@ pub loop-written-preserved : goal.loop-written-preserved
 loop-written-preserved g c = record {
   within = within_piece _ _ _ c.loop-written.invariant.within c.in-Ok.ensures.bound;
   wrote = written_more _ _ _ _ _ _ c.loop-written.invariant.within c.in-Ok.ensures.bound c.loop-written.invariant.wrote c.in-Ok.ensures.bytes;
-  later = omega (arith, c.loop-written.invariant.later, c.write.ensures.cause.later);
+  same = c.in-Ok.ensures.cause.same (λ e. absurd cc) ∙ c.loop-written.invariant.same;
   counted =
       let some : 0 < length (take (length c.args.piece.now - c.loop-written.written) (drop c.loop-written.written c.args.piece.now)) = grind (arith, length-take, length-drop) in
       omega (arith, c.loop-written.invariant.counted, c.write.ensures.counted, c.in-Ok.ensures.moves some);

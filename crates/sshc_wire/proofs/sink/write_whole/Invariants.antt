@@ -7,7 +7,7 @@ invariant-loop-written g l =
     record {
       within : l.written ≤ length l.piece;
       wrote : g.K.Sink.contents l.sink ≡ append (g.K.Sink.contents l.initial.sink) (take l.written l.piece);
-      later : g.K.Sink.faults l.initial.sink ≤ g.K.Sink.faults l.sink;
+      same : g.K.Sink.faults l.sink ≡ g.K.Sink.faults l.initial.sink;
       counted : g.K.Sink.writes l.sink ≤ g.K.Sink.writes l.initial.sink + l.written;
     }
 

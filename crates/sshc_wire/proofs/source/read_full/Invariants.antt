@@ -7,7 +7,7 @@ invariant-loop-filled g l =
     record {
       within : l.filled ≤ length l.buf;
       given : g.S.Source.left l.initial.source ≡ prepend (take l.filled l.buf) (g.S.Source.left l.source);
-      later : g.S.Source.faults l.initial.source ≤ g.S.Source.faults l.source;
+      same : g.S.Source.faults l.source ≡ g.S.Source.faults l.initial.source;
       counted : g.S.Source.reads l.source ≤ g.S.Source.reads l.initial.source + l.filled;
     }
 
