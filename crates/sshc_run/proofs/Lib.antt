@@ -12,3 +12,7 @@ pub mod CausedRuns
 pub mod WordLists
 pub mod Longer
 pub mod StandardFacts
+pub mod StandardEvents
+pub mod StandardLogin
+pub mod StandardLearned
+pub mod StandardRows

@@ -1,5 +1,5 @@
 -- The script of a password login and its records, by computing them from the definitions. Its bytes and its lines are told in
--- docs/FORMATS.md; the steps of its opening are computed in sshc_auth, and the whole run is a test.
+-- docs/FORMATS.md; the steps of its opening are computed in sshc_auth, and the whole run is proved in StandardLogin and is a test.
 use Rattle.std.proofs.Common.{◌≡◌, ℕ, ◌+◌, List, [], ◌∷◌, ◌++◌, length, take, refl}
 use Rattle.std.specs.Prelude.{codes}
 use Rattle.sshc_wire.specs.Reads.{byte_at, number_at}
@@ -12,32 +12,32 @@ use Rattle.sshc_auth.specs.RequestTexts.{service_request, request}
 use Rattle.sshc_run.specs.Script.{whole, bad, more, taken, stop_of, stop, events, front, sized_front, head_at}
 
 -- an event at moment 0
-abbrev event : ℕ → List ℕ → List ℕ
+abbrev pub event : ℕ → List ℕ → List ℕ
 event kind fields = u32_text (9 + length fields) ++ u64_text 0 ++ kind ∷ fields
 
 -- the host key, by its 32 bytes
-abbrev key_bytes : List ℕ
+abbrev pub key_bytes : List ℕ
 key_bytes = 151 ∷ 67 ∷ 239 ∷ 45 ∷ 218 ∷ 46 ∷ 174 ∷ 57 ∷ 227 ∷ 37 ∷ 129 ∷ 119 ∷ 2 ∷ 214 ∷ 110 ∷ 39 ∷ 148 ∷ 213 ∷ 230 ∷ 243 ∷ 247 ∷ 247 ∷ 46 ∷ 239 ∷ 244 ∷ 4 ∷ 94 ∷ 127 ∷ 78 ∷ 33 ∷ 230 ∷ 73 ∷ []
 
-abbrev key : List ℕ
+abbrev pub key : List ℕ
 key = string_text (codes "ssh-ed25519") ++ string_text key_bytes
 
 -- an exchange that is done, with the hash `session-id` and the method curve25519-sha256
-abbrev exchange : ℕ → List ℕ → List ℕ
+abbrev pub exchange : ℕ → List ℕ → List ℕ
 exchange sort blob = sort ∷ string_text blob ++ string_text (codes "session-id") ++ string_text [] ++ 0 ∷ string_text []
     ++ string_text (codes "curve25519-sha256") ++ string_text [] ++ string_text [] ++ string_text [] ++ string_text [] ++ 0 ∷ []
 
 -- ticket 1, alice, a password
-abbrev asked : List ℕ
+abbrev pub asked : List ℕ
 asked = u32_text 1 ++ string_text (codes "alice") ++ 1 ∷ string_text (codes "pw")
 
-abbrev accepted : List ℕ
+abbrev pub accepted : List ℕ
 accepted = 6 ∷ string_text (codes "ssh-userauth")
 
-abbrev script_with : List ℕ → List ℕ
+abbrev pub script_with : List ℕ → List ℕ
 script_with done = event 1 [] ++ event 2 done ++ event 0x10 asked ++ event 3 accepted ++ event 3 (52 ∷ [])
 
-abbrev login : List ℕ
+abbrev pub login : List ℕ
 login = script_with (exchange 1 key)
 
 -- ---- the grammar
@@ -47,7 +47,7 @@ unfolding u32_text u64_text string_text
 length_is = refl
 
 -- five whole events, and nothing behind them
-stop_is : stop_of 8192 login ≡ whole
+pub stop_is : stop_of 8192 login ≡ whole
 unfolding u32_text u64_text string_text stop front sized_front head_at number_at byte_at
 stop_is = refl
 
@@ -56,11 +56,11 @@ unfolding u32_text u64_text string_text events front sized_front head_at number_
 five_events = refl
 
 -- the script without its last byte is cut inside the event at place 206, and a third event is one too many of two
-cut_is : stop_of 8192 (take 219 login) ≡ bad 206
+pub cut_is : stop_of 8192 (take 219 login) ≡ bad 206
 unfolding u32_text u64_text string_text stop front sized_front head_at number_at byte_at
 cut_is = refl
 
-more_is : stop_of 2 login ≡ more
+pub more_is : stop_of 2 login ≡ more
 unfolding u32_text u64_text string_text stop front sized_front head_at number_at byte_at
 more_is = refl
 

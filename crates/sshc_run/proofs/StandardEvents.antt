@@ -1,0 +1,214 @@
+-- The five events of the password login: each one's fields are read. Its texts are ASCII, and its host key's blob is the key's text.
+use Rattle.std.proofs.Common.{◌≡◌, ℕ, zero, suc, ◌<◌, ◌^◌, Bool, true, false, List, [], ◌∷◌, ◌++◌, length, Option, Some, None, Result, Ok, Err, ltb, lit<, refl, ap, sym, ◌∙◌}
+use Rattle.std.specs.Prelude.{codes, if◌then◌else◌}
+use Rattle.std.specs.List.{list_all}
+use Rattle.std.specs.Option.{is_some}
+use Rattle.std.specs.Str.{is_utf8}
+use Rattle.std.proofs.lemmas.Bool.{ltb-true}
+use Rattle.std.proofs.lemmas.List.{append-nil}
+use Rattle.std.proofs.lemmas.List.Sums.{AllPass-from_list_all}
+use Rattle.std.proofs.lemmas.Str.{IsUtf8-from_ascii, is_utf8-from_IsUtf8}
+use Rattle.std.proofs.lemmas.Str.Ascii.{IsAscii-from_all}
+use Rattle.sshc_wire.specs.Format.{faults_as, known as known_or}
+use Rattle.sshc_wire.specs.Parts.{number32, strings, texts}
+use Rattle.sshc_wire.specs.Reads.{◌>>=◌, byte_at, number_at, boolean_at, string_at, text_at}
+use Rattle.sshc_wire.specs.Wire.{u32_text, string_text}
+use Rattle.sshc_wire.specs.declared.error.WireError.{WireError}
+use Rattle.sshc_key.specs.AlgorithmNames.{tag_named, known_named}
+use Rattle.sshc_key.specs.KeyGrammar.{Key, ed25519, plain, key_text}
+use Rattle.sshc_key.specs.KeyReading.{as_encoding, octets_at as key_octets_at, utf8_at, sized_at, ed25519_at, tag_at, tagged_at, key_at as whole_key_at}
+use Rattle.sshc_key.specs.Nesting.{whole_of, front_at, whole_blob_key}
+use Rattle.sshc_key.specs.declared.error.Error.{Error as KeyError}
+use Rattle.sshc_key.specs.declared.error.Error.TheVariants as key_errors
+use Rattle.sshc_key.specs.declared.kind.Known.TheVariants as knowns
+use Rattle.sshc_key.specs.declared.kind.Kind.TheVariants as key_kinds
+use Rattle.sshc_key.specs.declared.kind.Tag.{Tag}
+use Rattle.sshc_key.specs.declared.kind.Tag.TheVariants as tags
+use Rattle.sshc_auth.specs.HostKey.{bare, plain_identity}
+use Rattle.sshc_auth.specs.declared.event.Event.{Event}
+use Rattle.sshc_auth.specs.declared.event.Event.TheVariants as events
+use Rattle.sshc_auth.specs.declared.event.ExchangeKey.{ExchangeKey}
+use Rattle.sshc_auth.specs.declared.event.ExchangeKey.TheVariants as keys
+use Rattle.sshc_auth.specs.declared.event.ExchangeResult.{ExchangeResult}
+use Rattle.sshc_auth.specs.declared.event.NamesChosen.{NamesChosen}
+use Rattle.sshc_auth.specs.declared.method.Method.{Method}
+use Rattle.sshc_auth.specs.declared.method.Method.TheVariants.{Password}
+use Rattle.sshc_auth.specs.declared.opening.Phase.TheVariants as phases
+use Rattle.sshc_run.specs.declared.error.EventError.TheVariants as reads
+use Rattle.sshc_run.specs.declared.event_kind.EventKind.TheVariants as kinds
+use Rattle.sshc_run.specs.Fields.{u8_at, u32_at, flag_at, octets_at, words_at, readable, key_at, secret_at, names_at, exchange_done_of, password_at, method_at, authenticate_of, event_in}
+use Rattle.sshc_run.specs.Script.{as_bad}
+use Rattle.sshc_run.proofs.StandardFacts.{key_bytes, key, exchange, asked, accepted}
+
+-- ---- parts at the front
+
+utf8_is : (text : List ℕ) → list_all (λ b. ltb b 128) text ≡ true → is_utf8 text ≡ true
+utf8_is text low =
+    is_utf8-from_IsUtf8 text (IsUtf8-from_ascii text (IsAscii-from_all text (λ k d within. ltb-true _ _ (AllPass-from_list_all (λ b. ltb b 128) text low k d within))))
+
+-- a text of ASCII is read
+text_is : (text rest : List ℕ) → length text < 2 ^ 32 → list_all (λ b. ltb b 128) text ≡ true → text_at (string_text text ++ rest) ≡ Ok (text, rest)
+text_is text rest short low = texts.again text rest (short, utf8_is text low)
+
+words_is : (text rest : List ℕ) → length text < 2 ^ 32 → list_all (λ b. ltb b 128) text ≡ true → words_at (string_text text ++ rest) ≡ Ok (text, rest)
+unfolding words_at
+words_is text rest short low = ap (faults_as as_bad) (text_is text rest short low)
+
+octets_is : (text rest : List ℕ) → length text < 2 ^ 32 → octets_at (string_text text ++ rest) ≡ Ok (text, rest)
+unfolding octets_at
+octets_is text rest short = ap (faults_as as_bad) (strings.again text rest short)
+
+u32_is : (n : ℕ) (rest : List ℕ) → n < 2 ^ 32 → u32_at (u32_text n ++ rest) ≡ Ok (n, rest)
+unfolding u32_at
+u32_is n rest small = ap (faults_as as_bad) (number32.again n rest small)
+
+u8_is : (b : ℕ) (rest : List ℕ) → u8_at (b ∷ rest) ≡ Ok (b, rest)
+unfolding u8_at byte_at
+u8_is b rest = refl
+
+unset_is : (rest : List ℕ) → flag_at (0 ∷ rest) ≡ Ok (false, rest)
+unfolding flag_at boolean_at byte_at
+unset_is rest = refl
+
+-- ---- the host key
+
+abbrev pub login_key : Key
+login_key = plain (ed25519 key_bytes)
+
+-- the blob is the key's text
+blob_is : key ≡ key_text login_key
+blob_is = refl
+
+tag_is : tag_at key ≡ Ok (tags.Plain (key_kinds.Known knowns.Ed25519), string_text key_bytes)
+unfolding tag_at utf8_at tag_named known_named
+tag_is =
+    ap (λ (r : Result (List ℕ × List ℕ) WireError). faults_as as_encoding r >>= λ s. known_or (tag_named s.0) key_errors.SshKey s.1)
+    (text_is (codes "ssh-ed25519") (string_text key_bytes) (lit< tt) refl)
+
+fields_is : ed25519_at (string_text key_bytes) ≡ Ok (login_key, [])
+unfolding ed25519_at sized_at key_octets_at string_at number_at string_text u32_text
+fields_is = refl
+
+pub read_is : whole_key_at 9 key ≡ Ok (login_key, [])
+unfolding whole_key_at
+read_is = ap (λ (r : Result (Tag × List ℕ) KeyError). r >>= λ x. tagged_at (whole_key_at 8) x.0 x.1) tag_is ∙ fields_is
+
+-- the whole blob is that key
+pub whole_is : whole_blob_key key ≡ Some login_key
+unfolding whole_blob_key front_at string_text u32_text
+whole_is = ap (λ (r : Result (Key × List ℕ) KeyError). whole_of (faults_as (λ e. key_errors.SshKey) r)) read_is
+
+-- ---- the exchange's fields
+
+abbrev names : NamesChosen
+names = record { kex = codes "curve25519-sha256"; key = []; cipher = []; client_mac = []; server_mac = []; strict_kex = false }
+
+abbrev pub exchange_with : ExchangeKey → ExchangeResult
+exchange_with host_key = record { key = host_key; session_hash = codes "session-id"; signature = []; secret = None; names = names }
+
+abbrev pub login_exchange : ExchangeResult
+login_exchange = exchange_with (keys.Key key)
+
+readable_is : readable (keys.Key key) ≡ Ok (keys.Key key)
+readable_is = ap (λ (o : Option Key). if is_some (plain_identity (bare o)) then Ok (keys.Key key) else Err reads.Bad) whole_is
+
+key_short : length key < 2 ^ 32
+unfolding string_text u32_text
+key_short = lit< tt
+
+key_is : (rest : List ℕ) → key_at (1 ∷ string_text key ++ rest) ≡ Ok (keys.Key key, rest)
+unfolding key_at
+key_is rest = rw (u8_is 1 (string_text key ++ rest), octets_is key rest key_short, readable_is) refl
+
+-- no key has an empty string
+missing_is : (rest : List ℕ) → key_at (0 ∷ string_text [] ++ rest) ≡ Ok (keys.Missing, rest)
+unfolding key_at
+missing_is rest = rw (u8_is 0 (string_text [] ++ rest), octets_is [] rest (lit< tt)) refl
+
+-- an absent secret
+secret_is : (rest : List ℕ) → secret_at (0 ∷ string_text [] ++ rest) ≡ Ok (None, rest)
+unfolding secret_at
+secret_is rest = rw (unset_is (string_text [] ++ rest), octets_is [] rest (lit< tt)) refl
+
+names_of : (b0 b1 b2 b3 b4 b5 b6 kex key cipher client server : List ℕ) (strict : Bool) → words_at b0 ≡ Ok (kex, b1) → words_at b1 ≡ Ok (key, b2) → words_at b2 ≡ Ok (cipher, b3)
+    → words_at b3 ≡ Ok (client, b4) → words_at b4 ≡ Ok (server, b5) → flag_at b5 ≡ Ok (strict, b6)
+    → names_at b0 ≡ Ok (record { kex = kex; key = key; cipher = cipher; client_mac = client; server_mac = server; strict_kex = strict }, b6)
+unfolding names_at
+names_of b0 b1 b2 b3 b4 b5 b6 kex key cipher client server strict e0 e1 e2 e3 e4 e5 = rw (e0, e1, e2, e3, e4, e5) refl
+
+none_is : (rest : List ℕ) → words_at (string_text [] ++ rest) ≡ Ok ([], rest)
+none_is rest = words_is [] rest (lit< tt) refl
+
+-- four names that are empty, and no strict exchange
+abbrev unnamed : ℕ → List ℕ
+unnamed zero = 0 ∷ []
+unnamed (suc n) = string_text [] ++ unnamed n
+
+names_is : names_at (string_text (codes "curve25519-sha256") ++ unnamed 4) ≡ Ok (names, [])
+names_is =
+    names_of (string_text (codes "curve25519-sha256") ++ unnamed 4) (unnamed 4) (unnamed 3) (unnamed 2) (unnamed 1) (unnamed 0) [] (codes "curve25519-sha256") [] [] [] [] false
+    (words_is (codes "curve25519-sha256") (unnamed 4) (lit< tt) refl) (none_is (unnamed 3)) (none_is (unnamed 2)) (none_is (unnamed 1)) (none_is (unnamed 0)) (unset_is [])
+
+exchange_of : (b0 b1 b2 b3 b4 hash signature : List ℕ) (key : ExchangeKey) (secret : Option (List ℕ)) (names : NamesChosen) → key_at b0 ≡ Ok (key, b1) → octets_at b1 ≡ Ok (hash, b2)
+    → octets_at b2 ≡ Ok (signature, b3) → secret_at b3 ≡ Ok (secret, b4) → names_at b4 ≡ Ok (names, [])
+    → exchange_done_of b0 ≡ Ok (events.ExchangeDone (record { key = key; session_hash = hash; signature = signature; secret = secret; names = names }))
+unfolding exchange_done_of
+exchange_of b0 b1 b2 b3 b4 hash signature key secret names e0 e1 e2 e3 e4 = rw (e0, e1, e2, e3, e4) refl
+
+abbrev named : List ℕ
+named = string_text (codes "curve25519-sha256") ++ unnamed 4
+
+abbrev secretless : List ℕ
+secretless = 0 ∷ string_text [] ++ named
+
+-- what stands behind the host key
+abbrev keyed : List ℕ
+keyed = string_text (codes "session-id") ++ (string_text [] ++ secretless)
+
+-- ---- the five events
+
+pub kexinit_is : event_in phases.Exchanging kinds.PeerKexinit [] ≡ Ok events.PeerKexinit
+kexinit_is = refl
+
+-- fields whose host key is read before these are an exchange's
+exchange_by : (fields : List ℕ) (host_key : ExchangeKey) → key_at fields ≡ Ok (host_key, keyed) → event_in phases.Exchanging kinds.ExchangeDone fields ≡ Ok (events.ExchangeDone (exchange_with host_key))
+exchange_by fields host_key is =
+    exchange_of fields keyed (string_text [] ++ secretless) secretless named (codes "session-id") [] host_key None names
+    is (octets_is (codes "session-id") (string_text [] ++ secretless) (lit< tt)) (octets_is [] secretless (lit< tt)) (secret_is named) names_is
+
+pub exchange_is : event_in phases.Exchanging kinds.ExchangeDone (exchange 1 key) ≡ Ok (events.ExchangeDone login_exchange)
+unfolding u32_text string_text
+exchange_is = exchange_by (exchange 1 key) (keys.Key key) (key_is keyed)
+
+-- the same exchange without a host key
+pub keyless_is : event_in phases.Exchanging kinds.ExchangeDone (exchange 0 []) ≡ Ok (events.ExchangeDone (exchange_with keys.Missing))
+unfolding u32_text string_text
+keyless_is = exchange_by (exchange 0 []) keys.Missing (missing_is keyed)
+
+-- a password, and nothing behind it
+method_is : method_at (1 ∷ string_text (codes "pw")) ≡ Ok (Password (codes "pw"), [])
+unfolding method_at password_at
+method_is =
+    let read : words_at (string_text (codes "pw")) ≡ Ok (codes "pw", []) = ap words_at (sym (append-nil (string_text (codes "pw")))) ∙ words_is (codes "pw") [] (lit< tt) refl in
+    rw (u8_is 1 (string_text (codes "pw")), read) refl
+
+request_of : (b0 b1 b2 user : List ℕ) (ticket : ℕ) (method : Method) → u32_at b0 ≡ Ok (ticket, b1) → words_at b1 ≡ Ok (user, b2) → method_at b2 ≡ Ok (method, [])
+    → authenticate_of b0 ≡ Ok (events.Authenticate (record { 0 = ticket }) user method)
+unfolding authenticate_of
+request_of b0 b1 b2 user ticket method e0 e1 e2 = rw (e0, e1, e2) refl
+
+abbrev pub login_request : Event
+login_request = events.Authenticate (record { 0 = 1 }) (codes "alice") (Password (codes "pw"))
+
+pub request_is : event_in phases.Service kinds.Authenticate asked ≡ Ok login_request
+unfolding u32_text string_text
+request_is =
+    request_of asked (string_text (codes "alice") ++ 1 ∷ string_text (codes "pw")) (1 ∷ string_text (codes "pw")) (codes "alice") 1 (Password (codes "pw"))
+    (u32_is 1 (string_text (codes "alice") ++ 1 ∷ string_text (codes "pw")) (lit< tt)) (words_is (codes "alice") (1 ∷ string_text (codes "pw")) (lit< tt) refl) method_is
+
+pub accepted_is : event_in phases.Service kinds.Payload accepted ≡ Ok (events.Payload accepted)
+unfolding string_text u32_text
+accepted_is = refl
+
+pub success_is : event_in phases.Auth kinds.Payload (52 ∷ []) ≡ Ok (events.Payload (52 ∷ []))
+success_is = refl

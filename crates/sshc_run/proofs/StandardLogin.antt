@@ -1,0 +1,200 @@
+-- The script of the password login is valid: each turn is the table's, and where the known hosts text accepts the host key the run
+-- ends at the script's end. A text in which the key was learned accepts it.
+use Rattle.std.proofs.Common.{◌≡◌, ℕ, Bool, true, false, List, [], ◌∷◌, drop, Option, Some, None, Result, Ok, refl, ap, ◌∙◌}
+use Rattle.std.specs.Prelude.{codes}
+use Rattle.sshc_wire.specs.Reads.{byte_at, number_at, string_at}
+use Rattle.sshc_wire.specs.Wire.{u32_text, u64_text, string_text}
+use Rattle.sshc_wire.specs.declared.record.Record.{Record}
+use Rattle.sshc_wire.specs.declared.record.Record.TheVariants.{KexDone, Payload, Resolved, Opened}
+use Rattle.sshc_wire.specs.declared.resolution.Resolution.TheVariants.{AuthSuccess}
+use Rattle.sshc_key.specs.KeyGrammar.{Key}
+use Rattle.sshc_key.specs.declared.identity.PublicKeyOrCertificate.TheVariants.{PublicKey}
+use Rattle.sshc_auth.specs.HostKey.{bare, plain_identity}
+use Rattle.sshc_auth.specs.declared.ended.Ended.TheVariants.{ScriptEnd}
+use Rattle.sshc_auth.specs.declared.event.Event.{Event}
+use Rattle.sshc_auth.specs.declared.event.Event.TheVariants as events
+use Rattle.sshc_auth.specs.declared.event.ExchangeFlag.TheVariants as flags
+use Rattle.sshc_auth.specs.declared.method.Method.TheVariants.{Password}
+use Rattle.sshc_auth.specs.declared.opening.Phase.TheVariants as phases
+use Rattle.sshc_auth.specs.declared.step.Asks.{Asks}
+use Rattle.sshc_auth.specs.declared.step.Asks.TheVariants as asking
+use Rattle.sshc_auth.specs.OpeningState.{OpeningState, start, shut}
+use Rattle.sshc_auth.specs.OpeningTable.{open_row, asked_of, key_asked}
+use Rattle.sshc_auth.specs.OpeningTable.Auth.{authenticated}
+use Rattle.sshc_auth.specs.RequestTexts.{service_request, request}
+use Rattle.sshc_run.specs.declared.error.EventError.{EventError}
+use Rattle.sshc_run.specs.declared.error.RunError.TheVariants as errors
+use Rattle.sshc_run.specs.declared.event_kind.EventKind.{EventKind}
+use Rattle.sshc_run.specs.declared.event_kind.EventKind.TheVariants as kinds
+use Rattle.sshc_run.specs.declared.known_hosts_handler.HandlerError.{HandlerError}
+use Rattle.sshc_run.specs.Headline.{IsValidScript}
+use Rattle.sshc_run.specs.KnownHosts.{Hosts, verdict}
+use Rattle.sshc_run.specs.OpeningRun.{OpeningRun, opens_before, stops_with, behind, by_turn, opening}
+use Rattle.sshc_run.specs.Script.{Frame, ScriptStop, whole, taken, stop_of, events as events_at, front, sized_front, head_at}
+use Rattle.sshc_run.specs.ScriptRun.{Run, concluded, script_run}
+use Rattle.sshc_run.specs.Turn.{Turn, goes_on, opened, stopped, ended, refused, judged_turn, asked_turn, event_turn, turn}
+use Rattle.sshc_run.specs.Words.{default_settings}
+use Rattle.sshc_run.proofs.StandardEvents.{login_key, whole_is, login_exchange, exchange_is, request_is, accepted_is, success_is}
+use Rattle.sshc_run.proofs.StandardFacts.{key, exchange, asked, accepted, login, stop_is}
+
+-- ---- the events of the script
+
+abbrev pub frame_of : ℕ → EventKind → List ℕ → Frame
+frame_of place kind fields = record { place = place; moment = 0; kind = kind; fields = fields }
+
+abbrev pub login_events : List Frame
+login_events =
+    frame_of 0 kinds.PeerKexinit [] ∷ frame_of 13 kinds.ExchangeDone (exchange 1 key) ∷ frame_of 143 kinds.Authenticate asked ∷ frame_of 176 kinds.Payload accepted ∷ frame_of 206 kinds.Payload (52 ∷ []) ∷ []
+
+taken_is : taken 8192 login ≡ login_events
+unfolding u32_text u64_text string_text events_at front sized_front head_at number_at byte_at
+taken_is = refl
+
+-- ---- the states in between
+
+abbrev pub exchanging : OpeningState
+exchanging = record (start default_settings) { flag = flags.Peer }
+
+abbrev pub in_service : OpeningState
+in_service = record (start default_settings) { phase = phases.Service; flag = flags.Idle; session_id = codes "session-id" }
+
+abbrev requested : OpeningState
+requested = record in_service { requested = true; ticket = record { 0 = 1 }; stored = Some (record { user = codes "alice"; method = Password (codes "pw") }) }
+
+abbrev pub in_auth : OpeningState
+in_auth = record requested { phase = phases.Auth }
+
+-- ---- the turns
+
+-- the records of a turn, and the state from which the run goes on
+abbrev on_from : List Record → OpeningState → Turn
+on_from records s = record { records = records; state = s; next = goes_on; left = [] }
+
+pub kexinit_turn : (hosts : Hosts) → turn hosts (start default_settings) (frame_of 0 kinds.PeerKexinit []) [] ≡ on_from [] exchanging
+unfolding turn open_row asked_of
+kexinit_turn hosts = refl
+
+-- the exchange is judged by the verdict on its host key
+asks_is : asked_of exchanging (events.ExchangeDone login_exchange) ≡ asking.HostKey (PublicKey (login_key, []) None)
+unfolding asked_of
+asks_is = ap (λ (o : Option Key). key_asked (plain_identity (bare o))) whole_is
+
+judged_is : (hosts : Hosts) (said : Result Bool HandlerError) → verdict hosts (PublicKey (login_key, []) None) ≡ said
+    → turn hosts exchanging (frame_of 13 kinds.ExchangeDone (exchange 1 key)) [] ≡ judged_turn 13 exchanging (events.ExchangeDone login_exchange) [] said
+unfolding turn
+judged_is hosts said says =
+    ap (λ (r : Result Event EventError). event_turn hosts 13 exchanging [] r) exchange_is
+    ∙ ap (λ (asks : Asks). asked_turn hosts 13 exchanging (events.ExchangeDone login_exchange) [] asks) asks_is
+    ∙ ap (λ (v : Result Bool HandlerError). judged_turn 13 exchanging (events.ExchangeDone login_exchange) [] v) says
+
+went_is : judged_turn 13 exchanging (events.ExchangeDone login_exchange) [] (Ok true) ≡ on_from (KexDone (codes "curve25519-sha256") ∷ []) in_service
+unfolding open_row
+went_is = refl
+
+no_is : judged_turn 13 exchanging (events.ExchangeDone login_exchange) [] (Ok false) ≡ record { records = []; state = shut exchanging; next = stopped (refused errors.UnknownKey); left = [] }
+unfolding open_row
+no_is = refl
+
+request_turn : (hosts : Hosts) → turn hosts in_service (frame_of 143 kinds.Authenticate asked) [] ≡ on_from (Payload service_request ∷ []) requested
+unfolding turn open_row asked_of
+request_turn hosts = ap (λ (r : Result Event EventError). event_turn hosts 143 in_service [] r) request_is
+
+-- the service is there, and the password is written
+service_turn : (hosts : Hosts) → turn hosts requested (frame_of 176 kinds.Payload accepted) [] ≡ on_from (Payload (request (codes "alice") (Password (codes "pw"))) ∷ []) in_auth
+unfolding turn open_row asked_of string_at number_at string_text u32_text
+service_turn hosts = ap (λ (r : Result Event EventError). event_turn hosts 176 requested [] r) accepted_is
+
+success_turn : (hosts : Hosts) → turn hosts in_auth (frame_of 206 kinds.Payload (52 ∷ [])) []
+    ≡ record { records = Resolved (record { 0 = 1 }) AuthSuccess ∷ Opened ∷ []; state = shut (authenticated in_auth); next = opened; left = [] }
+unfolding turn open_row asked_of
+success_turn hosts = ap (λ (r : Result Event EventError). event_turn hosts 206 in_auth [] r) success_is
+
+-- ---- the run
+
+-- the run by its first turn
+pub by_first : (hosts : Hosts) (s : OpeningState) (frame : Frame) (frames : List Frame) (t : Turn) → turn hosts s frame [] ≡ t
+    → opening hosts s (frame ∷ frames) [] ≡ by_turn t t.next frames (opening hosts t.state frames t.left)
+unfolding opening
+by_first hosts s frame frames t is = ap (λ (t : Turn). by_turn t t.next frames (opening hosts t.state frames t.left)) is
+
+-- the run by a first turn from which it goes on
+pub step_by : (hosts : Hosts) (s s' : OpeningState) (frame : Frame) (frames : List Frame) (records : List Record) (later : OpeningRun) → turn hosts s frame [] ≡ on_from records s'
+    → opening hosts s' frames [] ≡ later → opening hosts s (frame ∷ frames) [] ≡ behind records later
+step_by hosts s s' frame frames records later is rest = by_first hosts s frame frames (on_from records s') is ∙ ap (λ (r : OpeningRun). behind records r) rest
+
+-- the run of the last events
+abbrev events_behind : ℕ → List Frame
+events_behind n = drop n login_events
+
+abbrev opened_run : List Record → OpeningRun
+opened_run outputs = record { outputs = outputs; stop = opens_before (shut (authenticated in_auth)) [] }
+
+abbrev password_record : Record
+password_record = Payload (request (codes "alice") (Password (codes "pw")))
+
+abbrev last_records : List Record
+last_records = Resolved (record { 0 = 1 }) AuthSuccess ∷ Opened ∷ []
+
+-- once the host key is accepted, a request and the acceptance of its service are followed by the run from the phase Auth
+pub requested_opening : (hosts : Hosts) (frames : List Frame) (later : OpeningRun) → opening hosts in_auth frames [] ≡ later
+    → opening hosts in_service (frame_of 143 kinds.Authenticate asked ∷ frame_of 176 kinds.Payload accepted ∷ frames) [] ≡ behind (Payload service_request ∷ password_record ∷ []) later
+requested_opening hosts frames later rest =
+    step_by hosts in_service requested (frame_of 143 kinds.Authenticate asked) (frame_of 176 kinds.Payload accepted ∷ frames) (Payload service_request ∷ []) (behind (password_record ∷ []) later) (request_turn hosts)
+    (step_by hosts requested in_auth (frame_of 176 kinds.Payload accepted) frames (password_record ∷ []) later (service_turn hosts) rest)
+
+-- and the success opens the session
+service_opening : (hosts : Hosts) → opening hosts in_service (events_behind 2) [] ≡ opened_run (Payload service_request ∷ password_record ∷ last_records)
+service_opening hosts = requested_opening hosts (events_behind 4) (opened_run last_records) (by_first hosts in_auth (frame_of 206 kinds.Payload (52 ∷ [])) [] _ (success_turn hosts))
+
+-- the records of the login
+abbrev pub login_records : List Record
+login_records = KexDone (codes "curve25519-sha256") ∷ Payload service_request ∷ Payload (request (codes "alice") (Password (codes "pw"))) ∷ Resolved (record { 0 = 1 }) AuthSuccess ∷ Opened ∷ []
+
+-- where the verdict accepts the host key, the exchange is followed by the run from the phase Service
+pub accepted_opening : (hosts : Hosts) (frames : List Frame) (later : OpeningRun) → verdict hosts (PublicKey (login_key, []) None) ≡ Ok true → opening hosts in_service frames [] ≡ later
+    → opening hosts (start default_settings) (frame_of 0 kinds.PeerKexinit [] ∷ frame_of 13 kinds.ExchangeDone (exchange 1 key) ∷ frames) [] ≡ behind (KexDone (codes "curve25519-sha256") ∷ []) later
+accepted_opening hosts frames later accepts rest =
+    step_by hosts (start default_settings) exchanging (frame_of 0 kinds.PeerKexinit []) (frame_of 13 kinds.ExchangeDone (exchange 1 key) ∷ frames) []
+    (behind (KexDone (codes "curve25519-sha256") ∷ []) later) (kexinit_turn hosts)
+    (step_by hosts exchanging in_service (frame_of 13 kinds.ExchangeDone (exchange 1 key)) frames (KexDone (codes "curve25519-sha256") ∷ []) later (judged_is hosts (Ok true) accepts ∙ went_is) rest)
+
+login_opening : (hosts : Hosts) → verdict hosts (PublicKey (login_key, []) None) ≡ Ok true → opening hosts (start default_settings) login_events [] ≡ opened_run login_records
+login_opening hosts accepts = accepted_opening hosts (events_behind 2) (opened_run (Payload service_request ∷ password_record ∷ last_records)) accepts (service_opening hosts)
+
+-- where the verdict refuses the host key, the run ends with its exchange
+abbrev pub refused_run : OpeningRun
+refused_run = record { outputs = []; stop = stops_with (refused errors.UnknownKey) }
+
+stranger_opening : (hosts : Hosts) → verdict hosts (PublicKey (login_key, []) None) ≡ Ok false → opening hosts (start default_settings) login_events [] ≡ refused_run
+stranger_opening hosts refuses =
+    step_by hosts (start default_settings) exchanging (frame_of 0 kinds.PeerKexinit []) (events_behind 1) [] refused_run (kexinit_turn hosts)
+    (by_first hosts exchanging (frame_of 13 kinds.ExchangeDone (exchange 1 key)) (events_behind 2) _ (judged_is hosts (Ok false) refuses ∙ no_is))
+
+-- a script's run by its opening and what stands behind its events
+pub run_by : (hosts : Hosts) (max : ℕ) (script : List ℕ) (frames : List Frame) (r : OpeningRun) (st : ScriptStop) → taken max script ≡ frames → stop_of max script ≡ st
+    → opening hosts (start default_settings) frames [] ≡ r → script_run hosts (start default_settings) max script [] ≡ concluded r st
+run_by hosts max script frames r st frames_are stop_is is =
+    ap (λ (fs : List Frame). concluded (opening hosts (start default_settings) fs []) (stop_of max script)) frames_are
+    ∙ ap (λ (o : OpeningRun). concluded o (stop_of max script)) is
+    ∙ ap (λ (st : ScriptStop). concluded r st) stop_is
+
+-- the same of the login
+login_by : (hosts : Hosts) (r : OpeningRun) → opening hosts (start default_settings) login_events [] ≡ r → script_run hosts (start default_settings) 8192 login [] ≡ concluded r whole
+login_by hosts r is = run_by hosts 8192 login login_events r whole taken_is stop_is is
+
+-- ---- the theorems
+
+-- where the known hosts text accepts the host key, the login gives its five records and ends at the script's end
+pub login_run : (hosts : Hosts) → verdict hosts (PublicKey (login_key, []) None) ≡ Ok true
+    → script_run hosts (start default_settings) 8192 login [] ≡ record { records = login_records; stop = ended ScriptEnd }
+login_run hosts accepts = login_by hosts (opened_run login_records) (login_opening hosts accepts)
+
+-- and so it is a valid script
+pub login_is_valid : (hosts : Hosts) → verdict hosts (PublicKey (login_key, []) None) ≡ Ok true
+    → IsValidScript (λ bytes. script_run hosts (start default_settings) 8192 bytes []) login ScriptEnd
+login_is_valid hosts accepts = ap (λ (r : Run). r.stop) (login_run hosts accepts)
+
+-- where the text doesn't know the host key, nothing is said, not even a payload
+pub stranger : (hosts : Hosts) → verdict hosts (PublicKey (login_key, []) None) ≡ Ok false
+    → script_run hosts (start default_settings) 8192 login [] ≡ record { records = []; stop = refused errors.UnknownKey }
+stranger hosts refuses = login_by hosts refused_run (stranger_opening hosts refuses)
