@@ -1,6 +1,9 @@
 //! Certificates in one another, of which a blob may have eight.
 
-use sshc_key::{Error, PublicKeyBase64, check_cert_nesting, parse_public_key};
+use sshc_key::{
+    Error, PublicKey, PublicKeyBase64, PublicKeyExt, check_cert_nesting, parse_public_key,
+    parse_whole_public_key,
+};
 use sshc_wire::{NoMemory, put_bytes, put_text, put_u32, put_u64};
 use std::alloc::Global;
 use std::test::Fail;
@@ -71,5 +74,31 @@ fn eight_certificates_may_stand_in_one_another(rt: HostRuntime) -> Result<(), Fa
             Err(error) => assert_eq!(rt; Some(error), want),
         }
     }
+    Ok(())
+}
+
+/// The bytes of the key at the front, decoded by the type.
+fn decoded_bytes(alloc: Global, blob: &[u8]) -> Result<Vec<u8>, Error> {
+    let key = PublicKey::decode(alloc, blob)?;
+    Ok(key.public_key_bytes()?)
+}
+
+/// The bytes of the key that takes the whole blob.
+fn whole_bytes(alloc: Global, blob: &[u8]) -> Result<Vec<u8>, Error> {
+    let key = parse_whole_public_key(alloc, blob)?;
+    Ok(key.public_key_bytes()?)
+}
+
+#[test]
+fn a_key_is_read_from_the_front_or_from_the_whole(rt: HostRuntime) -> Result<(), Fail> {
+    let alloc = rt.alloc();
+    let mut blob = nested(alloc, 1)?;
+    let whole = whole_bytes(alloc, &blob)?;
+    assert_eq!(rt; whole.as_slice(), blob.as_slice());
+    blob.push(0)?;
+    assert_eq!(rt; whole_bytes(alloc, &blob).err(), Some(Error::SshKey));
+    let front = decoded_bytes(alloc, &blob)?;
+    assert_eq!(rt; front.as_slice(), whole.as_slice());
+    assert_eq!(rt; decoded_bytes(alloc, b"a@b").err(), Some(Error::SshKey));
     Ok(())
 }

@@ -2,14 +2,17 @@
 
 use crate::scripts::{EXCHANGE, KEXINIT, KNOWN, LOGIN, PASSWORD, script_of};
 use sshc_auth::{
-    Asks, Event, ExchangeFlag, ExchangeKey, Method, Opening, Outbox, Phase, Record, Step, Ticket,
-    Told, host_key_of, write_auth_request,
+    Asks, Event, ExchangeFlag, ExchangeKey, Gate, Method, Opening, Outbox, Phase, Record, Step,
+    Ticket, Told, host_key_of, write_auth_request,
 };
-use sshc_key::PublicKeyOrCertificate;
+use sshc_key::{
+    Asker, Error, LocalSigner, PrivateKey, PublicKeyOrCertificate, SignRefused, read_key_pair,
+};
 use sshc_run::{
-    Config, EventKind, KnownHostsHandler, NextError, RefusingSigner, next_event, read_event,
+    Config, EventKind, HandlerError, KnownHostsHandler, NextError, RefusingSigner, next_event,
+    read_event,
 };
-use sshc_wire::{MemSource, NoMemory, Octets, Text};
+use sshc_wire::{Cursor, MemSource, NoMemory, Octets, Text, put_bytes, put_text, put_u32};
 use std::alloc::Global;
 use std::test::Fail;
 
@@ -129,5 +132,55 @@ fn a_password_request_is_written(rt: HostRuntime) -> Result<(), Fail> {
     assert_eq!(rt; packet.as_slice(), wanted);
     let copied = Octets::from_slice(rt.alloc(), wanted)?;
     assert_eq!(rt; copied.as_slice(), packet.as_slice());
+    Ok(())
+}
+
+/// The host key of the login's exchange.
+fn host_key(alloc: Global) -> Result<PublicKeyOrCertificate, Fail> {
+    let event = exchange(alloc)?;
+    let Event::ExchangeDone(done) = &event else {
+        return Err("no exchange".into());
+    };
+    let Some(key) = host_key_of(alloc, &done.key)? else {
+        return Err("no host key".into());
+    };
+    Ok(key)
+}
+
+/// What the gate answers for this key by this known hosts text.
+fn judged(alloc: Global, known: &str, key: &PublicKeyOrCertificate) -> Result<bool, HandlerError> {
+    match KnownHostsHandler::new(alloc, "localhost", 13265, known) {
+        Ok(mut gate) => gate.check_server_key(key),
+        Err(NoMemory) => Err(HandlerError::Key(Error::NoMemory)),
+    }
+}
+
+#[test]
+fn the_gate_judges_the_key_of_an_exchange(rt: HostRuntime) -> Result<(), Fail> {
+    let key = host_key(rt.alloc())?;
+    assert_eq!(rt; judged(rt.alloc(), KNOWN, &key), Ok(true));
+    assert_eq!(rt; judged(rt.alloc(), "", &key), Ok(false));
+    Ok(())
+}
+
+/// A pair of an Ed25519 key.
+fn pair(alloc: Global) -> Result<PrivateKey, Error> {
+    let mut blob = Vec::new(alloc);
+    put_text(&mut blob, "ssh-ed25519")?;
+    put_bytes(&mut blob, &[8; 32])?;
+    put_u32(&mut blob, 64)?;
+    blob.extend_from_slice(&[7; 32])?;
+    blob.extend_from_slice(&[8; 32])?;
+    read_key_pair(alloc, &mut Cursor::new(&blob))
+}
+
+#[test]
+fn the_signer_refuses_a_pair(rt: HostRuntime) -> Result<(), Fail> {
+    let pair = pair(rt.alloc())?;
+    let mut signer = RefusingSigner::new(rt.alloc());
+    assert_eq!(rt;
+        signer.sign(Asker::Session, &pair, None, b"bytes").err(),
+        Some(SignRefused::Refused)
+    );
     Ok(())
 }

@@ -1,12 +1,12 @@
 //! The login where a read or a write fails, and where bytes go one at a time.
 
-use crate::outside::{SlowSink, SlowSource};
+use crate::outside::{SlowSink, SlowSource, StoppingWriter};
 use crate::scripts::{
-    KNOWN, LOGIN, Outcome, WRITTEN, assert_gives, run_over, script_of, whole_events,
+    KNOWN, LINES, LOGIN, Outcome, WRITTEN, assert_gives, run_over, script_of, whole_events,
 };
 use sshc_auth::Ended;
 use sshc_run::RunError;
-use sshc_wire::{MemSink, MemSource, NoMemory};
+use sshc_wire::{MemSink, MemSource, NoMemory, StdSink};
 use std::alloc::Global;
 use std::test::Fail;
 
@@ -114,6 +114,32 @@ fn a_write_that_fails_at_a_byte_leaves_a_front(rt: HostRuntime) -> Result<(), Fa
             &Err(RunError::WriteFault),
             write,
         );
+    }
+    Ok(())
+}
+
+/// Runs the login into a writer that takes no byte at the call of this number.
+fn login_stopping(
+    alloc: Global,
+    held: &mut Vec<u8>,
+    stop: u64,
+) -> Result<Result<Ended, RunError>, NoMemory> {
+    let mut source = MemSource::new(script_of(alloc, LOGIN.as_slice())?, Vec::new(alloc));
+    let mut sink = StdSink::new(StoppingWriter {
+        held,
+        calls: 0,
+        stop,
+    });
+    Ok(run_over(alloc, KNOWN, 8192, &mut source, &mut sink))
+}
+
+#[test]
+fn a_write_that_takes_nothing_leaves_the_lines_before_it(rt: HostRuntime) -> Result<(), Fail> {
+    for (stop, end) in [0usize, 45, 82, 179, 192].iter().enumerate() {
+        let mut held = Vec::new(rt.alloc());
+        let answer = login_stopping(rt.alloc(), &mut held, stop as u64)?;
+        assert_eq!(rt; answer, Err(RunError::WriteFault));
+        assert_eq!(rt; Some(held.as_slice()), LINES.as_bytes().get(..*end));
     }
     Ok(())
 }

@@ -1,8 +1,9 @@
-//! A source and a sink that take a byte at a time.
+//! A source and a sink that take a byte at a time, and a writer that takes none once.
 
 ghost use Rattle.std.specs.Prelude.{Some};
 
 use sshc_wire::{Failed, MemSink, MemSource, Sink, Source};
+use std::io::{self, ErrorKind, Write};
 
 /// Bytes in memory that come one at a time.
 #[derive(Debug, Drop)]
@@ -39,5 +40,31 @@ impl Sink for SlowSink {
     fn write(&mut self, piece: &[u8]) -> Result<usize, Failed> {
         let most = piece.len().min(1);
         self.sink.write(&piece[..most])
+    }
+}
+
+/// A writer that takes each piece whole, but at the call of one number, from 0, takes no byte.
+#[derive(Drop)]
+pub(crate) struct StoppingWriter<'a> {
+    pub(crate) held: &'a mut Vec<u8>,
+    pub(crate) calls: u64,
+    pub(crate) stop: u64,
+}
+
+impl<'a> Write for StoppingWriter<'a> {
+    fn write(&mut self, buf: &[u8]) -> io::Result<usize> {
+        let call = self.calls;
+        self.calls = call.saturating_add(1);
+        if call == self.stop {
+            return Ok(0);
+        }
+        match self.held.extend_from_slice(buf) {
+            Ok(()) => Ok(buf.len()),
+            Err(_) => Err(io::Error::from(ErrorKind::OutOfMemory)),
+        }
+    }
+
+    fn flush(&mut self) -> io::Result<()> {
+        Ok(())
     }
 }
