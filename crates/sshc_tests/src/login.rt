@@ -89,7 +89,7 @@ fn a_host_key_that_is_not_known_writes_nothing(rt: HostRuntime) -> Result<(), Fa
 }
 
 /// An exchange with no host key.
-const KEYLESS: &[u8] =
+pub(crate) const KEYLESS: &[u8] =
     b"\0\0\0\x4b\0\0\0\0\0\0\0\0\x02\0\0\0\0\0\0\0\0\x0asession-id\0\0\0\0\0\0\0\0\0\0\0\0\x11curve25519-sha256\0\0\0\0\0\0\0\0\0\0\0\0\0\0\0\0\0";
 
 /// An exchange with a certificate, which `ssh-keygen` made, in place of a host key.

@@ -1,6 +1,10 @@
 //! The program's words over files, a source and a sink in memory: what is written, and the status.
 
-use crate::scripts::{KNOWN, LINES, LOGIN, PLACES, WRITTEN, script_of, whole_events};
+use crate::login::KEYLESS;
+use crate::scripts::{
+    ACCEPTED, EXCHANGE, KEXINIT, KNOWN, LINES, LOGIN, PASSWORD, PLACES, SUCCESS, WRITTEN,
+    script_of, whole_events,
+};
 use sshc_run::{RefusingSigner, RefusingVerifier, run_words};
 use sshc_wire::{MemFiles, MemSink, MemSource, NoMemory, Octets, Text};
 use std::alloc::Global;
@@ -131,6 +135,63 @@ fn the_words_of_a_script_run_it_by_the_known_hosts_file(rt: HostRuntime) -> Resu
             SCRIPT.as_slice(),
             file,
             login(rt.alloc())?,
+            NOTHING_FAILS,
+        )?;
+        assert_ran(&rt, case, &ran, status, written, line);
+    }
+    Ok(())
+}
+
+#[test]
+fn a_script_that_ends_or_is_refused_is_told(rt: HostRuntime) -> Result<(), Fail> {
+    let failed: &[u8] = b"\0\0\0\x09\0\0\0\0\0\0\0\0\x04";
+    let empty: [&[u8]; 0] = [];
+    let keyless: [&[u8]; 5] = [KEXINIT, KEYLESS, PASSWORD, ACCEPTED, SUCCESS];
+    let unbuilt: [&[u8]; 5] = [KEXINIT, EXCHANGE, PASSWORD, failed, SUCCESS];
+    let twice: [&[u8]; 2] = [KEXINIT, KEXINIT];
+    let unasked: [&[u8]; 4] = [EXCHANGE, PASSWORD, ACCEPTED, SUCCESS];
+    for (case, events, status, written, line) in [
+        (
+            "an empty script",
+            empty.as_slice(),
+            0u8,
+            0usize,
+            "ended script-end\n",
+        ),
+        (
+            "no host key",
+            keyless.as_slice(),
+            28,
+            0,
+            "error unknown-key\n",
+        ),
+        (
+            "a failed transport",
+            unbuilt.as_slice(),
+            41,
+            82,
+            "error unbuilt 176\n",
+        ),
+        (
+            "a second KEXINIT",
+            twice.as_slice(),
+            25,
+            0,
+            "error out-of-turn 13\n",
+        ),
+        (
+            "no KEXINIT",
+            unasked.as_slice(),
+            25,
+            0,
+            "error out-of-turn 0\n",
+        ),
+    ] {
+        let ran = outcome_of(
+            rt.alloc(),
+            SCRIPT.as_slice(),
+            Some(KNOWN.as_bytes()),
+            script_of(rt.alloc(), events)?,
             NOTHING_FAILS,
         )?;
         assert_ran(&rt, case, &ran, status, written, line);
