@@ -3,3 +3,7 @@ mod Pieces
 mod Shown
 mod Utf8
 mod NamesLemmas
+mod Doubles
+mod Counts
+mod Extended
+mod StandardFacts

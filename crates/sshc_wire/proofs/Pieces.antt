@@ -1,6 +1,6 @@
 -- One more piece of a buffer that is filled, and of a text that is written.
 use Rattle.std.proofs.Common.{◌≡◌, ℕ, ◌+◌, ◌-◌, ◌≤◌, List, ◌++◌, length, take, drop, ap, sym, ◌∙◌, arith, length-append, length-take, length-drop, drop-drop, Option}
-use Rattle.std.proofs.lemmas.List.{take-append-drop, take-append-le, take-take, take_at}
+use Rattle.std.proofs.lemmas.List.{take-append-drop, take-append-le, take-take, take_all}
 use Rattle.std.proofs.Math.Seq.{take-append-add}
 use borrow.Rule.Slice.PartMut.{put_mid, post_of}
 use Rattle.sshc_wire.specs.Contents.{prepend, append, prepend-prepend, append-append}
@@ -43,15 +43,13 @@ pub within_buffer : (f n : ℕ) (buf piece : List ℕ) → f ≤ length buf → 
 within_buffer f n buf piece fits within = grind (arith, length-append, length-take)
 
 -- the next bytes of a list, copied to the front of a buffer
-pub next_bytes : (at n : ℕ) (contents piece buf : List ℕ) → n + at ≤ length contents → piece ≡ take n (drop at contents) → drop at contents ≡ take n (piece ++ drop n buf) ++ drop (at + n) contents
-next_bytes at n contents piece buf fits is =
-    let size : length (take n (drop at contents)) ≡ n = grind (arith, length-take, length-drop) in
-    let first : take n (piece ++ drop n buf) ≡ take n (drop at contents) = ap (λ p. take n (p ++ drop n buf)) is ∙ take_at (take n (drop at contents)) (drop n buf) n size in
-    let behind : drop n (drop at contents) ≡ drop (at + n) contents = drop-drop n at contents in
-    sym (take-append-drop n (drop at contents)) ∙ ap (λ t. t ++ drop n (drop at contents)) (sym first) ∙ ap (λ t. take n (piece ++ drop n buf) ++ t) behind
+pub next_bytes : (at n : ℕ) (contents left buf : List ℕ) → left ≡ drop at contents → take n buf ≡ take n left → drop at contents ≡ take n buf ++ drop (at + n) contents
+next_bytes at n contents left buf is same =
+    sym (take-append-drop n (drop at contents))
+    ∙ ap (λ t. t ++ drop n (drop at contents)) (ap (take n) (sym is) ∙ sym same)
+    ∙ ap (λ t. take n buf ++ t) (drop-drop n at contents)
 
-pub next_range : (at n : ℕ) (contents whole piece buf : List ℕ) → n ≤ length contents - at → at ≤ length contents → whole ≡ contents → piece ≡ take (at + n - at) (drop at whole) →
-    drop at contents ≡ take n (piece ++ drop n buf) ++ drop (at + n) contents
-next_range at n contents whole piece buf fits within same is =
-    let count : at + n - at ≡ n = omega arith in
-    next_bytes at n contents piece buf (omega arith) (is ∙ ap (λ k. take k (drop at whole)) count ∙ ap (λ w. take n (drop at w)) same)
+-- all behind a place
+pub range_to_end : (at : ℕ) (whole contents : List ℕ) → whole ≡ contents → take (length whole - at) (drop at whole) ≡ drop at contents
+range_to_end at whole contents is =
+    take_all (length whole - at) (drop at whole) (omega (arith, length-drop at whole)) ∙ ap (drop at) is

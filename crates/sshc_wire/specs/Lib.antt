@@ -3,6 +3,7 @@ pub mod Reads
 pub mod Format
 pub mod Parts
 pub mod Whole
+pub mod Grammar
 pub mod Lookup
 pub mod Faults
 pub mod Contents
@@ -13,3 +14,5 @@ pub mod Memory
 pub mod Names
 pub mod Methods
 pub mod Signals
+pub mod Extending
+pub mod Counted

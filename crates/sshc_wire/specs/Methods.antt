@@ -1,7 +1,9 @@
 -- Methods of authentication by their names (RFC 4252, section 5), and lists of them without doubles.
 -- A table of names; the code searches it.
-use Rattle.std.specs.Prelude.{ℕ, Bool, List, [], ◌∷◌, ◌++◌, Option, find, bytes_eq, codes, if◌then◌else◌}
+use Rattle.std.specs.Prelude.{◌≡◌, ℕ, Bool, false, List, [], ◌∷◌, ◌++◌, Option, find, bytes_eq, codes, if◌then◌else◌}
 use Rattle.std.specs.List.{list_any}
+use Rattle.std.specs.Cmp.{IsEquivalence}
+use Rattle.std.specs.Cmp.Lexicographic.{on_texts_equal}
 use Rattle.sshc_wire.specs.declared.methods.MethodKind.{MethodKind}
 use Rattle.sshc_wire.specs.declared.methods.MethodKind.TheVariants as methods
 
@@ -23,6 +25,9 @@ method_of name = find (λ m. bytes_eq (method_name m) name) all_methods
 abbrev pub is_method : MethodKind → MethodKind → Bool
 is_method a b = bytes_eq (method_name a) (method_name b)
 
+pub method_equiv : IsEquivalence is_method
+method_equiv = on_texts_equal method_name
+
 -- whether the method stands in the list
 unfoldable pub has_method : List MethodKind → MethodKind → Bool
 has_method ms m = list_any (λ held. is_method held m) ms
@@ -30,3 +35,8 @@ has_method ms m = list_any (λ held. is_method held m) ms
 -- the list with the method at its end, unless it stands there already
 unfoldable pub with_method : List MethodKind → MethodKind → List MethodKind
 with_method ms m = if has_method ms m then ms else ms ++ m ∷ []
+
+-- no method stands in the list twice
+abbrev pub HasNoDoubles : List MethodKind → Type 0
+HasNoDoubles [] = Unit {0}
+HasNoDoubles (m ∷ ms) = (has_method ms m ≡ false) × HasNoDoubles ms

@@ -1,6 +1,7 @@
--- What contracts see of an outbox: the records in order, for how many more there is room, and whether packets are dropped.
--- Plain data; the code keeps a vector.
-use Rattle.std.proofs.Common.{◌≡◌, ℕ, Bool, true, false, List, [], ◌∷◌, ◌++◌, Option, Some, None, refl, ap, ◌∙◌, sym, append_assoc}
+-- What contracts see of an outbox: the records in order, how long a text one more may have for which room was made, and
+-- whether packets are dropped. Plain data; how the records are kept is the code's.
+use Rattle.std.proofs.Common.{◌≡◌, ℕ, Bool, true, false, ◌^◌, nat_lt, if◌then◌else◌, List, [], ◌∷◌, ◌++◌, Option, Some, None, refl, ap, ◌∙◌, sym, append_assoc}
+use Rattle.sshc_wire.specs.Records.{record_text}
 use Rattle.sshc_wire.specs.declared.record.Record.{Record}
 use Rattle.sshc_wire.specs.declared.record.Record.TheVariants.{Payload}
 
@@ -8,6 +9,25 @@ pub record Outgoing : Type 0 where
   pub records : List Record
   pub room : ℕ
   pub muted : Bool
+
+-- the room of an outbox that keeps records one by one: for any text, or for none
+abbrev pub any_text : ℕ → ℕ → ℕ
+any_text held capacity = if nat_lt held capacity then 2 ^ 64 else 0
+
+-- the text of a record, if there is one
+abbrev pub text_in : Option Record → List ℕ
+text_in None = []
+text_in (Some said) = record_text said
+
+-- the packet of a record, if it is one
+abbrev pub packet_in : Option Record → Option (List ℕ)
+packet_in (Some (Payload packet)) = Some packet
+packet_in said = None
+
+-- the first record was taken, or there was none
+abbrev pub Takes : Option Record → List Record → List Record → Type 0
+Takes None old new = (old ≡ []) × (new ≡ [])
+Takes (Some said) old new = old ≡ said ∷ new
 
 -- one value or none, as a list
 abbrev pub listed : {A : Type 0} → Option A → List A

@@ -1,6 +1,6 @@
 //! Reads parts from the front of a packet (RFC 4251, section 5).
 
-ghost use Rattle.std.specs.Prelude.{◌≡◌, [], IsUtf8, IfOk, Err, OnErr, IsOk, ◌↔◌};
+ghost use Rattle.std.specs.Prelude.{◌≡◌, ◌*◌, ◌≤◌, [], IsTrue, IsUtf8, IfOk, Err, OnErr, IsOk, ◌↔◌, length};
 ghost use Rattle.std.specs.Int.{w32, w64};
 ghost use Rattle.sshc_wire.specs.Wire.{IsBytes};
 ghost use Rattle.sshc_wire.specs.Names.{names_at};
@@ -119,6 +119,14 @@ impl<'a> Cursor<'a> {
         ensures { Reads (λ n. n) result self.old self.new (names_at self.old) }
     {
         Ok(Names::new(self.text()?))
+    }
+
+    /// Whether the unread bytes can hold so many parts of at least so many bytes each. What is counted by a number of
+    /// four bytes is refused by this test before anything is allocated for it.
+    pub fn has_room(&self, count: u32, least: u32) -> bool
+        ensures { IsTrue result ↔ (count * least ≤ length self.now) }
+    {
+        u64::from(count) * u64::from(least) <= self.bytes.len() as u64
     }
 
     /// What is still unread.

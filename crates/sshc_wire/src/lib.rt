@@ -1,13 +1,19 @@
 //! The data types of the wire, the traits of the outside, and what a session says.
 #![tactic(auto)]
 
+mod agent_record;
+mod auth_record;
+mod channel_id;
 mod channel_open_failure;
+mod channel_record;
 mod cursor;
 mod disconnect;
 mod error;
 mod files;
+mod hash_alg;
 mod list;
 mod memory;
+mod message_type;
 mod methods;
 pub mod msg;
 mod names;
@@ -24,21 +30,27 @@ mod system;
 mod text;
 mod ticket;
 
+pub use agent_record::{AgentFault, AgentRecord};
+pub use auth_record::{AuthRecord, GssapiRecord, Prompt};
+pub use channel_id::ChannelId;
 pub use channel_open_failure::ChannelOpenFailure;
+pub use channel_record::{ChannelRecord, ServerOpen};
 pub use cursor::Cursor;
 pub use disconnect::Disconnect;
 pub use error::{NoMemory, WireError};
 pub use files::{Files, Found};
+pub use hash_alg::HashAlg;
 pub use list::List;
 pub use memory::{MemFiles, MemSink, MemSource};
-pub use methods::{MethodKind, MethodSet};
+pub use message_type::MessageType;
+pub use methods::{MethodKind, MethodSet, put_methods};
 pub use names::{Names, put_names};
 pub use octets::Octets;
 pub use outbox::Outbox;
 pub use pty::Pty;
-pub use put::{put_bytes, put_text, put_u32, put_u64};
+pub use put::{put_bool, put_bytes, put_text, put_u32, put_u64};
 pub use record::{Record, put_record};
-pub use resolution::{Resolution, put_resolution};
+pub use resolution::{HostKeysFault, Resolution, put_resolution};
 pub use signal::Sig;
 pub use sink::{Sink, write_whole};
 pub use source::{Failed, Source, read_up_to};

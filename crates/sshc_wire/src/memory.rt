@@ -1,13 +1,16 @@
 //! A source, a sink and files over memory, which fail where they are told to.
 
-ghost use Rattle.std.specs.Prelude.{◌≡◌, ◌≤◌, ℕ, List, [], Option, Some, Err, IfOk, OnOk, OnErr, drop, length, option_copied};
-ghost use Rattle.sshc_wire.specs.Contents.{bytes_of, with_text, found_in};
+ghost use Rattle.std.specs.Prelude.{◌≡◌, ◌≤◌, ℕ, List, [], Option, Some, Err, IfOk, OnOk, OnErr, drop, length, option_copied, min};
+ghost use Rattle.std.specs.Prelude.{◌++◌, IsErrOf, take, true, ◌<◌};
+ghost use Rattle.sshc_wire.specs.Contents.{bytes_of, found_in, with_text};
+ghost use Rattle.sshc_wire.specs.Faults.{CountsEmpty, CountsOne, HasCause};
+ghost use Rattle.sshc_wire.specs.Memory.{is_failing};
 
 use crate::error::NoMemory;
 use crate::files::{Files, Found};
 use crate::octets::Octets;
 use crate::sink::Sink;
-use crate::source::{Failed, Source};
+use crate::source::{Failed, Source, with_empty};
 use crate::text::Text;
 use std::alloc::{AllocError, Global};
 use std::marker::Model;
@@ -19,6 +22,7 @@ pub struct MemSource {
     at: usize,
     failing: Vec<u64>,
     calls: u64,
+    empty: u64,
     faults: u64,
 }
 
@@ -28,7 +32,7 @@ impl Model for MemSource {
 
     ghost Value = { HeldSource };
 
-    ghost view = { λ s. record { left = drop s.at s.contents.items; failing = s.failing.items; calls = s.calls; faults = s.faults } };
+    ghost view = { λ s. record { left = drop s.at s.contents.items; failing = s.failing.items; calls = s.calls; empty = s.empty; faults = s.faults } };
 
     ghost invariant = { λ s. s.at ≤ length s.contents.items };
 }
@@ -36,16 +40,27 @@ impl Model for MemSource {
 impl MemSource {
     /// These bytes. The calls of the numbers in `failing`, counted from 0, fail.
     pub fn new(contents: Vec<u8>, failing: Vec<u64>) -> MemSource
-        ensures { result ≡ record { left = contents.items; failing = failing.items; calls = 0; faults = 0 } }
+        ensures { result ≡ record { left = contents.items; failing = failing.items; calls = 0; empty = 0; faults = 0 } }
     {
         MemSource {
             contents,
             at: 0,
             failing,
             calls: 0,
+            empty: 0,
             faults: 0,
         }
     }
+}
+
+/// Copies as many bytes as the buffer holds, or all that there are.
+fn copy_front(left: &[u8], buf: &mut [u8]) -> usize
+    ensures count { result ≡ min (length left.now) (length buf.old) }
+    ensures same { take result buf.new ≡ take result left.now }
+{
+    let count = left.len().min(buf.len());
+    buf[..count].copy_from_slice(&left[..count]);
+    count
 }
 
 impl Source for MemSource {
@@ -55,18 +70,31 @@ impl Source for MemSource {
 
     ghost reads = { λ s. s.calls };
 
-    fn read(&mut self, buf: &mut [u8]) -> Result<usize, Failed> {
+    ghost empty_reads = { λ s. s.empty };
+
+    /// Fails exactly at the calls that are told to.
+    fn read(&mut self, buf: &mut [u8]) -> Result<usize, Failed>
+        ensures bound { IfOk result (λ n. n ≤ length buf.new) }
+        ensures bytes { IfOk result (λ n. self.old.left ≡ take n buf.new ++ self.new.left) }
+        ensures end { IfOk result (λ n. n ≡ 0 → 0 < length buf.new → self.new.left ≡ []) }
+        ensures none { OnErr result (self.new.left ≡ self.old.left) }
+        ensures cause { HasCause self.old.faults self.new.faults result }
+        ensures counted { CountsOne self.old.calls self.new.calls }
+        ensures empty { CountsEmpty result (length buf.new) self.old.empty self.new.empty }
+        ensures fails { is_failing self.old.failing self.old.calls ≡ true → result ≡ Err Failed.Fault }
+        ensures fault { IsErrOf result Failed.Fault → is_failing self.old.failing self.old.calls ≡ true }
+        ensures failing { self.new.failing ≡ self.old.failing }
+    {
         let call = self.calls;
         self.calls = call.saturating_add(1);
         if self.failing.contains(&call) {
+            self.empty = self.empty.saturating_add(1);
             self.faults = self.faults.saturating_add(1);
             return Err(Failed::Fault);
         }
-        let rest = self.contents.len() - self.at;
-        let count = rest.min(buf.len());
-        let end = self.at + count;
-        buf[..count].copy_from_slice(&self.contents[self.at..end]);
-        self.at = end;
+        let count = copy_front(&self.contents[self.at..], buf);
+        self.at += count;
+        self.empty = with_empty(self.empty, count, buf.len());
         Ok(count)
     }
 }
@@ -77,6 +105,7 @@ pub struct MemSink {
     contents: Vec<u8>,
     failing: Vec<u64>,
     calls: u64,
+    empty: u64,
     faults: u64,
 }
 
@@ -85,18 +114,19 @@ impl Model for MemSink {
 
     ghost Value = { HeldSink };
 
-    ghost view = { λ s. record { contents = s.contents.items; failing = s.failing.items; calls = s.calls; faults = s.faults } };
+    ghost view = { λ s. record { contents = s.contents.items; failing = s.failing.items; calls = s.calls; empty = s.empty; faults = s.faults } };
 }
 
 impl MemSink {
     /// A sink that holds these bytes. The calls of the numbers in `failing`, counted from 0, fail.
     pub fn new(contents: Vec<u8>, failing: Vec<u64>) -> MemSink
-        ensures { result ≡ record { contents = contents.items; failing = failing.items; calls = 0; faults = 0 } }
+        ensures { result ≡ record { contents = contents.items; failing = failing.items; calls = 0; empty = 0; faults = 0 } }
     {
         MemSink {
             contents,
             failing,
             calls: 0,
+            empty: 0,
             faults: 0,
         }
     }
@@ -115,16 +145,33 @@ impl Sink for MemSink {
 
     ghost writes = { λ s. s.calls };
 
-    fn write(&mut self, piece: &[u8]) -> Result<usize, Failed> {
+    ghost empty_writes = { λ s. s.empty };
+
+    /// Takes the whole piece. Fails exactly at the calls that are told to, or out of memory.
+    fn write(&mut self, piece: &[u8]) -> Result<usize, Failed>
+        ensures bound { IfOk result (λ n. n ≡ length piece.now) }
+        ensures bytes { OnOk result (self.new.contents ≡ self.old.contents ++ piece.now) }
+        ensures none { OnErr result (self.new.contents ≡ self.old.contents) }
+        ensures cause { HasCause self.old.faults self.new.faults result }
+        ensures counted { CountsOne self.old.calls self.new.calls }
+        ensures empty { CountsEmpty result (length piece.now) self.old.empty self.new.empty }
+        ensures fails { is_failing self.old.failing self.old.calls ≡ true → result ≡ Err Failed.Fault }
+        ensures fault { IsErrOf result Failed.Fault → is_failing self.old.failing self.old.calls ≡ true }
+        ensures failing { self.new.failing ≡ self.old.failing }
+    {
         let call = self.calls;
         self.calls = call.saturating_add(1);
         if self.failing.contains(&call) {
+            self.empty = self.empty.saturating_add(1);
             self.faults = self.faults.saturating_add(1);
             return Err(Failed::Fault);
         }
         match self.contents.extend_from_slice(piece) {
             Ok(()) => Ok(piece.len()),
-            Err(AllocError) => Err(Failed::NoMemory),
+            Err(AllocError) => {
+                self.empty = self.empty.saturating_add(1);
+                Err(Failed::NoMemory)
+            }
         }
     }
 }
@@ -216,7 +263,16 @@ impl Files for MemFiles {
 
     ghost append_faults = { λ s. s.append_faults };
 
-    fn read_text(&mut self, path: &str) -> Result<Found, Failed> {
+    /// Fails exactly at the calls that are told to, or out of memory.
+    fn read_text(&mut self, path: &str) -> Result<Found, Failed>
+        ensures found { IfOk result (λ answer. answer ≡ found_in (bytes_of self.old.contents path.now)) }
+        ensures same { self.new.contents ≡ self.old.contents }
+        ensures cause { HasCause self.old.read_faults self.new.read_faults result }
+        ensures others { self.new.append_faults ≡ self.old.append_faults }
+        ensures fails { is_failing self.old.failing self.old.calls ≡ true → result ≡ Err Failed.Fault }
+        ensures fault { IsErrOf result Failed.Fault → is_failing self.old.failing self.old.calls ≡ true }
+        ensures failing { (self.new.failing ≡ self.old.failing) × CountsOne self.old.calls self.new.calls }
+    {
         let call = self.calls;
         self.calls = call.saturating_add(1);
         if self.failing.contains(&call) {
@@ -229,7 +285,16 @@ impl Files for MemFiles {
         }
     }
 
-    fn append(&mut self, path: &str, text: &str) -> Result<(), Failed> {
+    /// Fails exactly at the calls that are told to, or out of memory.
+    fn append(&mut self, path: &str, text: &str) -> Result<(), Failed>
+        ensures added { OnOk result (self.new.contents ≡ with_text self.old.contents path.now text.now) }
+        ensures none { OnErr result (self.new.contents ≡ self.old.contents) }
+        ensures cause { HasCause self.old.append_faults self.new.append_faults result }
+        ensures others { self.new.read_faults ≡ self.old.read_faults }
+        ensures fails { is_failing self.old.failing self.old.calls ≡ true → result ≡ Err Failed.Fault }
+        ensures fault { IsErrOf result Failed.Fault → is_failing self.old.failing self.old.calls ≡ true }
+        ensures failing { (self.new.failing ≡ self.old.failing) × CountsOne self.old.calls self.new.calls }
+    {
         let call = self.calls;
         self.calls = call.saturating_add(1);
         if self.failing.contains(&call) {

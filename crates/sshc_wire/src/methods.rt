@@ -1,9 +1,15 @@
 //! Methods of authentication by their names (RFC 4252, section 5; RFC 4256, section 3.1; RFC 4462, section 3).
 
-ghost use Rattle.std.specs.Prelude.{◌≡◌, ◌↔◌, ◌++◌, ◌∷◌, [], IsTrue, OnOk, OnErr, IfOk, find, bytes_eq};
-ghost use Rattle.sshc_wire.specs.Methods.{method_name, method_of, has_method, with_method};
+ghost use Rattle.std.specs.Prelude.{map, ◌≡◌, ◌↔◌, ◌++◌, ◌∷◌, [], IsTrue, OnOk, OnErr, IfOk, find, bytes_eq};
+ghost use Rattle.std.specs.Cmp.{partial_equiv_from_equiv};
+ghost use Rattle.std.specs.Cmp.Lexicographic.{pointwise, lists_equiv};
+ghost use Rattle.std.specs.List.{flat_map, join_with_byte};
+ghost use Rattle.sshc_wire.specs.Names.{behind_comma};
+ghost use Rattle.sshc_wire.specs.Wire.{names_text};
+ghost use Rattle.sshc_wire.specs.Methods.{HasNoDoubles, has_method, is_method, method_equiv, method_name, method_of, with_method};
 
 use crate::error::NoMemory;
+use crate::put::put_bytes;
 use std::alloc::Global;
 use std::marker::Model;
 
@@ -62,10 +68,13 @@ pub struct MethodSet {
 impl Model for MethodSet {
     ghost use Rattle.std.specs.Prelude.{List};
     ghost use Rattle.sshc_wire.specs.declared.methods.MethodKind.{MethodKind as Kind};
+    ghost use Rattle.sshc_wire.specs.Methods.{HasNoDoubles};
 
     ghost Value = { List Kind };
 
     ghost view = { λ m. m.methods.items };
+
+    ghost invariant = { λ m. HasNoDoubles m.methods.items };
 }
 
 impl MethodSet {
@@ -92,7 +101,8 @@ impl MethodSet {
     }
 
     pub fn as_slice(&self) -> &[MethodKind]
-        ensures { result.now ≡ self.now }
+        ensures same { result.now ≡ self.now }
+        ensures distinct { HasNoDoubles self.now }
     {
         self.methods.as_slice()
     }
@@ -117,4 +127,70 @@ impl MethodSet {
             methods: self.methods.clone()?,
         })
     }
+}
+
+/// Adds the names of the methods, each behind a comma.
+fn put_rest(out: &mut Vec<u8>, methods: &[MethodKind]) -> Result<(), NoMemory>
+    ensures { OnOk result (out.new.items ≡ out.old.items ++ flat_map behind_comma (map method_name methods.now)) }
+{
+    for method in methods {
+        out.push(b',')?;
+        out.extend_from_slice(method.name().as_bytes())?;
+    }
+    Ok(())
+}
+
+#[tactic(auto, using(crate::proofs::NamesLemmas::joined_first))]
+fn joined(alloc: Global, methods: &[MethodKind]) -> Result<Vec<u8>, NoMemory>
+    ensures { IfOk result (λ v. v.items ≡ join_with_byte 44 (map method_name methods.now)) }
+{
+    let mut out = Vec::new(alloc);
+    match methods.split_first() {
+        None => Ok(out),
+        Some((first, others)) => {
+            out.extend_from_slice(first.name().as_bytes())?;
+            put_rest(&mut out, others)?;
+            Ok(out)
+        }
+    }
+}
+
+/// Writes the methods' names as a list of names (RFC 4251, section 5).
+#[tactic(auto, unfolding(crate::specs::Wire::names_text))]
+pub fn put_methods(out: &mut Vec<u8>, methods: &MethodSet) -> Result<(), NoMemory>
+    ensures ok { OnOk result (out.new.items ≡ out.old.items ++ names_text (map method_name methods.now)) }
+    ensures err { OnErr result (out.new.items ≡ out.old.items) }
+{
+    let text = joined(*out.allocator(), methods.as_slice())?;
+    if text.len() >= 1 << 32 {
+        return Err(NoMemory);
+    }
+    put_bytes(out, &text)
+}
+
+/// Whether the two lists have the same methods in the same order.
+fn same_methods(these: &[MethodKind], others: &[MethodKind]) -> bool
+    ensures { result ≡ pointwise is_method these.now others.now }
+{
+    match (these, others) {
+        ([], []) => true,
+        ([first, rest @ ..], [other, others @ ..]) => {
+            first.name() == other.name() && same_methods(rest, others)
+        }
+        _ => false,
+    }
+}
+
+impl PartialEq for MethodSet {
+    ghost eq = { λ v w. pointwise is_method v w };
+
+    ghost laws = { partial_equiv_from_equiv (lists_equiv method_equiv) };
+
+    fn eq(&self, other: &Self) -> bool {
+        same_methods(self.methods.as_slice(), other.methods.as_slice())
+    }
+}
+
+impl Eq for MethodSet {
+    ghost laws = { lists_equiv method_equiv };
 }

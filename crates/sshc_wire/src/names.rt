@@ -102,13 +102,15 @@ fn joined(alloc: Global, names: &[Text]) -> Result<Vec<u8>, NoMemory>
     }
 }
 
-/// Writes a list of names: the names joined by commas, as a string.
+/// Writes a list of names: the names joined by commas, as a string. More than 2^32 - 1 bytes count as out of memory.
 #[tactic(auto, unfolding(crate::specs::Wire::names_text))]
 pub fn put_names(out: &mut Vec<u8>, names: &[Text]) -> Result<(), NoMemory>
-    requires { length (join_with_byte 44 names.now) < 2 ^ 32 }
     ensures ok { OnOk result (out.new.items ≡ out.old.items ++ names_text names.now) }
     ensures err { OnErr result (out.new.items ≡ out.old.items) }
 {
     let text = joined(*out.allocator(), names)?;
+    if text.len() >= 1 << 32 {
+        return Err(NoMemory);
+    }
     put_bytes(out, &text)
 }

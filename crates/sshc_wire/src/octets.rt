@@ -1,9 +1,11 @@
 //! A list of bytes that a string of the wire can hold.
 
 ghost use Rattle.std.specs.Prelude.{◌≡◌, ◌<◌, ◌^◌, [], IfOk, bytes_eq, length};
+ghost use Rattle.sshc_wire.specs.Wire.{IsBytes};
 ghost use Rattle.std.specs.Cmp.{partial_equiv_from_equiv};
 ghost use Rattle.std.specs.Cmp.Lexicographic.{nat_list_eq_equiv};
 
+use crate::cursor::Cursor;
 use crate::error::NoMemory;
 use std::alloc::Global;
 use std::marker::Model;
@@ -74,8 +76,10 @@ impl Octets {
     pub fn as_slice(&self) -> &[u8]
         ensures same { result.now ≡ self.now }
         ensures short { length self.now < 2 ^ 32 }
+        ensures bytes { IsBytes self.now }
     {
-        self.bytes.as_slice()
+        // A cursor's clauses say that what it reads are bytes.
+        Cursor::new(self.bytes.as_slice()).rest()
     }
 
     pub fn into_vec(self) -> Vec<u8>

@@ -1,7 +1,8 @@
 //! Writes parts at the end of a packet (RFC 4251, section 5).
 
-ghost use Rattle.std.specs.Prelude.{◌≡◌, ◌<◌, ◌^◌, ◌++◌, length, OnOk, OnErr};
-ghost use Rattle.sshc_wire.specs.Wire.{u32_text, u64_text, string_text};
+ghost use Rattle.std.specs.Prelude.{◌≡◌, ◌<◌, ◌^◌, ◌∷◌, ◌++◌, length, OnOk, OnErr};
+ghost use Rattle.sshc_wire.specs.Extending.{Extends};
+ghost use Rattle.sshc_wire.specs.Wire.{bool_text, u32_text, u64_text, string_text};
 
 use crate::error::NoMemory;
 
@@ -11,6 +12,16 @@ pub fn put_u32(out: &mut Vec<u8>, n: u32) -> Result<(), NoMemory>
     ensures err { OnErr result (out.new.items ≡ out.old.items) }
 {
     out.extend_from_slice(&n.to_be_bytes())?;
+    Ok(())
+}
+
+/// A boolean: one byte, 1 for true.
+#[tactic(auto, unfolding(crate::specs::Wire::bool_text))]
+pub fn put_bool(out: &mut Vec<u8>, flag: bool) -> Result<(), NoMemory>
+    ensures ok { OnOk result (out.new.items ≡ out.old.items ++ bool_text flag) }
+    ensures err { OnErr result (out.new.items ≡ out.old.items) }
+{
+    out.push(u8::from(flag))?;
     Ok(())
 }
 
@@ -34,6 +45,16 @@ pub fn put_bytes(out: &mut Vec<u8>, bytes: &[u8]) -> Result<(), NoMemory>
     out.extend_from_slice(&(bytes.len() as u32).to_be_bytes())?;
     out.extend_from_slice(bytes)?;
     Ok(())
+}
+
+/// A byte, and then a number of four bytes. Out of memory, the byte may be written.
+#[tactic(auto, using(crate::proofs::Extended::extended, crate::proofs::Extended::unextended))]
+pub(crate) fn put_numbered(out: &mut Vec<u8>, kind: u8, n: u32) -> Result<(), NoMemory>
+    ensures ok { OnOk result (out.new.items ≡ out.old.items ++ kind ∷ u32_text n) }
+    ensures err { OnErr result (Extends out.old.items out.new.items) }
+{
+    out.push(kind)?;
+    put_u32(out, n)
 }
 
 /// A string that holds the text in UTF-8.

@@ -1,6 +1,6 @@
 //! Signals by their names (RFC 4254, section 6.10).
 
-ghost use Rattle.std.specs.Prelude.{◌≡◌, IfOk};
+ghost use Rattle.std.specs.Prelude.{◌≡◌, ◌<◌, ◌^◌, IfOk, length};
 ghost use Rattle.sshc_wire.specs.Signals.{signal_name, signal_of};
 
 use crate::error::NoMemory;
@@ -27,7 +27,8 @@ pub enum Sig {
 
 impl Sig {
     pub fn name(&self) -> &str
-        ensures { result.now ≡ signal_name self.now }
+        ensures name { result.now ≡ signal_name self.now }
+        ensures short { length result.now < 2 ^ 32 }
     {
         match self {
             Sig::ABRT => "ABRT",

@@ -2,7 +2,7 @@
 
 ghost use Rattle.std.specs.Prelude.{◌≡◌, ℕ, ◌+◌, ◌<◌, ◌≤◌, List, length, take, Option, IfOk, OnOk, OnErr};
 ghost use Rattle.sshc_wire.specs.Contents.{append, WroteFront, WritesFor};
-ghost use Rattle.sshc_wire.specs.Faults.{CountsOne, HasCause};
+ghost use Rattle.sshc_wire.specs.Faults.{CountsOne, CountsEmpty, HasCause};
 
 use crate::source::Failed;
 
@@ -17,6 +17,9 @@ pub trait Sink {
     /// How often it was written to.
     ghost writes: { Self → ℕ };
 
+    /// How many of these writes took no byte of a piece that isn't empty.
+    ghost empty_writes: { Self → ℕ };
+
     /// Takes a front of the piece, at least a byte of one that isn't empty.
     fn write(&mut self, piece: &[u8]) -> Result<usize, Failed>
         ensures bound { IfOk result (λ n. n ≤ length piece.now) }
@@ -24,7 +27,8 @@ pub trait Sink {
         ensures bytes { IfOk result (λ n. contents self.new ≡ append (contents self.old) (take n piece.now)) }
         ensures none { OnErr result (contents self.new ≡ contents self.old) }
         ensures cause { HasCause (faults self.old) (faults self.new) result }
-        ensures counted { CountsOne (writes self.old) (writes self.new) };
+        ensures counted { CountsOne (writes self.old) (writes self.new) }
+        ensures empty { CountsEmpty result (length piece.now) (empty_writes self.old) (empty_writes self.new) };
 }
 
 /// Writes the whole piece, or a front of it. Each write but the last moves at least one byte.
@@ -35,6 +39,8 @@ pub fn write_whole<K: Sink>(sink: &mut K, piece: &[u8]) -> Result<(), Failed>
     ensures moved { OnOk result (K.writes sink.new ≤ K.writes sink.old + length piece.now) }
     ensures counted { K.writes sink.new ≤ K.writes sink.old + length piece.now + 1 }
     ensures writes { OnErr result (WritesFor (K.contents sink.old) (K.contents sink.new) (K.writes sink.old) (K.writes sink.new)) }
+    ensures empty { OnOk result (K.empty_writes sink.new ≡ K.empty_writes sink.old) }
+    ensures last { K.empty_writes sink.new ≤ K.empty_writes sink.old + 1 }
 {
     let mut written = 0usize;
     while written < piece.len() {

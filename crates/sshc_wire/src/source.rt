@@ -1,8 +1,8 @@
 //! Where bytes come from.
 
-ghost use Rattle.std.specs.Prelude.{◌≡◌, ℕ, ◌+◌, ◌<◌, ◌≤◌, List, length, take, Option, IfOk, OnErr};
+ghost use Rattle.std.specs.Prelude.{◌≡◌, ℕ, ◌+◌, ◌<◌, ◌≤◌, List, length, take, Ok, Option, IfOk, OnErr};
 ghost use Rattle.sshc_wire.specs.Contents.{prepend, IsAtEnd};
-ghost use Rattle.sshc_wire.specs.Faults.{CountsOne, HasCause};
+ghost use Rattle.sshc_wire.specs.Faults.{CountsOne, CountsEmpty, HasCause};
 
 use std::alloc::Global;
 
@@ -26,6 +26,9 @@ pub trait Source {
     /// How often it was read.
     ghost reads: { Self → ℕ };
 
+    /// How many of these reads moved no byte into a buffer that isn't empty.
+    ghost empty_reads: { Self → ℕ };
+
     /// Fills a front of the buffer. No byte for a buffer that isn't empty is the end.
     fn read(&mut self, buf: &mut [u8]) -> Result<usize, Failed>
         ensures bound { IfOk result (λ n. n ≤ length buf.new) }
@@ -33,7 +36,19 @@ pub trait Source {
         ensures end { IfOk result (λ n. n ≡ 0 → 0 < length buf.new → IsAtEnd (left self.new)) }
         ensures none { OnErr result (left self.new ≡ left self.old) }
         ensures cause { HasCause (faults self.old) (faults self.new) result }
-        ensures counted { CountsOne (reads self.old) (reads self.new) };
+        ensures counted { CountsOne (reads self.old) (reads self.new) }
+        ensures empty { CountsEmpty result (length buf.new) (empty_reads self.old) (empty_reads self.new) };
+}
+
+/// The count of empty calls after one that moved so many of at most so many bytes.
+pub(crate) fn with_empty(empty: u64, moved: usize, size: usize) -> u64
+    ensures { CountsEmpty (Ok moved) size empty result }
+{
+    if moved == 0 && size > 0 {
+        empty.saturating_add(1)
+    } else {
+        empty
+    }
 }
 
 /// Fills the buffer from the source, or as much of it as there is before the source ends. Each read but the last
@@ -48,6 +63,8 @@ fn read_full<S: Source>(source: &mut S, buf: &mut [u8]) -> Result<usize, Failed>
     ensures cause { HasCause (S.faults source.old) (S.faults source.new) result }
     ensures whole { IfOk result (λ n. n ≡ length buf.new → S.reads source.new ≤ S.reads source.old + n) }
     ensures short { IfOk result (λ n. S.reads source.new ≤ S.reads source.old + n + 1) }
+    ensures empty { IfOk result (λ n. n ≡ length buf.new → S.empty_reads source.new ≡ S.empty_reads source.old) }
+    ensures last { S.empty_reads source.new ≤ S.empty_reads source.old + 1 }
 {
     let mut filled = 0usize;
     while filled < buf.len() {
@@ -72,6 +89,8 @@ pub fn read_up_to<S: Source>(alloc: Global, source: &mut S, count: usize) -> Res
     ensures cause { HasCause (S.faults source.old) (S.faults source.new) result }
     ensures whole { IfOk result (λ v. length v.items ≡ count → S.reads source.new ≤ S.reads source.old + length v.items) }
     ensures short { IfOk result (λ v. S.reads source.new ≤ S.reads source.old + length v.items + 1) }
+    ensures empty { IfOk result (λ v. length v.items ≡ count → S.empty_reads source.new ≡ S.empty_reads source.old) }
+    ensures last { S.empty_reads source.new ≤ S.empty_reads source.old + 1 }
 {
     let Ok(mut bytes) = vec![in alloc; 0u8; count] else {
         return Err(Failed::NoMemory);

@@ -1,12 +1,12 @@
 //! Real streams and files, which tell no contents. Each is proved against its trait; that the real thing behaves so is not.
 
-ghost use Rattle.std.specs.Prelude.{None, Err, OnErr, IfOk, ◌≡◌, ◌≤◌};
-ghost use Rattle.sshc_wire.specs.Faults.{Rose};
+ghost use Rattle.std.specs.Prelude.{None, Err, OnErr, IfOk, ◌≡◌, ◌≤◌, length};
+ghost use Rattle.sshc_wire.specs.Faults.{HasCause, Rose};
 
 use crate::error::NoMemory;
 use crate::files::{Files, Found};
 use crate::sink::Sink;
-use crate::source::{Failed, Source};
+use crate::source::{Failed, Source, with_empty};
 use crate::text::Text;
 use std::alloc::Global;
 use std::fs::OpenOptions;
@@ -15,11 +15,41 @@ use std::marker::Model;
 use std::path::Path;
 use std::{fs, io};
 
-/// Any reader of std, behind a buffer.
+/// How often a call that a signal interrupts is made again. One that is interrupted more often has failed.
+const RETRIES: u32 = 1 << 16;
+
+/// Reads, and reads again where a signal interrupted the call.
+fn read_uninterrupted<R: Read>(inner: &mut R, buf: &mut [u8]) -> io::Result<usize>
+    ensures { IfOk result (λ n. n ≤ length buf.new) }
+{
+    for _ in 0..RETRIES {
+        match inner.read(buf) {
+            Err(error) if error.kind() == ErrorKind::Interrupted => {}
+            other => return other,
+        }
+    }
+    inner.read(buf)
+}
+
+/// Writes, and writes again where a signal interrupted the call.
+fn write_uninterrupted<W: Write>(inner: &mut W, piece: &[u8]) -> io::Result<usize>
+    ensures { IfOk result (λ n. n ≤ length piece.now) }
+{
+    for _ in 0..RETRIES {
+        match inner.write(piece) {
+            Err(error) if error.kind() == ErrorKind::Interrupted => {}
+            other => return other,
+        }
+    }
+    inner.write(piece)
+}
+
+/// Any reader of std, behind a buffer. A read that a signal interrupted is made again.
 #[derive(Drop)]
 pub struct StdSource<R> {
     inner: BufReader<R>,
     reads: u64,
+    empty: u64,
     faults: u64,
 }
 
@@ -28,18 +58,19 @@ impl<R> Model for StdSource<R> {
 
     ghost Value = { Counted };
 
-    ghost view = { λ s. record { calls = s.reads; faults = s.faults } };
+    ghost view = { λ s. record { calls = s.reads; empty = s.empty; faults = s.faults } };
 }
 
 impl<R: Read + Drop> StdSource<R> {
     /// A source that wasn't read yet.
     pub fn new(alloc: Global, inner: R) -> Result<StdSource<R>, NoMemory>
-        ensures { IfOk result (λ s. s ≡ record { calls = 0; faults = 0 }) }
+        ensures { IfOk result (λ s. s ≡ record { calls = 0; empty = 0; faults = 0 }) }
     {
         match BufReader::new(alloc, inner) {
             Ok(inner) => Ok(StdSource {
                 inner,
                 reads: 0,
+                empty: 0,
                 faults: 0,
             }),
             Err(_) => Err(NoMemory),
@@ -54,11 +85,17 @@ impl<R: Read> Source for StdSource<R> {
 
     ghost reads = { λ s. s.calls };
 
+    ghost empty_reads = { λ s. s.empty };
+
     fn read(&mut self, buf: &mut [u8]) -> Result<usize, Failed> {
         self.reads = self.reads.saturating_add(1);
-        match self.inner.read(buf) {
-            Ok(count) => Ok(count),
+        match read_uninterrupted(&mut self.inner, buf) {
+            Ok(count) => {
+                self.empty = with_empty(self.empty, count, buf.len());
+                Ok(count)
+            }
             Err(_) => {
+                self.empty = self.empty.saturating_add(1);
                 self.faults = self.faults.saturating_add(1);
                 Err(Failed::Fault)
             }
@@ -66,11 +103,12 @@ impl<R: Read> Source for StdSource<R> {
     }
 }
 
-/// Any writer of std, with nothing held back. A writer that takes no byte of a piece counts as failed.
+/// Any writer of std, with nothing held back. A write that a signal interrupted is made again. A writer that takes no byte of a piece counts as failed.
 #[derive(Drop)]
 pub struct StdSink<W> {
     inner: W,
     writes: u64,
+    empty: u64,
     faults: u64,
 }
 
@@ -79,17 +117,18 @@ impl<W> Model for StdSink<W> {
 
     ghost Value = { Counted };
 
-    ghost view = { λ s. record { calls = s.writes; faults = s.faults } };
+    ghost view = { λ s. record { calls = s.writes; empty = s.empty; faults = s.faults } };
 }
 
 impl<W> StdSink<W> {
     /// A sink that wasn't written to yet.
     pub fn new(inner: W) -> StdSink<W>
-        ensures { result ≡ record { calls = 0; faults = 0 } }
+        ensures { result ≡ record { calls = 0; empty = 0; faults = 0 } }
     {
         StdSink {
             inner,
             writes: 0,
+            empty: 0,
             faults: 0,
         }
     }
@@ -102,17 +141,21 @@ impl<W: Write> Sink for StdSink<W> {
 
     ghost writes = { λ s. s.calls };
 
+    ghost empty_writes = { λ s. s.empty };
+
     fn write(&mut self, piece: &[u8]) -> Result<usize, Failed> {
         self.writes = self.writes.saturating_add(1);
-        match self.inner.write(piece) {
+        match write_uninterrupted(&mut self.inner, piece) {
             Ok(count) => {
                 if count == 0 && !piece.is_empty() {
+                    self.empty = self.empty.saturating_add(1);
                     self.faults = self.faults.saturating_add(1);
                     return Err(Failed::Fault);
                 }
                 Ok(count)
             }
             Err(_) => {
+                self.empty = self.empty.saturating_add(1);
                 self.faults = self.faults.saturating_add(1);
                 Err(Failed::Fault)
             }
@@ -176,6 +219,28 @@ fn text_of(bytes: Vec<u8>) -> Result<Found, Failed>
     }
 }
 
+/// What it means that a file can't be opened. One for which memory ran out isn't missing.
+fn not_opened(error: &io::Error) -> Result<Found, Failed>
+    ensures out { OnErr result (result ≡ Err Failed.NoMemory) }
+{
+    if error.kind() == ErrorKind::OutOfMemory {
+        Err(Failed::NoMemory)
+    } else {
+        Ok(Found::NotOpened)
+    }
+}
+
+/// The text of an open file.
+fn read_file<F: Read + Drop>(alloc: Global, mut file: F, faults: &mut u64) -> Result<Found, Failed>
+    ensures cause { HasCause faults.old faults.new result }
+{
+    let mut bytes = Vec::new(alloc);
+    match file.read_to_end(&mut bytes) {
+        Ok(_) => text_of(bytes),
+        Err(error) => Err(failed(error, faults)),
+    }
+}
+
 impl<'a, R: std::rt::Files> Files for StdFiles<'a, R> {
     ghost contents = { λ s. None };
 
@@ -184,13 +249,9 @@ impl<'a, R: std::rt::Files> Files for StdFiles<'a, R> {
     ghost append_faults = { λ s. s.append_faults };
 
     fn read_text(&mut self, path: &str) -> Result<Found, Failed> {
-        let Ok(mut file) = fs::open(self.system, path) else {
-            return Ok(Found::NotOpened);
-        };
-        let mut bytes = Vec::new(self.alloc);
-        match file.read_to_end(&mut bytes) {
-            Ok(_) => text_of(bytes),
-            Err(error) => Err(failed(error, &mut self.read_faults)),
+        match fs::open(self.system, path) {
+            Ok(file) => read_file(self.alloc, file, &mut self.read_faults),
+            Err(error) => not_opened(&error),
         }
     }
 

@@ -9,6 +9,7 @@ invariant-loop-written g l =
       wrote : g.K.Sink.contents l.sink ≡ append (g.K.Sink.contents l.initial.sink) (take l.written l.piece);
       same : g.K.Sink.faults l.sink ≡ g.K.Sink.faults l.initial.sink;
       counted : g.K.Sink.writes l.sink ≤ g.K.Sink.writes l.initial.sink + l.written;
+      moved : g.K.Sink.empty_writes l.sink ≡ g.K.Sink.empty_writes l.initial.sink;
     }
 
 abbrev pub decreases-loop-written : goal.decreases-loop-written

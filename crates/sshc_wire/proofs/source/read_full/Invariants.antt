@@ -9,6 +9,7 @@ invariant-loop-filled g l =
       given : g.S.Source.left l.initial.source ≡ prepend (take l.filled l.buf) (g.S.Source.left l.source);
       same : g.S.Source.faults l.source ≡ g.S.Source.faults l.initial.source;
       counted : g.S.Source.reads l.source ≤ g.S.Source.reads l.initial.source + l.filled;
+      moved : g.S.Source.empty_reads l.source ≡ g.S.Source.empty_reads l.initial.source;
     }
 
 abbrev pub decreases-loop-filled : goal.decreases-loop-filled
