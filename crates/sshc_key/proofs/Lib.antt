@@ -1,13 +1,5 @@
 mod Pairs
-mod Loops
-mod Levels
-mod NameLemmas
-mod TagLemmas
-mod FieldsGrammar
-mod Grammar
-mod Nested
-mod Readable
-mod PairFormats
 mod FieldLemmas
 mod LineLemmas
-mod Base64Again
+mod StandardFacts
+mod Levels

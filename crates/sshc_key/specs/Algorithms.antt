@@ -5,7 +5,7 @@ use Rattle.base64.specs.GeneralPurpose.{encode_of}
 use Rattle.sshc_wire.specs.Whole.{whole_at}
 use Rattle.sshc_key.specs.declared.algorithm.Algorithm.{Algorithm}
 use Rattle.sshc_key.specs.declared.algorithm.Algorithm.TheVariants as algorithms
-use Rattle.sshc_key.specs.declared.algorithm.HashAlg.{HashAlg}
+use Rattle.sshc_wire.specs.declared.hash_alg.HashAlg.{HashAlg}
 use Rattle.sshc_key.specs.declared.error.Error.{Error}
 use Rattle.sshc_key.specs.declared.error.Error.TheVariants.{SshKey}
 use Rattle.sshc_key.specs.declared.signature.Signature.{Signature}

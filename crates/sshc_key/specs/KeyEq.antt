@@ -1,5 +1,7 @@
 -- Whether two keys are one, as a test.
-use Rattle.std.specs.Prelude.{◌≡◌, ℕ, Bool, List, [], refl}
+use Rattle.std.specs.Prelude.{◌≡◌, ℕ, zero, suc, Bool, List, [], Option, refl}
+use Rattle.sshc_wire.specs.declared.hash_alg.HashAlg.{HashAlg}
+use Rattle.sshc_wire.specs.declared.hash_alg.HashAlg.TheVariants.{Sha256, Sha512}
 use Rattle.std.specs.Bool.{Decides}
 use Rattle.std.specs.Cmp.{IsEquivalence, decided}
 use Rattle.sshc_key.specs.declared.algorithm.EcdsaCurve.{EcdsaCurve}
@@ -63,6 +65,21 @@ tested_pair = tested_by (tested⊎ tested_bytes (tested⊎ tested_bytes (tested�
 tested_key_pair : Tested KeyPair
 tested_key_pair = tested_by (tested× tested_public tested_pair) (λ k. (k.public, k.pair)) (λ p. record { public = p.0; pair = p.1 }) (λ _. refl)
 
+abbrev hash_code : HashAlg → ℕ
+hash_code Sha256 = 0
+hash_code Sha512 = 1
+
+abbrev coded_hash : ℕ → HashAlg
+coded_hash zero = Sha256
+coded_hash (suc n) = Sha512
+
+hash_back : (h : HashAlg) → coded_hash (hash_code h) ≡ h
+hash_back Sha256 = refl
+hash_back Sha512 = refl
+
+tested_hashed_pair : Tested (KeyPair × Option HashAlg)
+tested_hashed_pair = tested× tested_key_pair (tested_option (tested_by tested_ℕ hash_code coded_hash hash_back))
+
 pub key_eq : Key → Key → Bool
 key_eq a b = tested_key.test a b
 
@@ -92,3 +109,13 @@ key_pair_eq-Decides a b = tested_key_pair.decides a b
 
 pub key_pair_eq_equiv : IsEquivalence key_pair_eq
 key_pair_eq_equiv = decided key_pair_eq key_pair_eq-Decides
+
+pub hashed_pair_eq : KeyPair × Option HashAlg → KeyPair × Option HashAlg → Bool
+hashed_pair_eq a b = tested_hashed_pair.test a b
+
+pub hashed_pair_eq-Decides : (a b : KeyPair × Option HashAlg) → Decides (hashed_pair_eq a b) (a ≡ b)
+unfolding hashed_pair_eq tested_hashed_pair
+hashed_pair_eq-Decides a b = tested_hashed_pair.decides a b
+
+pub hashed_pair_eq_equiv : IsEquivalence hashed_pair_eq
+hashed_pair_eq_equiv = decided hashed_pair_eq hashed_pair_eq-Decides

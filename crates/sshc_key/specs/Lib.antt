@@ -12,8 +12,13 @@ pub mod PairCode
 pub mod PairView
 pub mod Falls
 pub mod Signers
+pub mod Asking
+pub mod AskingLaws
 pub mod KeyText
 pub mod KeyWriting
 pub mod PairGrammar
 pub mod Algorithms
 pub mod KeyFiles
+pub mod AgentKeys
+pub mod RequestNames
+pub mod KeyLaws

@@ -3,14 +3,7 @@
 ghost use Rattle.std.specs.Prelude.{◌≡◌};
 ghost use Rattle.sshc_key.specs.AlgorithmNames.{curve_name, point_length};
 
-use sshc_wire::Text;
-
-/// The hash with which an RSA key signs (RFC 8332).
-#[derive(Clone, Copy, Debug, PartialEq, Eq)]
-pub enum HashAlg {
-    Sha256,
-    Sha512,
-}
+use sshc_wire::{HashAlg, Text};
 
 /// A curve of ECDSA (RFC 5656, section 10.1).
 #[derive(Clone, Copy, Debug, PartialEq, Eq)]

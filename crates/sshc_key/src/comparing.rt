@@ -4,9 +4,10 @@ ghost use Rattle.std.specs.Prelude.{◌≡◌, ◌↔◌, IsTrue};
 ghost use Rattle.std.specs.Cmp.{partial_equiv_from_equiv, on_equiv};
 ghost use Rattle.sshc_key.specs.View.{view};
 ghost use Rattle.sshc_key.specs.KeyGrammar.{said, dsa, ecdsa, ed25519, rsa, sk_ecdsa, sk_ed25519, opaque, plain};
-ghost use Rattle.sshc_key.specs.KeyEq.{key_eq, key_eq_equiv, public_eq, public_eq_equiv, key_pair_eq, key_pair_eq_equiv};
+ghost use Rattle.sshc_key.specs.KeyEq.{key_eq, key_eq_equiv, public_eq, public_eq_equiv, key_pair_eq, key_pair_eq_equiv, hashed_pair_eq, hashed_pair_eq_equiv};
 
 use crate::algorithm::EcdsaCurve;
+use crate::identity::PrivateKeyWithHashAlg;
 use crate::key_data::{Certificate, KeyData};
 use crate::pair::PrivateKey;
 use crate::public_key::PublicKey;
@@ -258,4 +259,26 @@ impl PartialEq for PrivateKey {
 
 impl Eq for PrivateKey {
     ghost laws = { key_pair_eq_equiv };
+}
+
+impl PrivateKeyWithHashAlg {
+    fn is_same(&self, other: &PrivateKeyWithHashAlg) -> bool
+        ensures { IsTrue result ↔ (self.now ≡ other.now) }
+    {
+        self.key().is_same(other.key()) && self.hash_alg() == other.hash_alg()
+    }
+}
+
+impl PartialEq for PrivateKeyWithHashAlg {
+    ghost eq = { hashed_pair_eq };
+
+    ghost laws = { partial_equiv_from_equiv hashed_pair_eq_equiv };
+
+    fn eq(&self, other: &PrivateKeyWithHashAlg) -> bool {
+        self.is_same(other)
+    }
+}
+
+impl Eq for PrivateKeyWithHashAlg {
+    ghost laws = { hashed_pair_eq_equiv };
 }

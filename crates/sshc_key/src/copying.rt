@@ -5,7 +5,7 @@ ghost use Rattle.sshc_key.specs.KeyGrammar.{said, dsa, rsa, sk_ecdsa, sk_ed25519
 ghost use Rattle.sshc_key.specs.View.{view};
 
 use crate::algorithm::Algorithm;
-use crate::identity::PublicKeyOrCertificate;
+use crate::identity::{PrivateKeyWithHashAlg, PublicKeyOrCertificate};
 use crate::key_data::{Certificate, KeyData};
 use crate::pair::{PairData, PrivateKey};
 use crate::public_key::PublicKey;
@@ -211,6 +211,15 @@ impl PrivateKey {
         let public = self.public.copy()?;
         let pair = self.pair.copy()?;
         Ok(PrivateKey { public, pair })
+    }
+}
+
+impl PrivateKeyWithHashAlg {
+    pub fn copy(&self) -> Result<PrivateKeyWithHashAlg, NoMemory>
+        ensures { IfOk result (λ k. k ≡ self.now) }
+    {
+        let key = self.key().copy()?;
+        Ok(PrivateKeyWithHashAlg::with_kept(key, self.hash_alg()))
     }
 }
 

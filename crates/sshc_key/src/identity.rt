@@ -4,11 +4,11 @@ ghost use Rattle.std.specs.Prelude.{◌≡◌};
 ghost use Rattle.sshc_key.specs.View.{view};
 ghost use Rattle.sshc_key.specs.Algorithms.{kept_hash, pair_algorithm};
 
-use crate::algorithm::{Algorithm, HashAlg};
+use crate::algorithm::Algorithm;
 use crate::key_data::{Certificate, KeyData};
 use crate::pair::PrivateKey;
 use crate::public_key::PublicKey;
-use sshc_wire::Text;
+use sshc_wire::{HashAlg, Text};
 use std::marker::Model;
 
 /// A public key and the hash with which it signs, or a certificate.
@@ -32,7 +32,7 @@ impl Model for PrivateKeyWithHashAlg {
     ghost use Rattle.std.specs.Prelude.{Option};
     ghost use Rattle.std.specs.Coded.{codes};
     ghost use Rattle.sshc_key.specs.PairCode.{KeyPair, key_pair_code};
-    ghost use Rattle.sshc_key.specs.declared.algorithm.HashAlg.{HashAlg as Hash};
+    ghost use Rattle.sshc_wire.specs.declared.hash_alg.HashAlg.{HashAlg as Hash};
 
     ghost Value = { KeyPair × Option Hash };
 
@@ -47,6 +47,13 @@ impl PrivateKeyWithHashAlg {
         ensures { result ≡ (key, kept_hash key.public.0 hash_alg) }
     {
         let hash_alg = hash_for(&key.public.key, hash_alg);
+        PrivateKeyWithHashAlg { key, hash_alg }
+    }
+
+    /// The pair with a hash that it may have.
+    pub(crate) fn with_kept(key: PrivateKey, hash_alg: Option<HashAlg>) -> PrivateKeyWithHashAlg
+        ensures { result ≡ (key, hash_alg) }
+    {
         PrivateKeyWithHashAlg { key, hash_alg }
     }
 

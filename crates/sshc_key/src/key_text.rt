@@ -3,7 +3,7 @@
 ghost use Rattle.std.specs.Prelude.{◌≡◌, ◌↔◌, ◌≤◌, ◌++◌, ℕ, List, Some, Ok, filter, IfOk, OnOk, string_bytes};
 ghost use Rattle.sshc_key.specs.Algorithms.{algorithm_of, key_base64, commented_text, openssh_text};
 ghost use Rattle.sshc_key.specs.KeyGrammar.{Key, key_text, Fits};
-ghost use Rattle.sshc_key.specs.KeyText.{is_no_line_end, decoded_key};
+ghost use Rattle.sshc_key.specs.KeyText.{IsKeyText, is_no_line_end, decoded_key};
 ghost use Rattle.sshc_key.specs.Nesting.{Parses, IsReadable, markers, blob_key, key_or_fault};
 
 use crate::algorithm::Algorithm;
@@ -18,7 +18,8 @@ use base64::engine::general_purpose::STANDARD;
 use sshc_wire::NoMemory;
 use std::alloc::Global;
 
-fn without_line_ends(alloc: Global, text: &[u8]) -> Result<Vec<u8>, NoMemory>
+/// The text without carriage returns and line feeds.
+pub fn without_line_ends(alloc: Global, text: &[u8]) -> Result<Vec<u8>, NoMemory>
     ensures { IfOk result (λ v. v.items ≡ filter is_no_line_end text.now) }
 {
     Ok(
@@ -32,7 +33,10 @@ fn without_line_ends(alloc: Global, text: &[u8]) -> Result<Vec<u8>, NoMemory>
 /// The key of which this is the padded base64, with no comment. Line ends are dropped, and bytes may follow the key.
 #[tactic(auto, unfolding(crate::specs::KeyText::decoded_key))]
 pub fn parse_public_key_base64(alloc: Global, key: &str) -> Result<PublicKey, Error>
-    ensures { Parses result (decoded_key key.now) }
+    ensures key { Parses result (decoded_key key.now) }
+    // That is the key of the grammar at the front of the blob, and each such key is read.
+    ensures grammar { IfOk result (λ k. IsKeyText key.now k.0) }
+    ensures whole { (k : Key) → IsKeyText key.now k → decoded_key key.now ≡ Ok k }
 {
     let text = without_line_ends(alloc, key.as_bytes())?;
     match STANDARD.decode(alloc, &text) {
@@ -66,12 +70,12 @@ pub trait PublicKeyBase64 {
 impl PublicKeyBase64 for PublicKey {
     ghost key = { λ k. k.0 };
 
-    #[tactic(auto, using(crate::proofs::Readable::written_is_read))]
+    #[tactic(auto, using(crate::specs::KeyLaws::Blobs::written_is_read))]
     fn public_key_bytes(&self) -> Result<Vec<u8>, NoMemory> {
         key_bytes(self.comment.allocator(), &self.key)
     }
 
-    #[tactic(auto, using(crate::proofs::Base64Again::base64_is_read))]
+    #[tactic(auto, using(crate::specs::KeyLaws::Base64::base64_is_read))]
     fn public_key_base64(&self) -> Result<String, NoMemory> {
         let blob = self.public_key_bytes()?;
         Ok(STANDARD.encode(self.comment.allocator(), &blob)?)

@@ -1,6 +1,7 @@
 //! Keys, certificates, signatures and key pairs of SSH: their values, their text, and who signs with them.
 #![tactic(auto)]
 
+mod agent;
 mod algorithm;
 mod comparing;
 mod copying;
@@ -21,12 +22,13 @@ mod statement;
 mod verifier;
 mod writing;
 
-pub use algorithm::{ALL_KEY_TYPES, Algorithm, EcdsaCurve, HashAlg};
+pub use agent::{AgentIdentity, AgentSessionBinding, Constraint, KeyRef};
+pub use algorithm::{ALL_KEY_TYPES, Algorithm, EcdsaCurve};
 pub use error::Error;
 pub use identity::{PrivateKeyWithHashAlg, PublicKeyOrCertificate};
 pub use key_data::{CertType, Certificate, KeyData};
 pub use key_files::{load_openssh_certificate, load_public_key};
-pub use key_text::{PublicKeyBase64, PublicKeyExt, parse_public_key_base64};
+pub use key_text::{PublicKeyBase64, PublicKeyExt, parse_public_key_base64, without_line_ends};
 pub use nesting::check_cert_nesting;
 pub use pair::{PairData, PrivateKey};
 pub use parsing::{parse_public_key, parse_whole_public_key};
@@ -34,5 +36,6 @@ pub use public_key::PublicKey;
 pub use reading::{read_key_pair, read_signature};
 pub use signature::{Signature, SkFields};
 pub use signer::{Asker, LocalSigner, SignRefused};
+pub use sshc_wire::HashAlg;
 pub use verifier::{Verifier, Verify};
 pub use writing::write_key_pair;

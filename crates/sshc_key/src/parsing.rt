@@ -27,7 +27,7 @@ fn as_outside(error: Error) -> Error
 }
 
 /// Reads the key at the front.
-#[tactic(auto, unfolding(crate::specs::Nesting::front_at), using(crate::proofs::Readable::fails_outside))]
+#[tactic(auto, unfolding(crate::specs::Nesting::front_at), using(crate::specs::KeyLaws::Blobs::fails_outside))]
 fn front_key(alloc: Global, c: &mut Cursor<'_>) -> Result<KeyData, Error>
     ensures front { Gives view result c.new (front_at c.old) }
     ensures faults { IfErr result (λ e. (e ≡ Error.SshKey) ⊎ (e ≡ Error.NoMemory)) }
@@ -50,7 +50,7 @@ fn bare(alloc: Global, key: KeyData) -> PublicKey
 }
 
 /// The key at the front of the blob, with no comment. Bytes may follow it.
-#[tactic(auto, unfolding(crate::specs::Nesting::blob_key), using(crate::proofs::Readable::fails_key))]
+#[tactic(auto, unfolding(crate::specs::Nesting::blob_key), using(crate::specs::KeyLaws::Blobs::fails_key))]
 pub fn parse_public_key(alloc: Global, blob: &[u8]) -> Result<PublicKey, Error>
     ensures key { Parses result (key_or_fault (blob_key blob.now)) }
     // That is the key of the grammar which stands there, and there is no other.
@@ -64,7 +64,7 @@ pub fn parse_public_key(alloc: Global, blob: &[u8]) -> Result<PublicKey, Error>
 }
 
 /// The key that is the whole blob, with no comment.
-#[tactic(auto, unfolding(crate::specs::Nesting::whole_blob_key), using(crate::proofs::Readable::fails_whole, crate::proofs::Readable::more_follows))]
+#[tactic(auto, unfolding(crate::specs::Nesting::whole_blob_key), using(crate::specs::KeyLaws::Blobs::fails_whole, crate::specs::KeyLaws::Blobs::more_follows))]
 pub fn parse_whole_public_key(alloc: Global, blob: &[u8]) -> Result<PublicKey, Error>
     ensures key { Parses result (key_or_fault (whole_blob_key blob.now)) }
     ensures grammar { (k : Key) → (whole_blob_key blob.now ≡ Some k) ↔ IsBlobOf k blob.now }

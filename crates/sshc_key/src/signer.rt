@@ -2,10 +2,10 @@
 
 ghost use Rattle.std.specs.Prelude.{◌≡◌, ◌≤◌, ℕ, List, IfOk, Err, length};
 ghost use Rattle.sshc_wire.specs.Faults.{Rose};
-ghost use Rattle.sshc_key.specs.Signers.{SignCall, KeepsCall};
+ghost use Rattle.sshc_key.specs.Signers.{IsSignature, SignCall, KeepsCall};
 
-use crate::algorithm::HashAlg;
 use crate::pair::PrivateKey;
+use sshc_wire::HashAlg;
 
 /// Who asks for a signature: the session, or a connection of the agent by its number.
 #[derive(Clone, Copy, Debug, PartialEq, Eq)]
@@ -27,7 +27,7 @@ pub trait LocalSigner {
 
     ghost refusals: { Self → ℕ };
 
-    /// Signs the bytes. The answer is the blob of a signature. The hash counts for RSA keys alone.
+    /// Signs the bytes. The answer is one whole signature. The hash counts for RSA keys alone.
     fn sign(
         &mut self,
         by: Asker,
@@ -36,6 +36,7 @@ pub trait LocalSigner {
         bytes: &[u8],
     ) -> Result<Vec<u8>, SignRefused>
         ensures call { KeepsCall (calls self.old) (calls self.new) by key.now hash bytes.now result }
+        ensures whole { IfOk result (λ v. IsSignature v.items) }
         ensures short { IfOk result (λ v. length v.items ≤ 65536) }
         ensures cause { result ≡ Err SignRefused.Refused → Rose (refusals self.old) (refusals self.new) }
         ensures later { refusals self.old ≤ refusals self.new };

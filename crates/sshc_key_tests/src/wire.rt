@@ -2,8 +2,8 @@
 
 use sshc_wire::{
     ChannelOpenFailure, Cursor, Disconnect, List, MethodKind, MethodSet, Names, NoMemory, Octets,
-    Outbox, Record, Resolution, Sig, Text, Ticket, WireError, put_bytes, put_names, put_record,
-    put_resolution, put_text, put_u32, put_u64,
+    Outbox, Record, Resolution, Sig, Text, Ticket, WireError, put_bytes, put_names, put_resolution,
+    put_text, put_u32, put_u64,
 };
 use std::alloc::Global;
 use std::test::Fail;
@@ -124,28 +124,39 @@ fn some_outbox(alloc: Global) -> Result<Outbox, NoMemory> {
     outbox.push_both(Some(Record::KexDone { kex }), Some(Record::BeginExchange))?;
     outbox.reserve(1)?;
     outbox.push_reserved(Record::Opened);
-    outbox.push(Record::Resolved {
+    let banner = Text::from_str(alloc, "b")?;
+    let mut rest = Vec::new(alloc);
+    rest.push(Record::Resolved {
         ticket: Ticket(1),
         resolution: Resolution::AuthSuccess,
     })?;
-    let banner = Text::from_str(alloc, "b")?;
-    outbox.push(Record::AuthBanner { banner })?;
+    rest.push(packet(alloc, &[7])?)?;
+    rest.push(Record::AuthBanner { banner })?;
+    outbox.push_all(rest)?;
     Ok(outbox)
 }
 
 #[test]
 fn records_are_kept_and_written(rt: HostRuntime) -> Result<(), Fail> {
-    let outbox = some_outbox(rt.alloc())?;
+    let mut outbox = some_outbox(rt.alloc())?;
     let mut out = Vec::new(rt.alloc());
-    for said in outbox.as_slice() {
-        put_record(&mut out, said)?;
+    for at in 0..outbox.len() {
+        outbox.put_text(at, &mut out)?;
     }
     assert_eq!(rt;
         out.as_slice(),
         b"\x01\x05\x20\x00\x00\x00\x01k\x02\x03\x04\x00\x00\x00\x01\x00\x21\x00\x00\x00\x01b".as_slice()
     );
+    assert_eq!(rt; outbox.packet(0), Some([5u8].as_slice()));
+    assert_eq!(rt; outbox.packet(1), None);
+    assert_eq!(rt; outbox.take_first()?, Some(packet(rt.alloc(), &[5])?));
+    assert_eq!(rt; outbox.len(), 5);
+    outbox.clear();
+    assert_eq!(rt; outbox.take_first()?, None);
+    outbox.push(packet(rt.alloc(), &[8])?)?;
+    assert_eq!(rt; outbox.packet(0), Some([8u8].as_slice()));
     out.clear();
-    put_resolution(&mut out, Resolution::Dropped)?;
+    put_resolution(&mut out, &Resolution::Dropped)?;
     assert_eq!(rt; out.as_slice(), [0x0d].as_slice());
     Ok(())
 }

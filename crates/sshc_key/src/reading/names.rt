@@ -83,7 +83,7 @@ fn joined(alloc: Global, front: &str, domain: &str) -> Result<Text, NoMemory>
 }
 
 /// What stands before the mark of certificates at the end.
-#[tactic(auto, using(crate::proofs::NameLemmas::unmarked_of_suffix))]
+#[tactic(auto, using(crate::specs::KeyLaws::Names::unmarked_of_suffix))]
 fn unmarked_of(front: &str) -> Option<&str>
     ensures { MatchOption result (unmarked front.now ≡ None) (λ own. unmarked front.now ≡ Some own.now) }
 {

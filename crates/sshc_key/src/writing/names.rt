@@ -3,12 +3,13 @@
 ghost use Rattle.std.specs.Prelude.{◌≡◌, ◌++◌, ◌∷◌, IfOk, MatchOption, codes};
 ghost use Rattle.sshc_key.specs.AlgorithmNames.{parted, marked_name, kind_name, certificate_name, tag_name};
 ghost use Rattle.sshc_key.specs.KeyGrammar.{kind_of, tag_of, key_name};
+ghost use Rattle.sshc_key.specs.RequestNames.{certified_name, request_name, rsa_name};
 ghost use Rattle.sshc_key.specs.View.{view};
 
-use crate::key_data::KeyData;
+use crate::key_data::{Certificate, KeyData};
 use crate::kind::{Kind, Known, Tag};
 use crate::reading::parts_of;
-use sshc_wire::{NoMemory, Text};
+use sshc_wire::{HashAlg, NoMemory, Text};
 use std::alloc::Global;
 
 /// The name with the mark of certificates before its `@`.
@@ -81,5 +82,77 @@ impl KeyData {
                 kind.name(alloc)
             }
         }
+    }
+}
+
+/// The name under which an RSA key signs with this hash (RFC 8332, section 3).
+fn rsa_name(hash_alg: Option<HashAlg>) -> &'static str
+    ensures { result.now ≡ rsa_name hash_alg }
+{
+    match hash_alg {
+        None => "ssh-rsa",
+        Some(HashAlg::Sha256) => "rsa-sha2-256",
+        Some(HashAlg::Sha512) => "rsa-sha2-512",
+    }
+}
+
+/// The name under which the key of an RSA certificate signs with this hash (OpenSSH's PROTOCOL.certkeys).
+fn rsa_certificate_name(hash_alg: Option<HashAlg>) -> &'static str
+    ensures { result.now ≡ rsa_name hash_alg ++ codes "-cert-v01@openssh.com" }
+{
+    match hash_alg {
+        None => "ssh-rsa-cert-v01@openssh.com",
+        Some(HashAlg::Sha256) => "rsa-sha2-256-cert-v01@openssh.com",
+        Some(HashAlg::Sha512) => "rsa-sha2-512-cert-v01@openssh.com",
+    }
+}
+
+impl KeyData {
+    /// The algorithm that a request names for a certificate for this key.
+    fn certified_name(&self, alloc: Global, hash_alg: Option<HashAlg>) -> Result<Text, NoMemory>
+        ensures { IfOk result (λ t. t ≡ certified_name (view self.now) hash_alg) }
+    {
+        match self {
+            KeyData::Rsa { .. } => Text::from_str(alloc, rsa_certificate_name(hash_alg)),
+            KeyData::Certificate(certificate) => {
+                let _ = &certificate.nonce;
+                let kind = certificate.public_key.kind()?;
+                kind.certificate_name(alloc)
+            }
+            _ => {
+                let kind = self.kind()?;
+                kind.certificate_name(alloc)
+            }
+        }
+    }
+
+    /// The algorithm that a request names for the key or certificate; of an RSA key it goes by the hash.
+    #[tactic(auto, unfolding(crate::specs::RequestNames::request_name))]
+    pub fn request_algorithm(
+        &self,
+        alloc: Global,
+        hash_alg: Option<HashAlg>,
+    ) -> Result<Text, NoMemory>
+        ensures { IfOk result (λ t. t ≡ request_name (view self.now) hash_alg) }
+    {
+        match self {
+            KeyData::Rsa { .. } => Text::from_str(alloc, rsa_name(hash_alg)),
+            KeyData::Certificate(certificate) => certificate.request_algorithm(alloc, hash_alg),
+            _ => self.name(alloc),
+        }
+    }
+}
+
+impl Certificate {
+    /// The algorithm that a request names for the certificate; of one for an RSA key it goes by the hash.
+    #[tactic(auto, unfolding(crate::specs::RequestNames::request_name))]
+    pub fn request_algorithm(
+        &self,
+        alloc: Global,
+        hash_alg: Option<HashAlg>,
+    ) -> Result<Text, NoMemory>
+        ensures { IfOk result (λ t. t ≡ request_name self.now hash_alg) }
+    {
+        self.public_key.certified_name(alloc, hash_alg)
     }
 }

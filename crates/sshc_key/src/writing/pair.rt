@@ -114,7 +114,7 @@ fn put_pair(out: &mut Vec<u8>, key: &PrivateKey) -> Result<(), NoMemory>
 }
 
 /// Writes a key pair, as the name of its algorithm and its parts. Of parts of two algorithms nothing is written.
-#[tactic(auto, using(crate::proofs::PairFormats::written_pair_is_read))]
+#[tactic(auto, using(crate::specs::KeyLaws::Pairs::written_pair_is_read))]
 pub fn write_key_pair(out: &mut Vec<u8>, key: &PrivateKey) -> Result<(), NoMemory>
     ensures ok { OnOk result (out.new.items ≡ out.old.items ++ key_pair_text key.now) }
     // What was written of a pair of the grammar is read again, whatever follows it.

@@ -1,5 +1,5 @@
 use Rattle.std.proofs.Common.{arith}
-use Rattle.sshc_key.proofs.Readable.{is_front}
+use Rattle.sshc_key.specs.KeyLaws.Blobs.{is_front}
 use Rattle.sshc_key.proofs.parsing.parse_public_key.Goals as goal
 
 pub returns-in-Ok-clause-grammar : goal.returns-in-Ok-clause-grammar

@@ -1,5 +1,5 @@
 use Rattle.std.proofs.Common.{arith}
-use Rattle.sshc_key.proofs.Readable.{is_whole}
+use Rattle.sshc_key.specs.KeyLaws.Blobs.{is_whole}
 use Rattle.sshc_key.proofs.parsing.parse_whole_public_key.Goals as goal
 
 pub returns-then-is_empty-clause-grammar : goal.returns-then-is_empty-clause-grammar

@@ -1,6 +1,6 @@
 use Rattle.sshc_wire.specs.Wire.{IsBytes}
 use Rattle.sshc_wire.specs.Format.{reads_just}
-use Rattle.sshc_key.proofs.PairFormats.{pairs}
+use Rattle.sshc_key.specs.KeyLaws.Pairs.{pairs}
 use Rattle.sshc_key.proofs.reading.pair.read_key_pair.Goals as goal
 
 pub returns-in-Ok-clause-grammar : goal.returns-in-Ok-clause-grammar

@@ -1,5 +1,5 @@
 use Rattle.sshc_wire.specs.Format.{reads_just}
-use Rattle.sshc_key.proofs.Grammar.{signatures}
+use Rattle.sshc_key.specs.KeyLaws.Keys.{signatures}
 use Rattle.sshc_key.proofs.reading.signature.read_signature.Goals as goal
 
 pub returns-in-Ok-clause-grammar : goal.returns-in-Ok-clause-grammar

@@ -2,7 +2,7 @@ use Rattle.std.proofs.Common.{◌<◌, length, rules}
 use Rattle.std.proofs.lemmas.Result.{err_from_is_err_and}
 use Rattle.sshc_key.specs.KeyReading.{utf8_at}
 use Rattle.sshc_wire.specs.Whole.{all_at}
-use Rattle.sshc_key.proofs.Loops.{goes_on, ends, is_done, utf8_takes}
+use Rattle.sshc_key.specs.KeyLaws.Lists.{goes_on, ends, is_done, utf8_takes}
 use Rattle.sshc_key.proofs.reading.statement.texts_in.Goals as goal
 
 pub returns-in_err-item : goal.returns-in_err-item

@@ -1,7 +1,7 @@
 use Rattle.std.proofs.Common.{◌≡◌, length}
 use Rattle.sshc_key.specs.KeyReading.{utf8_at}
 use Rattle.sshc_wire.specs.Whole.{all_at}
-use Rattle.sshc_key.proofs.Loops.{with_front}
+use Rattle.sshc_key.specs.KeyLaws.Lists.{with_front}
 use Rattle.sshc_key.proofs.reading.statement.texts_in.Given as goal
 
 abbrev pub invariant-loop-c : goal.invariant-loop-c

@@ -20,9 +20,9 @@ use Rattle.sshc_key.specs.declared.statement.Statement.{Statement}
 use Rattle.sshc_key.specs.AlgorithmNames.{tag_name, tag_named, IsTag}
 use Rattle.sshc_key.specs.KeyGrammar.{Key, plain, certificate, kind_of, tag_of, type_number, begins_sk, sk_text, signature_text, option_text, statement_text, fields_text, body_text, key_text, IsText, FieldsFit, SkFits, SignatureFits, StatementFits, BodyFits, Fits, depth}
 use Rattle.sshc_key.specs.KeyReading.{u32_at, u8_at, made_sk, sk_at, made_signature, signature_at, type_numbered, cert_type_at, texts_at, option_at, options_at, made_statement, statement_at, made_certificate, certificate_at, tag_at, tagged_at, key_at}
-use Rattle.sshc_key.proofs.FieldsGrammar.{octets, utf8s, numbers64, numbers32, bytes8, fields}
-use Rattle.sshc_key.proofs.Loops.{utf8_takes, option_takes}
-use Rattle.sshc_key.proofs.TagLemmas.{tag_back, tag_there, tag_text}
+use Rattle.sshc_key.specs.KeyLaws.Fields.{octets, utf8s, numbers64, numbers32, bytes8, fields}
+use Rattle.sshc_key.specs.KeyLaws.Lists.{utf8_takes, option_takes}
+use Rattle.sshc_key.specs.KeyLaws.Tags.{tag_back, tag_there, tag_text}
 
 -- ---- names
 

@@ -11,7 +11,7 @@ use Rattle.sshc_key.specs.declared.kind.Tag.TheVariants as tags
 use Rattle.sshc_key.specs.AlgorithmNames.{tag_name, known_stem, mark, IsTag, with_mark, at_domain, marked_name}
 use Rattle.sshc_key.specs.KeyGrammar.{Key, plain, certificate, kind_of, fields_text, statement_text, body_text, signature_text, key_text, Fits, depth}
 use Rattle.sshc_key.specs.Nesting.{marker, markers}
-use Rattle.sshc_key.proofs.NameLemmas.{sides, parted_there, marked_is}
+use Rattle.sshc_key.specs.KeyLaws.Names.{sides, parted_there, marked_is}
 
 -- a marker at the front stays there
 stays : (a b : List ℕ) → starts_with nat_eq a marker ≡ true → starts_with nat_eq (a ++ b) marker ≡ true

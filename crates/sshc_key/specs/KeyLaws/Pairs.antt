@@ -13,9 +13,9 @@ use Rattle.sshc_key.specs.AlgorithmNames.{curve_name, known_name, known_named}
 use Rattle.sshc_key.specs.KeyGrammar.{IsMpint, IsPoint, IsOfLength}
 use Rattle.sshc_key.specs.PairCode.{KeyPair}
 use Rattle.sshc_key.specs.PairGrammar.{Pair, dsa_pair, ecdsa_pair, ed25519_pair, rsa_pair, pair_in, pair_kind, pair_fields_text, pair_text, text_or_nothing, key_pair_text, ends_public, PairFits, dsa_pair_at, ecdsa_pair_at, ed25519_pair_at, rsa_pair_at, with_pair, pair_named, pair_name_at, pair_fields_at, pair_at}
-use Rattle.sshc_key.proofs.FieldsGrammar.{octets, mpints, points, sized, curves, IsCurveName, name_fits, named_so, Two, Three}
-use Rattle.sshc_key.proofs.NameLemmas.{some, some_is}
-use Rattle.sshc_key.proofs.TagLemmas.{known_is, stands}
+use Rattle.sshc_key.specs.KeyLaws.Fields.{octets, mpints, points, sized, curves, IsCurveName, name_fits, named_so, Two, Three}
+use Rattle.sshc_key.specs.KeyLaws.Names.{some, some_is}
+use Rattle.sshc_key.specs.KeyLaws.Tags.{known_is, stands}
 
 -- the pairs of a kind
 abbrev OfKind : Known → Pair → Type 0

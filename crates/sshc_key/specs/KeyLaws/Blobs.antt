@@ -10,8 +10,8 @@ use Rattle.sshc_key.specs.Gives.{Fails}
 use Rattle.sshc_key.specs.KeyGrammar.{Key, key_text, Fits}
 use Rattle.sshc_key.specs.KeyReading.{key_at}
 use Rattle.sshc_key.specs.Nesting.{markers, IsReadable, IsBlobOf, outside, front_of, whole_of, front_at, blob_key, whole_blob_key, key_or_fault}
-use Rattle.sshc_key.proofs.Grammar.{keys}
-use Rattle.sshc_key.proofs.Nested.{depth_marked, markers_append}
+use Rattle.sshc_key.specs.KeyLaws.Keys.{keys}
+use Rattle.sshc_key.specs.KeyLaws.Markers.{depth_marked, markers_append}
 
 -- a fault of reading, and the one that is answered
 pub fails_outside : {A : Type 0} (e : Error) (r : Result A Error) → Fails e r → Fails (outside e) (faults_as (λ d. SshKey) r)
@@ -112,3 +112,8 @@ is_whole blob bytes k = (
 pub written_is_read : (k : Key) (rest : List ℕ) → Fits k → markers (key_text k ++ rest) ≤ 8 → blob_key (key_text k ++ rest) ≡ Some k
 unfolding blob_key
 written_is_read k rest fits few = ap front_of (front_back (key_text k ++ rest) k rest few fits refl)
+
+-- the key that stands at the front is found
+pub front_found : (blob : List ℕ) (k : Key) → IsReadable blob k → blob_key blob ≡ Some k
+unfolding blob_key
+front_found blob k stands = ap front_of (front_back blob k stands.rest stands.nesting stands.fits stands.front)
