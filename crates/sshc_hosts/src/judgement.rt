@@ -9,6 +9,8 @@ ghost use Rattle.sshc_key.specs.declared.kind.Kind.TheVariants.{Known};
 ghost use Rattle.sshc_key.specs.declared.kind.Known.TheVariants.{Ecdsa};
 ghost use Rattle.sshc_hosts.specs.Judgement.{is_certificate, algorithm_name, same_algorithm, contradicts, has_key, judged_among, read_lines, known_keys, judged, IsUnreadable, IsRefusal};
 ghost use Rattle.sshc_key.specs.Gives.{GivesAll};
+ghost use Rattle.sshc_key.specs.KeyText.{decoded_key};
+ghost use Rattle.sshc_key.specs.Nesting.{Parses};
 ghost use Rattle.sshc_hosts.specs.HostText.{host_text};
 
 use crate::host::host_text;
@@ -110,13 +112,20 @@ fn judge_among(key: &PublicKey, known: &[(u64, PublicKey)]) -> Result<bool, Erro
     }
 }
 
+/// The key of a line's third field.
+fn line_key(alloc: Global, field: &str) -> Result<PublicKey, Error>
+    ensures { Parses result (decoded_key field.now) }
+{
+    parse_public_key_base64(alloc, field)
+}
+
 /// The lines with their keys, or why the first that can't be read can't.
 fn read_lines(alloc: Global, lines: &[(u64, &str)]) -> Result<Vec<(u64, PublicKey)>, Error>
     ensures { GivesAll (λ known. known.items) result (read_lines (map (λ line. (line.0, line.1.now)) lines.now)) }
 {
     let mut known = Vec::new(alloc);
     for line in lines {
-        let key = parse_public_key_base64(alloc, line.1)?;
+        let key = line_key(alloc, line.1)?;
         known.push((line.0, key))?;
     }
     Ok(known)
