@@ -1,15 +1,15 @@
--- What a channel's turn does to its account.
+-- What a flow's turn does to its account.
 use Rattle.std.proofs.Common.{◌≡◌, ℕ, zero, suc, ◌+◌, ◌-◌, ◌<◌, ◌≤◌, min, Bool, true, false, List, [], ◌∷◌, ◌++◌, length, take, drop, if◌then◌else◌, refl, ap, sym, subst, ◌∙◌, arith, inl, inr, length-append, length-take, length-drop, append_assoc}
-use Rattle.std.proofs.lemmas.List.{append-nil, take-append-drop}
+use Rattle.std.proofs.lemmas.List.{take-append-drop}
 use Rattle.std.proofs.lemmas.Bool.{cases_lt}
 use Rattle.sshc_mux.specs.declared.chunk.Stream.{Stream}
 use Rattle.sshc_mux.specs.declared.channel.Stage.{Stage}
 use Rattle.sshc_mux.specs.declared.channel.Stage.TheVariants as Stages
-use Rattle.sshc_mux.specs.ChannelState.{ChannelState, Waiting}
+use Rattle.sshc_mux.specs.ChannelState.{Flow, Waiting}
 use Rattle.sshc_mux.specs.Packets.{Packet, Piece, Eof, Close, Adjust}
-use Rattle.sshc_mux.specs.ChannelTable.Sending.{cut, cut_up_to, pieces_of, count_of, sent_of, left_of, emptied, is_due, done, due_of}
+use Rattle.sshc_mux.specs.ChannelTable.Sending.{cut, cut_up_to, pieces_of, count_of, sent_of, left_of, emptied, is_due, done, due_of, ended_if}
 use Rattle.sshc_mux.specs.ChannelTable.Ends.{is_sent, is_unasked}
-use Rattle.sshc_mux.specs.ChannelAccount.{marked, bytes_in, pending, Orderly}
+use Rattle.sshc_mux.specs.ChannelAccount.{marked, bytes_in, pending, AllFilled, IsOrdered, Orderly}
 use Rattle.sshc_mux.proofs.SendingLemmas.{left-whole, left-part, sent-whole, sent-part}
 
 -- bytes with their marks
@@ -68,7 +68,7 @@ sent_left size room (w ∷ ws) some = elim (cases_lt room (length w.bytes)) [
 ]
 
 -- as many bytes are sent as there is room for
-length-sent : (size room : ℕ) (ws : List Waiting) → (0 < room → 0 < size) → length (bytes_in (sent_of size room ws)) ≤ min room (count_of ws)
+length-sent : (size room : ℕ) (ws : List Waiting) → (0 < room → 0 < size) → length (bytes_in (sent_of size room ws)) ≡ min room (count_of ws)
 length-sent size room [] some = omega arith
 length-sent size room (w ∷ ws) some = elim (cases_lt room (length w.bytes)) [
   | inl short ↦
@@ -125,7 +125,7 @@ due_orderly Stages.Sent Stages.Unasked last = (refl, refl)
 due_orderly Stages.Sent Stages.Asked last = (refl, (refl, refl))
 due_orderly Stages.Sent Stages.Sent last = (refl, refl)
 
-done_due : (e : Stage) → is_due (done e) ≡ false
+pub done_due : (e : Stage) → is_due (done e) ≡ false
 done_due Stages.Unasked = refl
 done_due Stages.Asked = refl
 done_due Stages.Sent = refl
@@ -135,60 +135,68 @@ done_unasked Stages.Unasked = refl
 done_unasked Stages.Asked = refl
 done_unasked Stages.Sent = refl
 
--- no bytes wait behind an end that was sent, and no EOF behind our close
-pub record Sound (c : ChannelState) : Type 0 where
-  pub eof : is_sent c.eof ≡ true → c.pending ≡ []
-  pub close : is_sent c.close ≡ true → c.pending ≡ []
-  pub last : is_sent c.close ≡ true → is_due c.eof ≡ false
+-- nothing empty waits
 
--- a channel's turn keeps its account, where so many bytes more were taken and so much was added to its window
-pub record Kept (c after : ChannelState) (packets : List Packet) (more : List (Stream × ℕ)) (gain : ℕ) : Type 0 where
-  pub balance : bytes_in packets ++ pending after.pending ≡ pending c.pending ++ more
-  pub within : length (bytes_in packets) + after.window ≤ c.window + gain
-  pub order : Orderly (is_sent c.eof) (is_sent c.close) packets (is_sent after.eof) (is_sent after.close)
-  pub sound : Sound after
-  pub number : after.number ≡ c.number
+left_filled : (room : ℕ) (ws : List Waiting) → AllFilled ws → AllFilled (left_of room ws)
+left_filled room [] filled = tt
+left_filled room (w ∷ ws) filled =
+    let P : List Waiting → Type 0 = λ l. AllFilled l in
+    elim (cases_lt room (length w.bytes)) [
+      | inl short ↦ subst P (sym (left-part room w ws short)) (omega (arith, length-drop room w.bytes), filled.1)
+      | inr fits ↦ subst P (sym (left-whole room w ws fits)) (left_filled (room - length w.bytes) ws filled.1)
+    ]
 
-pub kept_then : (c c1 c2 : ChannelState) (a b : List Packet) (more : List (Stream × ℕ)) (gain : ℕ) → Kept c c1 a more gain → Kept c1 c2 b [] 0 → Kept c c2 (a ++ b) more gain
-kept_then c c1 c2 a b more gain first second = record {
+pub filled_append : (a b : List Waiting) → AllFilled a → AllFilled b → AllFilled (a ++ b)
+filled_append [] b first second = second
+filled_append (w ∷ a) b first second = (first.0, filled_append a b first.1 second)
+
+-- a flow sends, and keeps what its account speaks of
+pub record Kept (f after : Flow) (packets : List Packet) : Type 0 where
+  pub balance : bytes_in packets ++ pending after.pending ≡ pending f.pending
+  pub window : length (bytes_in packets) + after.window ≡ f.window
+  pub order : Orderly (is_sent f.eof) (is_sent f.close) packets (is_sent after.eof) (is_sent after.close)
+  pub eof : is_unasked after.eof ≡ is_unasked f.eof
+  pub close : is_unasked after.close ≡ is_unasked f.close
+  pub ordered : IsOrdered after
+
+pub kept_then : (f f1 f2 : Flow) (a b : List Packet) → Kept f f1 a → Kept f1 f2 b → Kept f f2 (a ++ b)
+kept_then f f1 f2 a b first second = record {
   balance =
-      ap (λ (ms : List (Stream × ℕ)). ms ++ pending c2.pending) (bytes-append a b)
-      ∙ append_assoc (bytes_in a) (bytes_in b) (pending c2.pending)
-      ∙ ap (λ (ms : List (Stream × ℕ)). bytes_in a ++ ms) (second.balance ∙ append-nil (pending c1.pending))
+      ap (λ (ms : List (Stream × ℕ)). ms ++ pending f2.pending) (bytes-append a b)
+      ∙ append_assoc (bytes_in a) (bytes_in b) (pending f2.pending)
+      ∙ ap (λ (ms : List (Stream × ℕ)). bytes_in a ++ ms) second.balance
       ∙ first.balance;
-  within = omega (arith, first.within, second.within, ap length (bytes-append a b), length-append (bytes_in a) (bytes_in b));
+  window = omega (arith, first.window, second.window, ap length (bytes-append a b), length-append (bytes_in a) (bytes_in b));
   order = orderly_then _ _ _ _ _ _ a b first.order second.order;
-  sound = second.sound;
-  number = second.number ∙ first.number;
+  eof = second.eof ∙ first.eof;
+  close = second.close ∙ first.close;
+  ordered = second.ordered;
 }
 
 -- bytes go out
-pub emptied_kept : (room : ℕ) (c : ChannelState) → (0 < room → 0 < c.packet_size) → room ≤ c.window → Sound c → Kept c (emptied room c) (sent_of c.packet_size room c.pending) [] 0
-emptied_kept room c some fits sound = record {
-  balance = sent_left c.packet_size room c.pending some ∙ sym (append-nil (pending c.pending));
-  within = omega (arith, length-sent c.packet_size room c.pending some);
-  order = sent_orderly (is_sent c.eof) (is_sent c.close) c.packet_size room c.pending sound.eof sound.close;
-  sound = record {
-    eof = λ h. ap (λ (l : List Waiting). left_of room l) (sound.eof h);
-    close = λ h. ap (λ (l : List Waiting). left_of room l) (sound.close h);
-    last = sound.last;
+pub emptied_kept : (size room : ℕ) (f : Flow) → (0 < room → 0 < size) → room ≤ f.window → IsOrdered f → Kept f (emptied room f) (sent_of size room f.pending)
+emptied_kept size room f some fits ordered = record {
+  balance = sent_left size room f.pending some;
+  window = omega (arith, length-sent size room f.pending some);
+  order = sent_orderly (is_sent f.eof) (is_sent f.close) size room f.pending ordered.eof ordered.close;
+  eof = refl;
+  close = refl;
+  ordered = record {
+    filled = left_filled room f.pending ordered.filled;
+    eof = λ h. ap (λ (l : List Waiting). left_of room l) (ordered.eof h);
+    close = λ h. ap (λ (l : List Waiting). left_of room l) (ordered.close h);
+    last = ordered.last;
   };
-  number = refl;
 }
 
 -- ends go out
-pub ended_kept : (b : Bool) (c : ChannelState) → (b ≡ true → c.pending ≡ []) → Sound c → Kept c (if b then record c { eof = done c.eof; close = done c.close } else c) (if b then due_of c else []) [] 0
-ended_kept true c none sound = record {
-  balance = ap (λ (ms : List (Stream × ℕ)). ms ++ pending c.pending) (due_bytes (is_due c.eof) (is_due c.close)) ∙ sym (append-nil (pending c.pending));
-  within = omega (arith, ap length (due_bytes (is_due c.eof) (is_due c.close)));
-  order = due_orderly c.eof c.close sound.last;
-  sound = record { eof = λ h. none refl; close = λ h. none refl; last = λ h. done_due c.eof };
-  number = refl;
+pub ended_kept : (may : Bool) (f : Flow) → (may ≡ true → f.pending ≡ []) → IsOrdered f → Kept f (ended_if may f) (if may then due_of f else [])
+ended_kept true f none ordered = record {
+  balance = ap (λ (ms : List (Stream × ℕ)). ms ++ pending f.pending) (due_bytes (is_due f.eof) (is_due f.close));
+  window = omega (arith, ap length (due_bytes (is_due f.eof) (is_due f.close)));
+  order = due_orderly f.eof f.close ordered.last;
+  eof = done_unasked f.eof;
+  close = done_unasked f.close;
+  ordered = record { filled = ordered.filled; eof = λ h. none refl; close = λ h. none refl; last = λ h. done_due f.eof };
 }
-ended_kept false c none sound = record {
-  balance = sym (append-nil (pending c.pending));
-  within = omega arith;
-  order = (refl, refl);
-  sound = sound;
-  number = refl;
-}
+ended_kept false f none ordered = record { balance = refl; window = omega arith; order = (refl, refl); eof = refl; close = refl; ordered = ordered }

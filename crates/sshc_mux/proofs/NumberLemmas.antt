@@ -1,8 +1,8 @@
 -- The next number of a channel.
-use Rattle.std.proofs.Common.{true, sym, ◌≡◌, ℕ, suc, ◌+◌, ◌-◌, ◌<◌, List, [], ◌∷◌, length, get_or, Option, Some, None, ap, ◌∙◌, arith, zero, refl, is_some, ◌%◌, ◌^◌}
+use Rattle.std.proofs.Common.{true, sym, ◌≡◌, ℕ, suc, ◌+◌, ◌-◌, ◌<◌, List, length, Option, Some, None, ap, ◌∙◌, arith, zero, refl, is_some, ◌%◌, ◌^◌}
 use Rattle.std.proofs.Math.Nat.{mod-add-mod}
 use Rattle.sshc_mux.specs.ChannelState.{ChannelState, TableState, channel_of}
-use Rattle.sshc_mux.specs.Places.{IsPlace}
+use Rattle.sshc_mux.specs.Places.{Slots, present, IsPlace}
 use Rattle.sshc_mux.specs.ChannelTable.Opens.{above, free_or, free_from, next_number, IsNext}
 
 -- the number is free
@@ -13,15 +13,22 @@ free_here tries n cs none = ap (λ (o : Option ChannelState). free_or o n (free_
 pub free_later : (tries n : ℕ) (cs : List ChannelState) (c : ChannelState) → channel_of n cs ≡ Some c → free_from (suc tries) n cs ≡ free_from tries (above n) cs
 free_later tries n cs c found = ap (λ (o : Option ChannelState). free_or o n (free_from tries (above n) cs)) found
 
-pub next_found : (last tries n : ℕ) (cs : List ChannelState) → free_from (length cs + 1) (above last) cs ≡ free_from (suc tries) n cs → channel_of n cs ≡ None → next_number (record { channels = cs; last = last }) ≡ Some n
+pub next_found : (last size tries n : ℕ) (cs : List ChannelState) → size ≡ length cs → free_from (size + 1) (above last) cs ≡ free_from (suc tries) n cs → channel_of n cs ≡ None → next_number (record { channels = cs; last = last }) ≡ Some n
 unfolding next_number
-next_found last tries n cs so_far none = so_far ∙ free_here tries n cs none
+next_found last size tries n cs sized so_far none = ap (λ (k : ℕ). free_from (k + 1) (above last) cs) (sym sized) ∙ so_far ∙ free_here tries n cs none
 
-pub next_tried : (first : Option ℕ) (tried n at : ℕ) (cs : List ChannelState) → tried < length cs → first ≡ free_from (suc (length cs - tried)) n cs → IsPlace n cs at → first ≡ free_from (suc (length cs - (tried + 1))) (above n) cs
-next_tried first tried n at [] within so_far place = absurd (omega arith)
-next_tried first tried n at (c ∷ cs) within so_far place =
-    let fewer : length (c ∷ cs) - tried ≡ suc (length (c ∷ cs) - (tried + 1)) = omega arith in
-    so_far ∙ free_later (length (c ∷ cs) - tried) n (c ∷ cs) (get_or (c ∷ cs) at c) (place.found c) ∙ ap (λ (k : ℕ). free_from k (above n) (c ∷ cs)) fewer
+pub next_tried : (first : Option ℕ) (size tried n at : ℕ) (slots : Slots) → size ≡ length (present slots) → tried < size → first ≡ free_from (suc (size - tried)) n (present slots) → IsPlace n slots at →
+    first ≡ free_from (suc (size - (tried + 1))) (above n) (present slots)
+next_tried first size tried n at slots sized within so_far place =
+    let fewer : size - tried ≡ suc (size - (tried + 1)) = omega arith in
+    so_far ∙ free_later (size - tried) n (present slots) place.channel place.found ∙ ap (λ (k : ℕ). free_from k (above n) (present slots)) fewer
+
+pub next_full : (last size tried n at : ℕ) (slots : Slots) → size ≡ length (present slots) → tried ≡ size → free_from (size + 1) (above last) (present slots) ≡ free_from (suc (size - tried)) n (present slots) → IsPlace n slots at →
+    next_number (record { channels = present slots; last = last }) ≡ None
+unfolding next_number
+next_full last size tried n at slots sized done so_far place =
+    let last_try : size - tried ≡ 0 = omega arith in
+    ap (λ (k : ℕ). free_from (k + 1) (above last) (present slots)) (sym sized) ∙ so_far ∙ ap (λ (k : ℕ). free_from (suc k) n (present slots)) last_try ∙ free_later 0 n (present slots) place.channel place.found
 
 -- the first free number, counted on
 

@@ -1,5 +1,5 @@
 -- What is sent of what waits, and what is left, one call's bytes after the other.
-use Rattle.std.proofs.Common.{◌≡◌, ℕ, ◌+◌, ◌-◌, ◌<◌, ◌≤◌, Bool, true, false, List, [], ◌∷◌, ◌++◌, length, take, drop, get_or, eqb, if◌then◌else◌, refl, ap, sym, ◌∙◌, arith, append_assoc}
+use Rattle.std.proofs.Common.{◌≡◌, ℕ, ◌+◌, ◌-◌, ◌<◌, ◌≤◌, Bool, false, List, [], ◌∷◌, ◌++◌, length, take, drop, get_or, eqb, if◌then◌else◌, refl, ap, sym, ◌∙◌, arith, append_assoc}
 use Rattle.std.proofs.lemmas.List.{append-nil, drop_more}
 use Rattle.std.proofs.lemmas.Bool.{le-leb, lt-leb}
 use Rattle.std.proofs.Math.Dec.{eqb-suc-zero}
@@ -61,19 +61,22 @@ part_done recipient size room w left ws before after whole place short pushed so
     ∙ ap (λ (ps : List Packet). before ++ payloads recipient ps) (sym (sent-part size room w ws short) ∙ ap (λ (l : List Waiting). sent_of size room l) (sym place))
     ∙ so_far
 
--- nothing is left to say
-pub nothing_more : (recipient size room : ℕ) (left : List Waiting) (before whole : List Record) → left ≡ [] → before ++ payloads recipient (sent_of size room left) ≡ whole → before ≡ whole
-nothing_more recipient size room left before whole none so_far =
-    sym (append-nil before) ∙ ap (λ (l : List Waiting). before ++ payloads recipient (sent_of size room l)) (sym none) ∙ so_far
-
 -- whether something is left
 pub left_some : (room : ℕ) (w : Waiting) (left ws all : List Waiting) → left ≡ w ∷ ws → room < length w.bytes → left_of room left ≡ all → eqb (length all) 0 ≡ false
 left_some room w left ws all place short is =
     ap (λ (l : List Waiting). eqb (length l) 0) (sym is ∙ ap (λ (l : List Waiting). left_of room l) place ∙ left-part room w ws short)
     ∙ eqb-suc-zero (length ws)
 
-pub left_none : (room : ℕ) (left all : List Waiting) → left ≡ [] → left_of room left ≡ all → eqb (length all) 0 ≡ true
-left_none room left all none is = ap (λ (l : List Waiting). eqb (length l) 0) (sym is ∙ ap (λ (l : List Waiting). left_of room l) none)
+-- where nothing is sent, no bytes are
+
+pub append_none : (a b : List Packet) → a ++ b ≡ [] → (a ≡ []) × (b ≡ [])
+append_none [] b none = (refl, none)
+append_none (p ∷ a) b none = absurd (cc)
+
+pieces_none : (stream : Stream) (size : ℕ) (bytes : List ℕ) → pieces_of stream (cut size bytes) ≡ [] → bytes ≡ []
+unfolding cut
+pieces_none stream size [] none = refl
+pieces_none stream size (b ∷ bytes) none = absurd (cc)
 
 -- The same at a place in the queue.
 module _ (recipient size room at : ℕ) (stream : Stream) (bytes : List ℕ) (w : Waiting) (ws : List Waiting)
@@ -111,3 +114,19 @@ module _ (recipient size room at : ℕ) (stream : Stream) (bytes : List ℕ) (w 
   some_at all short is =
       let shorter : room < length w.bytes = omega (arith, ap length bytes_is) in
       left_some room w (drop at ws) (drop (at + 1) ws) all next shorter is
+
+  -- where nothing is sent of what waits, no bytes are here, and nothing is sent behind them
+  pub whole_none : length bytes ≤ room → sent_of size room (drop at ws) ≡ [] → (bytes ≡ []) × (sent_of size (room - length bytes) (drop (at + 1) ws) ≡ [])
+  whole_none fits none =
+      let fit : length w.bytes ≤ room = omega (arith, ap length bytes_is) in
+      let parts =
+      append_none (pieces_of w.stream (cut size w.bytes)) (sent_of size (room - length w.bytes) (drop (at + 1) ws)) (sym (sent-whole size room w (drop (at + 1) ws) fit) ∙ ap (λ (l : List Waiting). sent_of size room l) (sym next) ∙ none) in (
+        bytes_is ∙ pieces_none w.stream size w.bytes parts.0,
+        ap (λ (bs : List ℕ). sent_of size (room - length bs) (drop (at + 1) ws)) bytes_is ∙ parts.1,
+      )
+
+  pub part_none : (part : List ℕ) → room < length bytes → part ≡ take room bytes → sent_of size room (drop at ws) ≡ [] → part ≡ []
+  part_none part short front none =
+      let shorter : room < length w.bytes = omega (arith, ap length bytes_is) in
+      front ∙ ap (λ (bs : List ℕ). take room bs) bytes_is
+      ∙ pieces_none w.stream size (take room w.bytes) (sym (sent-part size room w (drop (at + 1) ws) shorter) ∙ ap (λ (l : List Waiting). sent_of size room l) (sym next) ∙ none)

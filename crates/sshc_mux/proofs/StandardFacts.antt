@@ -2,13 +2,13 @@
 use Rattle.std.proofs.Common.{◌≡◌, ℕ, true, false, [], ◌∷◌, Some, None, refl}
 use Rattle.sshc_mux.specs.declared.chunk.Stream.TheVariants as Streams
 use Rattle.sshc_mux.specs.declared.channel.Stage.TheVariants as Stages
-use Rattle.sshc_mux.specs.ChannelState.{ChannelState, TableState}
+use Rattle.sshc_mux.specs.ChannelState.{Flow, ChannelState, TableState}
 use Rattle.sshc_mux.specs.Packets.{Piece, Eof, Close, Adjust}
-use Rattle.sshc_mux.specs.ChannelTable.{close_peer, confirm, fail}
+use Rattle.sshc_mux.specs.ChannelTable.{data_turn, eof_turn, close_turn, grant_turn, flush_turn, received_turn, close_peer, unmoved}
+use Rattle.sshc_mux.specs.ChannelAccount.{called, Confirm, Fail}
 use Rattle.sshc_mux.specs.ChannelTable.Opens.{opened_by_user, reserved_by_server, confirmed, next_number, awaited}
 use Rattle.sshc_mux.specs.ChannelTable.Sending.{flushed, cut}
-use Rattle.sshc_mux.specs.ChannelTable.Windows.{grant_turn, received_turn, raised}
-use Rattle.sshc_mux.specs.ChannelTable.Ends.{data_turn, eof_turn, close_turn}
+use Rattle.sshc_mux.specs.ChannelTable.Windows.{raised}
 
 -- a channel of ours that the peer confirmed as its number 5
 abbrev opened : ℕ → ℕ → ChannelState
@@ -19,8 +19,11 @@ ten : (data_turn Streams.Data (0 ∷ 1 ∷ 2 ∷ 3 ∷ 4 ∷ 5 ∷ 6 ∷ 7 ∷ 8
 unfolding flushed cut
 ten = refl
 
+abbrev with_flow : ChannelState → Flow → ChannelState
+with_flow c f = record c { flow = f }
+
 abbrev after_ten : ChannelState
-after_ten = record (opened 4 32768) { window = 0; pending = record { stream = Streams.Data; bytes = 4 ∷ 5 ∷ 6 ∷ 7 ∷ 8 ∷ 9 ∷ [] } ∷ [] }
+after_ten = with_flow (opened 4 32768) (record (opened 4 32768).flow { window = 0; pending = record { stream = Streams.Data; bytes = 4 ∷ 5 ∷ 6 ∷ 7 ∷ 8 ∷ 9 ∷ [] } ∷ [] })
 
 ten_left : (data_turn Streams.Data (0 ∷ 1 ∷ 2 ∷ 3 ∷ 4 ∷ 5 ∷ 6 ∷ 7 ∷ 8 ∷ 9 ∷ []) false (opened 4 32768)).channel ≡ after_ten
 unfolding flushed cut
@@ -32,26 +35,26 @@ unfolding flushed cut
 three = refl
 
 abbrev after_three : ChannelState
-after_three = record (opened 4 32768) { window = 0; pending = record { stream = Streams.Data; bytes = 7 ∷ 8 ∷ 9 ∷ [] } ∷ [] }
+after_three = with_flow (opened 4 32768) (record (opened 4 32768).flow { window = 0; pending = record { stream = Streams.Data; bytes = 7 ∷ 8 ∷ 9 ∷ [] } ∷ [] })
 
 three_left : (grant_turn 3 false after_ten).channel ≡ after_three
 unfolding flushed cut
 three_left = refl
 
 -- while an exchange runs, EOF waits behind the bytes, and a grant sends nothing
-eof_waits : eof_turn after_three ≡ record { channel = record after_three { eof = Stages.Asked }; packets = [] }
+eof_waits : eof_turn after_three ≡ record { channel = with_flow after_three (record after_three.flow { eof = Stages.Asked }); packets = [] }
 unfolding flushed cut
 eof_waits = refl
 
 abbrev in_exchange : ChannelState
-in_exchange = record after_three { eof = Stages.Asked; window = 3 }
+in_exchange = with_flow after_three (record after_three.flow { eof = Stages.Asked; window = 3 })
 
-grant_waits : grant_turn 3 true (record after_three { eof = Stages.Asked }) ≡ record { channel = in_exchange; packets = [] }
+grant_waits : grant_turn 3 true (with_flow after_three (record after_three.flow { eof = Stages.Asked })) ≡ record { channel = in_exchange; packets = [] }
 unfolding flushed cut
 grant_waits = refl
 
 -- then a flush sends the bytes, and EOF behind them
-flush_sends : (flushed false in_exchange).packets ≡ Piece Streams.Data (7 ∷ 8 ∷ 9 ∷ []) ∷ Eof ∷ []
+flush_sends : (flush_turn in_exchange).packets ≡ Piece Streams.Data (7 ∷ 8 ∷ 9 ∷ []) ∷ Eof ∷ []
 unfolding flushed cut
 flush_sends = refl
 
@@ -66,7 +69,7 @@ unfolding flushed cut
 no_size = refl
 
 -- a grant on the greatest window leaves it
-held : (raised 1 (opened 4294967295 100)).window ≡ 4294967295
+held : (raised 1 (opened 4294967295 100).flow).window ≡ 4294967295
 held = refl
 
 -- our window of 100 stays at half, and is brought back below it
@@ -104,10 +107,10 @@ reserved = record { channels = reserved_by_server 1 5 4 100 100 ∷ []; last = 1
 not_ours : awaited 1 reserved ≡ None
 not_ours = refl
 
-confirm_reserved : confirm 1 5 4 100 reserved ≡ reserved
+confirm_reserved : called (Confirm 1 5 4 100) reserved ≡ unmoved reserved
 confirm_reserved = refl
 
-fail_reserved : fail 1 reserved ≡ reserved
+fail_reserved : called (Fail 1) reserved ≡ unmoved reserved
 fail_reserved = refl
 
 twice : awaited 1 (record { channels = opened 4 100 ∷ []; last = 1 }) ≡ None

@@ -1,87 +1,180 @@
--- Each turn of a channel keeps its account.
-use Rattle.std.proofs.Common.{◌≡◌, ℕ, suc, ◌+◌, ◌-◌, ◌<◌, ◌≤◌, Bool, true, false, not, ◌&&◌, List, [], ◌∷◌, ◌++◌, length, eqb, ltb, if◌then◌else◌, refl, ap, sym, subst, ◌∙◌, arith}
+-- Each turn of a channel does its part in the account.
+use Rattle.std.proofs.Common.{◌≡◌, ℕ, ◌+◌, ◌-◌, ◌<◌, ◌/◌, Bool, true, false, not, ◌&&◌, sum, List, [], ◌∷◌, ◌++◌, length, take, eqb, ltb, if◌then◌else◌, Option, Some, None, is_some, refl, ap, sym, subst, ◌∙◌, arith}
 use Rattle.std.proofs.lemmas.List.{append-nil}
 use Rattle.std.proofs.lemmas.Bool.{ltb-true}
-use Rattle.std.proofs.Math.Dec.{eqb-suc-zero}
 use Rattle.sshc_mux.specs.declared.chunk.Stream.{Stream}
 use Rattle.sshc_mux.specs.declared.channel.Stage.{Stage}
 use Rattle.sshc_mux.specs.declared.channel.Stage.TheVariants as Stages
-use Rattle.sshc_mux.specs.ChannelState.{ChannelState}
-use Rattle.sshc_mux.specs.Packets.{Packet, Adjust}
-use Rattle.sshc_mux.specs.ChannelTable.{accepted}
-use Rattle.sshc_mux.specs.ChannelTable.Opens.{confirmed}
-use Rattle.sshc_mux.specs.ChannelTable.Sending.{Turn, sent_of, room_of, emptied, may_end, is_due, done, due_of, ends_of, ended, flushed}
-use Rattle.sshc_mux.specs.ChannelTable.Windows.{raised, grant_turn, lowered, is_low, refilled, received_turn}
-use Rattle.sshc_mux.specs.ChannelTable.Ends.{is_sent, is_unasked, asked, takes, with_pending, data_turn, with_eof, eof_turn, with_close, close_turn}
-use Rattle.sshc_mux.specs.ChannelAccount.{marked, bytes_in, pending}
+use Rattle.sshc_mux.specs.declared.channel.Opener.{Opener}
+use Rattle.sshc_mux.specs.ChannelState.{Head, Flow, ChannelState, Waiting}
+use Rattle.sshc_mux.specs.Packets.{Packet, Piece, Eof, Close, Adjust}
+use Rattle.sshc_mux.specs.ChannelTable.{data_turn, eof_turn, close_turn, grant_turn, flush_turn, received_turn, accept_turn, confirm_turn}
+use Rattle.sshc_mux.specs.ChannelTable.Opens.{accepted, accepted_head, confirmed, confirmed_head, awaited_in, awaited_by, is_reserved}
+use Rattle.sshc_mux.specs.ChannelTable.Sending.{FlowTurn, still, pieces_of, cut, sent_of, room_of, emptied, may_end, is_due, due_of, ends_of, ended, ended_if, flushed}
+use Rattle.sshc_mux.specs.ChannelTable.Windows.{held, raised, is_low, refilled, adjust_of, adjust_packets}
+use Rattle.sshc_mux.specs.ChannelTable.Ends.{is_sent, is_unasked, asked, takes, with_pending, flush_with, with_eof, with_close}
+use Rattle.sshc_mux.specs.ChannelAccount.{bytes_in, amounts_in, pending, IsOrdered, IsSound, Part, no_part, bytes_part, eof_part, close_part, grant_part, flush_part, confirm_part, accept_part, received_part, AreLongest, Orderly, NoneDue, FlowMoves, answered, Moves}
 use Rattle.sshc_mux.proofs.SendingLemmas.{sent-nothing}
-use Rattle.sshc_mux.proofs.AccountLemmas.{Sound, Kept, kept_then, emptied_kept, ended_kept, pending-append, bytes-append, done_unasked, due_bytes}
+use Rattle.sshc_mux.proofs.TestLemmas.{not_true, and_left, and_right, and-false, and-true, no_length, room_facts}
+use Rattle.sshc_mux.proofs.PromptLemmas.{flush_empties, flush_longest}
+use Rattle.sshc_mux.proofs.AccountLemmas.{Kept, kept_then, emptied_kept, ended_kept, filled_append, pending-append, bytes-append, done_due, due_bytes}
 
--- tests
+-- a flow's flush
 
-pub and_left : (a b : Bool) → (a && b) ≡ true → a ≡ true
-and_left true b h = refl
-and_left false b h = absurd (cc)
-
-pub and_right : (a b : Bool) → (a && b) ≡ true → b ≡ true
-and_right true b h = h
-and_right false b h = absurd (cc)
-
-and-false : (a : Bool) → (a && false) ≡ false
-and-false true = refl
-and-false false = refl
-
-and-true : (a : Bool) → (a && true) ≡ a
-and-true true = refl
-and-true false = refl
-
-pub no_length : {A : Type 0} (l : List A) → eqb (length l) 0 ≡ true → l ≡ []
-no_length [] h = refl
-no_length (x ∷ l) h = let no : eqb (suc (length l)) 0 ≡ false = eqb-suc-zero (length l) in absurd (cc)
-
-pub room_facts : (b : Bool) (window size : ℕ) → (b ≡ true → 0 < size) → (0 < (if b then window else 0) → 0 < size) × ((if b then window else 0) ≤ window)
-room_facts true window size h = (λ _. h refl, omega arith)
-room_facts false window size h = (λ no. absurd (omega (arith, no)), omega arith)
-
--- a turn keeps the account, and an end that it asks for is the last of what is taken
-pub record Fair (c after : ChannelState) (packets : List Packet) (more : List (Stream × ℕ)) (gain : ℕ) (ends : Bool) : Type 0 where
-  pub kept : Kept c after packets more gain
-  pub takes : takes after ≡ (takes c && not ends)
-
--- nothing happens
-pub still_kept : (c : ChannelState) → Sound c → Kept c c [] [] 0
-still_kept c sound = record { balance = sym (append-nil (pending c.pending)); within = omega arith; order = (refl, refl); sound = sound; number = refl }
-
-pub still_fair : (c : ChannelState) → Sound c → Fair c c [] [] 0 false
-still_fair c sound = record { kept = still_kept c sound; takes = sym (and-true (takes c)) }
-
-flush_kept : (exchanging : Bool) (c : ChannelState) → Sound c → Kept c (flushed exchanging c).channel (flushed exchanging c).packets [] 0
+flush_kept : (exchanging : Bool) (h : Head) (f : Flow) → IsOrdered f → Kept f (flushed exchanging h f).flow (flushed exchanging h f).packets
 unfolding flushed
-flush_kept exchanging c sound =
-    let room = room_facts (c.established && not exchanging && ltb 0 c.packet_size) c.window c.packet_size (λ h. ltb-true 0 c.packet_size (and_right (c.established && not exchanging) (ltb 0 c.packet_size) h)) in
-    let first : Kept c (emptied (room_of exchanging c) c) (sent_of c.packet_size (room_of exchanging c) c.pending) [] 0 = emptied_kept (room_of exchanging c) c room.0 room.1 sound in
-    let empty : ChannelState = emptied (room_of exchanging c) c in
-    kept_then c empty (ended empty) (sent_of c.packet_size (room_of exchanging c) c.pending) (ends_of empty) [] 0
+flush_kept exchanging h f ordered =
+    let room = room_facts (h.established && not exchanging && ltb 0 h.packet_size) f.window h.packet_size (λ yes. ltb-true 0 h.packet_size (and_right (h.established && not exchanging) (ltb 0 h.packet_size) yes)) in
+    let empty : Flow = emptied (room_of exchanging h f) f in
+    let first : Kept f empty (sent_of h.packet_size (room_of exchanging h f) f.pending) = emptied_kept h.packet_size (room_of exchanging h f) f room.0 room.1 ordered in
+    kept_then f empty (ended h empty) (sent_of h.packet_size (room_of exchanging h f) f.pending) (ends_of h empty)
     first
-    (ended_kept (may_end empty) empty (λ h. no_length empty.pending (and_right c.established (eqb (length empty.pending) 0) h)) first.sound)
+    (ended_kept (may_end h empty) empty (λ yes. no_length empty.pending (and_right h.established (eqb (length empty.pending) 0) yes)) first.ordered)
 
-ended_takes : (b : Bool) (c : ChannelState) → takes (if b then record c { eof = done c.eof; close = done c.close } else c) ≡ takes c
-ended_takes true c = ap (λ (e : Bool). e && is_unasked (done c.close)) (done_unasked c.eof) ∙ ap (λ (e : Bool). is_unasked c.eof && e) (done_unasked c.close)
-ended_takes false c = refl
+-- where nothing waits on an established channel, no end is due behind its flush
+ended_none : (may : Bool) (h : Head) (f : Flow) → may ≡ may_end h f → h.established ≡ true → f.pending ≡ [] → NoneDue (ended_if may f)
+ended_none true h f is up none = record { eof = done_due f.eof; close = done_due f.close }
+ended_none false h f is up none =
+    let no : false ≡ true = is ∙ ap (λ (b : Bool). b && eqb (length f.pending) 0) up ∙ ap (λ (n : ℕ). eqb n 0) (ap length none) in absurd (cc)
 
-flush_takes : (exchanging : Bool) (c : ChannelState) → takes (flushed exchanging c).channel ≡ takes c
+flush_ends : (exchanging : Bool) (h : Head) (f : Flow) → h.established ≡ true → (flushed exchanging h f).flow.pending ≡ [] → NoneDue (flushed exchanging h f).flow
 unfolding flushed
-flush_takes exchanging c = ended_takes (may_end (emptied (room_of exchanging c) c)) (emptied (room_of exchanging c) c)
+flush_ends exchanging h f up none = ended_none (may_end h (emptied (room_of exchanging h f) f)) h (emptied (room_of exchanging h f) f) refl up none
 
--- a change without a word, and then a flush
-after_flush : (exchanging : Bool) (c c1 : ChannelState) (more : List (Stream × ℕ)) (gain : ℕ) (ends : Bool) → Fair c c1 [] more gain ends → Fair c (flushed exchanging c1).channel (flushed exchanging c1).packets more gain ends
-after_flush exchanging c c1 more gain ends fair = record {
-  kept = kept_then c c1 (flushed exchanging c1).channel [] (flushed exchanging c1).packets more gain fair.kept (flush_kept exchanging c1 fair.kept.sound);
-  takes = flush_takes exchanging c1 ∙ fair.takes;
+-- A call's part before anything is sent: the flow with it.
+record Readies (f ready : Flow) (p : Part) : Type 0 where
+  pending : ready.pending ≡ f.pending ++ p.more
+  window : ready.window ≡ f.window + p.gain
+  eof_sent : is_sent ready.eof ≡ is_sent f.eof
+  close_sent : is_sent ready.close ≡ is_sent f.close
+  eof : is_unasked ready.eof ≡ (is_unasked f.eof && not p.eof)
+  close : is_unasked ready.close ≡ (is_unasked f.close && not p.close)
+  taking : takes ready ≡ (takes f && not p.last)
+  ordered : IsOrdered ready
+
+-- it sends nothing
+silent_moves : (h : Head) (f ready : Flow) (p : Part) → p.sends ≡ false → p.ends ≡ false → Readies f ready p → FlowMoves h f ready [] p
+silent_moves h f ready p sends ends r = record {
+  balance = ap pending r.pending ∙ pending-append f.pending p.more;
+  window = omega (arith, r.window);
+  longest = tt;
+  order = (sym r.eof_sent, sym r.close_sent);
+  eof = r.eof;
+  close = r.close;
+  taking = r.taking;
+  prompt = λ yes. let no : false ≡ true = sym sends ∙ yes in absurd (cc);
+  ends = λ yes. let no : false ≡ true = sym ends ∙ yes in absurd (cc);
 }
 
-pub flush_fair : (exchanging : Bool) (c : ChannelState) → Sound c → Fair c (flushed exchanging c).channel (flushed exchanging c).packets [] 0 false
-flush_fair exchanging c sound = after_flush exchanging c c [] 0 false (still_fair c sound)
+-- and then what may go is sent
+flush_moves : (exchanging : Bool) (h : Head) (f ready : Flow) (p : Part) → (p.sends ≡ true → exchanging ≡ false) → Readies f ready p → FlowMoves h f (flushed exchanging h ready).flow (flushed exchanging h ready).packets p
+flush_moves exchanging h f ready p sends r =
+    let after : Flow = (flushed exchanging h ready).flow in
+    let packets : List Packet = (flushed exchanging h ready).packets in
+    let kept = flush_kept exchanging h ready r.ordered in
+    let P : Bool → Type 0 = λ e. Orderly e (is_sent ready.close) packets (is_sent after.eof) (is_sent after.close) in
+    let Q : Bool → Type 0 = λ k. Orderly (is_sent f.eof) k packets (is_sent after.eof) (is_sent after.close) in
+    let S : ℕ → Type 0 = λ n. AreLongest h.packet_size n ready.pending packets in
+    let T : List Waiting → Type 0 = λ ws. AreLongest h.packet_size (f.window + p.gain) ws packets in
+    record {
+      balance = kept.balance ∙ ap pending r.pending ∙ pending-append f.pending p.more;
+      window = kept.window ∙ r.window;
+      longest = subst T r.pending (subst S r.window (flush_longest exchanging h ready r.ordered.filled));
+      order = subst Q r.close_sent (subst P r.eof_sent kept.order);
+      eof = kept.eof ∙ r.eof;
+      close = kept.close ∙ r.close;
+      taking = ap (λ (e : Bool). e && is_unasked after.close) kept.eof ∙ ap (λ (k : Bool). is_unasked ready.eof && k) kept.close ∙ r.taking;
+      prompt = λ yes up some window. flush_empties exchanging h ready (sends yes) up some window;
+      ends = λ _ up none. flush_ends exchanging h ready up none;
+    }
+
+-- a flow with more room, or as it was
+risen : (f : Flow) (amount : ℕ) (p : Part) → p.more ≡ [] → p.eof ≡ false → p.close ≡ false → p.last ≡ false → p.gain ≡ amount → IsOrdered f → Readies f (record f { window = f.window + amount }) p
+risen f amount p more eof close last gain ordered = record {
+  pending = sym (append-nil f.pending) ∙ ap (λ (ws : List Waiting). f.pending ++ ws) (sym more);
+  window = omega (arith, gain);
+  eof_sent = refl;
+  close_sent = refl;
+  eof = sym (and-true (is_unasked f.eof)) ∙ ap (λ (b : Bool). is_unasked f.eof && not b) (sym eof);
+  close = sym (and-true (is_unasked f.close)) ∙ ap (λ (b : Bool). is_unasked f.close && not b) (sym close);
+  taking = sym (and-true (takes f)) ∙ ap (λ (b : Bool). takes f && not b) (sym last);
+  ordered = record { filled = ordered.filled; eof = ordered.eof; close = ordered.close; last = ordered.last };
+}
+
+as_was : (f : Flow) (p : Part) → p.more ≡ [] → p.eof ≡ false → p.close ≡ false → p.last ≡ false → p.gain ≡ 0 → IsOrdered f → Readies f f p
+as_was f p more eof close last gain ordered =
+    let none : f.window + 0 ≡ f.window = omega arith in
+    let P : ℕ → Type 0 = λ n. Readies f (record f { window = n }) p in
+    subst P none (risen f 0 p more eof close last gain ordered)
+
+-- what is sent gives nothing back of our window
+
+amounts-append : (a b : List Packet) → amounts_in (a ++ b) ≡ amounts_in a ++ amounts_in b
+amounts-append [] b = refl
+amounts-append (Piece s bytes ∷ a) b = amounts-append a b
+amounts-append (Eof ∷ a) b = amounts-append a b
+amounts-append (Close ∷ a) b = amounts-append a b
+amounts-append (Adjust amount ∷ a) b = ap (λ (ns : List ℕ). amount ∷ ns) (amounts-append a b)
+
+pieces_amounts : (s : Stream) (pieces : List (List ℕ)) (more : List Packet) → amounts_in (pieces_of s pieces ++ more) ≡ amounts_in more
+pieces_amounts s [] more = refl
+pieces_amounts s (p ∷ pieces) more = pieces_amounts s pieces more
+
+sent_amounts : (size room : ℕ) (ws : List Waiting) → amounts_in (sent_of size room ws) ≡ []
+sent_amounts size room [] = refl
+sent_amounts size room (w ∷ ws) = pieces_amounts w.stream (cut size (take room w.bytes)) (sent_of size (room - length w.bytes) ws) ∙ sent_amounts size (room - length w.bytes) ws
+
+ends_amounts : (may e k : Bool) → amounts_in (if may then ((if e then Eof ∷ [] else []) ++ (if k then Close ∷ [] else [])) else []) ≡ []
+ends_amounts true true true = refl
+ends_amounts true true false = refl
+ends_amounts true false true = refl
+ends_amounts true false false = refl
+ends_amounts false e k = refl
+
+flush_amounts : (exchanging : Bool) (h : Head) (f : Flow) → amounts_in (flushed exchanging h f).packets ≡ []
+unfolding flushed
+flush_amounts exchanging h f =
+    let empty : Flow = emptied (room_of exchanging h f) f in
+    amounts-append (sent_of h.packet_size (room_of exchanging h f) f.pending) (ends_of h empty)
+    ∙ ap (λ (ns : List ℕ). ns ++ amounts_in (ends_of h empty)) (sent_amounts h.packet_size (room_of exchanging h f) f.pending)
+    ∙ ends_amounts (may_end h empty) (is_due f.eof) (is_due f.close)
+
+-- A flow's turn does its part.
+record DoesPart (h : Head) (f : Flow) (turn : FlowTurn) (p : Part) : Type 0 where
+  moves : FlowMoves h f turn.flow turn.packets p
+  ordered : IsOrdered turn.flow
+  returned : amounts_in turn.packets ≡ []
+
+flush_does : (exchanging : Bool) (h : Head) (f ready : Flow) (p : Part) → (p.sends ≡ true → exchanging ≡ false) → Readies f ready p → DoesPart h f (flushed exchanging h ready) p
+flush_does exchanging h f ready p sends r = record {
+  moves = flush_moves exchanging h f ready p sends r;
+  ordered = (flush_kept exchanging h ready r.ordered).ordered;
+  returned = flush_amounts exchanging h ready;
+}
+
+still_does : (h : Head) (f : Flow) → IsOrdered f → DoesPart h f (still f) no_part
+still_does h f ordered = record { moves = silent_moves h f f no_part refl refl (as_was f no_part refl refl refl refl refl ordered); ordered = ordered; returned = refl }
+
+-- the channel around it
+channel_moves : (c : ChannelState) (turn : FlowTurn) (p : Part) → p.answer ≡ None → p.used ≡ 0 → p.returned ≡ [] → (is_some (awaited_by (Some c)) ≡ true → p.gain ≡ 0) → IsSound c → DoesPart c.head c.flow turn p →
+    Moves c (record c { flow = turn.flow }) turn.packets p
+channel_moves c turn p answer none back gain sound does =
+    let given : sum p.returned ≡ 0 = ap sum back in
+    record {
+      head = ap (λ (a : Option Head). answered a c.head) (sym answer);
+      own = omega (arith, none, given);
+      returned = does.returned ∙ sym back;
+      flow = does.moves;
+      sound = record { flow = does.ordered; unopened = λ waits. omega (arith, does.moves.window, sound.unopened waits, gain waits) };
+    }
+
+pub still_moves : (c : ChannelState) → IsSound c → Moves c c [] no_part
+still_moves c sound = channel_moves c (still c.flow) no_part refl refl refl (λ _. refl) sound (still_does c.head c.flow sound.flow)
+
+pub flush_turn_moves : (c : ChannelState) → IsSound c → Moves c (flush_turn c).channel (flush_turn c).packets flush_part
+flush_turn_moves c sound =
+    channel_moves c (flushed false c.head c.flow) flush_part refl refl refl (λ _. refl) sound
+    (flush_does false c.head c.flow c.flow flush_part (λ _. refl) (as_was c.flow flush_part refl refl refl refl refl sound.flow))
 
 -- data
 
@@ -90,39 +183,43 @@ unasked_not_sent Stages.Unasked h k = absurd (cc)
 unasked_not_sent Stages.Asked h k = absurd (cc)
 unasked_not_sent Stages.Sent h k = absurd (cc)
 
-pending_fair : (stream : Stream) (bytes : List ℕ) (c : ChannelState) → takes c ≡ true → Sound c → Fair c (with_pending stream bytes c) [] (marked stream bytes) 0 false
-pending_fair stream bytes c open_then sound = record {
-  kept = record {
-    balance = pending-append c.pending (record { stream = stream; bytes = bytes } ∷ []) ∙ ap (λ (ms : List (Stream × ℕ)). pending c.pending ++ ms) (append-nil (marked stream bytes));
-    within = omega arith;
-    order = (refl, refl);
-    sound = record {
-      eof = λ h. absurd (unasked_not_sent c.eof (and_left (is_unasked c.eof) (is_unasked c.close) open_then) h);
-      close = λ h. absurd (unasked_not_sent c.close (and_right (is_unasked c.eof) (is_unasked c.close) open_then) h);
-      last = sound.last;
-    };
-    number = refl;
+some_length : (bytes : List ℕ) → not (eqb (length bytes) 0) ≡ true → 0 < length bytes
+some_length [] h = absurd (cc)
+some_length (b ∷ bytes) h = omega arith
+
+-- a choice of turns does the chosen part
+either_moves : (b : Bool) (c : ChannelState) (turn : FlowTurn) (p : Part) → IsSound c → (b ≡ true → Moves c (record c { flow = turn.flow }) turn.packets p) →
+    Moves c (record c { flow = (if b then turn else still c.flow).flow }) (if b then turn else still c.flow).packets (if b then p else no_part)
+either_moves true c turn p sound moves = moves refl
+either_moves false c turn p sound moves = still_moves c sound
+
+with_bytes : (stream : Stream) (bytes : List ℕ) (exchanging : Bool) (f : Flow) → takes f ≡ true → 0 < length bytes → IsOrdered f →
+    Readies f (with_pending stream bytes f) (record no_part { more = record { stream = stream; bytes = bytes } ∷ []; sends = not exchanging; ends = true })
+with_bytes stream bytes exchanging f open_then some ordered = record {
+  pending = refl;
+  window = omega arith;
+  eof_sent = refl;
+  close_sent = refl;
+  eof = sym (and-true (is_unasked f.eof));
+  close = sym (and-true (is_unasked f.close));
+  taking = sym (and-true (takes f));
+  ordered = record {
+    filled = filled_append f.pending (record { stream = stream; bytes = bytes } ∷ []) ordered.filled (some, tt);
+    eof = λ h. absurd (unasked_not_sent f.eof (and_left (is_unasked f.eof) (is_unasked f.close) open_then) h);
+    close = λ h. absurd (unasked_not_sent f.close (and_right (is_unasked f.eof) (is_unasked f.close) open_then) h);
+    last = ordered.last;
   };
-  takes = sym (and-true (takes c));
 }
 
-data_by : (t z exchanging : Bool) (stream : Stream) (bytes : List ℕ) (c : ChannelState) → takes c ≡ t → (z ≡ false → bytes ≡ []) → Sound c →
-    Fair c (if t && z then flushed exchanging (with_pending stream bytes c) else record { channel = c; packets = [] }).channel
-    (if t && z then flushed exchanging (with_pending stream bytes c) else record { channel = c; packets = [] }).packets (if t then marked stream bytes else []) 0 false
-data_by true true exchanging stream bytes c is none sound = after_flush exchanging c (with_pending stream bytes c) (marked stream bytes) 0 false (pending_fair stream bytes c is sound)
-data_by true false exchanging stream bytes c is none sound =
-    let P : List (Stream × ℕ) → Type 0 = λ more. Fair c c [] more 0 false in
-    subst P (ap (λ (bs : List ℕ). marked stream bs) (sym (none refl))) (still_fair c sound)
-data_by false z exchanging stream bytes c is none sound = still_fair c sound
-
-not_false : (b : Bool) → not b ≡ false → b ≡ true
-not_false true h = refl
-not_false false h = absurd (cc)
-
-pub data_fair : (stream : Stream) (bytes : List ℕ) (exchanging : Bool) (c : ChannelState) → Sound c →
-    Fair c (data_turn stream bytes exchanging c).channel (data_turn stream bytes exchanging c).packets (if takes c then marked stream bytes else []) 0 false
-data_fair stream bytes exchanging c sound =
-    data_by (takes c) (not (eqb (length bytes) 0)) exchanging stream bytes c refl (λ h. no_length bytes (not_false (eqb (length bytes) 0) h)) sound
+pub data_moves : (stream : Stream) (bytes : List ℕ) (exchanging : Bool) (c : ChannelState) → IsSound c →
+    Moves c (data_turn stream bytes exchanging c).channel (data_turn stream bytes exchanging c).packets (bytes_part stream bytes exchanging c)
+data_moves stream bytes exchanging c sound =
+    let some : Bool = not (eqb (length bytes) 0) in
+    let p : Part = record no_part { more = record { stream = stream; bytes = bytes } ∷ []; sends = not exchanging; ends = true } in
+    either_moves (takes c.flow && some) c (flush_with stream bytes exchanging c.head c.flow) p sound
+    (λ yes. channel_moves c (flush_with stream bytes exchanging c.head c.flow) p refl refl refl (λ _. refl) sound
+    (flush_does exchanging c.head c.flow (with_pending stream bytes c.flow) p (not_true exchanging)
+    (with_bytes stream bytes exchanging c.flow (and_left (takes c.flow) some yes) (some_length bytes (and_right (takes c.flow) some yes)) sound.flow)))
 
 -- ends
 
@@ -138,114 +235,176 @@ asked_unasked Stages.Sent = refl
 
 sent_unasked : (s : Stage) → true ≡ is_sent s → is_unasked s ≡ false
 sent_unasked Stages.Unasked h = absurd (cc)
-sent_unasked Stages.Asked h = refl
+sent_unasked Stages.Asked h = absurd (cc)
 sent_unasked Stages.Sent h = refl
 
-eof_by : (b : Bool) (c : ChannelState) → b ≡ is_sent c.close → Sound c → Fair c (if b then c else record c { eof = asked c.eof }) [] [] 0 true
-eof_by true c is sound = record {
-  kept = still_kept c sound;
-  takes = ap (λ (k : Bool). is_unasked c.eof && k) (sent_unasked c.close is) ∙ and-false (is_unasked c.eof) ∙ sym (and-false (takes c));
+eof_by : (b : Bool) (f : Flow) → b ≡ is_sent f.close → IsOrdered f → Readies f (record f { eof = if b then f.eof else asked f.eof }) (record no_part { eof = not b; last = true; ends = true })
+eof_by true f is ordered = record {
+  pending = sym (append-nil f.pending);
+  window = omega arith;
+  eof_sent = refl;
+  close_sent = refl;
+  eof = sym (and-true (is_unasked f.eof));
+  close = sym (and-true (is_unasked f.close));
+  taking = ap (λ (k : Bool). is_unasked f.eof && k) (sent_unasked f.close is) ∙ and-false (is_unasked f.eof) ∙ sym (and-false (takes f));
+  ordered = ordered;
 }
-eof_by false c is sound = record {
-  kept = record {
-    balance = sym (append-nil (pending c.pending));
-    within = omega arith;
-    order = (sym (asked_sent c.eof), refl);
-    sound = record {
-      eof = λ h. sound.eof (sym (asked_sent c.eof) ∙ h);
-      close = sound.close;
-      last = λ h. let no : false ≡ true = is ∙ h in absurd (cc);
-    };
-    number = refl;
+eof_by false f is ordered = record {
+  pending = sym (append-nil f.pending);
+  window = omega arith;
+  eof_sent = asked_sent f.eof;
+  close_sent = refl;
+  eof = asked_unasked f.eof ∙ sym (and-false (is_unasked f.eof));
+  close = sym (and-true (is_unasked f.close));
+  taking = ap (λ (e : Bool). e && is_unasked f.close) (asked_unasked f.eof) ∙ sym (and-false (takes f));
+  ordered = record {
+    filled = ordered.filled;
+    eof = λ h. ordered.eof (sym (asked_sent f.eof) ∙ h);
+    close = ordered.close;
+    last = λ h. let no : false ≡ true = is ∙ h in absurd (cc);
   };
-  takes = ap (λ (e : Bool). e && is_unasked c.close) (asked_unasked c.eof) ∙ sym (and-false (takes c));
 }
 
-pub eof_fair : (c : ChannelState) → Sound c → Fair c (eof_turn c).channel (eof_turn c).packets [] 0 true
-eof_fair c sound = after_flush true c (with_eof c) [] 0 true (eof_by (is_sent c.close) c refl sound)
+pub eof_moves : (c : ChannelState) → IsSound c → Moves c (eof_turn c).channel (eof_turn c).packets (eof_part c)
+eof_moves c sound =
+    channel_moves c (flushed true c.head (with_eof c.flow)) (eof_part c) refl refl refl (λ _. refl) sound
+    (flush_does true c.head c.flow (with_eof c.flow) (eof_part c) (λ no. absurd (cc)) (eof_by (is_sent c.flow.close) c.flow refl sound.flow))
 
-close_by : (c : ChannelState) → Sound c → Fair c (with_close c) [] [] 0 true
-close_by c sound = record {
-  kept = record {
-    balance = sym (append-nil (pending c.pending));
-    within = omega arith;
-    order = (refl, sym (asked_sent c.close));
-    sound = record {
-      eof = sound.eof;
-      close = λ h. sound.close (sym (asked_sent c.close) ∙ h);
-      last = λ h. sound.last (sym (asked_sent c.close) ∙ h);
-    };
-    number = refl;
+with_close_asked : (f : Flow) → IsOrdered f → Readies f (with_close f) close_part
+with_close_asked f ordered = record {
+  pending = sym (append-nil f.pending);
+  window = omega arith;
+  eof_sent = refl;
+  close_sent = asked_sent f.close;
+  eof = sym (and-true (is_unasked f.eof));
+  close = asked_unasked f.close ∙ sym (and-false (is_unasked f.close));
+  taking = ap (λ (k : Bool). is_unasked f.eof && k) (asked_unasked f.close) ∙ and-false (is_unasked f.eof) ∙ sym (and-false (takes f));
+  ordered = record {
+    filled = ordered.filled;
+    eof = ordered.eof;
+    close = λ h. ordered.close (sym (asked_sent f.close) ∙ h);
+    last = λ h. ordered.last (sym (asked_sent f.close) ∙ h);
   };
-  takes = ap (λ (k : Bool). is_unasked c.eof && k) (asked_unasked c.close) ∙ and-false (is_unasked c.eof) ∙ sym (and-false (takes c));
 }
 
-pub close_fair : (c : ChannelState) → Sound c → Fair c (close_turn c).channel (close_turn c).packets [] 0 true
-close_fair c sound = after_flush true c (with_close c) [] 0 true (close_by c sound)
+pub close_moves : (c : ChannelState) → IsSound c → Moves c (close_turn c).channel (close_turn c).packets close_part
+close_moves c sound =
+    channel_moves c (flushed true c.head (with_close c.flow)) close_part refl refl refl (λ _. refl) sound
+    (flush_does true c.head c.flow (with_close c.flow) close_part (λ no. absurd (cc)) (with_close_asked c.flow sound.flow))
 
 -- windows
 
--- what the account doesn't speak of may change, and the window rise by what was granted
-rises : (c after : ChannelState) (gain : ℕ) → after.pending ≡ c.pending → after.eof ≡ c.eof → after.close ≡ c.close → after.number ≡ c.number → after.window ≤ c.window + gain → Sound c → Fair c after [] [] gain false
-rises c after gain pending_is eof_is close_is number_is window_is sound = record {
-  kept = record {
-    balance = ap pending pending_is ∙ sym (append-nil (pending c.pending));
-    within = omega (arith, window_is);
-    order = (ap is_sent (sym eof_is), ap is_sent (sym close_is));
-    sound = record {
-      eof = λ h. pending_is ∙ sound.eof (ap is_sent (sym eof_is) ∙ h);
-      close = λ h. pending_is ∙ sound.close (ap is_sent (sym close_is) ∙ h);
-      last = λ h. ap is_due eof_is ∙ sound.last (ap is_sent (sym close_is) ∙ h);
-    };
-    number = number_is;
-  };
-  takes = ap (λ (e : Stage). is_unasked e && is_unasked after.close) eof_is ∙ ap (λ (k : Stage). is_unasked c.eof && is_unasked k) close_is ∙ sym (and-true (takes c));
-}
+not_awaited : (e : Bool) (o : Opener) → e ≡ true → is_some (awaited_in e o) ≡ true → ⊥
+not_awaited true o up h = absurd (cc)
+not_awaited false o up h = absurd (cc)
 
-grant_by : (b exchanging : Bool) (amount : ℕ) (c : ChannelState) → Sound c →
-    Fair c (if b then flushed exchanging (raised amount c) else record { channel = c; packets = [] }).channel (if b then flushed exchanging (raised amount c) else record { channel = c; packets = [] }).packets [] (if b then amount else 0) false
-grant_by true exchanging amount c sound = after_flush exchanging c (raised amount c) [] amount false (rises c (raised amount c) amount refl refl refl refl (omega arith) sound)
-grant_by false exchanging amount c sound = still_fair c sound
+pub grant_moves : (amount : ℕ) (exchanging : Bool) (c : ChannelState) → IsSound c → Moves c (grant_turn amount exchanging c).channel (grant_turn amount exchanging c).packets (grant_part amount exchanging c)
+grant_moves amount exchanging c sound =
+    let more : ℕ = held amount c.flow.window in
+    let p : Part = record no_part { gain = more; sends = not exchanging; ends = true } in
+    either_moves c.head.established c (flushed exchanging c.head (raised amount c.flow)) p sound
+    (λ up. channel_moves c (flushed exchanging c.head (raised amount c.flow)) p refl refl refl (λ waits. absurd (not_awaited c.head.established c.head.opener up waits)) sound
+    (flush_does exchanging c.head c.flow (raised amount c.flow) p (not_true exchanging) (risen c.flow more p refl refl refl refl refl sound.flow)))
 
-pub grant_fair : (amount : ℕ) (exchanging : Bool) (c : ChannelState) → Sound c → Fair c (grant_turn amount exchanging c).channel (grant_turn amount exchanging c).packets [] (if c.established then amount else 0) false
-grant_fair amount exchanging c sound = grant_by c.established exchanging amount c sound
+returned_packets : (amounts : List ℕ) → amounts_in (adjust_packets amounts) ≡ amounts
+returned_packets [] = refl
+returned_packets (n ∷ amounts) = ap (λ (ns : List ℕ). n ∷ ns) (returned_packets amounts)
 
-abbrev refilled_if : Bool → ℕ → ChannelState → Turn
-refilled_if b target c = if b then record { channel = record c { own_window = target }; packets = Adjust (target - c.own_window) ∷ [] } else record { channel = c; packets = [] }
+adjusted_moves : (h : Head) (f : Flow) (p : Part) (amounts : List ℕ) → FlowMoves h f f [] p → FlowMoves h f f (adjust_packets amounts) p
+adjusted_moves h f p [] m = m
+adjusted_moves h f p (n ∷ amounts) m =
+    let rest : FlowMoves h f f (adjust_packets amounts) p = adjusted_moves h f p amounts m in
+    record {
+      balance = rest.balance;
+      window = rest.window;
+      longest = rest.longest;
+      order = rest.order;
+      eof = rest.eof;
+      close = rest.close;
+      taking = rest.taking;
+      prompt = rest.prompt;
+      ends = rest.ends;
+    }
 
-refilled_fair : (b : Bool) (len target : ℕ) (c : ChannelState) → Sound c → Fair c (refilled_if b target (lowered len c)).channel (refilled_if b target (lowered len c)).packets [] 0 false
-refilled_fair true len target c sound = record {
-  kept = record { balance = sym (append-nil (pending c.pending)); within = omega arith; order = (refl, refl); sound = record { eof = sound.eof; close = sound.close; last = sound.last }; number = refl };
-  takes = sym (and-true (takes c));
-}
-refilled_fair false len target c sound = rises c (lowered len c) 0 refl refl refl refl (omega arith) sound
+refilled_by : (b : Bool) (target left : ℕ) → is_low target left ≡ b → (if b then target else left) ≡ left + sum (if b then (target - left) ∷ [] else [])
+refilled_by true target left is = let low : left < target / 2 = ltb-true left (target / 2) is in omega arith
+refilled_by false target left is = omega arith
 
-received_by : (b : Bool) (len target : ℕ) (c : ChannelState) → Sound c → Fair c (if b then refilled target (lowered len c) else record { channel = c; packets = [] }).channel (if b then refilled target (lowered len c) else record { channel = c; packets = [] }).packets [] 0 false
-received_by true len target c sound = refilled_fair (is_low target (lowered len c)) len target c sound
-received_by false len target c sound = still_fair c sound
+refilled_sum : (target left : ℕ) → refilled target left ≡ left + sum (adjust_of target left)
+refilled_sum target left = refilled_by (is_low target left) target left refl
 
-pub received_fair : (len target : ℕ) (c : ChannelState) → Sound c → Fair c (received_turn len target c).channel (received_turn len target c).packets [] 0 false
-received_fair len target c sound = received_by c.established len target c sound
+received_by : (b : Bool) (len target : ℕ) (c : ChannelState) → IsSound c →
+    Moves c (record c { own_window = if b then refilled target (c.own_window - len) else c.own_window }) (adjust_packets (if b then adjust_of target (c.own_window - len) else []))
+    (if b then record no_part { used = len; returned = adjust_of target (c.own_window - len) } else no_part)
+received_by true len target c sound =
+    let p : Part = record no_part { used = len; returned = adjust_of target (c.own_window - len) } in
+    record {
+      head = refl;
+      own = refilled_sum target (c.own_window - len);
+      returned = returned_packets (adjust_of target (c.own_window - len));
+      flow = adjusted_moves c.head c.flow p (adjust_of target (c.own_window - len)) (silent_moves c.head c.flow c.flow p refl refl (as_was c.flow p refl refl refl refl refl sound.flow));
+      sound = record { flow = sound.flow; unopened = sound.unopened };
+    }
+received_by false len target c sound = still_moves c sound
 
-pub confirmed_fair : (recipient window packet : ℕ) (c : ChannelState) → Sound c → Fair c (confirmed recipient window packet c) [] [] window false
-confirmed_fair recipient window packet c sound = rises c (confirmed recipient window packet c) window refl refl refl refl (omega arith) sound
+pub received_moves : (len target : ℕ) (c : ChannelState) → IsSound c → Moves c (received_turn len target c).channel (received_turn len target c).packets (received_part len target c)
+received_moves len target c sound = received_by c.head.established len target c sound
 
-pub accepted_fair : (c : ChannelState) → Sound c → Fair c (accepted c) [] [] 0 false
-accepted_fair c sound = rises c (accepted c) 0 refl refl refl refl (omega arith) sound
+-- opens
+
+pub confirmed_sound : (recipient window packet : ℕ) (c : ChannelState) → IsSound c → IsSound (confirmed recipient window packet c)
+confirmed_sound recipient window packet c sound =
+    record { flow = record { filled = sound.flow.filled; eof = sound.flow.eof; close = sound.flow.close; last = sound.flow.last }; unopened = λ h. absurd (cc) }
+
+pub accepted_sound : (c : ChannelState) → IsSound c → IsSound (accepted c)
+accepted_sound c sound = record { flow = sound.flow; unopened = λ h. absurd (cc) }
+
+accepted_by : (b : Bool) (c : ChannelState) → IsSound c → Moves c (if b then accepted c else c) [] (if b then record no_part { answer = Some (accepted_head c.head) } else no_part)
+accepted_by true c sound =
+    let p : Part = record no_part { answer = Some (accepted_head c.head) } in
+    record {
+      head = refl;
+      own = omega arith;
+      returned = refl;
+      flow = silent_moves (accepted_head c.head) c.flow c.flow p refl refl (as_was c.flow p refl refl refl refl refl sound.flow);
+      sound = accepted_sound c sound;
+    }
+accepted_by false c sound = still_moves c sound
+
+pub accept_moves : (c : ChannelState) → IsSound c → Moves c (accept_turn c).channel [] (accept_part c)
+accept_moves c sound = accepted_by (is_reserved c) c sound
+
+confirmed_by : (b : Bool) (recipient window packet : ℕ) (c : ChannelState) → b ≡ is_some (awaited_by (Some c)) → IsSound c →
+    Moves c (if b then confirmed recipient window packet c else c) [] (if b then record no_part { gain = window; answer = Some (confirmed_head recipient packet c.head) } else no_part)
+confirmed_by true recipient window packet c is sound =
+    let p : Part = record no_part { gain = window; answer = Some (confirmed_head recipient packet c.head) } in
+    let first : c.flow.window + window ≡ window = omega (arith, sound.unopened (sym is)) in
+    let P : ℕ → Type 0 = λ n. Readies c.flow (record c.flow { window = n }) p in
+    record {
+      head = refl;
+      own = omega arith;
+      returned = refl;
+      flow = silent_moves (confirmed_head recipient packet c.head) c.flow (record c.flow { window = window }) p refl refl (subst P first (risen c.flow window p refl refl refl refl refl sound.flow));
+      sound = confirmed_sound recipient window packet c sound;
+    }
+confirmed_by false recipient window packet c is sound = still_moves c sound
+
+pub confirm_moves : (recipient window packet : ℕ) (c : ChannelState) → IsSound c → Moves c (confirm_turn recipient window packet c).channel [] (confirm_part recipient window packet c)
+confirm_moves recipient window packet c sound = confirmed_by (is_some (awaited_by (Some c))) recipient window packet c refl sound
 
 -- while an exchange runs no bytes go out
 
-ends_bytes : (b : Bool) (c : ChannelState) → bytes_in (if b then due_of c else []) ≡ []
-ends_bytes true c = due_bytes (is_due c.eof) (is_due c.close)
-ends_bytes false c = refl
+ends_bytes : (may : Bool) (f : Flow) → bytes_in (if may then due_of f else []) ≡ []
+ends_bytes true f = due_bytes (is_due f.eof) (is_due f.close)
+ends_bytes false f = refl
 
-no_room : (c : ChannelState) → room_of true c ≡ 0
-no_room c =
-    ap (λ (b : Bool). if b && ltb 0 c.packet_size then c.window else 0) (and-false c.established)
+no_room : (h : Head) (f : Flow) → room_of true h f ≡ 0
+no_room h f = ap (λ (b : Bool). if b && ltb 0 h.packet_size then f.window else 0) (and-false h.established)
 
-pub quiet_flush : (c : ChannelState) → bytes_in (flushed true c).packets ≡ []
+pub quiet_flush : (h : Head) (f : Flow) → bytes_in (flushed true h f).packets ≡ []
 unfolding flushed
-quiet_flush c =
-    bytes-append (sent_of c.packet_size (room_of true c) c.pending) (ends_of (emptied (room_of true c) c))
-    ∙ ap (λ (ms : List (Stream × ℕ)). ms ++ bytes_in (ends_of (emptied (room_of true c) c))) (ap (λ (r : ℕ). bytes_in (sent_of c.packet_size r c.pending)) (no_room c) ∙ ap bytes_in (sent-nothing c.packet_size c.pending))
-    ∙ ends_bytes (may_end (emptied (room_of true c) c)) (emptied (room_of true c) c)
+quiet_flush h f =
+    let empty : Flow = emptied (room_of true h f) f in
+    bytes-append (sent_of h.packet_size (room_of true h f) f.pending) (ends_of h empty)
+    ∙ ap (λ (ms : List (Stream × ℕ)). ms ++ bytes_in (ends_of h empty)) (ap (λ (r : ℕ). bytes_in (sent_of h.packet_size r f.pending)) (no_room h f) ∙ ap bytes_in (sent-nothing h.packet_size f.pending))
+    ∙ ends_bytes (may_end h empty) empty

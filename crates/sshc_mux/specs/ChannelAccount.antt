@@ -1,15 +1,18 @@
--- The account of one life of a channel's number: what was taken to send, what was sent, what waits and what the peer granted
--- (RFC 4254, sections 5.2 and 5.3). Lists and sums over the calls; the code keeps queues and windows, and no history.
-use Rattle.std.specs.Prelude.{◌≡◌, ℕ, ◌+◌, ◌≤◌, ◌⊎◌, Bool, true, false, not, ◌&&◌, List, [], ◌∷◌, ◌++◌, length, Option, Some, None, is_some, if◌then◌else◌, ◌==◌, ◌<◌}
+-- The account of one life of a channel's number: what was taken to send, what was sent, what waits and what the peer
+-- granted (RFC 4254, sections 5.2 and 5.3). Lists and sums over the calls; the code keeps queues and windows, and no history.
+use Rattle.std.specs.Prelude.{◌≡◌, ℕ, ◌+◌, ◌-◌, min, sum, ◌≤◌, ◌⊎◌, Bool, true, false, not, ◌&&◌, ◌||◌, List, [], ◌∷◌, ◌++◌, length, Option, Some, None, is_some, Result, if◌then◌else◌, ◌==◌, ◌<◌}
+use Rattle.sshc_wire.specs.declared.error.NoMemory.{NoMemory}
 use Rattle.sshc_wire.specs.declared.ticket.Ticket.{Ticket}
+use Rattle.sshc_wire.specs.Outgoing.{Outgoing}
 use Rattle.sshc_mux.specs.declared.chunk.Stream.{Stream}
-use Rattle.sshc_mux.specs.ChannelState.{ChannelState, TableState, Waiting, channel_of}
+use Rattle.sshc_mux.specs.ChannelState.{Head, Flow, ChannelState, TableState, Waiting, channel_of}
 use Rattle.sshc_mux.specs.Packets.{Packet, Piece, Eof, Close, Adjust}
-use Rattle.sshc_mux.specs.ChannelTable.{Effect, Said, unmoved, turn_at, flush, settle, confirm, fail, close_peer}
-use Rattle.sshc_mux.specs.ChannelTable.Opens.{next_number, IsNext, made, opened_by_user, reserved_by_server, awaited_by}
-use Rattle.sshc_mux.specs.ChannelTable.Sending.{flushed}
-use Rattle.sshc_mux.specs.ChannelTable.Windows.{grant_turn, received_turn}
-use Rattle.sshc_mux.specs.ChannelTable.Ends.{data_turn, eof_turn, close_turn}
+use Rattle.sshc_mux.specs.ChannelTable.{Effect, CameAbout, Said, unmoved, turn_at, take_at, no_packets_of, flush, settle, confirm_turn, is_awaited, close_peer, recipient_in, data_turn, eof_turn, close_turn, grant_turn, received_turn}
+use Rattle.sshc_mux.specs.ChannelTable.Opens.{next_number, IsNext, made_in, opened_by_user, reserved_by_server, awaited_by, is_reserved, confirmed_head, accepted_head}
+use Rattle.sshc_mux.specs.ChannelTable.Sending.{left_of, is_due}
+use Rattle.sshc_mux.specs.ChannelTable.Windows.{held, adjust_of}
+use Rattle.sshc_mux.specs.ChannelTable.Ends.{is_sent, is_unasked, takes}
+use Rattle.sshc_mux.specs.Places.{numbers, Apart}
 
 -- a call of the table; a call that finds no memory changes nothing, and counts as none
 pub data Call : Type 0 where
@@ -26,21 +29,19 @@ pub data Call : Type 0 where
   FlushAll : Call
   Received : (id len target : ℕ) → Call
 
-abbrev pub with_table : TableState → Effect
-with_table t = record { table = t; said = [] }
-
--- a channel under a number; want of memory where none is free
+-- a channel under a number; nothing where none is free
 abbrev pub opened : Option ℕ → (ℕ → ChannelState) → TableState → Effect
 opened None channel t = unmoved t
-opened (Some n) channel t = with_table (made (channel n) t)
+opened (Some n) channel t = record { table = made_in (channel n) t; said = [] }
 
--- what a call does
+-- what a call does: it opens a channel, gives one its turn, takes one away, or lets each flush
 abbrev pub called : Call → TableState → Effect
 called (OpenUser window packet ticket) t = opened (next_number t) (λ n. opened_by_user n window packet ticket) t
-called (ReserveServer recipient window packet own) t = opened (next_number t) (λ n. reserved_by_server n recipient window packet own) t
-called (SettleServer n accept) t = with_table (settle n accept t)
-called (Confirm n recipient window packet) t = with_table (confirm n recipient window packet t)
-called (Fail n) t = with_table (fail n t)
+called (ReserveServer recipient window packet own) t =
+    opened (next_number t) (λ n. reserved_by_server n recipient window packet own) t
+called (SettleServer n accept) t = settle n accept t
+called (Confirm n recipient window packet) t = turn_at n (confirm_turn recipient window packet) t
+called (Fail n) t = take_at n is_awaited no_packets_of t
 called (Bytes n stream bytes exchanging) t = turn_at n (data_turn stream bytes exchanging) t
 called (AskEof n) t = turn_at n eof_turn t
 called (AskClose n) t = turn_at n close_turn t
@@ -49,13 +50,25 @@ called (Grant n amount exchanging) t = turn_at n (grant_turn amount exchanging) 
 called FlushAll t = flush t
 called (Received n len target) t = turn_at n (received_turn len target) t
 
+-- a call has nothing to write
+abbrev pub WritesNothing : Call → TableState → Type 0
+WritesNothing call t = (called call t).said ≡ []
+
+-- a call did what it does, or found no memory and changed nothing
+abbrev pub Did : {A : Type 0} → Call → TableState → TableState → Outgoing → Outgoing → Result A NoMemory → Type 0
+Did call before after old new result = CameAbout (called call before) before after old new result
+
 -- the table after a list of calls, and all that they wrote
 abbrev pub ran : List Call → TableState → Effect
 ran [] t = unmoved t
-ran (call ∷ calls) t = record { table = (ran calls (called call t).table).table; said = (called call t).said ++ (ran calls (called call t).table).said }
+ran (call ∷ calls) t = record {
+  table = (ran calls (called call t).table).table;
+  said = (called call t).said ++ (ran calls (called call t).table).said;
+}
 
-abbrev pub no_channels : TableState
-no_channels = record { channels = []; last = 0 }
+-- no channels, where this was the last number given
+abbrev pub no_channels : ℕ → TableState
+no_channels last = record { channels = []; last = last }
 
 -- each byte with its kind and code
 abbrev pub marked : Stream → List ℕ → List (Stream × ℕ)
@@ -65,7 +78,8 @@ marked stream (b ∷ bytes) = (stream, b) ∷ marked stream bytes
 -- the bytes of the calls before the first end that was asked for
 abbrev pub taken : ℕ → List Call → List (Stream × ℕ)
 taken n [] = []
-taken n (Bytes id stream bytes exchanging ∷ calls) = if id == n then marked stream bytes ++ taken n calls else taken n calls
+taken n (Bytes id stream bytes exchanging ∷ calls) =
+    if id == n then marked stream bytes ++ taken n calls else taken n calls
 taken n (AskEof id ∷ calls) = if id == n then [] else taken n calls
 taken n (AskClose id ∷ calls) = if id == n then [] else taken n calls
 taken n (call ∷ calls) = taken n calls
@@ -87,39 +101,227 @@ abbrev pub pending : List Waiting → List (Stream × ℕ)
 pending [] = []
 pending (w ∷ waiting) = marked w.stream w.bytes ++ pending waiting
 
--- what a call adds to the channel's window: the confirmation's window, and each grant once it is established
+-- how much of our window is given back
+abbrev pub amounts_in : List Packet → List ℕ
+amounts_in [] = []
+amounts_in (Piece stream bytes ∷ packets) = amounts_in packets
+amounts_in (Eof ∷ packets) = amounts_in packets
+amounts_in (Close ∷ packets) = amounts_in packets
+amounts_in (Adjust amount ∷ packets) = amount ∷ amounts_in packets
+
+-- ---- one call and one channel
+
+-- no entry that waits is empty
+abbrev pub AllFilled : List Waiting → Type 0
+AllFilled [] = Unit {0}
+AllFilled (w ∷ ws) = (0 < length w.bytes) × AllFilled ws
+
+-- No entry that waits is empty, no bytes wait behind an end that was sent, and no EOF behind our close.
+pub record IsOrdered (f : Flow) : Type 0 where
+  pub filled : AllFilled f.pending
+  pub eof : is_sent f.eof ≡ true → f.pending ≡ []
+  pub close : is_sent f.close ≡ true → f.pending ≡ []
+  pub last : is_sent f.close ≡ true → is_due f.eof ≡ false
+
+-- A channel as the calls leave it: its flow is ordered, and an open of ours that waits for its answer has no window.
+pub record IsSound (c : ChannelState) : Type 0 where
+  pub flow : IsOrdered c.flow
+  pub unopened : is_some (awaited_by (Some c)) ≡ true → c.flow.window ≡ 0
+
+-- a call's part in the account of a channel
+pub record Part : Type 0 where
+  pub more : List Waiting  -- what it takes
+  pub gain : ℕ  -- what it adds to the window
+  pub eof : Bool  -- it asks for EOF
+  pub close : Bool  -- it asks for our close
+  pub last : Bool  -- nothing is taken after it
+  pub sends : Bool  -- bytes may go out
+  pub ends : Bool  -- EOF and close may go out
+  pub answer : Option Head  -- the channel's head, where it answers the channel's open
+  pub used : ℕ  -- how many bytes of our window the peer used
+  pub returned : List ℕ  -- what is given back of our window
+
+abbrev pub no_part : Part
+no_part = record {
+  more = [];
+  gain = 0;
+  eof = false;
+  close = false;
+  last = false;
+  sends = false;
+  ends = false;
+  answer = None;
+  used = 0;
+  returned = [];
+}
+
+abbrev pub bytes_part : Stream → List ℕ → Bool → ChannelState → Part
+bytes_part stream bytes exchanging c =
+    if takes c.flow && not (length bytes == 0)
+    then record no_part { more = record { stream = stream; bytes = bytes } ∷ []; sends = not exchanging; ends = true }
+    else no_part
+
+-- EOF asked for after our close was sent is nothing
+abbrev pub eof_part : ChannelState → Part
+eof_part c = record no_part { eof = not (is_sent c.flow.close); last = true; ends = true }
+
+abbrev pub close_part : Part
+close_part = record no_part { close = true; last = true; ends = true }
+
+abbrev pub grant_part : ℕ → Bool → ChannelState → Part
+grant_part amount exchanging c =
+    if c.head.established
+    then record no_part { gain = held amount c.flow.window; sends = not exchanging; ends = true }
+    else no_part
+
+abbrev pub flush_part : Part
+flush_part = record no_part { sends = true; ends = true }
+
+abbrev pub confirm_part : ℕ → ℕ → ℕ → ChannelState → Part
+confirm_part recipient window packet c =
+    if is_some (awaited_by (Some c))
+    then record no_part { gain = window; answer = Some (confirmed_head recipient packet c.head) }
+    else no_part
+
+abbrev pub accept_part : ChannelState → Part
+accept_part c = if is_reserved c then record no_part { answer = Some (accepted_head c.head) } else no_part
+
+abbrev pub received_part : ℕ → ℕ → ChannelState → Part
+received_part len target c =
+    if c.head.established
+    then record no_part { used = len; returned = adjust_of target (c.own_window - len) }
+    else no_part
+
+abbrev pub part : ℕ → Call → ChannelState → Part
+part n (SettleServer id true) c = if id == n then accept_part c else no_part
+part n (Confirm id recipient window packet) c = if id == n then confirm_part recipient window packet c else no_part
+part n (Bytes id stream bytes exchanging) c = if id == n then bytes_part stream bytes exchanging c else no_part
+part n (AskEof id) c = if id == n then eof_part c else no_part
+part n (AskClose id) c = if id == n then close_part else no_part
+part n (Grant id amount exchanging) c = if id == n then grant_part amount exchanging c else no_part
+part n FlushAll c = flush_part
+part n (Received id len target) c = if id == n then received_part len target c else no_part
+part n call c = no_part
+
+-- how many bytes of the first call wait
+abbrev pub first_of : List Waiting → ℕ
+first_of [] = 0
+first_of (w ∷ ws) = length w.bytes
+
+-- Each piece is the longest that the packet size, what is left of the window and the rest of its call's bytes allow, and
+-- isn't empty.
+abbrev pub AreLongest : ℕ → ℕ → List Waiting → List Packet → Type 0
+AreLongest size window waiting [] = Unit {0}
+AreLongest size window waiting (Piece stream bytes ∷ packets) =
+    (0 < length bytes)
+    × (length bytes ≡ min size (min window (first_of waiting)))
+    × AreLongest size (window - length bytes) (left_of (length bytes) waiting) packets
+AreLongest size window waiting (Eof ∷ packets) = AreLongest size window waiting packets
+AreLongest size window waiting (Close ∷ packets) = AreLongest size window waiting packets
+AreLongest size window waiting (Adjust amount ∷ packets) = AreLongest size window waiting packets
+
+-- Bytes only before EOF and close, EOF at most once and before close, close at most once. The first two say whether EOF and
+-- close were written before these packets, the last two whether they were after them.
+abbrev pub Orderly : Bool → Bool → List Packet → Bool → Bool → Type 0
+Orderly eof close [] eof_then close_then = (eof ≡ eof_then) × (close ≡ close_then)
+Orderly eof close (Piece stream bytes ∷ packets) eof_then close_then =
+    (eof ≡ false) × (close ≡ false) × Orderly eof close packets eof_then close_then
+Orderly eof close (Eof ∷ packets) eof_then close_then =
+    (eof ≡ false) × (close ≡ false) × Orderly true close packets eof_then close_then
+Orderly eof close (Close ∷ packets) eof_then close_then = (close ≡ false) × Orderly eof true packets eof_then close_then
+Orderly eof close (Adjust amount ∷ packets) eof_then close_then = Orderly eof close packets eof_then close_then
+
+-- no end is due
+pub record NoneDue (f : Flow) : Type 0 where
+  pub eof : is_due f.eof ≡ false
+  pub close : is_due f.close ≡ false
+
+-- What a call does to the flow of a channel with this head, by its part in the account: the packets that it writes, and the
+-- flow after it.
+pub record FlowMoves (h : Head) (f after : Flow) (packets : List Packet) (p : Part) : Type 0 where
+  pub balance : bytes_in packets ++ pending after.pending ≡ pending f.pending ++ pending p.more
+  pub window : length (bytes_in packets) + after.window ≡ f.window + p.gain
+  pub longest : AreLongest h.packet_size (f.window + p.gain) (f.pending ++ p.more) packets
+  pub order : Orderly (is_sent f.eof) (is_sent f.close) packets (is_sent after.eof) (is_sent after.close)
+  pub eof : is_unasked after.eof ≡ (is_unasked f.eof && not p.eof)
+  pub close : is_unasked after.close ≡ (is_unasked f.close && not p.close)
+  pub taking : takes after ≡ (takes f && not p.last)
+  pub prompt : p.sends ≡ true → h.established ≡ true → 0 < h.packet_size → 0 < after.window → after.pending ≡ []
+  pub ends : p.ends ≡ true → h.established ≡ true → after.pending ≡ [] → NoneDue after
+
+-- the head after a call
+abbrev pub answered : Option Head → Head → Head
+answered None h = h
+answered (Some new) h = new
+
+-- What a call does to a channel that the table has before and after it: the head stays unless the call answers the channel's
+-- open, our window falls by what the peer used and rises by what is given back, and the flow moves.
+pub record Moves (c after : ChannelState) (packets : List Packet) (p : Part) : Type 0 where
+  pub head : after.head ≡ answered p.answer c.head
+  pub own : after.own_window ≡ (c.own_window - p.used) + sum p.returned
+  pub returned : amounts_in packets ≡ p.returned
+  pub flow : FlowMoves after.head c.flow after.flow packets p
+  pub sound : IsSound after
+
+-- ---- lists of calls
+
+-- what a call may add to the channel's window: the confirmation's window, and each grant once it is established
 abbrev pub gain : ℕ → Call → ChannelState → ℕ
 gain n (Confirm id recipient window packet) c = if id == n && is_some (awaited_by (Some c)) then window else 0
-gain n (Grant id amount exchanging) c = if id == n && c.established then amount else 0
+gain n (Grant id amount exchanging) c = if id == n && c.head.established then amount else 0
 gain n call c = 0
 
 abbrev pub gain_in : ℕ → Call → Option ChannelState → ℕ
 gain_in n call None = 0
 gain_in n call (Some c) = gain n call c
 
--- what the calls add, as a number without bound
+-- what the calls grant, as a number without bound
 abbrev pub granted : ℕ → List Call → TableState → ℕ
 granted n [] t = 0
 granted n (call ∷ calls) t = gain_in n call (channel_of n t.channels) + granted n calls (called call t).table
 
--- the number stands in the table after each of the calls
-abbrev pub Stands : ℕ → List Call → TableState → Type 0
-Stands n [] t = Unit {0}
-Stands n (call ∷ calls) t = (is_some (channel_of n (called call t).table.channels) ≡ true) × Stands n calls (called call t).table
+abbrev pub part_in : ℕ → Call → Option ChannelState → Part
+part_in n call None = no_part
+part_in n call (Some c) = part n call c
 
--- Bytes only before EOF and close, EOF at most once and before close, close at most once. The first two say whether EOF and close
--- were written before these packets, the last two whether they were after them.
-abbrev pub Orderly : Bool → Bool → List Packet → Bool → Bool → Type 0
-Orderly eof close [] eof_then close_then = (eof ≡ eof_then) × (close ≡ close_then)
-Orderly eof close (Piece stream bytes ∷ packets) eof_then close_then = (eof ≡ false) × (close ≡ false) × Orderly eof close packets eof_then close_then
-Orderly eof close (Eof ∷ packets) eof_then close_then = (eof ≡ false) × (close ≡ false) × Orderly true close packets eof_then close_then
-Orderly eof close (Close ∷ packets) eof_then close_then = (close ≡ false) × Orderly eof true packets eof_then close_then
-Orderly eof close (Adjust amount ∷ packets) eof_then close_then = Orderly eof close packets eof_then close_then
+-- what the calls add to the window, which each grant leaves at the last of a u32 at most
+abbrev pub added : ℕ → List Call → TableState → ℕ
+added n [] t = 0
+added n (call ∷ calls) t = (part_in n call (channel_of n t.channels)).gain + added n calls (called call t).table
+
+-- the calls ask for EOF before our close is sent
+abbrev pub asks_eof : ℕ → List Call → TableState → Bool
+asks_eof n [] t = false
+asks_eof n (call ∷ calls) t =
+    (part_in n call (channel_of n t.channels)).eof || asks_eof n calls (called call t).table
+
+-- the calls ask for our close
+abbrev pub asks_close : ℕ → List Call → TableState → Bool
+asks_close n [] t = false
+asks_close n (call ∷ calls) t =
+    (part_in n call (channel_of n t.channels)).close || asks_close n calls (called call t).table
+
+-- the last of the calls lets the channel's ends go out, or without calls one before them did
+abbrev pub lets_end : Bool → ℕ → List Call → TableState → Bool
+lets_end before n [] t = before
+lets_end before n (call ∷ calls) t =
+    lets_end (part_in n call (channel_of n t.channels)).ends n calls (called call t).table
+
+-- the table has the number after each of the calls
+abbrev pub HasThroughout : ℕ → List Call → TableState → Type 0
+HasThroughout n [] t = Unit {0}
+HasThroughout n (call ∷ calls) t =
+    (is_some (channel_of n (called call t).table.channels) ≡ true) × HasThroughout n calls (called call t).table
 
 abbrev pub has_eof : List Packet → Bool
 has_eof [] = false
 has_eof (Eof ∷ packets) = true
 has_eof (p ∷ packets) = has_eof packets
+
+abbrev pub has_close : List Packet → Bool
+has_close [] = false
+has_close (Close ∷ packets) = true
+has_close (p ∷ packets) = has_close packets
 
 -- a channel as an open of ours or of the peer's makes it
 abbrev pub IsMade : ℕ → ChannelState → Type 0
@@ -127,14 +329,77 @@ IsMade n c =
     ((window packet : ℕ) × (ticket : Option Ticket) × (c ≡ opened_by_user n window packet ticket))
     ⊎ ((recipient window packet own : ℕ) × (c ≡ reserved_by_server n recipient window packet own))
 
--- The account of the number n over a life of calls, from the channel as it was made to the channel after them.
-pub record Account (n : ℕ) (start : ChannelState) (life : List Call) (packets : List Packet) (end : ChannelState) (grants : ℕ) : Type 0 where
-  pub balance : bytes_in packets ++ pending end.pending ≡ taken n life
-  pub within : length (bytes_in packets) ≤ start.window + grants
-  pub order : (eof close : Bool) × Orderly false false packets eof close
-  pub whole : has_eof packets ≡ true → bytes_in packets ≡ taken n life
+-- A life of the number n: on a table with no channels the calls `before` are made, then an open makes the channel `start`
+-- under this number, and the table has the number after each of the calls `calls`, and the channel `end` after the last.
+pub record Life (n : ℕ) : Type 0 where
+  pub last : ℕ  -- the last number given before all
+  pub before : List Call
+  pub start : ChannelState
+  pub calls : List Call
+  pub end : ChannelState
+  pub next : next_number (ran before (no_channels last)).table ≡ Some n
+  pub made : IsMade n start
+  pub stands : HasThroughout n calls (made_in start (ran before (no_channels last)).table)
+  pub there : channel_of n (ran calls (made_in start (ran before (no_channels last)).table)).table.channels ≡ Some end
 
--- a call after which bytes may go out: none that tells of an exchange that runs
+-- the table with the new channel
+abbrev pub born : (n : ℕ) → Life n → TableState
+born n l = made_in l.start (ran l.before (no_channels l.last)).table
+
+-- the table after the life's calls
+abbrev pub table_after : (n : ℕ) → Life n → TableState
+table_after n l = (ran l.calls (born n l)).table
+
+-- the channel's packets
+abbrev pub sent : (n : ℕ) → Life n → List Packet
+sent n l = packets_by n (ran l.calls (born n l)).said
+
+-- the last of the calls lets ends go, and nothing waits before them
+pub record MayEnd (n : ℕ) (l : Life n) : Type 0 where
+  pub lets : lets_end false n l.calls (born n l) ≡ true
+  pub established : l.end.head.established ≡ true
+  pub empty : l.end.flow.pending ≡ []
+
+-- The account of a life.
+pub record Account (n : ℕ) (l : Life n) : Type 0 where
+  pub balance : bytes_in (sent n l) ++ pending l.end.flow.pending ≡ taken n l.calls
+  pub window : length (bytes_in (sent n l)) + l.end.flow.window ≡ l.start.flow.window + added n l.calls (born n l)
+  pub within : added n l.calls (born n l) ≤ granted n l.calls (born n l)
+  pub order : Orderly false false (sent n l) (is_sent l.end.flow.eof) (is_sent l.end.flow.close)
+  pub whole : has_eof (sent n l) ≡ true → bytes_in (sent n l) ≡ taken n l.calls
+  pub closed : has_close (sent n l) ≡ true → bytes_in (sent n l) ≡ taken n l.calls
+  pub eof_sent : asks_eof n l.calls (born n l) ≡ true → MayEnd n l → has_eof (sent n l) ≡ true
+  pub close_sent : asks_close n l.calls (born n l) ≡ true → MayEnd n l → has_close (sent n l) ≡ true
+
+abbrev pub EachLifeHasItsAccount : Type 0
+EachLifeHasItsAccount = (n : ℕ) (l : Life n) → Account n l
+
+-- the bytes are a front of those
+abbrev pub IsFront : List (Stream × ℕ) → List (Stream × ℕ) → Type 0
+IsFront bytes all = (rest : List (Stream × ℕ)) × (bytes ++ rest ≡ all)
+
+-- the packets of a life, and of one call more
+abbrev pub sent_with : (n : ℕ) → Life n → Call → List Packet
+sent_with n l call = sent n l ++ packets_by n (called call (table_after n l)).said
+
+-- However a life ends, by a refusal of either side or by the peer's close: what was sent is a front of what was taken.
+abbrev pub EachEndLeavesAFront : Type 0
+EachEndLeavesAFront =
+    (n : ℕ) (l : Life n) (last : Call) →
+    channel_of n (called last (table_after n l)).table.channels ≡ None → IsFront (bytes_in (sent_with n l last)) (taken n l.calls)
+
+-- The peer's close of the number ends a life: among all that was written our close is there once, and no bytes and no EOF behind
+-- it; what was sent is a front of what was taken; and the number is free.
+pub record Closing (n : ℕ) (l : Life n) : Type 0 where
+  pub once : (eof : Bool) × Orderly false false (sent_with n l (PeerClose n)) eof true
+  pub front : IsFront (bytes_in (sent_with n l (PeerClose n))) (taken n l.calls)
+  pub free : channel_of n (called (PeerClose n) (table_after n l)).table.channels ≡ None
+
+-- where the channel is established when the peer's close comes
+abbrev pub EachCloseEndsALife : Type 0
+EachCloseEndsALife = (n : ℕ) (l : Life n) → l.end.head.established ≡ true → Closing n l
+
+-- a call after which bytes may go out: none that is told of a running exchange
 abbrev pub may_send : Call → Bool
 may_send (Bytes id stream bytes exchanging) = not exchanging
 may_send (Grant id amount exchanging) = not exchanging
@@ -145,55 +410,47 @@ abbrev pub packets_in : List Said → List Packet
 packets_in [] = []
 packets_in (s ∷ said) = s.packet ∷ packets_in said
 
--- the table after some calls from the start, and one more that made this channel
-abbrev pub with_new : List Call → ChannelState → TableState
-with_new before start = made start (ran before no_channels).table
-
--- For every list of calls before, every open that then makes a channel, and every life of it: its account stands.
-abbrev pub EachLifeHasItsAccount : Type 0
-EachLifeHasItsAccount =
-    (before life : List Call) (n : ℕ) (start end : ChannelState) →
-    next_number (ran before no_channels).table ≡ Some n → IsMade n start →
-    Stands n life (with_new before start) → channel_of n (ran life (with_new before start)).table.channels ≡ Some end →
-    Account n start life (packets_by n (ran life (with_new before start)).said) end (granted n life (with_new before start))
-
--- The peer's close of the number n ends a life: among all that was written our close stands once, and no bytes and no EOF behind it; what
--- was sent is a front of what was taken; and the number is free.
-pub record Closing (n : ℕ) (life : List Call) (packets : List Packet) (after : TableState) : Type 0 where
-  pub once : (eof : Bool) × Orderly false false packets eof true
-  pub front : (rest : List (Stream × ℕ)) × (bytes_in packets ++ rest ≡ taken n life)
-  pub free : channel_of n after.channels ≡ None
-
--- The same lives, where the channel is established when the peer's close comes.
-abbrev pub EachCloseEndsALife : Type 0
-EachCloseEndsALife =
-    (before life : List Call) (n : ℕ) (start end : ChannelState) →
-    next_number (ran before no_channels).table ≡ Some n → IsMade n start →
-    Stands n life (with_new before start) → channel_of n (ran life (with_new before start)).table.channels ≡ Some end → end.established ≡ true →
-    Closing n life
-    (packets_by n (ran life (with_new before start)).said ++ packets_by n (called (PeerClose n) (ran life (with_new before start)).table).said)
-    (called (PeerClose n) (ran life (with_new before start)).table).table
-
--- a call that tells of an exchange that runs sends no bytes, and no more does one that only ends or adjusts
+-- a call that is told of a running exchange sends no bytes, nor does one that only ends or adjusts
 abbrev pub ExchangesAreQuiet : Type 0
-ExchangesAreQuiet = (call : Call) (t : TableState) → may_send call ≡ false → bytes_in (packets_in (called call t).said) ≡ []
+ExchangesAreQuiet =
+    (call : Call) (t : TableState) → may_send call ≡ false → bytes_in (packets_in (called call t).said) ≡ []
 
 -- a new number is the next that is free
 abbrev pub NumbersGoOn : Type 0
 NumbersGoOn = (t : TableState) (n : ℕ) → next_number t ≡ Some n → IsNext t n
 
--- each piece holds a byte at least, and no more than the packet size
-abbrev pub AllFit : ℕ → List Packet → Type 0
-AllFit size [] = Unit {0}
-AllFit size (Piece stream bytes ∷ packets) = (0 < length bytes) × (length bytes ≤ size) × AllFit size packets
-AllFit size (Eof ∷ packets) = AllFit size packets
-AllFit size (Close ∷ packets) = AllFit size packets
-AllFit size (Adjust amount ∷ packets) = AllFit size packets
+-- each packet is addressed to the peer's number of the channel that wrote it, which is established
+abbrev pub AllAddressed : List ChannelState → List Said → Type 0
+AllAddressed cs [] = Unit {0}
+AllAddressed cs (s ∷ said) = (recipient_in (channel_of s.number cs) ≡ Some s.recipient) × AllAddressed cs said
 
--- what a channel sends at once fits into its packets
-abbrev pub PiecesFit : Type 0
-PiecesFit = (exchanging : Bool) (c : ChannelState) → AllFit c.packet_size (flushed exchanging c).packets
+-- a table whose channels have different numbers and are sound, as every list of calls leaves it
+pub record IsLegal (t : TableState) : Type 0 where
+  pub apart : Apart (numbers t.channels)
+  pub sound : (n : ℕ) (c : ChannelState) → channel_of n t.channels ≡ Some c → IsSound c
 
--- nothing waits on an established channel that has sent while no exchange runs, where window is left and pieces may hold something
-abbrev pub NothingWaitsInVain : Type 0
-NothingWaitsInVain = (c : ChannelState) → c.established ≡ true → 0 < c.packet_size → 0 < (flushed false c).channel.window → (flushed false c).channel.pending ≡ []
+-- each call of a legal table does its part to each channel that the table has before and after it
+abbrev pub EachCallDoesItsPart : Type 0
+EachCallDoesItsPart =
+    (n : ℕ) (call : Call) (t : TableState) (c after : ChannelState) → IsLegal t →
+    channel_of n t.channels ≡ Some c → channel_of n (called call t).table.channels ≡ Some after →
+    Moves c after (packets_by n (called call t).said) (part n call c)
+
+abbrev pub PacketsAreAddressed : Type 0
+PacketsAreAddressed = (call : Call) (t : TableState) → IsLegal t → AllAddressed t.channels (called call t).said
+
+-- what holds of every call
+pub record EachCallKeepsTheRules : Type 0 where
+  pub quiet : ExchangesAreQuiet
+  pub addressed : PacketsAreAddressed
+  pub numbers : NumbersGoOn
+
+-- no channels are legal, and every call leaves a legal table so
+abbrev pub LegalStays : Type 0
+LegalStays = ((last : ℕ) → IsLegal (no_channels last)) × ((call : Call) (t : TableState) → IsLegal t → IsLegal (called call t).table)
+
+-- a call did its part to each channel that the table had before and after it
+pub record DidItsPart (call : Call) (before after : TableState) : Type 0 where
+  pub part :
+      (n : ℕ) (c d : ChannelState) → channel_of n before.channels ≡ Some c → channel_of n after.channels ≡ Some d →
+      Moves c d (packets_by n (called call before).said) (part n call c)

@@ -1,5 +1,5 @@
 -- What the table remembers of the channels of a connection, as plain data (RFC 4254, section 5).
--- No field tells how bytes are kept; the code keeps queues and places in them.
+-- No field shows how bytes are kept; the code keeps queues and places in them.
 use Rattle.std.specs.Prelude.{ℕ, Bool, List, [], ◌∷◌, Option, Some, None, if◌then◌else◌, ◌==◌}
 use Rattle.sshc_mux.specs.declared.chunk.Stream.{Stream}
 use Rattle.sshc_mux.specs.declared.channel.Opener.{Opener}
@@ -10,17 +10,25 @@ pub record Waiting : Type 0 where
   pub stream : Stream
   pub bytes : List ℕ
 
-pub record ChannelState : Type 0 where
+-- whose channel it is, and to whom it sends
+pub record Head : Type 0 where
   pub number : ℕ
   pub opener : Opener
   pub established : Bool
   pub recipient : ℕ  -- the peer's number
-  pub packet_size : ℕ  -- the most that a piece may hold
-  pub own_window : ℕ  -- what the peer may still send
-  pub window : ℕ  -- what may still be sent to the peer
+  pub packet_size : ℕ  -- the most bytes that a piece may hold
+
+-- what goes to the peer
+pub record Flow : Type 0 where
+  pub window : ℕ  -- how many bytes may still be sent
   pub pending : List Waiting  -- what waits, cut as the calls gave it
   pub eof : Stage
   pub close : Stage
+
+pub record ChannelState : Type 0 where
+  pub head : Head
+  pub own_window : ℕ  -- how many bytes the peer may still send
+  pub flow : Flow
 
 pub record TableState : Type 0 where
   pub channels : List ChannelState  -- in the order of their making
@@ -29,14 +37,14 @@ pub record TableState : Type 0 where
 -- the channel of this number
 abbrev pub channel_of : ℕ → List ChannelState → Option ChannelState
 channel_of n [] = None
-channel_of n (c ∷ cs) = if c.number == n then Some c else channel_of n cs
+channel_of n (c ∷ cs) = if c.head.number == n then Some c else channel_of n cs
 
 -- the channels with another in the place of the one of this number
 abbrev pub with_channel : ℕ → ChannelState → List ChannelState → List ChannelState
 with_channel n new [] = []
-with_channel n new (c ∷ cs) = if c.number == n then new ∷ cs else c ∷ with_channel n new cs
+with_channel n new (c ∷ cs) = if c.head.number == n then new ∷ cs else c ∷ with_channel n new cs
 
 -- the channels but for the one of this number
 abbrev pub without : ℕ → List ChannelState → List ChannelState
 without n [] = []
-without n (c ∷ cs) = if c.number == n then cs else c ∷ without n cs
+without n (c ∷ cs) = if c.head.number == n then cs else c ∷ without n cs

@@ -17,7 +17,8 @@ pub data Packet : Type 0 where
 -- the number and the recipient of data, with the code of extended data
 abbrev pub piece_text : ℕ → Stream → List ℕ → List ℕ
 piece_text recipient Streams.Data bytes = CHANNEL_DATA ∷ u32_text recipient ++ string_text bytes
-piece_text recipient (Streams.Extended code) bytes = CHANNEL_EXTENDED_DATA ∷ u32_text recipient ++ u32_text code ++ string_text bytes
+piece_text recipient (Streams.Extended code) bytes =
+    CHANNEL_EXTENDED_DATA ∷ u32_text recipient ++ u32_text code ++ string_text bytes
 
 abbrev pub packet_text : ℕ → Packet → List ℕ
 packet_text recipient (Piece stream bytes) = piece_text recipient stream bytes

@@ -5,8 +5,8 @@ mod sending;
 mod windows;
 
 ghost use Rattle.std.specs.Prelude.{◌≡◌, Some};
-ghost use Rattle.sshc_mux.specs.ChannelTable.Opens.{opened_by_user, reserved_by_server, confirmed, awaited_by, reserved_by};
-ghost use Rattle.sshc_mux.specs.ChannelTable.{accepted, waits};
+ghost use Rattle.sshc_mux.specs.ChannelTable.Opens.{opened_by_user, reserved_by_server, accepted, confirmed, awaited_by, reserved_by};
+ghost use Rattle.sshc_mux.specs.ChannelTable.{waits};
 ghost use Rattle.sshc_mux.specs.ChannelTable.Sending.{done, is_due};
 ghost use Rattle.sshc_mux.specs.ChannelTable.Ends.{asked, is_sent, is_unasked};
 
@@ -97,16 +97,20 @@ impl Model for Channel {
     ghost Value = { ChannelState };
 
     ghost view = { λ c. record {
-      number = c.number;
-      opener = c.opener;
-      established = c.is_established;
-      recipient = c.recipient;
-      packet_size = c.packet_size;
+      head = record {
+        number = c.number;
+        opener = c.opener;
+        established = c.is_established;
+        recipient = c.recipient;
+        packet_size = c.packet_size;
+      };
       own_window = c.own_window;
-      window = c.window;
-      pending = c.pending.items;
-      eof = c.eof;
-      close = c.close;
+      flow = record {
+        window = c.window;
+        pending = c.pending.items;
+        eof = c.eof;
+        close = c.close;
+      };
     } };
 }
 
@@ -161,25 +165,25 @@ impl Channel {
     }
 
     pub(crate) fn number(&self) -> u32
-        ensures { result ≡ self.now.number }
+        ensures { result ≡ self.now.head.number }
     {
         self.number
     }
 
     pub(crate) fn recipient(&self) -> u32
-        ensures { result ≡ self.now.recipient }
+        ensures { result ≡ self.now.head.recipient }
     {
         self.recipient
     }
 
     pub(crate) fn window(&self) -> u32
-        ensures { result ≡ self.now.window }
+        ensures { result ≡ self.now.flow.window }
     {
         self.window
     }
 
     pub(crate) fn is_established(&self) -> bool
-        ensures { result ≡ self.now.established }
+        ensures { result ≡ self.now.head.established }
     {
         self.is_established
     }
@@ -193,7 +197,7 @@ impl Channel {
 
     /// Whether our close was sent.
     pub(crate) fn is_close_sent(&self) -> bool
-        ensures { result ≡ is_sent self.now.close }
+        ensures { result ≡ is_sent self.now.flow.close }
     {
         self.close.is_sent()
     }

@@ -1,6 +1,6 @@
 //! The packets of a channel as records (RFC 4254, sections 5.2 and 5.3).
 
-ghost use Rattle.std.specs.Prelude.{◌≡◌, ◌+◌, ◌++◌, ◌≤◌, ◌<◌, ◌^◌, length, IfOk, OnOk, OnErr};
+ghost use Rattle.std.specs.Prelude.{◌≡◌, ◌++◌, ◌<◌, ◌^◌, [], length, IfOk, OnOk, OnErr, IsOk};
 ghost use Rattle.sshc_wire.specs.Outgoing.{shown};
 ghost use Rattle.sshc_mux.specs.Packets.{packet_text, piece_text, Piece, Eof, Close, Adjust, payloads};
 ghost use Rattle.sshc_mux.specs.ChannelTable.Sending.{cut, pieces_of};
@@ -9,7 +9,7 @@ use crate::chunk::Stream;
 use sshc_wire::{NoMemory, Octets, Outbox, Record, msg, put_bytes, put_u32};
 use std::alloc::Global;
 
-/// How many bytes of a data packet stand before the piece: its number, the recipient and the length.
+/// How many bytes of a data packet come before the piece: its number, the recipient and the length.
 const DATA_HEAD: usize = 9;
 
 /// The same of an extended data packet, which has a code too.
@@ -100,7 +100,9 @@ pub(crate) fn push_pieces(
     said: &mut Vec<Record>,
 ) -> Result<(), NoMemory>
     requires { 0 < length part.now → 0 < size }
-    ensures { OnOk result (said.new.items ≡ said.old.items ++ payloads recipient (pieces_of stream (cut size part.now))) }
+    ensures said { OnOk result (said.new.items ≡ said.old.items
+        ++ payloads recipient (pieces_of stream (cut size part.now))) }
+    ensures succeeds { part.now ≡ [] → IsOk result }
 {
     let mut rest = part;
     while rest.len() > 0 {
@@ -112,24 +114,15 @@ pub(crate) fn push_pieces(
     Ok(())
 }
 
-/// Hands the records to the outbox, or changes nothing.
-pub(crate) fn push_all(said: Vec<Record>, out: &mut Outbox) -> Result<(), NoMemory>
+/// Adds the records to the outbox, or changes nothing. No records take no memory.
+pub(crate) fn push_said(out: &mut Outbox, said: Vec<Record>) -> Result<(), NoMemory>
     ensures ok { OnOk result (out.new.records ≡ out.old.records ++ shown out.old.muted said.items) }
     ensures err { OnErr result (out.new.records ≡ out.old.records) }
     ensures same { out.new.muted ≡ out.old.muted }
+    ensures succeeds { said.items ≡ [] → IsOk result }
 {
-    out.reserve(said.len())?;
-    push_all_reserved(said, out);
-    Ok(())
-}
-
-/// Hands the records to the outbox, in which there is room for them.
-pub(crate) fn push_all_reserved(said: Vec<Record>, out: &mut Outbox)
-    requires { length said.items ≤ out.old.room }
-    ensures added { out.new.records ≡ out.old.records ++ shown out.old.muted said.items }
-    ensures same { out.new.muted ≡ out.old.muted }
-{
-    for packet in said {
-        out.push_reserved(packet);
+    if said.len() == 0 {
+        return Ok(());
     }
+    out.push_all(said)
 }

@@ -5,14 +5,15 @@ mod opens;
 mod sending;
 mod windows;
 
-ghost use Rattle.std.specs.Prelude.{◌≡◌, [], MatchOption, None};
-ghost use Rattle.sshc_mux.specs.ChannelState.{channel_of};
+ghost use Rattle.std.specs.Prelude.{◌≡◌, ◌≤◌, ◌<◌, ◌+◌, ◌-◌, [], true, false, MatchOption, None, option_copied, if◌then◌else◌};
+ghost use Rattle.sshc_mux.specs.ChannelState.{channel_of, without};
+ghost use Rattle.sshc_mux.specs.ChannelAccount.{no_channels};
 ghost use Rattle.sshc_mux.specs.ChannelTable.{is_established, waits_in, any_waits, window_in, recipient_in, close_sent_in};
-ghost use Rattle.sshc_mux.specs.Places.{IsPlace, numbers};
+ghost use Rattle.sshc_mux.specs.Places.{IsPlace, IsIndexed, HasNumbers, Apart, numbers, present};
 
 use crate::channel::Channel;
-use indexmap::IndexSet;
 use std::alloc::Global;
+use std::collections::HashMap;
 use std::marker::Model;
 
 /// The number of a channel on our side.
@@ -22,8 +23,12 @@ pub struct ChannelId(pub u32);
 /// The channels of a connection, which contracts see in the order of their making, with the last number given.
 #[derive(Debug, Drop)]
 pub struct ChannelTable {
-    channels: Vec<Channel>,
-    listed: IndexSet<u32>,
+    /// In the order of making. The slot of a channel that was taken away is empty.
+    slots: Vec<Option<Channel>>,
+    /// The slot of each number.
+    index: HashMap<u32, usize>,
+    /// On how many channels bytes wait.
+    waiting: usize,
     last: u32,
     alloc: Global,
 }
@@ -31,24 +36,34 @@ pub struct ChannelTable {
 impl Model for ChannelTable {
     ghost use Rattle.std.specs.Prelude.{◌≡◌};
     ghost use Rattle.sshc_mux.specs.ChannelState.{TableState};
-    ghost use Rattle.sshc_mux.specs.Places.{numbers};
+    ghost use Rattle.sshc_mux.specs.Places.{present, IsStored};
+    ghost use Rattle.sshc_mux.specs.ChannelAccount.{IsLegal};
 
     ghost Value = { TableState };
 
-    ghost view = { λ t. record { channels = t.channels.items; last = t.last } };
+    ghost view = { λ t. record { channels = present t.slots.items; last = t.last } };
 
-    ghost invariant = { λ t. t.listed.keys ≡ numbers t.channels.items };
+    ghost invariant = { λ t. IsStored t.index.entries t.slots.items t.waiting
+        × IsLegal (record { channels = present t.slots.items; last = t.last }) };
 }
 
 impl ChannelTable {
     /// No channels. The first number is 1.
     pub fn new(alloc: Global) -> ChannelTable
-        ensures { result ≡ record { channels = []; last = 0 } }
+        ensures { result ≡ no_channels 0 }
+    {
+        ChannelTable::numbered_after(alloc, ChannelId(0))
+    }
+
+    /// No channels. The first number is the next above this one; after the last of a u32 it is 0.
+    pub fn numbered_after(alloc: Global, last: ChannelId) -> ChannelTable
+        ensures { result ≡ no_channels last.0 }
     {
         ChannelTable {
-            channels: Vec::new(alloc),
-            listed: IndexSet::new(alloc),
-            last: 0,
+            slots: Vec::new(alloc),
+            index: HashMap::new(alloc),
+            waiting: 0,
+            last: last.0,
             alloc,
         }
     }
@@ -57,8 +72,8 @@ impl ChannelTable {
     pub fn is_established(&self, id: ChannelId) -> bool
         ensures { result ≡ is_established id.0 self.now }
     {
-        match place(self.channels.as_slice(), &self.listed, id.0) {
-            Some(at) => self.channels[at].is_established(),
+        match self.find(id.0) {
+            Some(channel) => channel.is_established(),
             None => false,
         }
     }
@@ -67,8 +82,8 @@ impl ChannelTable {
     pub fn has_pending_data(&self, id: ChannelId) -> bool
         ensures { result ≡ waits_in (channel_of id.0 self.now.channels) }
     {
-        match place(self.channels.as_slice(), &self.listed, id.0) {
-            Some(at) => self.channels[at].waits(),
+        match self.find(id.0) {
+            Some(channel) => channel.waits(),
             None => false,
         }
     }
@@ -77,15 +92,15 @@ impl ChannelTable {
     pub fn has_any_pending_data(&self) -> bool
         ensures { result ≡ any_waits self.now.channels }
     {
-        any_waits(self.channels.as_slice())
+        self.waiting > 0
     }
 
     /// What may still be sent to the peer.
     pub fn sender_window_size(&self, id: ChannelId) -> usize
         ensures { result ≡ window_in (channel_of id.0 self.now.channels) }
     {
-        match place(self.channels.as_slice(), &self.listed, id.0) {
-            Some(at) => self.channels[at].window() as usize,
+        match self.find(id.0) {
+            Some(channel) => channel.window() as usize,
             None => 0,
         }
     }
@@ -94,8 +109,8 @@ impl ChannelTable {
     pub fn recipient(&self, id: ChannelId) -> Option<u32>
         ensures { result ≡ recipient_in (channel_of id.0 self.now.channels) }
     {
-        match place(self.channels.as_slice(), &self.listed, id.0) {
-            Some(at) if self.channels[at].is_established() => Some(self.channels[at].recipient()),
+        match self.find(id.0) {
+            Some(channel) if channel.is_established() => Some(channel.recipient()),
             _ => None,
         }
     }
@@ -104,28 +119,87 @@ impl ChannelTable {
     pub fn close_sent(&self, id: ChannelId) -> bool
         ensures { result ≡ close_sent_in (channel_of id.0 self.now.channels) }
     {
-        match place(self.channels.as_slice(), &self.listed, id.0) {
-            Some(at) => self.channels[at].is_close_sent(),
+        match self.find(id.0) {
+            Some(channel) => channel.is_close_sent(),
             None => false,
         }
     }
+
+    fn find(&self, number: u32) -> Option<&Channel>
+        ensures { option_copied result ≡ channel_of number self.now.channels }
+    {
+        let at = place(self.slots.as_slice(), &self.index, number)?;
+        self.slots[at].as_ref()
+    }
 }
 
-/// Where the channel of this number stands.
-pub(crate) fn place(channels: &[Channel], listed: &IndexSet<u32>, number: u32) -> Option<usize>
-    requires { listed.now.keys ≡ numbers channels.now }
-    ensures { MatchOption result (channel_of number channels.now ≡ None) (λ at. IsPlace number channels.now at) }
+/// The slot of the channel of this number.
+pub(crate) fn place(
+    slots: &[Option<Channel>],
+    index: &HashMap<u32, usize>,
+    number: u32,
+) -> Option<usize>
+    requires { IsIndexed index.now.entries slots.now }
+    ensures { MatchOption result (channel_of number (present slots.now) ≡ None) (λ at. IsPlace number slots.now at) }
 {
-    listed.get_index_of(&number)
+    index.get(&number).copied()
 }
 
-fn any_waits(channels: &[Channel]) -> bool
-    ensures { result ≡ any_waits channels.now }
+/// The count of the channels on which bytes wait, after one of them has changed.
+pub(crate) fn recounted(waiting: usize, waited: bool, waits: bool) -> usize
+    requires some { waited ≡ true → 0 < waiting }
+    requires room { waited ≡ false → waiting < usize.MAX }
+    ensures { result + (if waited then 1 else 0) ≡ waiting + (if waits then 1 else 0) }
 {
-    for channel in channels {
-        if channel.waits() {
-            return true;
+    match (waited, waits) {
+        (true, false) => waiting - 1,
+        (false, true) => waiting + 1,
+        _ => waiting,
+    }
+}
+
+/// Takes the channel of this number out of its slot.
+pub(crate) fn remove(
+    slots: &mut Vec<Option<Channel>>,
+    index: &mut HashMap<u32, usize>,
+    number: u32,
+    at: usize,
+)
+    requires place { IsPlace number slots.old.items at }
+    requires indexed { IsIndexed index.old.entries slots.old.items }
+    requires apart { Apart (numbers (present slots.old.items)) }
+    ensures left { present slots.new.items ≡ without number (present slots.old.items) }
+    ensures indexed { IsIndexed index.new.entries slots.new.items }
+{
+    slots[at] = None;
+    let _ = index.remove(&number);
+    compact(slots, index);
+}
+
+/// Lets the empty slots go once they are more than half of all.
+fn compact(slots: &mut Vec<Option<Channel>>, index: &mut HashMap<u32, usize>)
+    requires indexed { IsIndexed index.old.entries slots.old.items }
+    requires apart { Apart (numbers (present slots.old.items)) }
+    ensures left { present slots.new.items ≡ present slots.old.items }
+    ensures indexed { IsIndexed index.new.entries slots.new.items }
+{
+    if slots.len() / 2 <= index.len() {
+        return;
+    }
+    slots.retain(|slot| slot.is_some());
+    renumber(slots.as_slice(), index);
+}
+
+/// Notes the slot of each channel.
+fn renumber(slots: &[Option<Channel>], index: &mut HashMap<u32, usize>)
+    requires apart { Apart (numbers (present slots.now)) }
+    requires known { HasNumbers index.old.entries (present slots.now) }
+    ensures { IsIndexed index.new.entries slots.now }
+{
+    for at in 0..slots.len() {
+        if let Some(channel) = &slots[at] {
+            // The number is there, so no memory is taken.
+            let _ = index.insert(channel.number(), at);
         }
     }
-    false
 }

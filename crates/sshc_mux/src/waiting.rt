@@ -1,6 +1,6 @@
 //! A channel's waiting bytes: what is sent of them, and what is left (RFC 4254, section 5.2).
 
-ghost use Rattle.std.specs.Prelude.{◌≡◌, ◌-◌, ◌++◌, ◌<◌, ◌≤◌, ◌==◌, length, slice_index_or, IfOk, OnOk};
+ghost use Rattle.std.specs.Prelude.{◌≡◌, ◌-◌, ◌++◌, ◌<◌, ◌≤◌, ◌==◌, length, slice_index_or, [], IfOk, OnOk, IsOk};
 ghost use Rattle.sshc_mux.specs.ChannelState.{Waiting};
 ghost use Rattle.sshc_mux.specs.Packets.{payloads};
 ghost use Rattle.sshc_mux.specs.ChannelTable.Sending.{sent_of, left_of, count_of};
@@ -11,7 +11,7 @@ use sshc_wire::{NoMemory, Record};
 use std::alloc::Global;
 use std::collections::VecDeque;
 
-/// Says what there is room for, and answers whether nothing is left.
+/// Adds what there is room for. Returns whether nothing is left.
 pub(crate) fn push_sent(
     alloc: Global,
     recipient: u32,
@@ -21,7 +21,9 @@ pub(crate) fn push_sent(
     said: &mut Vec<Record>,
 ) -> Result<bool, NoMemory>
     requires { 0 < room → 0 < size }
-    ensures said { OnOk result (said.new.items ≡ said.old.items ++ payloads recipient (sent_of size room pending.now.items)) }
+    ensures said { OnOk result (said.new.items ≡ said.old.items
+        ++ payloads recipient (sent_of size room pending.now.items)) }
+    ensures succeeds { sent_of size room pending.now.items ≡ [] → IsOk result }
     ensures all { IfOk result (λ all. all ≡ (length (left_of room pending.now.items) == 0)) }
 {
     let mut left = room;
@@ -47,11 +49,12 @@ pub(crate) fn push_sent(
     Ok(true)
 }
 
-/// Lets whole chunks go that there is room for, and answers the room after them.
+/// Lets whole chunks go that there is room for. Returns the room after them.
 fn drop_whole(pending: &mut VecDeque<Chunk>, room: usize) -> usize
     ensures left { left_of room pending.old.items ≡ left_of result pending.new.items }
     ensures used { room - count_of pending.old.items ≡ result - count_of pending.new.items }
-    ensures short { 0 < length pending.new.items → (d : Waiting) → result < length (slice_index_or pending.new.items 0 d).bytes }
+    ensures short { 0 < length pending.new.items →
+        (d : Waiting) → result < length (slice_index_or pending.new.items 0 d).bytes }
 {
     let mut left = room;
     while pending.len() > 0 && pending[0].bytes().len() <= left {
@@ -61,7 +64,7 @@ fn drop_whole(pending: &mut VecDeque<Chunk>, room: usize) -> usize
     left
 }
 
-/// Lets the bytes go that there is room for, and answers the room after them.
+/// Lets the bytes go that there is room for. Returns the room after them.
 pub(crate) fn drop_sent(pending: &mut VecDeque<Chunk>, room: usize) -> usize
     ensures left { pending.new.items ≡ left_of room pending.old.items }
     ensures used { result ≡ room - count_of pending.old.items }

@@ -180,11 +180,15 @@ impl Plain {
     pub(crate) fn received(
         &mut self,
         alloc: Global,
-        len: u32,
+        len: u64,
         target: u32,
         said: &mut Said,
     ) -> Result<bool, NoMemory> {
-        self.own_window = self.own_window.saturating_sub(len);
+        self.own_window = if len < u64::from(self.own_window) {
+            self.own_window - len as u32
+        } else {
+            0
+        };
         if self.own_window >= target / 2 {
             return Ok(false);
         }

@@ -1,7 +1,6 @@
 //! Random lists of calls on several channels, each answer and payload compared with the plain program's.
 
 use crate::plain::{Plain, Said};
-use crate::worked::payload_of;
 use sshc_mux::{ChannelId, ChannelTable, Stream};
 use sshc_wire::{NoMemory, Outbox};
 use std::alloc::Global;
@@ -65,10 +64,21 @@ fn fresh(alloc: Global, number: u32, by_user: bool, own_window: u32) -> Plain {
     }
 }
 
+/// A length of bytes of the peer's: a small one, or now and then one above every u32 whose low half is small.
+fn length_of(numbers: &mut Numbers, amount: u32) -> u64 {
+    if numbers.below(4) == 0 {
+        (1 << 32) + u64::from(amount)
+    } else {
+        u64::from(amount)
+    }
+}
+
 /// The table and the plain one, with what each said.
 #[derive(Debug, Drop)]
 struct Both {
     alloc: Global,
+    /// The number before the first.
+    first: u32,
     table: ChannelTable,
     plain: PlainTable,
     out: Outbox,
@@ -83,14 +93,16 @@ struct Named {
 }
 
 impl Both {
-    fn new(alloc: Global) -> Both {
+    /// Tables with no channels, whose numbers go on from this one.
+    fn new(alloc: Global, last: u32) -> Both {
         Both {
             alloc,
-            table: ChannelTable::new(alloc),
+            table: ChannelTable::numbered_after(alloc, ChannelId(last)),
             plain: PlainTable {
                 channels: Vec::new(alloc),
-                last: 0,
+                last,
             },
+            first: last,
             out: Outbox::new(alloc),
             said: Vec::new(alloc),
         }
@@ -98,7 +110,8 @@ impl Both {
 
     /// One random call on both tables, with equal answers.
     fn step(&mut self, rt: &impl Abort, numbers: &mut Numbers) -> Result<(), NoMemory> {
-        let number = numbers.below(6).wrapping_sub(numbers.below(2));
+        let near = numbers.below(6).wrapping_sub(numbers.below(2));
+        let number = self.first.wrapping_add(near);
         let named = Named {
             id: ChannelId(number),
             at: self.plain.place(number),
@@ -116,7 +129,7 @@ impl Both {
             9 => self.close(rt, named),
             10 | 11 => self.grant(rt, named, amount, exchanging),
             12 => self.flush(),
-            _ => self.received(rt, named, amount),
+            _ => self.received(rt, named, length_of(numbers, amount)),
         }
     }
 
@@ -294,17 +307,15 @@ impl Both {
         Ok(())
     }
 
-    fn received(&mut self, rt: &impl Abort, named: Named, amount: u32) -> Result<(), NoMemory> {
-        let answer = self
-            .table
-            .received(named.id, u64::from(amount), 20, &mut self.out)?;
+    fn received(&mut self, rt: &impl Abort, named: Named, len: u64) -> Result<(), NoMemory> {
+        let answer = self.table.received(named.id, len, 20, &mut self.out)?;
         let mut adjusted = false;
         if let Some(at) = named.at
             && at < self.plain.channels.len()
             && self.plain.channels[at].established
         {
             let channel = &mut self.plain.channels[at];
-            adjusted = channel.received(self.alloc, amount, 20, &mut self.said)?;
+            adjusted = channel.received(self.alloc, len, 20, &mut self.said)?;
         }
         assert_eq!(rt; answer, adjusted);
         Ok(())
@@ -313,10 +324,10 @@ impl Both {
 
 /// The payloads are those of the plain program, in its order.
 fn same_payloads(rt: &impl Abort, out: &Outbox, said: &Said, list: u32) {
-    assert_eq!(rt; out.as_slice().len(), said.len(), "payloads of list {list}");
-    for (got, want) in out.as_slice().iter().zip(said.as_slice()) {
+    assert_eq!(rt; out.len(), said.len(), "payloads of list {list}");
+    for (at, want) in said.as_slice().iter().enumerate() {
         assert_eq!(rt;
-            payload_of(got),
+            out.packet(at),
             Some(want.as_slice()),
             "a payload of list {list}"
         );
@@ -359,7 +370,9 @@ fn same_channels(rt: &impl Abort, table: &ChannelTable, plain: &PlainTable, list
 fn random_lists_of_calls(rt: HostRuntime) -> Result<(), Fail> {
     let mut numbers = Numbers(2026);
     for list in 0..10_000 {
-        let mut both = Both::new(rt.alloc());
+        // The numbers of every other list go on at 0 behind the last of a u32.
+        let first = if list % 2 == 0 { 0 } else { u32::MAX - 2 };
+        let mut both = Both::new(rt.alloc(), first);
         for _ in 0..30 {
             both.step(&rt, &mut numbers)?;
         }

@@ -3,9 +3,9 @@ use Rattle.std.specs.Prelude.{ℕ, Bool, true, false, not, ◌&&◌, List, [], �
 use Rattle.sshc_mux.specs.declared.chunk.Stream.{Stream}
 use Rattle.sshc_mux.specs.declared.channel.Stage.{Stage}
 use Rattle.sshc_mux.specs.declared.channel.Stage.TheVariants as Stages
-use Rattle.sshc_mux.specs.ChannelState.{ChannelState}
+use Rattle.sshc_mux.specs.ChannelState.{Head, Flow, Waiting}
 use Rattle.sshc_mux.specs.Packets.{Packet, Close}
-use Rattle.sshc_mux.specs.ChannelTable.Sending.{Turn, flushed}
+use Rattle.sshc_mux.specs.ChannelTable.Sending.{FlowTurn, still, flushed}
 
 abbrev pub is_unasked : Stage → Bool
 is_unasked Stages.Unasked = true
@@ -24,32 +24,40 @@ asked Stages.Asked = Stages.Asked
 asked Stages.Sent = Stages.Sent
 
 -- bytes are taken where neither EOF nor our close was asked for
-abbrev pub takes : ChannelState → Bool
-takes c = is_unasked c.eof && is_unasked c.close
+abbrev pub takes : Flow → Bool
+takes f = is_unasked f.eof && is_unasked f.close
 
-abbrev pub with_pending : Stream → List ℕ → ChannelState → ChannelState
-with_pending stream bytes c = record c { pending = c.pending ++ record { stream = stream; bytes = bytes } ∷ [] }
+abbrev pub with_pending : Stream → List ℕ → Flow → Flow
+with_pending stream bytes f = record f { pending = f.pending ++ record { stream = stream; bytes = bytes } ∷ [] }
+
+-- the bytes of a call as what waits of them; none are nothing
+abbrev pub waiting_of : Stream → List ℕ → List Waiting
+waiting_of stream [] = []
+waiting_of stream (b ∷ bytes) = record { stream = stream; bytes = b ∷ bytes } ∷ []
+
+-- bytes wait, and what may go is sent
+abbrev pub flush_with : Stream → List ℕ → Bool → Head → Flow → FlowTurn
+flush_with stream bytes exchanging h f = flushed exchanging h (with_pending stream bytes f)
 
 -- bytes of ours; no bytes are nothing
-abbrev pub data_turn : Stream → List ℕ → Bool → ChannelState → Turn
-data_turn stream bytes exchanging c =
-    if takes c && not (length bytes == 0) then flushed exchanging (with_pending stream bytes c)
-    else record { channel = c; packets = [] }
+abbrev pub data_flow : Stream → List ℕ → Bool → Head → Flow → FlowTurn
+data_flow stream bytes exchanging h f =
+    if takes f && not (length bytes == 0) then flush_with stream bytes exchanging h f else still f
 
 -- EOF asked for after our close was sent is nothing
-abbrev pub with_eof : ChannelState → ChannelState
-with_eof c = if is_sent c.close then c else record c { eof = asked c.eof }
+abbrev pub with_eof : Flow → Flow
+with_eof f = record f { eof = if is_sent f.close then f.eof else asked f.eof }
 
-abbrev pub with_close : ChannelState → ChannelState
-with_close c = record c { close = asked c.close }
+abbrev pub with_close : Flow → Flow
+with_close f = record f { close = asked f.close }
 
 -- an end sends no bytes, and itself where none wait
-abbrev pub eof_turn : ChannelState → Turn
-eof_turn c = flushed true (with_eof c)
+abbrev pub eof_flow : Head → Flow → FlowTurn
+eof_flow h f = flushed true h (with_eof f)
 
-abbrev pub close_turn : ChannelState → Turn
-close_turn c = flushed true (with_close c)
+abbrev pub close_flow : Head → Flow → FlowTurn
+close_flow h f = flushed true h (with_close f)
 
 -- the peer's close is answered by ours, unless that was sent
-abbrev pub last_packets : ChannelState → List Packet
-last_packets c = if is_sent c.close then [] else Close ∷ []
+abbrev pub answer_of : Flow → List Packet
+answer_of f = if is_sent f.close then [] else Close ∷ []

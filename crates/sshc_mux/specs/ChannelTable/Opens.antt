@@ -1,11 +1,11 @@
 -- Numbers, opens, confirmations and failures (RFC 4254, section 5.1).
--- A number is the first that stands in no channel; the code tries one after the other.
+-- A number is the first that no channel has; the code tries one after the other.
 use Rattle.std.specs.Prelude.{ℕ, zero, suc, ◌+◌, ◌^◌, ◌%◌, Bool, true, false, not, ◌&&◌, List, [], ◌∷◌, ◌++◌, length, Option, Some, None, ◌≡◌, ◌<◌, is_some}
 use Rattle.sshc_wire.specs.declared.ticket.Ticket.{Ticket}
 use Rattle.sshc_mux.specs.declared.channel.Opener.{Opener}
 use Rattle.sshc_mux.specs.declared.channel.Opener.TheVariants.{User, Server}
 use Rattle.sshc_mux.specs.declared.channel.Stage.TheVariants.{Unasked}
-use Rattle.sshc_mux.specs.ChannelState.{ChannelState, TableState, channel_of}
+use Rattle.sshc_mux.specs.ChannelState.{Head, Flow, ChannelState, TableState, channel_of}
 
 -- the next number; after the last of a u32 it goes on at 0
 abbrev pub above : ℕ → ℕ
@@ -32,37 +32,33 @@ pub record IsNext (t : TableState) (n : ℕ) : Type 0 where
   pub free : channel_of n t.channels ≡ None
   pub taken : (k : ℕ) → k < steps → is_some (channel_of ((t.last + 1 + k) % 2 ^ 32) t.channels) ≡ true
 
-abbrev pub made : ChannelState → TableState → TableState
-made c t = record { channels = t.channels ++ c ∷ []; last = c.number }
+-- the next number, which no channel has
+pub record IsNew (t : TableState) (n : ℕ) : Type 0 where
+  pub next : next_number t ≡ Some n
+  pub free : channel_of n t.channels ≡ None
+
+-- the table with one channel more
+abbrev pub made_in : ChannelState → TableState → TableState
+made_in c t = record { channels = t.channels ++ c ∷ []; last = c.head.number }
+
+-- nothing waits, and no end was asked for
+abbrev pub new_flow : ℕ → Flow
+new_flow window = record { window = window; pending = []; eof = Unasked; close = Unasked }
 
 -- an open of ours, whose recipient and window are not known yet
 abbrev pub opened_by_user : ℕ → ℕ → ℕ → Option Ticket → ChannelState
 opened_by_user number window packet ticket = record {
-  number = number;
-  opener = User ticket;
-  established = false;
-  recipient = 0;
-  packet_size = packet;
+  head = record { number = number; opener = User ticket; established = false; recipient = 0; packet_size = packet };
   own_window = window;
-  window = 0;
-  pending = [];
-  eof = Unasked;
-  close = Unasked;
+  flow = new_flow 0;
 }
 
 -- an open of the peer's, which waits to be settled
 abbrev pub reserved_by_server : ℕ → ℕ → ℕ → ℕ → ℕ → ChannelState
 reserved_by_server number recipient window packet own = record {
-  number = number;
-  opener = Server;
-  established = false;
-  recipient = recipient;
-  packet_size = packet;
+  head = record { number = number; opener = Server; established = false; recipient = recipient; packet_size = packet };
   own_window = own;
-  window = window;
-  pending = [];
-  eof = Unasked;
-  close = Unasked;
+  flow = new_flow window;
 }
 
 -- the ticket of an open of ours
@@ -77,14 +73,20 @@ awaited_in false opener = ticket_in opener
 
 abbrev pub awaited_by : Option ChannelState → Option (Option Ticket)
 awaited_by None = None
-awaited_by (Some c) = awaited_in c.established c.opener
+awaited_by (Some c) = awaited_in c.head.established c.head.opener
 
 abbrev pub awaited : ℕ → TableState → Option (Option Ticket)
 awaited n t = awaited_by (channel_of n t.channels)
 
 -- the peer's number, window and packet size take their places
+abbrev pub confirmed_head : ℕ → ℕ → Head → Head
+confirmed_head recipient packet h = record h { established = true; recipient = recipient; packet_size = packet }
+
 abbrev pub confirmed : ℕ → ℕ → ℕ → ChannelState → ChannelState
-confirmed recipient window packet c = record c { established = true; recipient = recipient; window = window; packet_size = packet }
+confirmed recipient window packet c = record c {
+  head = confirmed_head recipient packet c.head;
+  flow = record c.flow { window = window };
+}
 
 -- an open of the peer's that waits to be settled
 abbrev pub is_by_server : Opener → Bool
@@ -92,8 +94,14 @@ is_by_server (User ticket) = false
 is_by_server Server = true
 
 abbrev pub is_reserved : ChannelState → Bool
-is_reserved c = not c.established && is_by_server c.opener
+is_reserved c = not c.head.established && is_by_server c.head.opener
 
 abbrev pub reserved_by : Option ChannelState → Bool
 reserved_by None = false
 reserved_by (Some c) = is_reserved c
+
+abbrev pub accepted_head : Head → Head
+accepted_head h = record h { established = true }
+
+abbrev pub accepted : ChannelState → ChannelState
+accepted c = record c { head = accepted_head c.head }

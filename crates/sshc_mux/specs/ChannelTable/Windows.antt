@@ -1,35 +1,45 @@
 -- Windows: what the peer grants, and what it uses of ours (RFC 4254, section 5.2).
-use Rattle.std.specs.Prelude.{ℕ, ◌+◌, ◌-◌, ◌/◌, ◌^◌, min, Bool, ◌&&◌, [], ◌∷◌, if◌then◌else◌, nat_lt}
-use Rattle.sshc_mux.specs.ChannelState.{ChannelState}
-use Rattle.sshc_mux.specs.Packets.{Adjust}
-use Rattle.sshc_mux.specs.ChannelTable.Sending.{Turn, flushed}
+use Rattle.std.specs.Prelude.{ℕ, ◌+◌, ◌-◌, ◌/◌, ◌^◌, min, Bool, ◌&&◌, List, [], ◌∷◌, if◌then◌else◌, nat_lt}
+use Rattle.sshc_mux.specs.ChannelState.{Head, Flow, ChannelState}
+use Rattle.sshc_mux.specs.Packets.{Packet, Adjust}
+use Rattle.sshc_mux.specs.ChannelTable.Sending.{FlowTurn, still, flushed}
 
--- the window after a grant, held at the last of a u32
-abbrev pub raised : ℕ → ChannelState → ChannelState
-raised amount c = record c { window = min (c.window + amount) (2 ^ 32 - 1) }
+-- what a grant adds to a window, which is held at the last of a u32
+abbrev pub held : ℕ → ℕ → ℕ
+held amount window = min amount (2 ^ 32 - 1 - window)
+
+-- the window after a grant
+abbrev pub raised : ℕ → Flow → Flow
+raised amount f = record f { window = f.window + held amount f.window }
 
 -- a grant, and then what it lets out
-abbrev pub grant_turn : ℕ → Bool → ChannelState → Turn
-grant_turn amount exchanging c = if c.established then flushed exchanging (raised amount c) else record { channel = c; packets = [] }
-
--- our window after bytes of the peer's
-abbrev pub lowered : ℕ → ChannelState → ChannelState
-lowered len c = record c { own_window = c.own_window - len }
+abbrev pub grant_flow : ℕ → Bool → Head → Flow → FlowTurn
+grant_flow amount exchanging h f = if h.established then flushed exchanging h (raised amount f) else still f
 
 -- our window fell below half of the target
-abbrev pub is_low : ℕ → ChannelState → Bool
-is_low target c = nat_lt c.own_window (target / 2)
+abbrev pub is_low : ℕ → ℕ → Bool
+is_low target left = nat_lt left (target / 2)
 
--- an adjust packet brings a low window back to the target
-abbrev pub refilled : ℕ → ChannelState → Turn
-refilled target c =
-    if is_low target c
-    then record { channel = record c { own_window = target }; packets = Adjust (target - c.own_window) ∷ [] }
-    else record { channel = c; packets = [] }
+-- a low window is brought back to the target
+abbrev pub refilled : ℕ → ℕ → ℕ
+refilled target left = if is_low target left then target else left
 
--- bytes of the peer's
-abbrev pub received_turn : ℕ → ℕ → ChannelState → Turn
-received_turn len target c = if c.established then refilled target (lowered len c) else record { channel = c; packets = [] }
+-- by so much, if at all
+abbrev pub adjust_of : ℕ → ℕ → List ℕ
+adjust_of target left = if is_low target left then (target - left) ∷ [] else []
 
+-- our window after bytes of the peer's
+abbrev pub used : ℕ → ℕ → ChannelState → ℕ
+used len target c = if c.head.established then refilled target (c.own_window - len) else c.own_window
+
+-- what bytes of the peer's bring back of our window
+abbrev pub returned : ℕ → ℕ → ChannelState → List ℕ
+returned len target c = if c.head.established then adjust_of target (c.own_window - len) else []
+
+abbrev pub adjust_packets : List ℕ → List Packet
+adjust_packets [] = []
+adjust_packets (amount ∷ amounts) = Adjust amount ∷ adjust_packets amounts
+
+-- bytes of the peer's bring an adjust packet
 abbrev pub adjusts : ℕ → ℕ → ChannelState → Bool
-adjusts len target c = c.established && is_low target (lowered len c)
+adjusts len target c = c.head.established && is_low target (c.own_window - len)

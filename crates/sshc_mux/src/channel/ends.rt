@@ -1,20 +1,23 @@
 //! What a channel takes to send, and its ends (RFC 4254, sections 5.2 and 5.3).
 
-ghost use Rattle.std.specs.Prelude.{◌≡◌, ◌==◌, if◌then◌else◌, length, [], true, false, IsOk, OnOk, OnErr};
-ghost use Rattle.sshc_mux.specs.ChannelTable.{Turned};
-ghost use Rattle.sshc_mux.specs.ChannelTable.Sending.{flushed};
-ghost use Rattle.sshc_mux.specs.ChannelTable.Ends.{takes, with_pending, data_turn, eof_turn, close_turn};
+ghost use Rattle.std.specs.Prelude.{◌≡◌, ◌<◌, ◌++◌, ◌&&◌, ◌==◌, not, length, [], true, false, IsOk, IfOk, OnOk, OnErr};
+ghost use Rattle.std.specs.VecDeque.{deque_len, deque_capacity};
+ghost use Rattle.sshc_wire.specs.Outgoing.{listed, shown};
+ghost use Rattle.sshc_mux.specs.Packets.{payloads};
+ghost use Rattle.sshc_mux.specs.ChannelTable.{Turned, last_packets, in_flow, data_turn, eof_turn, close_turn};
+ghost use Rattle.sshc_mux.specs.ChannelTable.Ends.{takes, waiting_of, flush_with};
 
 use crate::channel::Channel;
 use crate::chunk::{Chunk, Stream};
-use crate::packets::{push_all_reserved, push_pieces};
+use crate::packets::{close_record, push_pieces};
 use sshc_wire::{NoMemory, Outbox};
 use std::alloc::Global;
+use std::collections::VecDeque;
 
 impl Channel {
     /// Whether bytes are taken.
     fn takes(&self) -> bool
-        ensures { result ≡ takes self.now }
+        ensures { result ≡ takes self.now.flow }
     {
         self.eof.is_unasked() && self.close.is_unasked()
     }
@@ -29,7 +32,7 @@ impl Channel {
         out: &mut Outbox,
     ) -> Result<(), NoMemory>
         ensures turn { Turned (data_turn stream body.now exchanging self.old) self.old self.new out.old out.new result }
-        ensures succeeds { takes self.old ≡ false → IsOk result }
+        ensures succeeds { (takes self.old.flow && not (length body.now == 0)) ≡ false → IsOk result }
     {
         if !self.takes() || body.len() == 0 {
             return Ok(());
@@ -41,7 +44,7 @@ impl Channel {
         }
     }
 
-    /// Takes bytes where none wait: what there is room for is sent from where it stands, and only the rest is copied.
+    /// Takes bytes where none wait: what there is room for is sent from where it is, and only the rest is copied.
     fn send_front(
         &mut self,
         alloc: Global,
@@ -50,9 +53,10 @@ impl Channel {
         exchanging: bool,
         out: &mut Outbox,
     ) -> Result<(), NoMemory>
-        requires taken { takes self.old ≡ true }
-        requires alone { self.old.pending ≡ [] }
-        ensures { Turned (flushed exchanging (with_pending stream body.now self.old)) self.old self.new out.old out.new result }
+        requires taken { takes self.old.flow ≡ true }
+        requires alone { self.old.flow.pending ≡ [] }
+        ensures { Turned (in_flow (flush_with stream body.now exchanging) self.old)
+            self.old self.new out.old out.new result }
     {
         let room = self.room(exchanging);
         let (front, rest) = body.split_at(body.len().min(room as usize));
@@ -65,9 +69,10 @@ impl Channel {
             front,
             &mut said,
         )?;
-        out.reserve(said.len())?;
-        self.keep(alloc, stream, rest)?;
-        push_all_reserved(said, out);
+        let waiting = waiting_of(alloc, stream, rest)?;
+        self.pending.reserve(1)?;
+        out.push_all(said)?;
+        keep(&mut self.pending, waiting);
         self.window -= front.len() as u32;
         Ok(())
     }
@@ -81,7 +86,8 @@ impl Channel {
         exchanging: bool,
         out: &mut Outbox,
     ) -> Result<(), NoMemory>
-        ensures { Turned (flushed exchanging (with_pending stream body.now self.old)) self.old self.new out.old out.new result }
+        ensures { Turned (in_flow (flush_with stream body.now exchanging) self.old)
+            self.old self.new out.old out.new result }
     {
         self.pending.push_back(Chunk::new(alloc, stream, body)?)?;
         match self.flush(alloc, exchanging, out) {
@@ -93,20 +99,10 @@ impl Channel {
         }
     }
 
-    /// Lets bytes wait, or changes nothing. No bytes are nothing.
-    fn keep(&mut self, alloc: Global, stream: Stream, rest: &[u8]) -> Result<(), NoMemory>
-        ensures ok { OnOk result (self.new ≡ (if length rest.now == 0 then self.old else with_pending stream rest.now self.old)) }
-        ensures err { OnErr result (self.new ≡ self.old) }
-    {
-        if rest.len() > 0 {
-            self.pending.push_back(Chunk::new(alloc, stream, rest)?)?;
-        }
-        Ok(())
-    }
-
     /// Asks for EOF, and sends it where no bytes wait.
     pub(crate) fn ask_eof(&mut self, alloc: Global, out: &mut Outbox) -> Result<(), NoMemory>
-        ensures { Turned (eof_turn self.old) self.old self.new out.old out.new result }
+        ensures turn { Turned (eof_turn self.old) self.old self.new out.old out.new result }
+        ensures succeeds { (eof_turn self.old).packets ≡ [] → IsOk result }
     {
         let before = self.eof;
         if !self.close.is_sent() {
@@ -123,7 +119,8 @@ impl Channel {
 
     /// Asks for our close, and sends it where no bytes wait.
     pub(crate) fn ask_close(&mut self, alloc: Global, out: &mut Outbox) -> Result<(), NoMemory>
-        ensures { Turned (close_turn self.old) self.old self.new out.old out.new result }
+        ensures turn { Turned (close_turn self.old) self.old self.new out.old out.new result }
+        ensures succeeds { (close_turn self.old).packets ≡ [] → IsOk result }
     {
         let before = self.close;
         self.close = before.asked();
@@ -134,5 +131,39 @@ impl Channel {
                 Err(error)
             }
         }
+    }
+
+    /// Answers the peer's close by ours, unless that was sent.
+    pub(crate) fn push_last(&self, alloc: Global, out: &mut Outbox) -> Result<(), NoMemory>
+        ensures ok { OnOk result (out.new.records ≡ out.old.records
+            ++ shown out.old.muted (payloads self.now.head.recipient (last_packets self.now))) }
+        ensures err { OnErr result (out.new.records ≡ out.old.records) }
+        ensures succeeds { last_packets self.now ≡ [] → IsOk result }
+        ensures same { out.new.muted ≡ out.old.muted }
+    {
+        if self.close.is_sent() {
+            return Ok(());
+        }
+        out.push(close_record(alloc, self.recipient)?)
+    }
+}
+
+/// The bytes as what waits of them. No bytes are nothing.
+fn waiting_of(alloc: Global, stream: Stream, rest: &[u8]) -> Result<Option<Chunk>, NoMemory>
+    ensures { IfOk result (λ w. listed w ≡ waiting_of stream rest.now) }
+{
+    if rest.len() == 0 {
+        return Ok(None);
+    }
+    Ok(Some(Chunk::new(alloc, stream, rest)?))
+}
+
+/// Lets bytes wait, if there are any, for which there is room.
+fn keep(pending: &mut VecDeque<Chunk>, waiting: Option<Chunk>)
+    requires { deque_len pending.old < deque_capacity pending.old }
+    ensures { pending.new.items ≡ pending.old.items ++ listed waiting }
+{
+    if let Some(chunk) = waiting {
+        pending.push_back_reserved(chunk);
     }
 }

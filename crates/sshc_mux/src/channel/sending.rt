@@ -1,12 +1,12 @@
 //! What a channel sends: its waiting bytes, and then what is due behind them (RFC 4254, sections 5.2 and 5.3).
 
-ghost use Rattle.std.specs.Prelude.{◌≡◌, ◌<◌, ◌≤◌, ◌++◌, [], ◌&&◌, if◌then◌else◌, OnOk};
+ghost use Rattle.std.specs.Prelude.{◌≡◌, ◌<◌, ◌≤◌, ◌++◌, [], ◌&&◌, if◌then◌else◌, OnOk, IsOk};
 ghost use Rattle.sshc_mux.specs.Packets.{payloads, Eof, Close};
-ghost use Rattle.sshc_mux.specs.ChannelTable.{Turned};
+ghost use Rattle.sshc_mux.specs.ChannelTable.{Turned, in_flow};
 ghost use Rattle.sshc_mux.specs.ChannelTable.Sending.{room_of, emptied, ended, flushed, due_of};
 
 use crate::channel::Channel;
-use crate::packets::{close_record, eof_record, push_all};
+use crate::packets::{close_record, eof_record, push_said};
 use crate::waiting::{drop_sent, push_sent};
 use sshc_wire::{NoMemory, Outbox, Record};
 use std::alloc::Global;
@@ -14,9 +14,9 @@ use std::alloc::Global;
 impl Channel {
     /// For how many bytes there is room now.
     pub(super) fn room(&self, exchanging: bool) -> u32
-        ensures room { result ≡ room_of exchanging self.now }
-        ensures within { result ≤ self.now.window }
-        ensures size { 0 < result → 0 < self.now.packet_size }
+        ensures room { result ≡ room_of exchanging self.now.head self.now.flow }
+        ensures within { result ≤ self.now.flow.window }
+        ensures size { 0 < result → 0 < self.now.head.packet_size }
     {
         if self.is_established && !exchanging && self.packet_size > 0 {
             self.window
@@ -25,15 +25,16 @@ impl Channel {
         }
     }
 
-    /// Says the ends that are due, unless bytes wait.
+    /// Adds the ends that are due, unless bytes wait.
     fn push_ends(
         &self,
         alloc: Global,
         is_empty: bool,
         said: &mut Vec<Record>,
     ) -> Result<(), NoMemory>
-        ensures { OnOk result (said.new.items ≡ said.old.items ++ payloads self.now.recipient
-            (if self.now.established && is_empty then due_of self.now else [])) }
+        ensures said { OnOk result (said.new.items ≡ said.old.items ++ payloads self.now.head.recipient
+            (if self.now.head.established && is_empty then due_of self.now.flow else [])) }
+        ensures succeeds { (if self.now.head.established && is_empty then due_of self.now.flow else []) ≡ [] → IsOk result }
     {
         if !self.is_established || !is_empty {
             return Ok(());
@@ -47,14 +48,16 @@ impl Channel {
         Ok(())
     }
 
-    /// Says what the channel may send now.
+    /// Adds what the channel may send now.
     pub(crate) fn push_flushed(
         &self,
         alloc: Global,
         exchanging: bool,
         said: &mut Vec<Record>,
     ) -> Result<(), NoMemory>
-        ensures { OnOk result (said.new.items ≡ said.old.items ++ payloads self.now.recipient (flushed exchanging self.now).packets) }
+        ensures said { OnOk result (said.new.items ≡ said.old.items
+            ++ payloads self.now.head.recipient (flushed exchanging self.now.head self.now.flow).packets) }
+        ensures succeeds { (flushed exchanging self.now.head self.now.flow).packets ≡ [] → IsOk result }
     {
         let room = self.room(exchanging);
         let is_empty = push_sent(
@@ -71,8 +74,8 @@ impl Channel {
 
     /// Lets the bytes go that there is room for.
     fn empty(&mut self, room: u32)
-        requires { room ≤ self.old.window }
-        ensures { self.new ≡ emptied room self.old }
+        requires { room ≤ self.old.flow.window }
+        ensures { self.new ≡ record self.old { flow = emptied room self.old.flow } }
     {
         let left = drop_sent(&mut self.pending, room as usize);
         self.window -= room - left as u32;
@@ -80,7 +83,7 @@ impl Channel {
 
     /// Counts the ends as sent that are due, unless bytes wait.
     fn end(&mut self)
-        ensures { self.new ≡ ended self.old }
+        ensures { self.new ≡ record self.old { flow = ended self.old.head self.old.flow } }
     {
         if self.is_established && self.pending.len() == 0 {
             self.eof = self.eof.done();
@@ -91,7 +94,7 @@ impl Channel {
     /// Counts as sent what the channel may send now.
     #[tactic(auto, unfolding(crate::specs::ChannelTable::Sending::flushed))]
     pub(crate) fn count_flushed(&mut self, exchanging: bool)
-        ensures { self.new ≡ (flushed exchanging self.old).channel }
+        ensures { self.new ≡ (in_flow (flushed exchanging) self.old).channel }
     {
         let room = self.room(exchanging);
         self.empty(room);
@@ -105,11 +108,12 @@ impl Channel {
         exchanging: bool,
         out: &mut Outbox,
     ) -> Result<(), NoMemory>
-        ensures { Turned (flushed exchanging self.old) self.old self.new out.old out.new result }
+        ensures turn { Turned (in_flow (flushed exchanging) self.old) self.old self.new out.old out.new result }
+        ensures succeeds { (flushed exchanging self.old.head self.old.flow).packets ≡ [] → IsOk result }
     {
         let mut said = Vec::new(alloc);
         self.push_flushed(alloc, exchanging, &mut said)?;
-        push_all(said, out)?;
+        push_said(out, said)?;
         self.count_flushed(exchanging);
         Ok(())
     }

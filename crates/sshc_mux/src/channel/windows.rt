@@ -1,8 +1,8 @@
 //! A channel's windows (RFC 4254, section 5.2).
 
-ghost use Rattle.std.specs.Prelude.{◌≡◌, [], false, IfOk, IsOk};
-ghost use Rattle.sshc_mux.specs.ChannelTable.{Turned};
-ghost use Rattle.sshc_mux.specs.ChannelTable.Windows.{grant_turn, received_turn, adjusts};
+ghost use Rattle.std.specs.Prelude.{◌≡◌, [], false, IfOk, IsOk, Some};
+ghost use Rattle.sshc_mux.specs.ChannelTable.{Turned, grant_turn, received_turn, granted_in};
+ghost use Rattle.sshc_mux.specs.ChannelTable.Windows.{adjusts};
 
 use crate::channel::Channel;
 use crate::packets::adjust_record;
@@ -10,23 +10,26 @@ use sshc_wire::{NoMemory, Outbox};
 use std::alloc::Global;
 
 impl Channel {
-    /// Takes a grant of the peer's, and sends what may be sent then.
+    /// Takes a grant of the peer's, and sends what may be sent then. Returns the window that is then left, or none where the
+    /// channel isn't established.
     pub(crate) fn grant(
         &mut self,
         alloc: Global,
         amount: u32,
         exchanging: bool,
         out: &mut Outbox,
-    ) -> Result<(), NoMemory>
-        ensures { Turned (grant_turn amount exchanging self.old) self.old self.new out.old out.new result }
+    ) -> Result<Option<u32>, NoMemory>
+        ensures turn { Turned (grant_turn amount exchanging self.old) self.old self.new out.old out.new result }
+        ensures answer { IfOk result (λ left. left ≡ granted_in (Some self.old) amount exchanging) }
+        ensures succeeds { (grant_turn amount exchanging self.old).packets ≡ [] → IsOk result }
     {
         if !self.is_established {
-            return Ok(());
+            return Ok(None);
         }
         let before = self.window;
         self.window = before.saturating_add(amount);
         match self.flush(alloc, exchanging, out) {
-            Ok(()) => Ok(()),
+            Ok(()) => Ok(Some(self.window)),
             Err(error) => {
                 self.window = before;
                 Err(error)
@@ -34,7 +37,7 @@ impl Channel {
         }
     }
 
-    /// Counts bytes of the peer's, and brings a low window back to the target. Answers whether it wrote an adjust packet.
+    /// Counts bytes of the peer's, and brings a low window back to the target. Returns whether it wrote an adjust packet.
     pub(crate) fn receive(
         &mut self,
         alloc: Global,

@@ -1,61 +1,74 @@
 //! EOF and close, ours and the peer's (RFC 4254, section 5.3).
 
-ghost use Rattle.std.specs.Prelude.{◌≡◌, IfOk, IsOk, None, false};
+ghost use Rattle.std.specs.Prelude.{◌≡◌, OnOk, IfOk, IsOk, None, false};
 ghost use Rattle.sshc_mux.specs.ChannelState.{channel_of};
-ghost use Rattle.sshc_mux.specs.ChannelAccount.{called, AskEof, AskClose, PeerClose};
-ghost use Rattle.sshc_mux.specs.ChannelTable.{Did, is_established};
+ghost use Rattle.sshc_mux.specs.ChannelAccount.{called, Did, DidItsPart, WritesNothing, AskEof, AskClose, PeerClose};
+ghost use Rattle.sshc_mux.specs.ChannelTable.{is_established};
 
-use crate::packets::close_record;
-use crate::table::{ChannelId, ChannelTable, place};
+use crate::table::{ChannelId, ChannelTable, place, recounted, remove};
 use sshc_wire::{NoMemory, Outbox};
 
 impl ChannelTable {
     /// Asks for EOF, which is sent once, behind all bytes that were taken.
+    #[tactic(auto, using(crate::proofs::LegalLemmas::did_part))]
     pub fn eof(&mut self, id: ChannelId, out: &mut Outbox) -> Result<(), NoMemory>
-        ensures did { Did (called (AskEof id.0) self.old) self.old self.new out.old out.new result }
-        ensures succeeds { channel_of id.0 self.old.channels ≡ None → IsOk result }
+        ensures did { Did (AskEof id.0) self.old self.new out.old out.new result }
+        ensures part { OnOk result (DidItsPart (AskEof id.0) self.old self.new) }
+        ensures succeeds { WritesNothing (AskEof id.0) self.old → IsOk result }
     {
         let alloc = self.alloc;
-        match place(self.channels.as_slice(), &self.listed, id.0) {
-            Some(at) => {
-                let channel = &mut self.channels[at];
-                channel.ask_eof(alloc, out)
-            }
-            None => Ok(()),
-        }
+        let Some(at) = place(self.slots.as_slice(), &self.index, id.0) else {
+            return Ok(());
+        };
+        let Some(channel) = &mut self.slots[at] else {
+            return Ok(());
+        };
+        let waited = channel.waits();
+        let result = channel.ask_eof(alloc, out);
+        self.waiting = recounted(self.waiting, waited, channel.waits());
+        result
     }
 
     /// Asks for our close, which is sent once, behind all bytes that were taken and EOF.
+    #[tactic(auto, using(crate::proofs::LegalLemmas::did_part))]
     pub fn close_own(&mut self, id: ChannelId, out: &mut Outbox) -> Result<(), NoMemory>
-        ensures did { Did (called (AskClose id.0) self.old) self.old self.new out.old out.new result }
-        ensures succeeds { channel_of id.0 self.old.channels ≡ None → IsOk result }
+        ensures did { Did (AskClose id.0) self.old self.new out.old out.new result }
+        ensures part { OnOk result (DidItsPart (AskClose id.0) self.old self.new) }
+        ensures succeeds { WritesNothing (AskClose id.0) self.old → IsOk result }
     {
         let alloc = self.alloc;
-        match place(self.channels.as_slice(), &self.listed, id.0) {
-            Some(at) => {
-                let channel = &mut self.channels[at];
-                channel.ask_close(alloc, out)
-            }
-            None => Ok(()),
-        }
+        let Some(at) = place(self.slots.as_slice(), &self.index, id.0) else {
+            return Ok(());
+        };
+        let Some(channel) = &mut self.slots[at] else {
+            return Ok(());
+        };
+        let waited = channel.waits();
+        let result = channel.ask_close(alloc, out);
+        self.waiting = recounted(self.waiting, waited, channel.waits());
+        result
     }
 
     /// The peer's close, which is answered by ours and takes the channel away. False where it isn't established.
+    #[tactic(auto, using(crate::proofs::LegalLemmas::did_part))]
     pub fn close_peer(&mut self, id: ChannelId, out: &mut Outbox) -> Result<bool, NoMemory>
-        ensures closed { Did (called (PeerClose id.0) self.old) self.old self.new out.old out.new result }
+        ensures closed { Did (PeerClose id.0) self.old self.new out.old out.new result }
+        ensures part { OnOk result (DidItsPart (PeerClose id.0) self.old self.new) }
         ensures answer { IfOk result (λ known. known ≡ is_established id.0 self.old) }
-        ensures succeeds { is_established id.0 self.old ≡ false → IsOk result }
+        ensures succeeds { WritesNothing (PeerClose id.0) self.old → IsOk result }
     {
-        match place(self.channels.as_slice(), &self.listed, id.0) {
-            Some(at) if self.channels[at].is_established() => {
-                if !self.channels[at].is_close_sent() {
-                    out.push(close_record(self.alloc, self.channels[at].recipient())?)?;
-                }
-                let _ = self.channels.remove(at);
-                let _ = self.listed.shift_remove_index(at);
-                Ok(true)
-            }
-            _ => Ok(false),
+        let Some(at) = place(self.slots.as_slice(), &self.index, id.0) else {
+            return Ok(false);
+        };
+        let Some(channel) = &self.slots[at] else {
+            return Ok(false);
+        };
+        if !channel.is_established() {
+            return Ok(false);
         }
+        channel.push_last(self.alloc, out)?;
+        self.waiting = recounted(self.waiting, channel.waits(), false);
+        remove(&mut self.slots, &mut self.index, id.0, at);
+        Ok(true)
     }
 }

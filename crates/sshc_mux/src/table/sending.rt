@@ -1,13 +1,14 @@
 //! Data, and the flush of all channels (RFC 4254, section 5.2).
 
-ghost use Rattle.std.specs.Prelude.{◌≡◌, ◌++◌, OnOk, IsOk, false};
-ghost use Rattle.sshc_mux.specs.ChannelAccount.{called, Bytes, FlushAll};
-ghost use Rattle.sshc_mux.specs.ChannelTable.{Did, all_flushed, all_said, records_of, takes_at};
+ghost use Rattle.std.specs.Prelude.{◌≡◌, ◌&&◌, ◌==◌, not, length, [], ◌∷◌, ◌++◌, map, OnOk, IsOk, false};
+ghost use Rattle.sshc_mux.specs.ChannelAccount.{called, Did, DidItsPart, WritesNothing, Bytes, FlushAll};
+ghost use Rattle.sshc_mux.specs.ChannelTable.{all_said, any_waits, records_of, takes_at};
+ghost use Rattle.sshc_mux.specs.Places.{present, flushed_slot, waiting_of};
 
 use crate::channel::Channel;
 use crate::chunk::Stream;
-use crate::packets::push_all;
-use crate::table::{ChannelId, ChannelTable, place};
+use crate::packets::push_said;
+use crate::table::{ChannelId, ChannelTable, place, recounted};
 use sshc_wire::{NoMemory, Outbox, Record};
 use std::alloc::Global;
 
@@ -20,8 +21,9 @@ impl ChannelTable {
         exchanging: bool,
         out: &mut Outbox,
     ) -> Result<(), NoMemory>
-        ensures did { Did (called (Bytes id.0 Stream.Data body.now exchanging) self.old) self.old self.new out.old out.new result }
-        ensures succeeds { takes_at id.0 self.old ≡ false → IsOk result }
+        ensures did { Did (Bytes id.0 Stream.Data body.now exchanging) self.old self.new out.old out.new result }
+        ensures part { OnOk result (DidItsPart (Bytes id.0 Stream.Data body.now exchanging) self.old self.new) }
+        ensures succeeds { (takes_at id.0 self.old && not (length body.now == 0)) ≡ false → IsOk result }
     {
         self.take(id, Stream::Data, body, exchanging, out)
     }
@@ -35,12 +37,14 @@ impl ChannelTable {
         exchanging: bool,
         out: &mut Outbox,
     ) -> Result<(), NoMemory>
-        ensures did { Did (called (Bytes id.0 (Stream.Extended ext) body.now exchanging) self.old) self.old self.new out.old out.new result }
-        ensures succeeds { takes_at id.0 self.old ≡ false → IsOk result }
+        ensures did { Did (Bytes id.0 (Stream.Extended ext) body.now exchanging) self.old self.new out.old out.new result }
+        ensures part { OnOk result (DidItsPart (Bytes id.0 (Stream.Extended ext) body.now exchanging) self.old self.new) }
+        ensures succeeds { (takes_at id.0 self.old && not (length body.now == 0)) ≡ false → IsOk result }
     {
         self.take(id, Stream::Extended(ext), body, exchanging, out)
     }
 
+    #[tactic(auto, using(crate::proofs::LegalLemmas::did_part))]
     fn take(
         &mut self,
         id: ChannelId,
@@ -49,52 +53,91 @@ impl ChannelTable {
         exchanging: bool,
         out: &mut Outbox,
     ) -> Result<(), NoMemory>
-        ensures did { Did (called (Bytes id.0 stream body.now exchanging) self.old) self.old self.new out.old out.new result }
-        ensures succeeds { takes_at id.0 self.old ≡ false → IsOk result }
+        ensures did { Did (Bytes id.0 stream body.now exchanging) self.old self.new out.old out.new result }
+        ensures part { OnOk result (DidItsPart (Bytes id.0 stream body.now exchanging) self.old self.new) }
+        ensures succeeds { (takes_at id.0 self.old && not (length body.now == 0)) ≡ false → IsOk result }
     {
         let alloc = self.alloc;
-        match place(self.channels.as_slice(), &self.listed, id.0) {
-            Some(at) => {
-                let channel = &mut self.channels[at];
-                channel.data(alloc, stream, body, exchanging, out)
-            }
-            None => Ok(()),
-        }
+        let Some(at) = place(self.slots.as_slice(), &self.index, id.0) else {
+            return Ok(());
+        };
+        let Some(channel) = &mut self.slots[at] else {
+            return Ok(());
+        };
+        let waited = channel.waits();
+        let result = channel.data(alloc, stream, body, exchanging, out);
+        self.waiting = recounted(self.waiting, waited, channel.waits());
+        result
     }
 
     /// Sends what may be sent on each channel, after an exchange.
+    #[tactic(auto, using(crate::proofs::LegalLemmas::did_part))]
     pub fn flush_all(&mut self, out: &mut Outbox) -> Result<(), NoMemory>
-        ensures { Did (called FlushAll self.old) self.old self.new out.old out.new result }
+        ensures did { Did FlushAll self.old self.new out.old out.new result }
+        ensures part { OnOk result (DidItsPart FlushAll self.old self.new) }
+        ensures succeeds { WritesNothing FlushAll self.old → IsOk result }
     {
         let mut said = Vec::new(self.alloc);
-        push_flushed(self.alloc, self.channels.as_slice(), &mut said)?;
-        push_all(said, out)?;
-        count_all_flushed(&mut self.channels);
+        push_flushed(self.alloc, self.slots.as_slice(), &mut said)?;
+        push_said(out, said)?;
+        self.waiting = count_all_flushed(&mut self.slots);
         Ok(())
     }
 }
 
-/// Says what each channel may send now.
-fn push_flushed(alloc: Global, channels: &[Channel], said: &mut Vec<Record>) -> Result<(), NoMemory>
-    ensures { OnOk result (said.new.items ≡ said.old.items ++ records_of (all_said channels.now)) }
+/// Adds what each channel may send now.
+fn push_flushed(
+    alloc: Global,
+    slots: &[Option<Channel>],
+    said: &mut Vec<Record>,
+) -> Result<(), NoMemory>
+    ensures said { OnOk result (said.new.items ≡ said.old.items ++ records_of (all_said (present slots.now))) }
+    ensures succeeds { all_said (present slots.now) ≡ [] → IsOk result }
 {
-    for channel in channels {
-        channel.push_flushed(alloc, false, said)?;
+    for slot in slots {
+        push_slot(alloc, slot, said)?;
     }
     Ok(())
 }
 
-/// Counts as sent what each channel may send now.
-fn count_all_flushed(channels: &mut Vec<Channel>)
-    ensures { channels.new.items ≡ all_flushed channels.old.items }
+fn push_slot(alloc: Global, slot: &Option<Channel>, said: &mut Vec<Record>) -> Result<(), NoMemory>
+    ensures said { OnOk result (said.new.items ≡ said.old.items ++ records_of (all_said (present (slot.now ∷ [])))) }
+    ensures succeeds { all_said (present (slot.now ∷ [])) ≡ [] → IsOk result }
 {
-    count_flushed(channels.as_mut_slice());
+    match slot {
+        Some(channel) => channel.push_flushed(alloc, false, said),
+        None => Ok(()),
+    }
 }
 
-fn count_flushed(channels: &mut [Channel])
-    ensures { channels.new ≡ all_flushed channels.old }
+/// Counts as sent what each channel may send now. Returns on how many channels bytes wait then.
+fn count_all_flushed(slots: &mut Vec<Option<Channel>>) -> usize
+    ensures flushed { slots.new.items ≡ map flushed_slot slots.old.items }
+    ensures waiting { result ≡ waiting_of (present slots.new.items) }
 {
-    for channel in channels.iter_mut() {
-        channel.count_flushed(false);
+    count_flushed(slots.as_mut_slice())
+}
+
+fn count_flushed(slots: &mut [Option<Channel>]) -> usize
+    ensures flushed { slots.new ≡ map flushed_slot slots.old }
+    ensures waiting { result ≡ waiting_of (present slots.new) }
+{
+    let mut waiting = 0;
+    for slot in slots.iter_mut() {
+        waiting += usize::from(count_slot(slot));
+    }
+    waiting
+}
+
+fn count_slot(slot: &mut Option<Channel>) -> bool
+    ensures flushed { slot.new ≡ flushed_slot slot.old }
+    ensures waits { result ≡ any_waits (present (slot.new ∷ [])) }
+{
+    match slot {
+        Some(channel) => {
+            channel.count_flushed(false);
+            channel.waits()
+        }
+        None => false,
     }
 }

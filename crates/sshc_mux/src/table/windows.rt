@@ -1,14 +1,15 @@
 //! Grants of the peer's, and what it uses of our windows (RFC 4254, section 5.2).
 
-ghost use Rattle.std.specs.Prelude.{◌≡◌, IfOk, IsOk, false};
-ghost use Rattle.sshc_mux.specs.ChannelAccount.{called, Grant, Received};
-ghost use Rattle.sshc_mux.specs.ChannelTable.{Did, is_established, granted_at, adjusted_at};
+ghost use Rattle.std.specs.Prelude.{◌≡◌, OnOk, IfOk, IsOk, false};
+ghost use Rattle.sshc_mux.specs.ChannelAccount.{called, Did, DidItsPart, WritesNothing, Grant, Received};
+ghost use Rattle.sshc_mux.specs.ChannelTable.{is_established, granted_at, adjusted_at};
 
-use crate::table::{ChannelId, ChannelTable, place};
+use crate::table::{ChannelId, ChannelTable, place, recounted};
 use sshc_wire::{NoMemory, Outbox};
 
 impl ChannelTable {
-    /// A grant of the peer's. Answers the window that is then left, or none where the channel isn't established.
+    /// A grant of the peer's. Returns the window that is then left, or none where the channel isn't established.
+    #[tactic(auto, using(crate::proofs::LegalLemmas::did_part))]
     pub fn grant(
         &mut self,
         id: ChannelId,
@@ -16,22 +17,26 @@ impl ChannelTable {
         exchanging: bool,
         out: &mut Outbox,
     ) -> Result<Option<u32>, NoMemory>
-        ensures granted { Did (called (Grant id.0 amount exchanging) self.old) self.old self.new out.old out.new result }
+        ensures granted { Did (Grant id.0 amount exchanging) self.old self.new out.old out.new result }
+        ensures part { OnOk result (DidItsPart (Grant id.0 amount exchanging) self.old self.new) }
         ensures answer { IfOk result (λ left. left ≡ granted_at id.0 amount exchanging self.old) }
-        ensures succeeds { is_established id.0 self.old ≡ false → IsOk result }
+        ensures succeeds { WritesNothing (Grant id.0 amount exchanging) self.old → IsOk result }
     {
         let alloc = self.alloc;
-        match place(self.channels.as_slice(), &self.listed, id.0) {
-            Some(at) if self.channels[at].is_established() => {
-                let channel = &mut self.channels[at];
-                channel.grant(alloc, amount, exchanging, out)?;
-                Ok(Some(channel.window()))
-            }
-            _ => Ok(None),
-        }
+        let Some(at) = place(self.slots.as_slice(), &self.index, id.0) else {
+            return Ok(None);
+        };
+        let Some(channel) = &mut self.slots[at] else {
+            return Ok(None);
+        };
+        let waited = channel.waits();
+        let left = channel.grant(alloc, amount, exchanging, out);
+        self.waiting = recounted(self.waiting, waited, channel.waits());
+        left
     }
 
-    /// Bytes of the peer's, which use up our window. Answers whether an adjust packet was written.
+    /// Bytes of the peer's, which use up our window. Returns whether an adjust packet was written.
+    #[tactic(auto, using(crate::proofs::LegalLemmas::did_part))]
     pub fn received(
         &mut self,
         id: ChannelId,
@@ -39,17 +44,18 @@ impl ChannelTable {
         target: u32,
         out: &mut Outbox,
     ) -> Result<bool, NoMemory>
-        ensures received { Did (called (Received id.0 len target) self.old) self.old self.new out.old out.new result }
+        ensures received { Did (Received id.0 len target) self.old self.new out.old out.new result }
+        ensures part { OnOk result (DidItsPart (Received id.0 len target) self.old self.new) }
         ensures answer { IfOk result (λ wrote. wrote ≡ adjusted_at id.0 len target self.old) }
-        ensures succeeds { adjusted_at id.0 len target self.old ≡ false → IsOk result }
+        ensures succeeds { WritesNothing (Received id.0 len target) self.old → IsOk result }
     {
         let alloc = self.alloc;
-        match place(self.channels.as_slice(), &self.listed, id.0) {
-            Some(at) => {
-                let channel = &mut self.channels[at];
-                channel.receive(alloc, len, target, out)
-            }
-            None => Ok(false),
-        }
+        let Some(at) = place(self.slots.as_slice(), &self.index, id.0) else {
+            return Ok(false);
+        };
+        let Some(channel) = &mut self.slots[at] else {
+            return Ok(false);
+        };
+        channel.receive(alloc, len, target, out)
     }
 }

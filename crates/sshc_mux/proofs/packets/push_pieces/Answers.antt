@@ -1,4 +1,4 @@
-use Rattle.std.proofs.Common.{arith, rules, ◌<◌, length}
+use Rattle.std.proofs.Common.{arith, rules, ◌<◌, length, ap}
 use Rattle.sshc_mux.proofs.PieceLemmas.{piece_more, pieces_done}
 use Rattle.sshc_mux.proofs.packets.push_pieces.Goals as goal
 
@@ -7,8 +7,15 @@ loop-rest-preserved c =
     let more : 0 < length c.loop-rest.rest.now = omega arith in
     record {
       size = λ _. c.loop-rest.invariant.size more;
+      none = λ empty. absurd (omega (arith, more, ap length (c.loop-rest.invariant.none empty)));
       said = piece_more _ _ _ _ _ _ _ _ _ _ more c.loop-rest.invariant.size (search rules) c.split_at.ensures.front c.split_at.ensures.back (search rules) c.loop-rest.invariant.said;
     }
 
-pub returns : goal.returns
-returns c = pieces_done _ _ _ _ _ _ (omega arith) c.loop-rest.invariant.said
+pub returns-in_err-piece_record-clause-succeeds : goal.returns-in_err-piece_record-clause-succeeds
+returns-in_err-piece_record-clause-succeeds c = λ empty. absurd (omega (arith, c.loop-rest-test.true, ap length (c.loop-rest.invariant.none empty)))
+
+pub returns-in_err-push-clause-succeeds : goal.returns-in_err-push-clause-succeeds
+returns-in_err-push-clause-succeeds c = λ empty. absurd (omega (arith, c.loop-rest-test.true, ap length (c.loop-rest.invariant.none empty)))
+
+pub returns-clause-said : goal.returns-clause-said
+returns-clause-said c = pieces_done _ _ _ _ _ _ (omega arith) c.loop-rest.invariant.said

@@ -1,4 +1,4 @@
-use Rattle.std.proofs.Common.{◌≡◌, ◌++◌, ◌<◌, length}
+use Rattle.std.proofs.Common.{◌≡◌, [], ◌++◌, ◌<◌, length}
 use Rattle.sshc_mux.specs.Packets.{payloads}
 use Rattle.sshc_mux.specs.ChannelTable.Sending.{cut, pieces_of}
 use Rattle.sshc_mux.proofs.packets.push_pieces.Given as goal
@@ -7,6 +7,7 @@ abbrev pub invariant-loop-rest : goal.invariant-loop-rest
 invariant-loop-rest l =
     record {
       size : 0 < length l.rest → 0 < l.size;
+      none : l.part ≡ [] → l.rest ≡ [];
       said : l.said.items ++ payloads l.recipient (pieces_of l.stream (cut l.size l.rest)) ≡ l.initial.said.items ++ payloads l.recipient (pieces_of l.stream (cut l.size l.part));
     }
 

@@ -1,6 +1,15 @@
-use Rattle.sshc_mux.proofs.FlushLemmas.{flushed_said}
+use Rattle.std.proofs.Common.{◌≡◌, true, false}
+use Rattle.sshc_mux.proofs.FlushLemmas.{flushed_said, no_bytes_go, no_ends_go}
 use Rattle.sshc_mux.proofs.channel.Channel.push_flushed.Goals as goal
 
-pub returns : goal.returns
-returns c =
-    flushed_said _ _ _ _ _ _ _ c.room-room.ensures.room (rw (← c.self.view_is) c.in_ok-is_empty.ensures.said) (rw (← c.self.view_is) c.in_ok-is_empty.ensures.all) c.in_ok-push_ends.ensures
+pub returns-clause-said : goal.returns-clause-said
+returns-clause-said c =
+    flushed_said _ _ _ _ _ _ _ _ c.room-room.ensures.room (rw (← c.self.view_is) c.in_ok-is_empty.ensures.said) (rw (← c.self.view_is) c.in_ok-is_empty.ensures.all) c.in_ok-push_ends.ensures.said
+
+pub returns-in_err-is_empty-clause-succeeds : goal.returns-in_err-is_empty-clause-succeeds
+returns-in_err-is_empty-clause-succeeds c =
+    λ none. let no : false ≡ true = c.in_err-is_empty.ensures.succeeds (rw (← c.self.view_is) at (no_bytes_go _ _ _ _ c.room-room.ensures.room none)) in absurd (cc)
+
+pub returns-in_err-push_ends-clause-succeeds : goal.returns-in_err-push_ends-clause-succeeds
+returns-in_err-push_ends-clause-succeeds c =
+    λ none. let no : false ≡ true = c.in_err-push_ends.ensures.succeeds (no_ends_go _ _ _ _ _ c.room-room.ensures.room (rw (← c.self.view_is) c.in_ok-is_empty.ensures.all) none) in absurd (cc)

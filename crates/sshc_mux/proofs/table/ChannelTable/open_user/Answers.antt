@@ -1,7 +1,23 @@
-use Rattle.std.proofs.Common.{refl}
-use Rattle.sshc_mux.proofs.ListedLemmas.{listed_push}
+use Rattle.std.proofs.Common.{◌≡◌, ℕ, Option, Some, ap, sym, ◌∙◌}
+use Rattle.sshc_mux.specs.ChannelTable.Opens.{next_number, opened_by_user}
+use Rattle.sshc_mux.specs.ChannelAccount.{opened, OpenUser}
+use Rattle.sshc_mux.proofs.LegalLemmas.{new_user, did_part}
+use Rattle.sshc_mux.proofs.TableLemmas.{pushed}
+use Rattle.sshc_mux.proofs.KeptLemmas.{kept_push}
 use Rattle.sshc_mux.proofs.table.ChannelTable.open_user.Goals as goal
 
 pub invariant_of-self-2 : goal.invariant_of-self-2
 invariant_of-self-2 c =
-    listed_push _ _ _ _ _ _ _ _ _ c.self.invariant c.in_ok-insert.ensures.keys c.in_ok-number.ensures.fresh c.as_slice.ensures.value c.in_ok-reserve.ensures.items c.push_reserved.ensures.items c.opened_by_user-channel.ensures refl
+    kept_push _ _ _ _ _ _ _ _ _ _ _ _ _ c.self.invariant c.as_slice.ensures.value c.in_ok-number.ensures.new.free (new_user _ _ _ _) c.opened_by_user-channel.ensures
+    c.in_ok-reserve.ensures.items (c.len.ensures ∙ c.in_ok-reserve.ensures.len ∙ sym c.as_slice.ensures.len) c.in_ok-insert.ensures.updates.0 c.in_ok-insert.ensures.old c.in_ok-insert.ensures.len c.push_reserved.ensures.items
+
+pub returns-clause-made : goal.returns-clause-made
+returns-clause-made c = rw (← c.self.view_is) (pushed _ _ _ _ _ _ c.in_ok-reserve.ensures.items c.push_reserved.ensures.items c.opened_by_user-channel.ensures)
+
+pub returns-clause-called : goal.returns-clause-called
+returns-clause-called c =
+    let next : next_number c.args.self.now ≡ Some c.in_ok-number.number = rw (← c.self.view_is) (rw c.as_slice.ensures.value at c.in_ok-number.ensures.new.next) in
+    returns-clause-made c ∙ ap (λ (o : Option ℕ). (opened o (λ n. opened_by_user n c.args.window c.args.packet c.args.ticket) c.args.self.now).table) (sym next)
+
+pub returns-clause-part : goal.returns-clause-part
+returns-clause-part c = did_part (OpenUser c.args.window c.args.packet c.args.ticket) _ _ (rw (← c.self.view_is) c.self.invariant.1) (returns-clause-called c)

@@ -1,5 +1,13 @@
-use Rattle.sshc_mux.proofs.TableLemmas.{said_more}
+use Rattle.std.proofs.Common.{◌≡◌, true, false}
+use Rattle.sshc_mux.proofs.TableLemmas.{said_more, none_more}
 use Rattle.sshc_mux.proofs.table.sending.push_flushed.Goals as goal
 
-pub loop-channel-preserved : goal.loop-channel-preserved
-loop-channel-preserved c = said_more _ _ _ _ _ _ c.loop-channel-test.true c.channel-item.is c.in_ok-push_flushed.ensures c.loop-channel.invariant
+pub loop-slot-preserved : goal.loop-slot-preserved
+loop-slot-preserved c = record {
+  said = said_more _ _ _ _ _ _ c.loop-slot-test.true c.slot-item.is c.in_ok-push_slot.ensures.said c.loop-slot.invariant.said;
+  none = λ nothing. (none_more _ _ _ c.loop-slot-test.true c.slot-item.is (c.loop-slot.invariant.none nothing)).1;
+}
+
+pub returns-in_err-push_slot-clause-succeeds : goal.returns-in_err-push_slot-clause-succeeds
+returns-in_err-push_slot-clause-succeeds c =
+    λ nothing. let no : false ≡ true = c.in_err-push_slot.ensures.succeeds (none_more _ _ _ c.loop-slot-test.true c.slot-item.is (c.loop-slot.invariant.none nothing)).0 in absurd (cc)
