@@ -1,0 +1,12 @@
+//! What happens to a session: the transport's results, the peer's packets, timers, and what the user asks.
+#![tactic(auto)]
+
+mod channel_msg;
+mod event;
+mod host_key;
+mod method;
+
+pub use channel_msg::{ChannelMsg, TerminalMode};
+pub use event::Event;
+pub use host_key::host_key_of;
+pub use method::Method;

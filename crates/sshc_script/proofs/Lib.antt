@@ -1,0 +1,6 @@
+-- Facts that the answers cite.
+pub mod Fronts
+pub mod Lists
+pub mod EventGrammar
+pub mod KindGrammar
+pub mod MsgGrammar

@@ -1,0 +1,148 @@
+//! Takes the events of a script from a source, one at a time.
+
+ghost use Rattle.std.specs.Prelude.{◌≡◌, ◌≤◌, ◌<◌, ◌+◌, ◌⊎◌, ℕ, List, length, drop, option_map, Result, IfOk, IfSome, IsNone, Err};
+ghost use Rattle.std.specs.Int.{w32, from_be_bytes};
+ghost use Rattle.sshc_wire.specs.Faults.{Rose};
+ghost use Rattle.sshc_script.specs.Gives.{GivesAll};
+ghost use Rattle.sshc_script.specs.Script.{head_at, size_of};
+ghost use Rattle.sshc_script.specs.Reading.{NextGives};
+
+use crate::error::{EventError, NextError, not_read, read_failed};
+use crate::event_kind::EventKind;
+use sshc_wire::{Cursor, Source, read_up_to};
+use std::alloc::Global;
+use std::marker::Model;
+
+/// The fewest bytes of an event after its length: a moment and a kind.
+pub const SHORTEST_EVENT: usize = 9;
+
+/// The most bytes of an event after its length.
+pub const LONGEST_EVENT: usize = 262144;
+
+/// An event before its fields are read, which contracts see as its moment, its kind and the fields' bytes.
+#[derive(Debug, Drop)]
+pub struct RawEvent {
+    moment: u64,
+    kind: EventKind,
+    body: Vec<u8>,
+}
+
+impl Model for RawEvent {
+    ghost use Rattle.std.specs.Prelude.{◌≤◌, drop, length};
+    ghost use Rattle.sshc_script.specs.Script.{Head};
+
+    ghost Value = { Head };
+
+    ghost view = { λ e. (e.moment, (e.kind, drop 9 e.body.items)) };
+
+    ghost invariant = { λ e. (9 ≤ length e.body.items) × (length e.body.items ≤ 262144) };
+}
+
+impl RawEvent {
+    /// Milliseconds.
+    pub fn moment(&self) -> u64
+        ensures { result ≡ self.now.0 }
+    {
+        self.moment
+    }
+
+    pub fn kind(&self) -> EventKind
+        ensures { result ≡ self.now.1.0 }
+    {
+        self.kind
+    }
+
+    /// The bytes of the fields.
+    pub fn fields(&self) -> &[u8]
+        ensures { result.now ≡ self.now.1.1 }
+    {
+        &self.body[9..]
+    }
+
+    /// How many bytes the event takes, with its length.
+    pub fn size(&self) -> u64
+        ensures size { result ≡ size_of self.now }
+        ensures within { result ≤ 262148 }
+    {
+        4 + self.body.len() as u64
+    }
+}
+
+/// The length that four bytes say, where an event may have it.
+fn length_of(head: &[u8]) -> Option<usize>
+    ensures within { IfSome result (λ n. (9 ≤ n) × (n ≤ 262144)) }
+    ensures some { IfSome result (λ n. n ≡ from_be_bytes w32 head.now) }
+    ensures size { IfSome result (λ n. 4 ≤ length head.now) }
+    ensures none { IsNone result → (length head.now < 4) ⊎ (from_be_bytes w32 head.now < 9) ⊎ (262144 < from_be_bytes w32 head.now) }
+{
+    if head.len() < 4 {
+        return None;
+    }
+    let length = u32::from_be_bytes([head[0], head[1], head[2], head[3]]) as usize;
+    if length < SHORTEST_EVENT || length > LONGEST_EVENT {
+        return None;
+    }
+    Some(length)
+}
+
+/// The moment and the kind of an event's bytes.
+#[tactic(auto, unfolding(crate::specs::Script::head_at))]
+fn moment_and_kind(last: u64, body: &[u8]) -> Result<(u64, EventKind), EventError>
+    ensures { GivesAll (λ h. (h.0, (h.1, drop 9 body.now))) result (head_at last body.now) }
+{
+    let mut c = Cursor::new(body);
+    let moment = c.u64()?;
+    let number = c.u8()?;
+    let Some(kind) = EventKind::from_u8(number) else {
+        return Err(EventError::Bad);
+    };
+    if moment < last {
+        return Err(EventError::Bad);
+    }
+    Ok((moment, kind))
+}
+
+/// The event of these bytes, which stand behind its length.
+fn raw_event(last: u64, body: Vec<u8>) -> Result<RawEvent, EventError>
+    requires low { 9 ≤ length body.items }
+    requires high { length body.items ≤ 262144 }
+    ensures head { GivesAll (λ e. e) result (head_at last body.items) }
+    ensures size { IfOk result (λ e. size_of e ≡ 4 + length body.items) }
+{
+    let (moment, kind) = moment_and_kind(last, body.as_slice())?;
+    Ok(RawEvent { moment, kind, body })
+}
+
+/// The next event, or none at the script's end. Its moment may not be below the last one.
+pub fn next_event<S: Source>(
+    alloc: Global,
+    source: &mut S,
+    last: u64,
+) -> Result<Option<RawEvent>, NextError>
+    ensures gives { NextGives last (S.left source.old) (S.left source.new) (S.reads source.old) (S.reads source.new) result }
+    ensures later { S.faults source.old ≤ S.faults source.new }
+    ensures fault { result ≡ Err NextError.ReadFault → Rose (S.faults source.old) (S.faults source.new) }
+    ensures told { (result ≡ Err NextError.ReadFault → ⊥) → S.faults source.new ≡ S.faults source.old }
+{
+    let head = match read_up_to(alloc, source, 4) {
+        Ok(head) => head,
+        Err(failed) => return Err(read_failed(failed)),
+    };
+    if head.is_empty() {
+        return Ok(None);
+    }
+    let Some(length) = length_of(head.as_slice()) else {
+        return Err(NextError::Bad);
+    };
+    let body = match read_up_to(alloc, source, length) {
+        Ok(body) => body,
+        Err(failed) => return Err(read_failed(failed)),
+    };
+    if body.len() < length {
+        return Err(NextError::Bad);
+    }
+    match raw_event(last, body) {
+        Ok(event) => Ok(Some(event)),
+        Err(e) => Err(not_read(e)),
+    }
+}
