@@ -1,0 +1,4 @@
+mod Rows
+mod PromptLemmas
+mod CauseLaws
+mod StandardFacts

@@ -1,0 +1,9 @@
+pub mod OpeningState
+pub mod StateCode
+pub mod Row
+pub mod Reading
+pub mod OpeningTable
+pub mod Signing
+pub mod Stepping
+pub mod Causes
+pub mod Promises

@@ -1,0 +1,22 @@
+//! The opening of a session: from the first key exchange to an authenticated user.
+#![tactic(auto)]
+
+mod ended;
+mod error;
+mod gate;
+mod opening;
+mod order;
+mod step;
+mod stepping;
+mod stored;
+
+pub use ended::{Ended, RemoteDisconnectInfo};
+pub use error::Error;
+pub use gate::Gate;
+pub use opening::{Class, Opening, Phase, Settings, Waiter};
+pub use order::{EventSort, sort_of};
+pub use sshc_event::{ChannelMsg, Event, Method, TerminalMode, host_key_of};
+pub use sshc_request::{mic_data, to_sign, write_auth_request};
+pub use sshc_transport::{ExchangeFlag, ExchangeKey, ExchangeResult, NamesChosen};
+pub use sshc_wire::{Outbox, Prompt, Record, Resolution, Ticket};
+pub use step::{Asks, Step, Told};

@@ -1,0 +1,3 @@
+pub mod SigningNames
+pub mod RequestTexts
+pub mod KeyParts

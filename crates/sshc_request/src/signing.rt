@@ -1,0 +1,88 @@
+//! The bytes that are signed (RFC 4252, section 7; RFC 4462, section 3.5).
+
+ghost use Rattle.std.specs.Prelude.{◌≡◌, ◌<◌, ◌^◌, length, Option, IfOk};
+ghost use Rattle.sshc_key.specs.KeyGrammar.{Key};
+ghost use Rattle.sshc_wire.specs.declared.hash_alg.HashAlg.{HashAlg as Hash};
+ghost use Rattle.sshc_request.specs.RequestTexts.{mic, signed, signed_by, signed_request};
+ghost use Rattle.sshc_request.specs.KeyParts.{IsKeyPart};
+
+use crate::parts::{KeyPart, certificate_part, key_part, put_head, put_key};
+use sshc_key::{HashAlg, PublicKeyOrCertificate};
+use sshc_wire::{NoMemory, Octets, put_bytes, put_text};
+use std::alloc::Global;
+
+/// The bytes to sign for a key in a request, which begin with the session id as a string.
+#[tactic(auto, using(std::proofs::lemmas::List::append_assoc), unfolding(crate::specs::RequestTexts::signed, crate::specs::RequestTexts::unsigned_request))]
+pub fn part_to_sign(
+    alloc: Global,
+    session_id: &[u8],
+    user: &str,
+    part: &KeyPart,
+) -> Result<Vec<u8>, NoMemory>
+    requires id { length session_id.now < 2 ^ 32 }
+    requires user { length user.now < 2 ^ 32 }
+    ensures { IfOk result (λ v. (key : Key) (hash : Option Hash) → IsKeyPart part.now key hash → v.items ≡ signed session_id.now user.now key hash) }
+{
+    let mut bytes = Vec::new(alloc);
+    put_bytes(&mut bytes, session_id)?;
+    put_head(&mut bytes, user)?;
+    put_key(&mut bytes, 1, part)?;
+    Ok(bytes)
+}
+
+/// The signed request, as a packet.
+#[tactic(auto, using(std::proofs::lemmas::List::append_assoc), unfolding(crate::specs::RequestTexts::unsigned_request))]
+pub fn signed_packet(
+    alloc: Global,
+    user: &str,
+    part: &KeyPart,
+    signature: &[u8],
+) -> Result<Octets, NoMemory>
+    requires user { length user.now < 2 ^ 32 }
+    requires signature { length signature.now < 2 ^ 32 }
+    ensures { IfOk result (λ packet. (key : Key) (hash : Option Hash) → IsKeyPart part.now key hash → packet ≡ signed_request user.now key hash signature.now) }
+{
+    let mut packet = Vec::new(alloc);
+    put_head(&mut packet, user)?;
+    put_key(&mut packet, 1, part)?;
+    put_bytes(&mut packet, signature)?;
+    Octets::from_vec(packet)
+}
+
+/// The bytes that a user signs with a key. The hash counts for a certificate alone; a plain key goes by its own.
+pub fn to_sign(
+    alloc: Global,
+    session_id: &[u8],
+    user: &str,
+    k: &PublicKeyOrCertificate,
+    hash: Option<HashAlg>,
+) -> Result<Vec<u8>, NoMemory>
+    requires id { length session_id.now < 2 ^ 32 }
+    requires user { length user.now < 2 ^ 32 }
+    ensures { IfOk result (λ v. v.items ≡ signed_by session_id.now user.now k.now hash) }
+{
+    match k {
+        PublicKeyOrCertificate::PublicKey { key, hash_alg } => {
+            let part = key_part(alloc, key, *hash_alg)?;
+            part_to_sign(alloc, session_id, user, &part)
+        }
+        PublicKeyOrCertificate::Certificate(certificate) => {
+            let part = certificate_part(alloc, certificate, hash)?;
+            part_to_sign(alloc, session_id, user, &part)
+        }
+    }
+}
+
+/// The bytes of which a MIC is made.
+#[tactic(auto, using(std::proofs::lemmas::List::append_assoc), unfolding(crate::specs::RequestTexts::mic))]
+pub fn mic_data(alloc: Global, session_id: &[u8], user: &str) -> Result<Vec<u8>, NoMemory>
+    requires id { length session_id.now < 2 ^ 32 }
+    requires user { length user.now < 2 ^ 32 }
+    ensures { IfOk result (λ v. v.items ≡ mic session_id.now user.now) }
+{
+    let mut bytes = Vec::new(alloc);
+    put_bytes(&mut bytes, session_id)?;
+    put_head(&mut bytes, user)?;
+    put_text(&mut bytes, "gssapi-with-mic")?;
+    Ok(bytes)
+}
