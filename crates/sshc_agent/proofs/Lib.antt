@@ -1,0 +1,5 @@
+mod Listings
+mod Asked
+mod Constrained
+mod Stepped
+mod Fronts

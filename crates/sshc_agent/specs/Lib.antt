@@ -1,0 +1,12 @@
+pub mod Messages
+pub mod KeyList
+pub mod Connections
+pub mod AgentList
+pub mod Turn
+pub mod AgentTable
+pub mod AgentFrames
+pub mod FrameLaws
+pub mod AgentHistory
+pub mod LockLaws
+pub mod RefusalLaws
+pub mod SignLaws

@@ -1,0 +1,217 @@
+//! The agent's core: one step for each moment, connection and input.
+
+ghost use Rattle.std.specs.Prelude.{◌≡◌, IfOk};
+ghost use Rattle.std.specs.Option.{is_some};
+ghost use Rattle.sshc_agent.specs.AgentList.{aged, empty_list};
+ghost use Rattle.sshc_agent.specs.AgentTable.{asked_turn, frame_turn, is_refused, key_answer_turn, message_turn, request_answer_turn, tested_turn};
+ghost use Rattle.sshc_agent.specs.KeyList.{listing};
+ghost use Rattle.sshc_agent.specs.Connections.{awaits_in, standing_of};
+ghost use Rattle.sshc_agent.specs.Turn.{Follows, answered};
+
+use crate::connections::{Connections, Standing};
+use crate::frame::framed;
+use crate::input::AgentOutput;
+use crate::key_list::KeyList;
+use crate::message::message_type;
+use crate::msg;
+use sshc_wire::{MessageType, NoMemory, Octets};
+use std::alloc::Global;
+use std::marker::Model;
+
+mod add;
+mod lock;
+mod remove;
+mod sign;
+mod step;
+pub(crate) mod turn;
+
+use turn::Turn;
+
+/// Keys, a lock and connections, which contracts see as plain data.
+#[derive(Debug, Drop)]
+pub struct AgentCore {
+    alloc: Global,
+    asks: bool,
+    latest: u64,
+    keys: KeyList,
+    passphrase: Option<Octets>,
+    conns: Connections,
+}
+
+impl Model for AgentCore {
+    ghost use Rattle.sshc_agent.specs.AgentList.{AgentList};
+    ghost use Rattle.std.specs.Coded.{codes};
+    ghost use Rattle.sshc_key.specs.PairCode.{key_pair_code};
+
+    ghost Value = { AgentList };
+
+    ghost coded = { Prim.hlevel (codes, key_pair_code) };
+
+    ghost view = { λ a. record { asks = a.asks; latest = a.latest; keys = a.keys; passphrase = a.passphrase; conns = a.conns } };
+}
+
+impl AgentCore {
+    /// No keys and no lock. Where it asks, the user is asked about each request.
+    pub fn new(alloc: Global, asks: bool) -> AgentCore
+        ensures { result ≡ empty_list asks }
+    {
+        AgentCore {
+            alloc,
+            asks,
+            latest: 0,
+            keys: KeyList::new(alloc),
+            passphrase: None,
+            conns: Connections::new(alloc),
+        }
+    }
+
+    /// Whether a question is open on the connection.
+    pub fn awaits(&self, conn: u32) -> bool
+        ensures { result ≡ awaits_in (standing_of self.now.conns conn) }
+    {
+        match self.conns.standing(conn) {
+            Some(Standing::RequestAsked(_)) => true,
+            Some(Standing::KeyAsked(_)) => true,
+            _ => false,
+        }
+    }
+
+    /// The body as the answer, after which no question is open.
+    fn answers<'a>(&self, body: &[u8]) -> Result<Turn<'a>, NoMemory>
+        ensures { IfOk result (λ t. t ≡ answered body.now) }
+    {
+        let frame = framed(self.alloc, body)?;
+        Ok(Turn::Says(Standing::Open, AgentOutput::Answer(frame)))
+    }
+
+    /// A message whose number is known; `whole` is its frame.
+    fn message<'a>(
+        &mut self,
+        message: MessageType,
+        number: u8,
+        body: &'a [u8],
+        whole: &'a [u8],
+    ) -> Result<Turn<'a>, NoMemory>
+        ensures row { Follows (message_turn message number body.now whole.now self.old) self.old self.new result }
+    {
+        match message {
+            MessageType::RequestKeys => self.identities(),
+            MessageType::Sign => self.sign_request(body, whole),
+            MessageType::AddKeys => self.add(number == msg::ADD_ID_CONSTRAINED, body),
+            MessageType::RemoveKeys => self.remove(body),
+            MessageType::RemoveAllKeys => self.remove_all(),
+            MessageType::Lock => self.lock(body),
+            MessageType::Unlock => self.unlock(body),
+        }
+    }
+
+    /// REQUEST_IDENTITIES (draft-miller-ssh-agent, section 3.5).
+    fn identities<'a>(&self) -> Result<Turn<'a>, NoMemory>
+        ensures { IfOk result (λ t. t ≡ answered (listing self.now.keys)) }
+    {
+        let frame = self.keys.listing(self.alloc)?;
+        Ok(Turn::Says(Standing::Open, AgentOutput::Answer(frame)))
+    }
+
+    /// Whether the lock refuses the message: locked, all but an unlock; else an unlock.
+    fn refuses(&self, message: MessageType) -> bool
+        ensures { result ≡ is_refused message (is_some self.now.passphrase) }
+    {
+        let is_locked = self.passphrase.is_some();
+        match message {
+            MessageType::Unlock => !is_locked,
+            _ => is_locked,
+        }
+    }
+
+    /// A frame on a connection on which no question is open.
+    #[tactic(auto, unfolding(crate::specs::AgentTable::frame_turn))]
+    fn frame<'a>(&mut self, whole: &'a [u8]) -> Result<Turn<'a>, NoMemory>
+        ensures row { Follows (frame_turn whole.now self.old) self.old self.new result }
+    {
+        match whole {
+            [] => self.answers(&[msg::FAILURE]),
+            [number, body @ ..] => self.asked(message_type(*number), *number, body, whole),
+        }
+    }
+
+    fn asked<'a>(
+        &mut self,
+        message: Option<MessageType>,
+        number: u8,
+        body: &'a [u8],
+        whole: &'a [u8],
+    ) -> Result<Turn<'a>, NoMemory>
+        ensures row { Follows (asked_turn message number body.now whole.now self.old) self.old self.new result }
+    {
+        let Some(message) = message else {
+            return self.answers(&[msg::FAILURE]);
+        };
+        if self.refuses(message) {
+            return self.answers(&[msg::FAILURE]);
+        }
+        if self.asks {
+            let whole = Octets::from_slice(self.alloc, whole)?;
+            return Ok(Turn::Says(
+                Standing::RequestAsked(whole),
+                AgentOutput::AskRequest(message),
+            ));
+        }
+        self.message(message, number, body, whole)
+    }
+
+    /// The user allowed the request of this frame, or not. The lock is tested again.
+    #[tactic(auto, unfolding(crate::specs::AgentTable::request_answer_turn))]
+    fn request_answer<'a>(
+        &mut self,
+        is_allowed: bool,
+        whole: &'a [u8],
+    ) -> Result<Turn<'a>, NoMemory>
+        ensures row { Follows (request_answer_turn is_allowed whole.now self.old) self.old self.new result }
+    {
+        if !is_allowed {
+            return self.answers(&[msg::FAILURE]);
+        }
+        match whole {
+            [] => self.answers(&[msg::FAILURE]),
+            [number, body @ ..] => self.tested(message_type(*number), *number, body, whole),
+        }
+    }
+
+    fn tested<'a>(
+        &mut self,
+        message: Option<MessageType>,
+        number: u8,
+        body: &'a [u8],
+        whole: &'a [u8],
+    ) -> Result<Turn<'a>, NoMemory>
+        ensures row { Follows (tested_turn message number body.now whole.now self.old) self.old self.new result }
+    {
+        let Some(message) = message else {
+            return self.answers(&[msg::FAILURE]);
+        };
+        if self.refuses(message) {
+            return self.answers(&[msg::FAILURE]);
+        }
+        self.message(message, number, body, whole)
+    }
+
+    /// The user confirmed the use of the key of this frame, or not. The lock is tested again.
+    #[tactic(auto, unfolding(crate::specs::AgentTable::key_answer_turn))]
+    fn key_answer<'a>(&mut self, is_confirmed: bool, whole: &'a [u8]) -> Result<Turn<'a>, NoMemory>
+        ensures row { Follows (key_answer_turn is_confirmed whole.now self.old) self.old self.new result }
+    {
+        if !is_confirmed || self.passphrase.is_some() {
+            return self.answers(&[msg::FAILURE]);
+        }
+        self.confirmed(whole)
+    }
+
+    /// The moment counts, unless an earlier one was greater, and keys whose deadline has come go.
+    fn age(&mut self, now: u64)
+        ensures { self.new ≡ aged now self.old }
+    {
+        self.latest = self.latest.max(now);
+        self.keys.expire(self.latest);
+    }
+}

@@ -1,0 +1,86 @@
+//! The connections that an agent has seen.
+
+ghost use Rattle.std.specs.Prelude.{◌≡◌, [], IfOk, IsSome, None, OnOk, OnErr, option_copied};
+
+use sshc_wire::{NoMemory, Octets};
+use std::alloc::Global;
+use std::collections::BTreeMap;
+use std::marker::Model;
+
+/// How a connection stands: at most one question is open, with the frame that it is about.
+#[derive(Debug, Drop)]
+pub enum Standing {
+    Open,
+    /// The user is asked whether the request is allowed.
+    RequestAsked(Octets),
+    /// The user is asked whether the key may sign.
+    KeyAsked(Octets),
+    Closed,
+}
+
+/// The connections seen, in the order of their numbers, which contracts see as that list.
+#[derive(Debug, Drop)]
+pub(crate) struct Connections {
+    standings: BTreeMap<u32, Standing>,
+}
+
+impl Model for Connections {
+    ghost use Rattle.std.specs.Prelude.{List, ℕ};
+    ghost use Rattle.sshc_agent.specs.declared.connections.Standing.{Standing as Stands};
+
+    ghost Value = { List (ℕ × Stands) };
+
+    ghost view = { λ c. c.standings.entries };
+}
+
+impl Connections {
+    ghost use Rattle.sshc_agent.specs.Connections.{is_new, seen_in, standing_of, with_standing, without};
+
+    pub(crate) fn new(alloc: Global) -> Connections
+        ensures { result ≡ [] }
+    {
+        Connections {
+            standings: BTreeMap::new(alloc),
+        }
+    }
+
+    /// How the connection stands, if it was seen.
+    pub(crate) fn standing(&self, conn: u32) -> Option<&Standing>
+        ensures { option_copied result ≡ standing_of self.now conn }
+    {
+        self.standings.get(&conn)
+    }
+
+    /// Makes the connection seen, and says whether it is new.
+    pub(crate) fn see(&mut self, conn: u32) -> Result<bool, NoMemory>
+        ensures ok { OnOk result (self.new ≡ seen_in self.old conn) }
+        ensures new { IfOk result (λ new. new ≡ is_new self.old conn) }
+        ensures there { OnOk result (IsSome (standing_of self.new conn)) }
+        ensures err { OnErr result (self.new ≡ self.old) }
+        ensures absent { OnErr result (standing_of self.old conn ≡ None) }
+    {
+        if self.standing(conn).is_some() {
+            return Ok(false);
+        }
+        self.standings.insert(conn, Standing::Open)?;
+        Ok(true)
+    }
+
+    /// How a connection that was seen stands from now on.
+    pub(crate) fn set(&mut self, conn: u32, standing: Standing)
+        requires { IsSome (standing_of self.old conn) }
+        ensures { self.new ≡ with_standing self.old conn standing }
+    {
+        match self.standings.insert(conn, standing) {
+            Ok(_) => {}
+            Err(_) => unreachable!(),
+        }
+    }
+
+    /// Nothing is kept of the connection.
+    pub(crate) fn forget(&mut self, conn: u32)
+        ensures { self.new ≡ without self.old conn }
+    {
+        let _ = self.standings.remove(&conn);
+    }
+}
