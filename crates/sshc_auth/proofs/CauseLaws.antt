@@ -9,7 +9,6 @@ use Rattle.sshc_wire.specs.declared.error.WireError.{WireError}
 use Rattle.sshc_wire.specs.declared.msg.TheConstants.{SERVICE_ACCEPT, USERAUTH_SUCCESS}
 use Rattle.sshc_wire.specs.declared.ticket.Ticket.{Ticket}
 use Rattle.sshc_wire.specs.declared.record.Record.{Record}
-use Rattle.sshc_key.specs.Signers.{SignCall}
 use Rattle.sshc_key.specs.declared.identity.PublicKeyOrCertificate.{PublicKeyOrCertificate}
 use Rattle.sshc_auth.specs.declared.error.Error.{Error}
 use Rattle.sshc_auth.specs.declared.error.Error.TheVariants as errors
@@ -22,22 +21,20 @@ use Rattle.sshc_auth.specs.declared.method.Method.{Method}
 use Rattle.sshc_auth.specs.declared.opening.Phase.{Phase}
 use Rattle.sshc_auth.specs.declared.opening.Phase.TheVariants as phases
 use Rattle.sshc_auth.specs.declared.event.NamesChosen.{NamesChosen}
-use Rattle.sshc_auth.specs.declared.step.Asks.{Asks}
 use Rattle.sshc_auth.specs.declared.step.Asks.TheVariants as asking
-use Rattle.sshc_auth.specs.declared.step.Flow.{Flow}
 use Rattle.sshc_auth.specs.declared.step.Step.{Step}
 use Rattle.sshc_auth.specs.declared.step.Step.TheVariants as steps
 use Rattle.sshc_auth.specs.declared.step.Told.{Told}
 use Rattle.sshc_auth.specs.declared.step.Told.TheVariants as telling
-use Rattle.sshc_auth.specs.Causes.{IsCause, WasToldNo, HasCause, GateSaysNo, HasCauseBy, NobodySaysNo, IsUnexpected, IsBroken, IsBrokenName}
+use Rattle.sshc_auth.specs.Causes.{IsCause, WasToldNo, HasCause, GateSaysNo, HasCauseBy, NobodySaysNo, IsUnexpected, IsBroken}
 use Rattle.sshc_auth.specs.HostKey.{host_key}
 use Rattle.sshc_auth.specs.OpeningState.{OpeningState}
-use Rattle.sshc_auth.specs.OpeningTable.{open_row, asked_of, key_asked, packet_row_in, authenticate_row_in, authenticate_row_at}
+use Rattle.sshc_auth.specs.OpeningTable.{plain_row, asked_of, key_asked, packet_row_in, authenticate_row_in, authenticate_row_at}
 use Rattle.sshc_auth.specs.OpeningTable.Exchange.{peer_kexinit_row_in, accepted_row, first_exchange_row, exchange_row_in, exchange_done_row_at}
-use Rattle.sshc_auth.specs.OpeningTable.Service.{stored_request, service_packet_row, service_accept_row}
-use Rattle.sshc_auth.specs.OpeningTable.Auth.{auth_packet_row, userauth_success_row}
+use Rattle.sshc_auth.specs.OpeningTable.Service.{stored_request, service_accept_row}
+use Rattle.sshc_auth.specs.OpeningTable.Auth.{userauth_success_row}
 use Rattle.sshc_auth.specs.Stepping.{Adds, map_step, told_of}
-use Rattle.sshc_auth.specs.Row.{Row, Next, stays, refuses, refused, passed_over, goes, ends_at, with_string, reads_string, Follows}
+use Rattle.sshc_auth.specs.Row.{Next, stays, refuses, refused, passed_over, goes, ends_at, with_string, reads_string, Follows}
 
 -- a row's refusal has a cause
 abbrev Caused : (ExchangeResult → Type 0) → OpeningState → Event → Next → Type 0
@@ -151,18 +148,18 @@ packet_by SaysNo s number body e (inr (is, why)) = subst (λ (y : Error). IsCaus
 
 -- ---- rows
 
-pub row_cause : (s : OpeningState) (event : Event) (told : Told) (gained : List SignCall) → Caused (WasToldNo told) s event (open_row s event told gained).next
-unfolding open_row
-row_cause s events.PeerKexinit told gained = kexinit_cause (WasToldNo told) s s.flag refl
-row_cause s (events.ExchangeDone x) told gained = exchange_cause s x told s.flag refl
-row_cause s (events.Payload []) told gained = λ e h. absurd cc
-row_cause s (events.Payload (number ∷ body)) told gained = λ e h. packet_by (WasToldNo told) s number body e (packet_case s number body s.phase e h)
-row_cause s (events.Authenticate ticket user method) told gained = authenticate_cause (WasToldNo told) s ticket user method s.flag refl
+pub row_cause : (s : OpeningState) (event : Event) (told : Told) → Caused (WasToldNo told) s event (plain_row s event told).next
+unfolding plain_row
+row_cause s events.PeerKexinit told = kexinit_cause (WasToldNo told) s s.flag refl
+row_cause s (events.ExchangeDone x) told = exchange_cause s x told s.flag refl
+row_cause s (events.Payload []) told = λ e h. absurd cc
+row_cause s (events.Payload (number ∷ body)) told = λ e h. packet_by (WasToldNo told) s number body e (packet_case s number body s.phase e h)
+row_cause s (events.Authenticate ticket user method) told = authenticate_cause (WasToldNo told) s ticket user method s.flag refl
 
 -- a call that follows the row is refused for a cause
-pub follows_cause : (s after : OpeningState) (event : Event) (told : Told) (gained : List SignCall) (old new : Outgoing) (e : Error) → Follows (open_row s event told gained) s after old new (Err e) → IsCause (WasToldNo told) s event e
-follows_cause s after event told gained old new e (same, inl want) = subst (λ (y : Error). IsCause (WasToldNo told) s event y) (sym want.0) tt
-follows_cause s after event told gained old new e (same, inr (says, unsigned, next)) = row_cause s event told gained e next
+pub follows_cause : (s after : OpeningState) (event : Event) (told : Told) (old new : Outgoing) (e : Error) → Follows (plain_row s event told) s after old new (Err e) → IsCause (WasToldNo told) s event e
+follows_cause s after event told old new e (same, inl want) = subst (λ (y : Error). IsCause (WasToldNo told) s event y) (sym want.0) tt
+follows_cause s after event told old new e (same, inr (says, next)) = row_cause s event told e next
 
 -- ---- a step with a gate
 

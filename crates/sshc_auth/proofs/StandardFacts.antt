@@ -17,7 +17,7 @@ use Rattle.sshc_auth.specs.declared.opening.Settings.{Settings}
 use Rattle.sshc_auth.specs.declared.step.Asks.TheVariants as asking
 use Rattle.sshc_auth.specs.declared.step.Told.TheVariants as telling
 use Rattle.sshc_auth.specs.OpeningState.{OpeningState, start}
-use Rattle.sshc_auth.specs.OpeningTable.{open_row, asked_of}
+use Rattle.sshc_auth.specs.OpeningTable.{plain_row, asked_of}
 use Rattle.sshc_auth.specs.OpeningTable.Auth.{authenticated}
 use Rattle.sshc_auth.specs.RequestTexts.{service_request, request}
 use Rattle.sshc_auth.specs.Row.{goes, refused, passed_over, opens}
@@ -58,28 +58,28 @@ in_auth = record requested { phase = phases.Auth }
 -- ---- the login
 
 -- the peer's KEXINIT answers ours
-kexinit : open_row (start settings) events.PeerKexinit telling.NotAsked [] ≡ goes [] exchanging
-unfolding open_row
+kexinit : plain_row (start settings) events.PeerKexinit telling.NotAsked ≡ goes [] exchanging
+unfolding plain_row
 kexinit = refl
 
 -- the host key is accepted
-exchanged : open_row exchanging (events.ExchangeDone exchange) telling.Went [] ≡ goes (KexDone (codes "curve25519-sha256") ∷ []) in_service
-unfolding open_row
+exchanged : plain_row exchanging (events.ExchangeDone exchange) telling.Went ≡ goes (KexDone (codes "curve25519-sha256") ∷ []) in_service
+unfolding plain_row
 exchanged = refl
 
 -- the service is asked for, and the request waits
-asked : open_row in_service (events.Authenticate (record { 0 = 1 }) (codes "alice") password) telling.NotAsked [] ≡ goes (Payload service_request ∷ []) requested
-unfolding open_row
+asked : plain_row in_service (events.Authenticate (record { 0 = 1 }) (codes "alice") password) telling.NotAsked ≡ goes (Payload service_request ∷ []) requested
+unfolding plain_row
 asked = refl
 
 -- the service is there, and the password is written
-served : open_row requested (events.Payload accepted) telling.NotAsked [] ≡ goes (Payload (request (codes "alice") password) ∷ []) in_auth
-unfolding open_row string_at number_at string_text u32_text
+served : plain_row requested (events.Payload accepted) telling.NotAsked ≡ goes (Payload (request (codes "alice") password) ∷ []) in_auth
+unfolding plain_row string_at number_at string_text u32_text
 served = refl
 
 -- the user is authenticated
-logged_in : open_row in_auth (events.Payload (52 ∷ [])) telling.NotAsked [] ≡ record { records = Resolved (record { 0 = 1 }) AuthSuccess ∷ Opened ∷ []; signs = None; next = opens (authenticated in_auth) }
-unfolding open_row
+logged_in : plain_row in_auth (events.Payload (52 ∷ [])) telling.NotAsked ≡ record { records = Resolved (record { 0 = 1 }) AuthSuccess ∷ Opened ∷ []; next = opens (authenticated in_auth) }
+unfolding plain_row
 logged_in = refl
 
 -- ---- refusals
@@ -89,43 +89,43 @@ keyless_asks : asked_of exchanging (events.ExchangeDone exchange) ≡ asking.Not
 unfolding asked_of
 keyless_asks = refl
 
-keyless : open_row exchanging (events.ExchangeDone exchange) telling.NotAsked [] ≡ refused UnknownKey
-unfolding open_row
+keyless : plain_row exchanging (events.ExchangeDone exchange) telling.NotAsked ≡ refused UnknownKey
+unfolding plain_row
 keyless = refl
 
 -- the gate says no
-unaccepted : open_row exchanging (events.ExchangeDone exchange) telling.No [] ≡ refused UnknownKey
-unfolding open_row
+unaccepted : plain_row exchanging (events.ExchangeDone exchange) telling.No ≡ refused UnknownKey
+unfolding plain_row
 unaccepted = refl
 
 -- a second KEXINIT, an exchange without one, and a request while an exchange runs
-twice : open_row exchanging events.PeerKexinit telling.NotAsked [] ≡ refused OutOfTurn
-unfolding open_row
+twice : plain_row exchanging events.PeerKexinit telling.NotAsked ≡ refused OutOfTurn
+unfolding plain_row
 twice = refl
 
-undone : open_row (start settings) (events.ExchangeDone exchange) telling.NotAsked [] ≡ refused OutOfTurn
-unfolding open_row
+undone : plain_row (start settings) (events.ExchangeDone exchange) telling.NotAsked ≡ refused OutOfTurn
+unfolding plain_row
 undone = refl
 
-early : open_row (start settings) (events.Authenticate (record { 0 = 1 }) (codes "alice") password) telling.NotAsked [] ≡ refused OutOfTurn
-unfolding open_row
+early : plain_row (start settings) (events.Authenticate (record { 0 = 1 }) (codes "alice") password) telling.NotAsked ≡ refused OutOfTurn
+unfolding plain_row
 early = refl
 
 -- the service is accepted before it was asked for; another service is passed over; a byte stands behind the success
-unasked : open_row in_service (events.Payload accepted) telling.NotAsked [] ≡ refused Inconsistent
-unfolding open_row
+unasked : plain_row in_service (events.Payload accepted) telling.NotAsked ≡ refused Inconsistent
+unfolding plain_row
 unasked = refl
 
-other_service : open_row requested (events.Payload (6 ∷ string_text (codes "ssh-connection"))) telling.NotAsked [] ≡ passed_over requested
-unfolding open_row string_at number_at string_text u32_text
+other_service : plain_row requested (events.Payload (6 ∷ string_text (codes "ssh-connection"))) telling.NotAsked ≡ passed_over requested
+unfolding plain_row string_at number_at string_text u32_text
 other_service = refl
 
-left_over : open_row in_auth (events.Payload (52 ∷ 0 ∷ [])) telling.NotAsked [] ≡ refused SshEncoding
-unfolding open_row
+left_over : plain_row in_auth (events.Payload (52 ∷ 0 ∷ [])) telling.NotAsked ≡ refused SshEncoding
+unfolding plain_row
 left_over = refl
 
 -- a second request drops the first one's ticket and is written at once
-again : open_row in_auth (events.Authenticate (record { 0 = 2 }) (codes "bob") password) telling.NotAsked []
+again : plain_row in_auth (events.Authenticate (record { 0 = 2 }) (codes "bob") password) telling.NotAsked
     ≡ goes (Resolved (record { 0 = 1 }) Dropped ∷ Payload (request (codes "bob") password) ∷ []) (record in_auth { ticket = record { 0 = 2 }; stored = Some (record { user = codes "bob"; method = password }) })
-unfolding open_row
+unfolding plain_row
 again = refl

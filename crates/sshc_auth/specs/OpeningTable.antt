@@ -4,8 +4,8 @@ pub mod Exchange
 pub mod Service
 pub mod Auth
 use Rattle.std.specs.Prelude.{◌≡◌, ℕ, Bool, true, false, List, [], ◌∷◌, Option, Some, None, nat_le, if◌then◌else◌}
-use Rattle.sshc_key.specs.Signers.{SignCall}
 use Rattle.sshc_key.specs.declared.identity.PublicKeyOrCertificate.{PublicKeyOrCertificate}
+use Rattle.sshc_key.specs.Asking.{Asking, done}
 use Rattle.sshc_wire.specs.declared.ticket.Ticket.{Ticket}
 use Rattle.sshc_auth.specs.declared.error.Error.TheVariants.{OutOfTurn, Inconsistent}
 use Rattle.sshc_auth.specs.declared.event.Event.{Event}
@@ -55,12 +55,16 @@ authenticate_row_at flags.Peer s ticket user method = refused OutOfTurn
 abbrev pub authenticate_row : OpeningState → Ticket → List ℕ → Method → Row
 authenticate_row s ticket user method = authenticate_row_at s.flag s ticket user method
 
--- the row of an event, with what the gate said and what the signer answered in this call
-unfoldable pub open_row : OpeningState → Event → Told → List SignCall → Row
-open_row s events.PeerKexinit told gained = peer_kexinit_row s
-open_row s (events.ExchangeDone x) told gained = exchange_done_row s x told
-open_row s (events.Payload packet) told gained = payload_row s packet
-open_row s (events.Authenticate ticket user method) told gained = authenticate_row s ticket user method
+-- the row of an event that asks the signer nothing, with what the gate said
+unfoldable pub plain_row : OpeningState → Event → Told → Row
+plain_row s events.PeerKexinit told = peer_kexinit_row s
+plain_row s (events.ExchangeDone x) told = exchange_done_row s x told
+plain_row s (events.Payload packet) told = payload_row s packet
+plain_row s (events.Authenticate ticket user method) told = authenticate_row s ticket user method
+
+-- the row of an event, by what the signer answers; no row asks the signer yet
+abbrev pub open_row : OpeningState → Event → Told → Asking Row
+open_row s event told = done (plain_row s event told)
 
 -- ---- what a row asks of the gate
 

@@ -1,6 +1,6 @@
 -- Request texts: the packets by which a user is authenticated (RFC 4252, sections 5 and 8; RFC 4253, section 10).
 -- Plain concatenations; the code appends part by part.
-use Rattle.std.specs.Prelude.{ℕ, List, [], ◌∷◌, ◌++◌, codes}
+use Rattle.std.specs.Prelude.{ℕ, List, ◌∷◌, ◌++◌, codes}
 use Rattle.sshc_wire.specs.Wire.{string_text}
 use Rattle.sshc_wire.specs.declared.msg.TheConstants.{SERVICE_REQUEST, USERAUTH_REQUEST}
 use Rattle.sshc_auth.specs.declared.method.Method.{Method}

@@ -1,12 +1,12 @@
 //! The opening: from the first key exchange to an authenticated user.
 
-ghost use Rattle.std.specs.Prelude.{◌≡◌, ◌≤◌, List, IfOk, true, false};
+ghost use Rattle.std.specs.Prelude.{◌≡◌, ◌≤◌, ◌++◌, IfOk, true, false};
 ghost use Rattle.sshc_auth.specs.Causes.{HasCause};
 ghost use Rattle.sshc_auth.specs.OpeningState.{start, shut};
-ghost use Rattle.sshc_auth.specs.OpeningTable.{open_row, asked_of, exchange_asks_at, FitsAsked, payload_row, authenticate_row, packet_row_in};
-ghost use Rattle.sshc_auth.specs.Row.{Follows, Steps, since, resolved};
+ghost use Rattle.sshc_auth.specs.OpeningTable.{plain_row, open_row, asked_of, exchange_asks_at, FitsAsked, payload_row, authenticate_row, packet_row_in};
+ghost use Rattle.sshc_auth.specs.Row.{Follows, Steps, resolved};
 ghost use Rattle.sshc_wire.specs.Outgoing.{listed};
-ghost use Rattle.sshc_key.specs.Signers.{SignCall};
+ghost use Rattle.sshc_key.specs.Signers.{since};
 
 use crate::error::Error;
 use crate::event::{Event, ExchangeFlag, ExchangeResult};
@@ -192,9 +192,9 @@ impl Opening {
     }
 
     /// The row of an event.
-    #[tactic(auto, unfolding(crate::specs::OpeningTable::open_row))]
+    #[tactic(auto, unfolding(crate::specs::OpeningTable::plain_row))]
     fn row(&mut self, event: &Event, told: Told, out: &mut Outbox) -> Result<Flow, Error>
-        ensures row { (gained : List SignCall) → Follows (open_row self.old event.now told gained) self.old self.new out.old out.new result }
+        ensures row { Follows (plain_row self.old event.now told) self.old self.new out.old out.new result }
     {
         match event {
             Event::PeerKexinit => self.peer_kexinit(out),
@@ -249,11 +249,11 @@ impl Opening {
     ) -> Step<Error>
         requires { FitsAsked (asked_of self.old event.now) told }
         ensures closed { self.old.closed ≡ true → (result ≡ Step.Closed) × (self.new ≡ self.old) × (out.new ≡ out.old) }
-        ensures row { self.old.closed ≡ false → Steps (open_row self.old event.now told (since (S.calls signer.old) (S.calls signer.new)))
-            self.old self.new out.old out.new (S.calls signer.old) (S.calls signer.new) result }
+        ensures row { self.old.closed ≡ false → Steps (open_row self.old event.now told)
+            self.old self.new out.old out.new (since (S.calls signer.old) (S.calls signer.new)) result }
         // A refusal's cause, by the opening and the event alone.
         ensures cause { HasCause told self.old event.now result }
-        ensures unsigned { S.calls signer.new ≡ S.calls signer.old }
+        ensures gained { S.calls signer.new ≡ S.calls signer.old ++ since (S.calls signer.old) (S.calls signer.new) }
         ensures later { S.refusals signer.old ≤ S.refusals signer.new }
     {
         if self.is_closed {

@@ -1,9 +1,9 @@
 //! A step of the opening: what the row asks, the gate's answers, and the rest of the row.
 
-ghost use Rattle.std.specs.Prelude.{◌≡◌, ◌≤◌, ◌⊎◌, true, false, option_copied};
+ghost use Rattle.std.specs.Prelude.{◌≡◌, ◌≤◌, ◌⊎◌, ◌++◌, true, false, option_copied};
+ghost use Rattle.sshc_key.specs.Signers.{since};
 ghost use Rattle.sshc_auth.specs.Causes.{HasCauseBy, HasGateCause, NobodySaysNo};
 ghost use Rattle.sshc_auth.specs.OpeningTable.{asked_of, open_row, FitsAsked};
-ghost use Rattle.sshc_auth.specs.Row.{since};
 ghost use Rattle.sshc_auth.specs.Stepping.{map_step, told_of, StepsBy, StepsAsked, StepsAfter};
 ghost use Rattle.sshc_auth.specs.declared.error.Error.TheVariants as errors;
 
@@ -50,11 +50,10 @@ impl Opening {
     ) -> Step<G::Error>
         ensures closed { self.old.closed ≡ true → (result ≡ Step.Closed) × (self.new ≡ self.old) × (out.new ≡ out.old) }
         ensures row { self.old.closed ≡ false → StepsBy G.told_as (G.judges gate.old) G.tells G.tells_banner event.now
-            (since (S.calls signer.old) (S.calls signer.new))
-            (record { before = self.old; after = self.new; old = out.old; new = out.new; calls = S.calls signer.old; calls' = S.calls signer.new })
+            (record { before = self.old; after = self.new; old = out.old; new = out.new; gained = since (S.calls signer.old) (S.calls signer.new) })
             result (asked_of self.old event.now) }
         ensures cause { HasGateCause G.told_as (G.judges gate.old) self.old event.now (G.refusals gate.old) (G.refusals gate.new) result }
-        ensures unsigned { S.calls signer.new ≡ S.calls signer.old }
+        ensures gained { S.calls signer.new ≡ S.calls signer.old ++ since (S.calls signer.old) (S.calls signer.new) }
         ensures signer_later { S.refusals signer.old ≤ S.refusals signer.new }
         ensures gate_later { G.refusals gate.old ≤ G.refusals gate.new }
         ensures gate_kept { G.setting gate.new ≡ G.setting gate.old }
@@ -81,10 +80,10 @@ impl Opening {
     ) -> Step<G::Error>
         requires fresh { self.old.closed ≡ false }
         requires event { event.now ≡ Event.ExchangeDone exchange.now }
-        ensures row { StepsBy G.told_as (G.judges gate.old) G.tells G.tells_banner event.now (since (S.calls signer.old) (S.calls signer.new))
-            (record { before = self.old; after = self.new; old = out.old; new = out.new; calls = S.calls signer.old; calls' = S.calls signer.new }) result (asked_of self.old event.now) }
+        ensures row { StepsBy G.told_as (G.judges gate.old) G.tells G.tells_banner event.now
+            (record { before = self.old; after = self.new; old = out.old; new = out.new; gained = since (S.calls signer.old) (S.calls signer.new) }) result (asked_of self.old event.now) }
         ensures cause { HasGateCause G.told_as (G.judges gate.old) self.old event.now (G.refusals gate.old) (G.refusals gate.new) result }
-        ensures unsigned { S.calls signer.new ≡ S.calls signer.old }
+        ensures gained { S.calls signer.new ≡ S.calls signer.old ++ since (S.calls signer.old) (S.calls signer.new) }
         ensures signer_later { S.refusals signer.old ≤ S.refusals signer.new }
         ensures gate_later { G.refusals gate.old ≤ G.refusals gate.new }
         ensures gate_kept { G.setting gate.new ≡ G.setting gate.old }
@@ -111,10 +110,10 @@ impl Opening {
         requires fresh { self.old.closed ≡ false }
         requires asked { asked_of self.old event.now ≡ asks.now }
         requires event { event.now ≡ Event.ExchangeDone exchange.now }
-        ensures row { StepsAsked G.told_as (G.judges gate.old) G.tells G.tells_banner event.now (since (S.calls signer.old) (S.calls signer.new))
-            (record { before = self.old; after = self.new; old = out.old; new = out.new; calls = S.calls signer.old; calls' = S.calls signer.new }) result asks.now }
+        ensures row { StepsAsked G.told_as (G.judges gate.old) G.tells G.tells_banner event.now
+            (record { before = self.old; after = self.new; old = out.old; new = out.new; gained = since (S.calls signer.old) (S.calls signer.new) }) result asks.now }
         ensures cause { HasGateCause G.told_as (G.judges gate.old) self.old event.now (G.refusals gate.old) (G.refusals gate.new) result }
-        ensures unsigned { S.calls signer.new ≡ S.calls signer.old }
+        ensures gained { S.calls signer.new ≡ S.calls signer.old ++ since (S.calls signer.old) (S.calls signer.new) }
         ensures signer_later { S.refusals signer.old ≤ S.refusals signer.new }
         ensures gate_later { G.refusals gate.old ≤ G.refusals gate.new }
         ensures gate_kept { G.setting gate.new ≡ G.setting gate.old }
@@ -140,10 +139,10 @@ impl Opening {
         requires fresh { self.old.closed ≡ false }
         requires asked { asked_of self.old event.now ≡ Asks.HostKey key.now }
         requires event { event.now ≡ Event.ExchangeDone exchange.now }
-        ensures row { StepsAsked G.told_as (G.judges gate.old) G.tells G.tells_banner event.now (since (S.calls signer.old) (S.calls signer.new))
-            (record { before = self.old; after = self.new; old = out.old; new = out.new; calls = S.calls signer.old; calls' = S.calls signer.new }) result (Asks.HostKey key.now) }
+        ensures row { StepsAsked G.told_as (G.judges gate.old) G.tells G.tells_banner event.now
+            (record { before = self.old; after = self.new; old = out.old; new = out.new; gained = since (S.calls signer.old) (S.calls signer.new) }) result (Asks.HostKey key.now) }
         ensures cause { HasGateCause G.told_as (G.judges gate.old) self.old event.now (G.refusals gate.old) (G.refusals gate.new) result }
-        ensures unsigned { S.calls signer.new ≡ S.calls signer.old }
+        ensures gained { S.calls signer.new ≡ S.calls signer.old ++ since (S.calls signer.old) (S.calls signer.new) }
         ensures signer_later { S.refusals signer.old ≤ S.refusals signer.new }
         ensures gate_later { G.refusals gate.old ≤ G.refusals gate.new }
         ensures gate_kept { G.setting gate.new ≡ G.setting gate.old }
@@ -170,11 +169,11 @@ impl Opening {
         requires fresh { self.old.closed ≡ false }
         requires asked { FitsAsked (asked_of self.old event.now) Told.Went }
         requires event { event.now ≡ Event.ExchangeDone exchange.now }
-        ensures row { StepsAfter G.told_as (told_of G.tells event.now) (open_row self.old event.now Told.Went (since (S.calls signer.old) (S.calls signer.new)))
-            (record { before = self.old; after = self.new; old = out.old; new = out.new; calls = S.calls signer.old; calls' = S.calls signer.new })
+        ensures row { StepsAfter G.told_as (told_of G.tells event.now) (open_row self.old event.now Told.Went)
+            (record { before = self.old; after = self.new; old = out.old; new = out.new; gained = since (S.calls signer.old) (S.calls signer.new) })
             result }
         ensures cause { HasCauseBy G.told_as NobodySaysNo self.old event.now (G.refusals gate.old) (G.refusals gate.new) result }
-        ensures unsigned { S.calls signer.new ≡ S.calls signer.old }
+        ensures gained { S.calls signer.new ≡ S.calls signer.old ++ since (S.calls signer.old) (S.calls signer.new) }
         ensures signer_later { S.refusals signer.old ≤ S.refusals signer.new }
         ensures gate_later { G.refusals gate.old ≤ G.refusals gate.new }
         ensures gate_kept { G.setting gate.new ≡ G.setting gate.old }
@@ -199,11 +198,11 @@ impl Opening {
     ) -> Step<G::Error>
         requires fresh { self.old.closed ≡ false }
         requires asked { FitsAsked (asked_of self.old event.now) Told.Went }
-        ensures row { StepsAfter G.told_as (G.tells_banner text.now) (open_row self.old event.now Told.Went (since (S.calls signer.old) (S.calls signer.new)))
-            (record { before = self.old; after = self.new; old = out.old; new = out.new; calls = S.calls signer.old; calls' = S.calls signer.new })
+        ensures row { StepsAfter G.told_as (G.tells_banner text.now) (open_row self.old event.now Told.Went)
+            (record { before = self.old; after = self.new; old = out.old; new = out.new; gained = since (S.calls signer.old) (S.calls signer.new) })
             result }
         ensures cause { HasCauseBy G.told_as NobodySaysNo self.old event.now (G.refusals gate.old) (G.refusals gate.new) result }
-        ensures unsigned { S.calls signer.new ≡ S.calls signer.old }
+        ensures gained { S.calls signer.new ≡ S.calls signer.old ++ since (S.calls signer.old) (S.calls signer.new) }
         ensures signer_later { S.refusals signer.old ≤ S.refusals signer.new }
         ensures gate_later { G.refusals gate.old ≤ G.refusals gate.new }
         ensures gate_kept { G.setting gate.new ≡ G.setting gate.old }

@@ -1,4 +1,4 @@
--- Each turn's refusal has its cause in the script's own words, and a turn that goes on brings the script as far as its kind says.
+-- Each turn's refusal has its cause in the script's own words.
 use Rattle.std.proofs.Common.{◌≡◌, inl, inr, ℕ, Bool, true, false, List, [], ◌∷◌, Option, Some, None, Result, Ok, Err, IfErr, refl, ap, sym, ◌∙◌, subst, arith}
 use Rattle.std.specs.Prelude.{codes, if◌then◌else◌}
 use Rattle.std.proofs.lemmas.List.{append-nil}
@@ -8,15 +8,16 @@ use Rattle.sshc_wire.specs.Reads.{◌>>=◌, string_at}
 use Rattle.sshc_wire.specs.Wire.{string_text}
 use Rattle.sshc_wire.specs.declared.msg.TheConstants.{SERVICE_ACCEPT, USERAUTH_SUCCESS}
 use Rattle.sshc_wire.specs.declared.ticket.Ticket.{Ticket}
-use Rattle.sshc_key.specs.Signers.{SignCall}
 use Rattle.sshc_key.specs.declared.error.Error.{Error as KeyError}
 use Rattle.sshc_key.specs.declared.error.Error.TheVariants as key_errors
 use Rattle.sshc_key.specs.declared.identity.PublicKeyOrCertificate.{PublicKeyOrCertificate}
 use Rattle.sshc_key.specs.declared.identity.PublicKeyOrCertificate.TheVariants as identities
+use Rattle.sshc_key.specs.Asking.{Asking, done, Always}
+use Rattle.sshc_key.specs.AskingLaws.{always_also}
 use Rattle.sshc_hosts.specs.Judgement.{judged, IsRefusal}
 use Rattle.sshc_hosts.specs.SaidRefusals.{judged-refuses}
 use Rattle.sshc_auth.specs.HostKey.{host_key}
-use Rattle.sshc_auth.specs.declared.ended.Ended.{Ended}
+use Rattle.sshc_auth.specs.declared.ended.Ended.TheVariants.{ScriptEnd}
 use Rattle.sshc_auth.specs.declared.event.Event.{Event}
 use Rattle.sshc_auth.specs.declared.event.Event.TheVariants as events
 use Rattle.sshc_auth.specs.declared.event.ExchangeFlag.{ExchangeFlag}
@@ -27,59 +28,28 @@ use Rattle.sshc_auth.specs.declared.opening.Phase.TheVariants as phases
 use Rattle.sshc_auth.specs.declared.opening.Settings.{Settings}
 use Rattle.sshc_auth.specs.declared.opening.Stored.{Stored}
 use Rattle.sshc_auth.specs.OpeningState.{OpeningState}
-use Rattle.sshc_auth.specs.OpeningTable.{open_row, asked_of, key_asked}
+use Rattle.sshc_auth.specs.OpeningTable.{plain_row, asked_of, key_asked}
 use Rattle.sshc_auth.specs.OpeningTable.Exchange.{accepted_row}
 use Rattle.sshc_run.specs.declared.error.EventError.{EventError}
 use Rattle.sshc_run.specs.declared.error.EventError.TheVariants as reads
-use Rattle.sshc_run.specs.declared.error.RunError.{RunError}
-use Rattle.sshc_run.specs.declared.error.RunError.TheVariants as errors
 use Rattle.sshc_run.specs.declared.event_kind.EventKind.{EventKind}
 use Rattle.sshc_run.specs.declared.event_kind.EventKind.TheVariants as kinds
 use Rattle.sshc_run.specs.declared.known_hosts_handler.HandlerError.{HandlerError}
 use Rattle.sshc_run.specs.declared.known_hosts_handler.HandlerError.TheVariants.{Key}
-use Rattle.sshc_run.specs.Causes.{Reached, reached_by, exchanged, IsEarlyAt, IsBadAt, IsUnbuiltAt}
+use Rattle.sshc_run.specs.Causes.{IsEventCause, IsStopCause}
+use Rattle.sshc_run.specs.Comes.{StopsFor}
 use Rattle.sshc_run.specs.Fields.{exchange_done_of, authenticate_of, payload_of, ended_at, built, is_built, is_exchange_number, key_at, octets_at, secret_at, names_at, u32_at, words_at, method_at}
 use Rattle.sshc_run.specs.Headline.{said_of_key, said_by}
 use Rattle.sshc_run.specs.KnownHosts.{Hosts, verdict, as_handler}
+use Rattle.sshc_run.specs.Machine.{Onward, goes_on, opened, stopped, ended, refused, unanswered_stop, IsNoEnd, NeverAtEnd}
 use Rattle.sshc_run.specs.Script.{Frame}
-use Rattle.sshc_run.specs.Turn.{Turn, Onward, goes_on, opened, stopped, ended, refused, unanswered_stop, handler_error_of, turn, row_turn, judged_turn, asked_turn, event_turn, built_turn, timely_turn, is_out_of_turn}
+use Rattle.sshc_run.specs.Turn.{Turn, handler_error_of, turn, row_turn, judged_turn, asked_turn, event_turn, built_turn, timely_turn, is_out_of_turn}
 
 -- ---- what a turn has to show
 
--- how far the opening has come
-abbrev pub reached_of : OpeningState → Reached
-reached_of s = record { flag = s.flag; phase = s.phase; requested = s.requested }
-
--- what the known hosts text says of the first exchange, which this event is
-abbrev pub IsSaid : Hosts → Reached → Frame → Result Bool HandlerError → Type 0
-IsSaid hosts r frame said = (r.phase ≡ phases.Exchanging) × (frame.kind ≡ kinds.ExchangeDone) × (said_by hosts (exchange_done_of frame.fields) ≡ Some said)
-
--- why one event is refused
-abbrev pub IsEventCause : Hosts → Reached → Frame → RunError → Type 0
-IsEventCause hosts r frame errors.NoMemory = Unit {0}
-IsEventCause hosts r frame (errors.BadEvent at) = IsBadAt at r frame
-IsEventCause hosts r frame (errors.OutOfTurn at) = IsEarlyAt at r frame
-IsEventCause hosts r frame errors.UnknownKey = IsSaid hosts r frame (Ok false)
-IsEventCause hosts r frame (errors.KeyChanged line) = IsSaid hosts r frame (Err (Key (key_errors.KeyChanged line)))
-IsEventCause hosts r frame errors.Decode = IsSaid hosts r frame (Err (Key key_errors.Decode))
-IsEventCause hosts r frame errors.SshKey = IsSaid hosts r frame (Err (Key key_errors.SshKey))
-IsEventCause hosts r frame (errors.Unbuilt at) = IsUnbuiltAt at r frame
-IsEventCause hosts r frame e = ⊥
-
--- the script has come as far as the event's kind says
-abbrev pub ComesOn : OpeningState → Frame → OpeningState → Type 0
-ComesOn s frame s' = reached_of s' ≡ reached_by s.settings.anonymous frame.kind (reached_of s)
-
--- what a turn shows, by whether the run goes on
-abbrev pub Shows : Hosts → OpeningState → Frame → OpeningState → Onward → Type 0
-Shows hosts s frame s' goes_on = ComesOn s frame s' × (s'.settings ≡ s.settings) × (s'.closed ≡ false)
-Shows hosts s frame s' opened = ComesOn s frame s' × (s'.phase ≡ phases.Open)
-Shows hosts s frame s' (stopped (refused e)) = IsEventCause hosts (reached_of s) frame e
-Shows hosts s frame s' (stopped (ended e)) = ⊥
-Shows hosts s frame s' (stopped unanswered_stop) = ⊥
-
-abbrev pub TurnShows : Hosts → OpeningState → Frame → Turn → Type 0
-TurnShows hosts s frame t = Shows hosts s frame t.state t.next
+-- a turn that stops the run has its cause
+abbrev pub TurnShows : Hosts → OpeningState → Frame → Asking Turn → Type 0
+TurnShows hosts s frame asking = Always (λ (t : Turn). StopsFor (IsStopCause hosts s frame) t.next) asking
 
 -- ---- what fields give
 
@@ -144,7 +114,7 @@ unfolding verdict
 verdict_refuses hosts (identities.PublicKey key hash) e is = is_key_error e key_errors.NoMemory (judged hosts.known hosts.host key.0) is (judged-refuses hosts.known hosts.host key.0)
 verdict_refuses hosts (identities.Certificate key) e is = absurd cc
 
-module _ (hosts : Hosts) (settings : Settings) (id : List ℕ) (requested : Bool) (stored : Option Stored) (ticket : Ticket) (place moment : ℕ) (answers : List SignCall) where
+module _ (hosts : Hosts) (settings : Settings) (id : List ℕ) (requested : Bool) (stored : Option Stored) (ticket : Ticket) (place moment : ℕ) where
   -- the opening at a phase and a flag, and an event of a kind
   abbrev at : Phase → ExchangeFlag → OpeningState
   at phase flag = record { settings = settings; phase = phase; flag = flag; session_id = id; requested = requested; stored = stored; ticket = ticket; closed = false }
@@ -154,12 +124,12 @@ module _ (hosts : Hosts) (settings : Settings) (id : List ℕ) (requested : Bool
 
   -- ---- the peer's KEXINIT
 
-  kexinit_shows : (phase : Phase) (flag : ExchangeFlag) (fields : List ℕ) → TurnShows hosts (at phase flag) (event kinds.PeerKexinit fields) (turn hosts (at phase flag) (event kinds.PeerKexinit fields) answers)
-  unfolding turn open_row asked_of
+  kexinit_shows : (phase : Phase) (flag : ExchangeFlag) (fields : List ℕ) → TurnShows hosts (at phase flag) (event kinds.PeerKexinit fields) (turn hosts (at phase flag) (event kinds.PeerKexinit fields))
+  unfolding turn plain_row asked_of
   kexinit_shows phase flags.Peer fields = (refl, refl)
-  kexinit_shows phases.Exchanging flags.Idle [] = (refl, refl, refl)
+  kexinit_shows phases.Exchanging flags.Idle [] = tt
   kexinit_shows phases.Exchanging flags.Idle (b ∷ rest) = (refl, refl)
-  kexinit_shows phases.Exchanging flags.Ours [] = (refl, refl, refl)
+  kexinit_shows phases.Exchanging flags.Ours [] = tt
   kexinit_shows phases.Exchanging flags.Ours (b ∷ rest) = (refl, refl)
   kexinit_shows phases.Service flags.Idle fields = (refl, refl, inl refl)
   kexinit_shows phases.Service flags.Ours fields = (refl, refl, inl refl)
@@ -171,7 +141,7 @@ module _ (hosts : Hosts) (settings : Settings) (id : List ℕ) (requested : Bool
   -- ---- an exchange that is done
 
   key_shows : (fields : List ℕ) (x : ExchangeResult) (key : Option PublicKeyOrCertificate) (e : HandlerError) (k : KeyError) → exchange_done_of fields ≡ Ok (events.ExchangeDone x) → said_of_key hosts (host_key x.key) ≡ Err e → e ≡ Key k → IsRefusal k →
-      Shows hosts (at phases.Exchanging flags.Peer) (event kinds.ExchangeDone fields) (at phases.Exchanging flags.Peer) (stopped (refused (handler_error_of place e)))
+      IsEventCause hosts (at phases.Exchanging flags.Peer) (event kinds.ExchangeDone fields) (handler_error_of place e)
   key_shows fields x key e (key_errors.KeyChanged line) read said is refusal = rw is (refl, refl, ap (said_by hosts) read ∙ ap Some (said ∙ ap Err is))
   key_shows fields x key e key_errors.Decode read said is refusal = rw is (refl, refl, ap (said_by hosts) read ∙ ap Some (said ∙ ap Err is))
   key_shows fields x key e key_errors.SshKey read said is refusal = rw is (refl, refl, ap (said_by hosts) read ∙ ap Some (said ∙ ap Err is))
@@ -179,29 +149,29 @@ module _ (hosts : Hosts) (settings : Settings) (id : List ℕ) (requested : Bool
   key_shows fields x key e k read said is refusal = absurd refusal
 
   accepted_shows : (fields : List ℕ) (x : ExchangeResult) (anonymous : Bool) → settings.anonymous ≡ anonymous →
-      TurnShows hosts (at phases.Exchanging flags.Peer) (event kinds.ExchangeDone fields) (row_turn place (at phases.Exchanging flags.Peer) answers (accepted_row anonymous (at phases.Exchanging flags.Peer) x))
-  accepted_shows fields x false is = (ap (λ (b : Bool). record { flag = flags.Idle; phase = exchanged b; requested = requested }) (sym is), refl, refl)
-  accepted_shows fields x true is = (ap (λ (b : Bool). record { flag = flags.Idle; phase = exchanged b; requested = requested }) (sym is), refl)
+      TurnShows hosts (at phases.Exchanging flags.Peer) (event kinds.ExchangeDone fields) (done (row_turn place (at phases.Exchanging flags.Peer) (accepted_row anonymous (at phases.Exchanging flags.Peer) x)))
+  accepted_shows fields x false is = tt
+  accepted_shows fields x true is = tt
 
   said_shows : (fields : List ℕ) (x : ExchangeResult) (e : HandlerError) → exchange_done_of fields ≡ Ok (events.ExchangeDone x) → said_of_key hosts (host_key x.key) ≡ Err e → (k : KeyError) × (e ≡ Key k) × IsRefusal k →
-      Shows hosts (at phases.Exchanging flags.Peer) (event kinds.ExchangeDone fields) (at phases.Exchanging flags.Peer) (stopped (refused (handler_error_of place e)))
+      IsEventCause hosts (at phases.Exchanging flags.Peer) (event kinds.ExchangeDone fields) (handler_error_of place e)
   said_shows fields x e read said (k, is, refusal) = key_shows fields x None e k read said is refusal
 
   judged_shows : (fields : List ℕ) (x : ExchangeResult) (key : PublicKeyOrCertificate) (said : Result Bool HandlerError) → exchange_done_of fields ≡ Ok (events.ExchangeDone x) → said_of_key hosts (host_key x.key) ≡ said → verdict hosts key ≡ said →
-      TurnShows hosts (at phases.Exchanging flags.Peer) (event kinds.ExchangeDone fields) (judged_turn place (at phases.Exchanging flags.Peer) (events.ExchangeDone x) answers said)
-  unfolding open_row
+      TurnShows hosts (at phases.Exchanging flags.Peer) (event kinds.ExchangeDone fields) (judged_turn place (at phases.Exchanging flags.Peer) (events.ExchangeDone x) said)
+  unfolding plain_row
   judged_shows fields x key (Ok true) read is by = accepted_shows fields x settings.anonymous refl
   judged_shows fields x key (Ok false) read is by = (refl, refl, ap (said_by hosts) read ∙ ap Some is)
   judged_shows fields x key (Err e) read is by = said_shows fields x e read is (verdict_refuses hosts key e by)
 
   asked_shows : (fields : List ℕ) (x : ExchangeResult) (key : Option PublicKeyOrCertificate) → exchange_done_of fields ≡ Ok (events.ExchangeDone x) → host_key x.key ≡ key →
-      TurnShows hosts (at phases.Exchanging flags.Peer) (event kinds.ExchangeDone fields) (asked_turn hosts place (at phases.Exchanging flags.Peer) (events.ExchangeDone x) answers (key_asked key))
-  unfolding open_row
+      TurnShows hosts (at phases.Exchanging flags.Peer) (event kinds.ExchangeDone fields) (asked_turn hosts place (at phases.Exchanging flags.Peer) (events.ExchangeDone x) (key_asked key))
+  unfolding plain_row
   asked_shows fields x None read is = (refl, refl, ap (said_by hosts) read ∙ ap Some (ap (said_of_key hosts) is))
   asked_shows fields x (Some key) read is = judged_shows fields x key (verdict hosts key) read (ap (said_of_key hosts) is) refl
 
   exchange_read_shows : (fields : List ℕ) (read : Result Event EventError) → exchange_done_of fields ≡ read → OnEvent IsExchange read →
-      TurnShows hosts (at phases.Exchanging flags.Peer) (event kinds.ExchangeDone fields) (event_turn hosts place (at phases.Exchanging flags.Peer) answers read)
+      TurnShows hosts (at phases.Exchanging flags.Peer) (event kinds.ExchangeDone fields) (event_turn hosts place (at phases.Exchanging flags.Peer) read)
   unfolding asked_of
   exchange_read_shows fields (Ok (events.ExchangeDone x)) is on = asked_shows fields x (host_key x.key) is refl
   exchange_read_shows fields (Ok events.PeerKexinit) is on = absurd on
@@ -211,7 +181,7 @@ module _ (hosts : Hosts) (settings : Settings) (id : List ℕ) (requested : Bool
   exchange_read_shows fields (Err reads.Bad) is on = (refl, is)
   exchange_read_shows fields (Err reads.Unbuilt) is on = (refl, refl, inr is)
 
-  exchange_shows : (phase : Phase) (flag : ExchangeFlag) (fields : List ℕ) → TurnShows hosts (at phase flag) (event kinds.ExchangeDone fields) (turn hosts (at phase flag) (event kinds.ExchangeDone fields) answers)
+  exchange_shows : (phase : Phase) (flag : ExchangeFlag) (fields : List ℕ) → TurnShows hosts (at phase flag) (event kinds.ExchangeDone fields) (turn hosts (at phase flag) (event kinds.ExchangeDone fields))
   unfolding turn
   exchange_shows phase flags.Idle fields = (refl, refl)
   exchange_shows phase flags.Ours fields = (refl, refl)
@@ -223,39 +193,39 @@ module _ (hosts : Hosts) (settings : Settings) (id : List ℕ) (requested : Bool
   -- ---- a packet
 
   accept_shows : (flag : ExchangeFlag) (fields : List ℕ) → requested ≡ true →
-      TurnShows hosts (at phases.Service flag) (event kinds.Payload fields) (event_turn hosts place (at phases.Service flag) answers (Ok (events.Payload (SERVICE_ACCEPT ∷ string_text (codes "ssh-userauth")))))
-  unfolding asked_of open_row
-  accept_shows flag fields is = rw (is, service_read) (refl, refl, refl)
+      TurnShows hosts (at phases.Service flag) (event kinds.Payload fields) (event_turn hosts place (at phases.Service flag) (Ok (events.Payload (SERVICE_ACCEPT ∷ string_text (codes "ssh-userauth")))))
+  unfolding asked_of plain_row
+  accept_shows flag fields is = rw (is, service_read) tt
 
   success_shows : (flag : ExchangeFlag) (fields : List ℕ) →
-      TurnShows hosts (at phases.Auth flag) (event kinds.Payload fields) (event_turn hosts place (at phases.Auth flag) answers (Ok (events.Payload (USERAUTH_SUCCESS ∷ []))))
-  unfolding asked_of open_row
-  success_shows flag fields = (refl, refl)
+      TurnShows hosts (at phases.Auth flag) (event kinds.Payload fields) (event_turn hosts place (at phases.Auth flag) (Ok (events.Payload (USERAUTH_SUCCESS ∷ []))))
+  unfolding asked_of plain_row
+  success_shows flag fields = tt
 
   packet_read_shows : (phase : Phase) (flag : ExchangeFlag) (fields : List ℕ) (read : Result Event EventError) → payload_of phase fields ≡ read →
-      ((e : Event) → read ≡ Ok e → TurnShows hosts (at phase flag) (event kinds.Payload fields) (event_turn hosts place (at phase flag) answers (Ok e))) →
-      TurnShows hosts (at phase flag) (event kinds.Payload fields) (event_turn hosts place (at phase flag) answers read)
+      ((e : Event) → read ≡ Ok e → TurnShows hosts (at phase flag) (event kinds.Payload fields) (event_turn hosts place (at phase flag) (Ok e))) →
+      TurnShows hosts (at phase flag) (event kinds.Payload fields) (event_turn hosts place (at phase flag) read)
   packet_read_shows phase flag fields (Ok e) is shows = shows e refl
   packet_read_shows phase flag fields (Err reads.NoMemory) is shows = tt
   packet_read_shows phase flag fields (Err reads.Bad) is shows = (refl, is)
   packet_read_shows phase flag fields (Err reads.Unbuilt) is shows = (refl, refl, inr is)
 
   service_shows : (flag : ExchangeFlag) (fields : List ℕ) (asked : Bool) → requested ≡ asked →
-      TurnShows hosts (at phases.Service flag) (event kinds.Payload fields) (built_turn asked hosts (at phases.Service flag) (event kinds.Payload fields) answers)
+      TurnShows hosts (at phases.Service flag) (event kinds.Payload fields) (built_turn asked hosts (at phases.Service flag) (event kinds.Payload fields))
   service_shows flag fields false is = (refl, refl, inl is)
   service_shows flag fields true is = packet_read_shows phases.Service flag fields (payload_of phases.Service fields) refl (λ e read.
       let gives = payload_gives phases.Service fields e read in
       let same : fields ≡ SERVICE_ACCEPT ∷ string_text (codes "ssh-userauth") = same_bytes fields _ gives.1 in
-      subst (λ (ev : Event). TurnShows hosts (at phases.Service flag) (event kinds.Payload fields) (event_turn hosts place (at phases.Service flag) answers (Ok ev))) (ap events.Payload (sym same) ∙ gives.0) (accept_shows flag fields is))
+      subst (λ (ev : Event). TurnShows hosts (at phases.Service flag) (event kinds.Payload fields) (event_turn hosts place (at phases.Service flag) (Ok ev))) (ap events.Payload (sym same) ∙ gives.0) (accept_shows flag fields is))
 
   auth_shows : (flag : ExchangeFlag) (fields : List ℕ) →
-      TurnShows hosts (at phases.Auth flag) (event kinds.Payload fields) (event_turn hosts place (at phases.Auth flag) answers (payload_of phases.Auth fields))
+      TurnShows hosts (at phases.Auth flag) (event kinds.Payload fields) (event_turn hosts place (at phases.Auth flag) (payload_of phases.Auth fields))
   auth_shows flag fields = packet_read_shows phases.Auth flag fields (payload_of phases.Auth fields) refl (λ e read.
       let gives = payload_gives phases.Auth fields e read in
       let same : fields ≡ USERAUTH_SUCCESS ∷ [] = same_bytes fields _ gives.1 in
-      subst (λ (ev : Event). TurnShows hosts (at phases.Auth flag) (event kinds.Payload fields) (event_turn hosts place (at phases.Auth flag) answers (Ok ev))) (ap events.Payload (sym same) ∙ gives.0) (success_shows flag fields))
+      subst (λ (ev : Event). TurnShows hosts (at phases.Auth flag) (event kinds.Payload fields) (event_turn hosts place (at phases.Auth flag) (Ok ev))) (ap events.Payload (sym same) ∙ gives.0) (success_shows flag fields))
 
-  payload_shows : (phase : Phase) (flag : ExchangeFlag) (fields : List ℕ) → TurnShows hosts (at phase flag) (event kinds.Payload fields) (turn hosts (at phase flag) (event kinds.Payload fields) answers)
+  payload_shows : (phase : Phase) (flag : ExchangeFlag) (fields : List ℕ) → TurnShows hosts (at phase flag) (event kinds.Payload fields) (turn hosts (at phase flag) (event kinds.Payload fields))
   unfolding turn
   payload_shows phases.Exchanging flag fields = (refl, refl, inl refl)
   payload_shows phases.Service flag fields = service_shows flag fields requested refl
@@ -265,9 +235,9 @@ module _ (hosts : Hosts) (settings : Settings) (id : List ℕ) (requested : Bool
   -- ---- a request
 
   first_request_shows : (fields : List ℕ) (read : Result Event EventError) → authenticate_of fields ≡ read → OnEvent IsRequest read →
-      TurnShows hosts (at phases.Service flags.Idle) (event kinds.Authenticate fields) (event_turn hosts place (at phases.Service flags.Idle) answers read)
-  unfolding asked_of open_row
-  first_request_shows fields (Ok (events.Authenticate t user method)) is on = (refl, refl, refl)
+      TurnShows hosts (at phases.Service flags.Idle) (event kinds.Authenticate fields) (event_turn hosts place (at phases.Service flags.Idle) read)
+  unfolding asked_of plain_row
+  first_request_shows fields (Ok (events.Authenticate t user method)) is on = tt
   first_request_shows fields (Ok (events.ExchangeDone x)) is on = absurd on
   first_request_shows fields (Ok events.PeerKexinit) is on = absurd on
   first_request_shows fields (Ok (events.Payload packet)) is on = absurd on
@@ -276,9 +246,9 @@ module _ (hosts : Hosts) (settings : Settings) (id : List ℕ) (requested : Bool
   first_request_shows fields (Err reads.Unbuilt) is on = (refl, refl, inr is)
 
   later_request_shows : (fields : List ℕ) (read : Result Event EventError) → authenticate_of fields ≡ read → OnEvent IsRequest read →
-      TurnShows hosts (at phases.Auth flags.Idle) (event kinds.Authenticate fields) (event_turn hosts place (at phases.Auth flags.Idle) answers read)
-  unfolding asked_of open_row
-  later_request_shows fields (Ok (events.Authenticate t user method)) is on = (refl, refl, refl)
+      TurnShows hosts (at phases.Auth flags.Idle) (event kinds.Authenticate fields) (event_turn hosts place (at phases.Auth flags.Idle) read)
+  unfolding asked_of plain_row
+  later_request_shows fields (Ok (events.Authenticate t user method)) is on = tt
   later_request_shows fields (Ok (events.ExchangeDone x)) is on = absurd on
   later_request_shows fields (Ok events.PeerKexinit) is on = absurd on
   later_request_shows fields (Ok (events.Payload packet)) is on = absurd on
@@ -286,7 +256,7 @@ module _ (hosts : Hosts) (settings : Settings) (id : List ℕ) (requested : Bool
   later_request_shows fields (Err reads.Bad) is on = (refl, is)
   later_request_shows fields (Err reads.Unbuilt) is on = (refl, refl, inr is)
 
-  request_shows : (phase : Phase) (flag : ExchangeFlag) (fields : List ℕ) → TurnShows hosts (at phase flag) (event kinds.Authenticate fields) (turn hosts (at phase flag) (event kinds.Authenticate fields) answers)
+  request_shows : (phase : Phase) (flag : ExchangeFlag) (fields : List ℕ) → TurnShows hosts (at phase flag) (event kinds.Authenticate fields) (turn hosts (at phase flag) (event kinds.Authenticate fields))
   unfolding turn
   request_shows phase flags.Ours fields = (refl, refl)
   request_shows phase flags.Peer fields = (refl, refl)
@@ -297,38 +267,41 @@ module _ (hosts : Hosts) (settings : Settings) (id : List ℕ) (requested : Bool
 
   -- ---- every kind
 
-  kind_shows : (phase : Phase) (flag : ExchangeFlag) (kind : EventKind) (fields : List ℕ) → TurnShows hosts (at phase flag) (event kind fields) (turn hosts (at phase flag) (event kind fields) answers)
+  kind_shows : (phase : Phase) (flag : ExchangeFlag) (kind : EventKind) (fields : List ℕ) → TurnShows hosts (at phase flag) (event kind fields) (turn hosts (at phase flag) (event kind fields))
   unfolding turn
   kind_shows phase flag kinds.PeerKexinit fields = kexinit_shows phase flag fields
   kind_shows phase flag kinds.ExchangeDone fields = exchange_shows phase flag fields
   kind_shows phase flag kinds.Payload fields = payload_shows phase flag fields
   kind_shows phase flag kinds.Authenticate fields = request_shows phase flag fields
+  kind_shows phase flag kinds.AgentEvent fields = (refl, refl, inl refl)
   kind_shows phase flag kinds.Later fields = (refl, refl, inl refl)
 
--- every turn of an opening that isn't closed
-pub turn_shows : (hosts : Hosts) (s : OpeningState) (frame : Frame) (answers : List SignCall) → s.closed ≡ false → TurnShows hosts s frame (turn hosts s frame answers)
-turn_shows hosts s frame answers fresh =
-    let same : s ≡ record s { closed = false } = ap (λ (b : Bool). record s { closed = b }) fresh in
-    subst (λ (x : OpeningState). TurnShows hosts x frame (turn hosts x frame answers)) (sym same)
-    (kind_shows hosts s.settings s.session_id s.requested s.stored s.ticket frame.place frame.moment answers s.phase s.flag frame.kind frame.fields)
+-- nothing is built once the opening is closed
+closed_shows : (is_early : Bool) (hosts : Hosts) (s : OpeningState) (frame : Frame) → s.closed ≡ true → is_out_of_turn frame.kind s.flag ≡ is_early → TurnShows hosts s frame (timely_turn is_early hosts s frame)
+closed_shows true hosts s frame closed early = (refl, early)
+closed_shows false hosts s frame closed early = rw closed (refl, early, inl refl)
 
--- ---- no turn ends the run
-
-unended_by : (hosts : Hosts) (s : OpeningState) (frame : Frame) (s' : OpeningState) (next : Onward) (e : Ended) → Shows hosts s frame s' next → next ≡ stopped (ended e) → ⊥
-unended_by hosts s frame s' goes_on e shows is = cc
-unended_by hosts s frame s' opened e shows is = cc
-unended_by hosts s frame s' (stopped (refused x)) e shows is = cc
-unended_by hosts s frame s' (stopped unanswered_stop) e shows is = cc
-unended_by hosts s frame s' (stopped (ended x)) e shows is = shows
-
-closed_unended : (is_early : Bool) (hosts : Hosts) (s : OpeningState) (frame : Frame) (answers : List SignCall) (e : Ended) → s.closed ≡ true → (timely_turn is_early hosts s frame answers).next ≡ stopped (ended e) → ⊥
-closed_unended true hosts s frame answers e closed is = cc
-closed_unended false hosts s frame answers e closed is = let unbuilt : stopped (refused (errors.Unbuilt frame.place)) ≡ stopped (ended e) = rw closed at is in cc
-
-unended_as : (closed : Bool) (hosts : Hosts) (s : OpeningState) (frame : Frame) (answers : List SignCall) (e : Ended) → s.closed ≡ closed → (turn hosts s frame answers).next ≡ stopped (ended e) → ⊥
+turn_shows_by : (closed : Bool) (hosts : Hosts) (s : OpeningState) (frame : Frame) → s.closed ≡ closed → TurnShows hosts s frame (turn hosts s frame)
 unfolding turn
-unended_as true hosts s frame answers e is ends = closed_unended (is_out_of_turn frame.kind s.flag) hosts s frame answers e is ends
-unended_as false hosts s frame answers e is ends = unended_by hosts s frame (turn hosts s frame answers).state (turn hosts s frame answers).next e (turn_shows hosts s frame answers is) ends
+turn_shows_by true hosts s frame is = closed_shows (is_out_of_turn frame.kind s.flag) hosts s frame is refl
+turn_shows_by false hosts s frame is =
+    let same : s ≡ record s { closed = false } = ap (λ (b : Bool). record s { closed = b }) is in
+    subst (λ (x : OpeningState). TurnShows hosts x frame (turn hosts x frame)) (sym same)
+    (kind_shows hosts s.settings s.session_id s.requested s.stored s.ticket frame.place frame.moment s.phase s.flag frame.kind frame.fields)
 
-pub turn_unended : (hosts : Hosts) (s : OpeningState) (frame : Frame) (answers : List SignCall) (e : Ended) → (turn hosts s frame answers).next ≡ stopped (ended e) → ⊥
-turn_unended hosts s frame answers e ends = unended_as s.closed hosts s frame answers e refl ends
+-- every turn of the opening
+pub turn_shows : (hosts : Hosts) (s : OpeningState) (frame : Frame) → TurnShows hosts s frame (turn hosts s frame)
+turn_shows hosts s frame = turn_shows_by s.closed hosts s frame refl
+
+-- ---- no turn says that the script is at its end
+
+no_end : (hosts : Hosts) (s : OpeningState) (frame : Frame) (next : Onward) → StopsFor (IsStopCause hosts s frame) next → next ≡ stopped (ended ScriptEnd) → ⊥
+no_end hosts s frame goes_on shows is = cc
+no_end hosts s frame opened shows is = cc
+no_end hosts s frame (stopped (refused x)) shows is = cc
+no_end hosts s frame (stopped unanswered_stop) shows is = cc
+no_end hosts s frame (stopped (ended x)) shows is = shows
+
+pub never_at_end : (hosts : Hosts) → NeverAtEnd (turn hosts)
+never_at_end hosts = λ s frame.
+    always_also (λ (t : Turn). StopsFor (IsStopCause hosts s frame) t.next) IsNoEnd (turn hosts s frame) (λ t shows. no_end hosts s frame t.next shows) (turn_shows hosts s frame)

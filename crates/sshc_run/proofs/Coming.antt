@@ -1,188 +1,215 @@
 -- A run that has come so far goes on, or ends. Nothing here looks into the table.
 use Rattle.std.proofs.Common.{◌≡◌, ◌⊎◌, inl, inr, refl, ℕ, suc, ◌+◌, ◌-◌, ◌<◌, ◌≤◌, List, [], ◌∷◌, ◌++◌, length, Option, Result, ap, sym, ◌∙◌, subst, append_assoc, length-append, arith}
+use Rattle.std.proofs.lemmas.List.{append-nil}
 use Rattle.std.proofs.lemmas.List.Concat.{flat_map-append}
 use Rattle.sshc_wire.specs.Contents.{prepend, append, WroteFront, append-nothing, prepend-nothing, append-append, prepend-prepend}
 use Rattle.sshc_wire.specs.declared.record.Record.{Record}
+use Rattle.sshc_key.specs.Signers.{SignCall}
+use Rattle.sshc_key.specs.Asking.{Answer}
 use Rattle.sshc_auth.specs.declared.ended.Ended.{Ended}
 use Rattle.sshc_run.specs.declared.error.RunError.{RunError}
 use Rattle.sshc_run.specs.Along.{Along, IsAlong}
-use Rattle.sshc_run.specs.Outcome.{Ending, told, cut, unread, ending_of, IsCut, IsExact, EndsAs, HoldsAtMost, Ends}
+use Rattle.sshc_run.specs.Machine.{RunStop}
+use Rattle.sshc_run.specs.Outcome.{Streams, Moved, Ending, told, cut, unread, ending_of, IsCut, IsExact, EndsAs, HoldsAtMost, Ends}
 use Rattle.sshc_run.specs.RecordLines.{line, lines}
 use Rattle.sshc_run.specs.Script.{events}
-use Rattle.sshc_run.specs.ScriptRun.{Run, after}
-use Rattle.sshc_run.specs.Turn.{RunStop}
+use Rattle.sshc_run.specs.ScriptRun.{Run, Spot, Table, after, answers_of}
 use Rattle.sshc_run.specs.Turning.{BringsOn}
+use Rattle.sshc_run.proofs.Answered.{answers_two}
 
 -- ---- fronts of two lists in a row
 
--- a front of nothing
-pub nothing_front : (front more : List ℕ) → [] ≡ front ++ more → front ≡ []
-nothing_front [] more is = refl
-nothing_front (b ∷ front) more is = absurd cc
+-- a shorter front of two lists is a shorter front of the first, or all of it and a shorter front of the second
+abbrev FrontOfTwo : List ℕ → List ℕ → List ℕ → ℕ → List ℕ → Type 0
+FrontOfTwo a b front c more = ((d : ℕ) × (rest : List ℕ) × (a ≡ front ++ d ∷ rest)) ⊎ ((part : List ℕ) × (front ≡ a ++ part) × (b ≡ part ++ c ∷ more))
 
--- a front of two lists is a front of the first, or all of it and a front of the second
-abbrev FrontOfTwo : List ℕ → List ℕ → List ℕ → List ℕ → Type 0
-FrontOfTwo a b front more = ((rest : List ℕ) × (a ≡ front ++ rest)) ⊎ ((part : List ℕ) × (front ≡ a ++ part) × (b ≡ part ++ more))
+longer_front : (x : ℕ) (a b front : List ℕ) (c : ℕ) (more : List ℕ) → FrontOfTwo a b front c more → FrontOfTwo (x ∷ a) b (x ∷ front) c more
+longer_front x a b front c more (inl (d, rest, is)) = inl (d, rest, ap (λ (bytes : List ℕ). x ∷ bytes) is)
+longer_front x a b front c more (inr (part, is, behind)) = inr (part, ap (λ (bytes : List ℕ). x ∷ bytes) is, behind)
 
-longer_front : (c : ℕ) (a b front more : List ℕ) → FrontOfTwo a b front more → FrontOfTwo (c ∷ a) b (c ∷ front) more
-longer_front c a b front more (inl (rest, is)) = inl (rest, ap (λ bytes. c ∷ bytes) is)
-longer_front c a b front more (inr (part, is, behind)) = inr (part, ap (λ bytes. c ∷ bytes) is, behind)
+front_of_two : (a b front : List ℕ) (c : ℕ) (more : List ℕ) → a ++ b ≡ front ++ c ∷ more → FrontOfTwo a b front c more
+front_of_two [] b front c more is = inr (front, refl, is)
+front_of_two (x ∷ a) b [] c more is = inl (x, a, refl)
+front_of_two (x ∷ a) b (y ∷ front) c more is =
+    let same : x ≡ y = cc in
+    let tails : a ++ b ≡ front ++ c ∷ more = cc in
+    subst (λ (z : ℕ). FrontOfTwo (x ∷ a) b (z ∷ front) c more) same (longer_front x a b front c more (front_of_two a b front c more tails))
 
-front_of_two : (a b front more : List ℕ) → a ++ b ≡ front ++ more → FrontOfTwo a b front more
-front_of_two [] b front more is = inr (front, refl, is)
-front_of_two (c ∷ a) b [] more is = inl (c ∷ a, refl)
-front_of_two (c ∷ a) b (d ∷ front) more is =
-    let same : c ≡ d = cc in
-    let tails : a ++ b ≡ front ++ more = cc in
-    subst (λ (x : ℕ). FrontOfTwo (c ∷ a) b (x ∷ front) more) same (longer_front c a b front more (front_of_two a b front more tails))
+no_front : (front : List ℕ) (c : ℕ) (more : List ℕ) → [] ≡ front ++ c ∷ more → ⊥
+no_front [] c more is = cc
+no_front (b ∷ front) c more is = cc
 
--- ---- the invariant
-
--- at the start
-pub along_none : {S : Type 0} (first : S) (table : ℕ → ℕ → ℕ → S → List ℕ → Run) (max : ℕ) (s : S) (left held : Option (List ℕ)) (reads : ℕ) → IsCut (table max 0 0 first []).stop → s ≡ first → IsAlong first table max 0 0 0 s left left held held reads reads
-along_none {S = S} first table max s left held reads ends is = (
-  [],
-  [],
-  record {
-    read = sym (prepend-nothing left);
-    wrote = sym (append-nothing held);
-    on = λ more. let m : max ≡ max - 0 = omega arith in ap (λ n. table n 0 0 first more) m ∙ ap (λ (x : S). table (max - 0) 0 0 x more) (sym is);
-    counts = λ n more.
-        (let none : 0 + n ≡ n = omega arith in
-        let same = ap (λ m. length (events m 0 0 more)) none in
-        omega (arith, same));
-    just = λ front more none. subst (λ bytes. IsCut (table max 0 0 first bytes).stop) (sym (nothing_front front more none)) ends;
-    count = omega arith;
-  },
-)
+-- ---- records and calls
 
 lines_two : (a b : List Record) (held mid now : Option (List ℕ)) → mid ≡ append held (lines a) → now ≡ append mid (lines b) → now ≡ append held (lines (a ++ b))
 lines_two a b held mid now first second =
     second ∙ ap (λ o. append o (lines b)) first ∙ append-append held (lines a) (lines b) ∙ ap (append held) (sym (flat_map-append line a b))
 
-after_two : (a b : List Record) (r : Run) → after a (after b r) ≡ after (a ++ b) r
-after_two a b r = ap (λ (x : List Record). record { records = x; stop = r.stop }) (sym (append_assoc a b r.records))
+after_two : (a b : List Record) (p q : List SignCall) (r : Run) → after a p (after b q r) ≡ after (a ++ b) (p ++ q) r
+after_two a b p q r =
+    ap (λ (x : List Record). record { records = x; calls = p ++ (q ++ r.calls); stop = r.stop }) (sym (append_assoc a b r.records))
+    ∙ ap (λ (x : List SignCall). record { records = (a ++ b) ++ r.records; calls = x; stop = r.stop }) (sym (append_assoc p q r.calls))
 
--- on a front of what came before and of one turn's bytes the run goes to its end
-cut_more : {S : Type 0} (first : S) (table : ℕ → ℕ → ℕ → S → List ℕ → Run) (max turns place last : ℕ) (s : S) (script left held now : Option (List ℕ)) (reads reads' : ℕ) (given : List ℕ) (records : List Record) (given' : List ℕ) (n : ℕ) → max - turns ≡ suc n →
-    (front more : List ℕ) → Along first table max turns place last s script left held now reads reads' given records →
-    ((m : ℕ) (part rest : List ℕ) → given' ≡ part ++ rest → IsCut (table (suc m) place last s part).stop) → FrontOfTwo given given' front more → IsCut (table max 0 0 first front).stop
-cut_more first table max turns place last s script left held now reads reads' given records given' n one front more so_far just (inl (rest, is)) = so_far.just front rest is
-cut_more first table max turns place last s script left held now reads reads' given records given' n one front more so_far just (inr (part, is, behind)) =
-    let here : (table max 0 0 first front).stop ≡ (table (suc n) place last s part).stop =
-    ap (λ bytes. (table max 0 0 first bytes).stop) is ∙ ap (λ (r : Run). r.stop) (so_far.on part) ∙ ap (λ m. (table m place last s part).stop) one
-    in
-    subst (λ (x : RunStop). IsCut x) (sym here) (just n part more behind)
+-- the answers of two lists of calls, and those that follow
+answers_three : (a b : List SignCall) (later : List Answer) → answers_of (a ++ b) ++ later ≡ answers_of a ++ (answers_of b ++ later)
+answers_three a b later = ap (λ (x : List Answer). x ++ later) (answers_two a b) ∙ append_assoc (answers_of a) (answers_of b) later
 
--- one event more is counted
-counts_more : (turns place last place' last' : ℕ) (given given' : List ℕ) (n : ℕ) (more : List ℕ) →
-    ((m : ℕ) (rest : List ℕ) → length (events (turns + m) 0 0 (given ++ rest)) ≡ turns + length (events m place last rest)) →
-    ((m : ℕ) (rest : List ℕ) → length (events (suc m) place last (given' ++ rest)) ≡ suc (length (events m place' last' rest))) →
-    length (events (turns + 1 + n) 0 0 ((given ++ given') ++ more)) ≡ turns + 1 + length (events n place' last' more)
-counts_more turns place last place' last' given given' n more counts one =
-    let parts : length (events (turns + 1 + n) 0 0 ((given ++ given') ++ more)) ≡ length (events (turns + suc n) 0 0 (given ++ (given' ++ more))) =
-    ap (λ bytes. length (events (turns + 1 + n) 0 0 bytes)) (append_assoc given given' more) ∙ ap (λ m. length (events m 0 0 (given ++ (given' ++ more)))) (omega arith)
-    in
-    let before = counts (suc n) (given' ++ more) in
-    let last_one = one n more in
-    omega (arith, parts, before, last_one)
+-- what was moved in two parts
+pub moved_two : (before mid now : Streams) (given given' : List ℕ) (gained gained' : List SignCall) (records records' : List Record) → Moved before mid given gained (lines records) → Moved mid now given' gained' (lines records') →
+    Moved before now (given ++ given') (gained ++ gained') (lines (records ++ records'))
+moved_two before mid now given given' gained gained' records records' a b = record {
+  read = a.read ∙ ap (prepend given) b.read ∙ prepend-prepend given given' now.left;
+  asked = b.asked ∙ ap (λ (x : List SignCall). x ++ gained') a.asked ∙ append_assoc before.calls gained gained';
+  wrote = lines_two records records' before.held mid.held now.held a.wrote b.wrote;
+  count = omega (arith, a.count, b.count, length-append given given');
+}
 
--- a turn's bytes hold at most the events that were left
-holds_more : (max turns place last : ℕ) (given given' : List ℕ) → turns ≤ max → ((m : ℕ) (rest : List ℕ) → length (events (turns + m) 0 0 (given ++ rest)) ≡ turns + length (events m place last rest)) →
-    HoldsAtMost (max - turns) place last given' → HoldsAtMost max 0 0 (given ++ given')
-holds_more max turns place last given given' le counts few =
-    let one : turns + suc (max - turns) ≡ suc max = omega arith in
-    let whole = ap (λ m. length (events m 0 0 (given ++ given'))) one in
-    let parts = counts (suc (max - turns)) given' in
-    omega (arith, few, whole, parts)
+-- ---- the invariant
 
--- after one turn more
-pub along_more : {S : Type 0} (first : S) (table : ℕ → ℕ → ℕ → S → List ℕ → Run) (max turns place last : ℕ) (s : S) (place' last' : ℕ) (s' : S) (script left left' held now now' : Option (List ℕ)) (reads reads' reads'' : ℕ) → turns < max →
-    IsAlong first table max turns place last s script left held now reads reads' →
-    (given : List ℕ) × (records : List Record) × (left ≡ prepend given left') × (now' ≡ append now (lines records)) × BringsOn table place last s place' last' s' given records × (reads'' ≤ reads' + length given) →
-    IsAlong first table max (turns + 1) place' last' s' script left' held now' reads reads''
-along_more first table max turns place last s place' last' s' script left left' held now now' reads reads' reads'' lt (given, records, so_far) (given', records', read, wrote, brings, count) =
-    let one : max - turns ≡ suc (max - (turns + 1)) = omega arith in (
+module _ {S : Type 0} (table : Table S) (first : Spot S) (max : ℕ) where
+  -- at the start
+  pub along_none : (at : Spot S) (before : Streams) → at ≡ first → IsAlong table first max 0 at before before
+  along_none at before is = (
+    [],
+    [],
+    [],
+    record {
+      moved = record { read = sym (prepend-nothing before.left); asked = sym (append-nil before.calls); wrote = sym (append-nothing before.held); count = omega arith };
+      on = λ later more. let m : max ≡ max - 0 = omega arith in ap (λ (n : ℕ). table n first later more) m ∙ ap (λ (x : Spot S). table (max - 0) x later more) (sym is);
+      counts = λ n more.
+          (let none : 0 + n ≡ n = omega arith in
+          let same : length (events (0 + n) first.place first.last more) ≡ length (events n first.place first.last more) = ap (λ (m : ℕ). length (events m first.place first.last more)) none in
+          let here : length (events n first.place first.last more) ≡ length (events n at.place at.last more) = ap (λ (x : Spot S). length (events n x.place x.last more)) (sym is) in
+          omega (arith, same, here));
+      just = λ later front c more none. absurd (no_front front c more none);
+    },
+  )
+
+  module _ (turns : ℕ) (at : Spot S) (before now : Streams) where
+    -- on a shorter front of what came before and of one part more the run goes to its end
+    cut_more : (given : List ℕ) (gained : List SignCall) (records : List Record) (given' : List ℕ) (n : ℕ) → max - turns ≡ n → (later : List Answer) (front : List ℕ) (c : ℕ) (more : List ℕ) →
+        Along table first max turns at before now given gained records → ((part : List ℕ) (b : ℕ) (rest : List ℕ) → given' ≡ part ++ b ∷ rest → IsCut (table n at later part).stop) →
+        FrontOfTwo given given' front c more → IsCut (table max first (answers_of gained ++ later) front).stop
+    cut_more given gained records given' n left later front c more so_far just (inl (d, rest, is)) = so_far.just later front d rest is
+    cut_more given gained records given' n left later front c more so_far just (inr (part, is, behind)) =
+        let here : (table max first (answers_of gained ++ later) front).stop ≡ (table n at later part).stop =
+        ap (λ (bytes : List ℕ). (table max first (answers_of gained ++ later) bytes).stop) is ∙ ap (λ (r : Run). r.stop) (so_far.on later part) ∙ ap (λ (m : ℕ). (table m at later part).stop) left
+        in
+        subst (λ (x : RunStop). IsCut x) (sym here) (just part c more behind)
+
+    -- one event more is counted
+    counts_more : (at' : Spot S) (given : List ℕ) (gained : List SignCall) (records : List Record) (given' : List ℕ) (n : ℕ) (more : List ℕ) → Along table first max turns at before now given gained records →
+        ((m : ℕ) (rest : List ℕ) → length (events (suc m) at.place at.last (given' ++ rest)) ≡ suc (length (events m at'.place at'.last rest))) →
+        length (events (turns + 1 + n) first.place first.last ((given ++ given') ++ more)) ≡ turns + 1 + length (events n at'.place at'.last more)
+    counts_more at' given gained records given' n more so_far one =
+        let parts : length (events (turns + 1 + n) first.place first.last ((given ++ given') ++ more)) ≡ length (events (turns + suc n) first.place first.last (given ++ (given' ++ more))) =
+        ap (λ (bytes : List ℕ). length (events (turns + 1 + n) first.place first.last bytes)) (append_assoc given given' more) ∙ ap (λ (m : ℕ). length (events m first.place first.last (given ++ (given' ++ more)))) (omega arith)
+        in
+        let earlier = so_far.counts (suc n) (given' ++ more) in
+        let last_one = one n more in
+        omega (arith, parts, earlier, last_one)
+
+    -- after one turn more
+    pub along_more : (at' : Spot S) (now' : Streams) → turns < max → IsAlong table first max turns at before now →
+        (given : List ℕ) × (gained : List SignCall) × (records : List Record) × Moved now now' given gained (lines records) × BringsOn table at at' given gained records → IsAlong table first max (turns + 1) at' before now'
+    along_more at' now' lt (given, gained, records, so_far) (given', gained', records', moved, brings) =
+        let one : max - turns ≡ suc (max - (turns + 1)) = omega arith in (
+          given ++ given',
+          gained ++ gained',
+          records ++ records',
+          record {
+            moved = moved_two before now now' given given' gained gained' records records' so_far.moved moved;
+            on = λ later more.
+                ap (λ (answers : List Answer). table max first answers ((given ++ given') ++ more)) (answers_three gained gained' later)
+                ∙ ap (table max first (answers_of gained ++ (answers_of gained' ++ later))) (append_assoc given given' more) ∙ so_far.on (answers_of gained' ++ later) (given' ++ more)
+                ∙ ap (λ (n : ℕ). after records gained (table n at (answers_of gained' ++ later) (given' ++ more))) one ∙ ap (λ (r : Run). after records gained r) (brings.on (max - (turns + 1)) later more)
+                ∙ after_two records records' gained gained' (table (max - (turns + 1)) at' later more);
+            counts = λ n more. counts_more at' given gained records given' n more so_far brings.counts;
+            just = λ later front c more is.
+                subst (λ (answers : List Answer). IsCut (table max first answers front).stop) (sym (answers_three gained gained' later))
+                (cut_more given gained records given' (suc (max - (turns + 1))) one (answers_of gained' ++ later) front c more so_far (λ part b rest parts. brings.just (max - (turns + 1)) (answers_of gained' ++ later) part b rest parts)
+                (front_of_two given given' front c more is));
+          },
+        )
+
+    -- ---- where it ends
+
+    -- the whole run by what came before and what ends it
+    whole_on : (given : List ℕ) (gained : List SignCall) (records : List Record) (given' : List ℕ) (gained' : List SignCall) → Along table first max turns at before now given gained records →
+        table max first (answers_of (gained ++ gained')) (given ++ given') ≡ after records gained (table (max - turns) at (answers_of gained') given')
+    whole_on given gained records given' gained' so_far = ap (λ (answers : List Answer). table max first answers (given ++ given')) (answers_two gained gained') ∙ so_far.on (answers_of gained') given'
+
+    exact_end : (now' : Streams) (given : List ℕ) (gained : List SignCall) (records : List Record) (given' : List ℕ) (gained' : List SignCall) (a : Result Ended RunError) → Along table first max turns at before now given gained records →
+        IsExact (table (max - turns) at) given' gained' now now' a → IsExact (table max first) (given ++ given') (gained ++ gained') before now' a
+    exact_end now' given gained records given' gained' a so_far exact =
+        let r : Run = table (max - turns) at (answers_of gained') given' in
+        let here : table max first (answers_of (gained ++ gained')) (given ++ given') ≡ after records gained r = whole_on given gained records given' gained' so_far in
+        record {
+          all = rw here (lines_two records r.records before.held now.held now'.held so_far.moved.wrote exact.all);
+          stop = ap (λ (x : Run). x.stop) here ∙ exact.stop;
+          rest = λ later more e.
+              ap (λ (answers : List Answer). table max first answers ((given ++ given') ++ more)) (answers_three gained gained' later)
+              ∙ ap (table max first (answers_of gained ++ (answers_of gained' ++ later))) (append_assoc given given' more) ∙ so_far.on (answers_of gained' ++ later) (given' ++ more)
+              ∙ ap (λ (x : Run). after records gained x) (exact.rest later more e) ∙ sym here;
+          just = λ later front c more is.
+              subst (λ (answers : List Answer). IsCut (table max first answers front).stop) (sym (answers_three gained gained' later))
+              (cut_more given gained records given' (max - turns) refl (answers_of gained' ++ later) front c more so_far (λ part b rest parts. exact.just later part b rest parts) (front_of_two given given' front c more is));
+          whole = exact.whole;
+        }
+
+    cut_end : (now' : Streams) (given : List ℕ) (gained : List SignCall) (records : List Record) (given' : List ℕ) (gained' : List SignCall) → Along table first max turns at before now given gained records →
+        WroteFront now.held now'.held (lines (table (max - turns) at (answers_of gained') given').records) → WroteFront before.held now'.held (lines (table max first (answers_of (gained ++ gained')) (given ++ given')).records)
+    cut_end now' given gained records given' gained' so_far (part, others, due, wrote) =
+        let r : Run = table (max - turns) at (answers_of gained') given' in (
+          lines records ++ part,
+          others,
+          ap (λ (x : Run). lines x.records) (whole_on given gained records given' gained' so_far) ∙ flat_map-append line records r.records ∙ ap (λ (t : List ℕ). lines records ++ t) due ∙ sym (append_assoc (lines records) part others),
+          wrote ∙ ap (λ o. append o part) so_far.moved.wrote ∙ append-append before.held (lines records) part,
+        )
+
+    unread_end : (now' : Streams) (given : List ℕ) (gained : List SignCall) (records : List Record) (given' : List ℕ) (gained' : List SignCall) → Along table first max turns at before now given gained records →
+        now'.held ≡ append now.held (lines (table (max - turns) at (answers_of gained') given').records) → now'.held ≡ append before.held (lines (table max first (answers_of (gained ++ gained')) (given ++ given')).records)
+    unread_end now' given gained records given' gained' so_far wrote =
+        let r : Run = table (max - turns) at (answers_of gained') given' in
+        lines_two records r.records before.held now.held now'.held so_far.moved.wrote wrote ∙ ap (λ (x : Run). append before.held (lines x.records)) (sym (whole_on given gained records given' gained' so_far))
+
+    ends_as : (ending : Ending) (now' : Streams) (given : List ℕ) (gained : List SignCall) (records : List Record) (given' : List ℕ) (gained' : List SignCall) (a : Result Ended RunError) → Along table first max turns at before now given gained records →
+        EndsAs ending (table (max - turns) at) given' gained' now now' a → EndsAs ending (table max first) (given ++ given') (gained ++ gained') before now' a
+    ends_as told now' given gained records given' gained' a so_far by = exact_end now' given gained records given' gained' a so_far by
+    ends_as cut now' given gained records given' gained' a so_far by = cut_end now' given gained records given' gained' so_far by
+    ends_as unread now' given gained records given' gained' a so_far by = unread_end now' given gained records given' gained' so_far by
+
+    -- a turn's bytes hold at most the events that were left
+    holds_more : (given : List ℕ) (gained : List SignCall) (records : List Record) (given' : List ℕ) → turns ≤ max → Along table first max turns at before now given gained records →
+        HoldsAtMost (max - turns) at.place at.last given' → HoldsAtMost max first.place first.last (given ++ given')
+    holds_more given gained records given' le so_far few =
+        let one : turns + suc (max - turns) ≡ suc max = omega arith in
+        let whole = ap (λ (m : ℕ). length (events m first.place first.last (given ++ given'))) one in
+        let parts = so_far.counts (suc (max - turns)) given' in
+        omega (arith, few, whole, parts)
+
+    -- where it ends
+    pub along_ends : (now' : Streams) (a : Result Ended RunError) → turns ≤ max → IsAlong table first max turns at before now → Ends (max - turns) at.place at.last (table (max - turns) at) now now' a →
+        Ends max first.place first.last (table max first) before now' a
+    along_ends now' a le (given, gained, records, so_far) (given', gained', end) = (
       given ++ given',
-      records ++ records',
+      gained ++ gained',
       record {
-        read = so_far.read ∙ ap (prepend given) read ∙ prepend-prepend given given' left';
-        wrote = lines_two records records' held now now' so_far.wrote wrote;
-        on = λ more.
-            ap (table max 0 0 first) (append_assoc given given' more) ∙ so_far.on (given' ++ more)
-            ∙ ap (λ n. after records (table n place last s (given' ++ more))) one ∙ ap (after records) (brings.on (max - (turns + 1)) more)
-            ∙ after_two records records' (table (max - (turns + 1)) place' last' s' more);
-        counts = λ n more. counts_more turns place last place' last' given given' n more so_far.counts brings.counts;
-        just = λ front more is. cut_more first table max turns place last s script left held now reads reads' given records given' (max - (turns + 1)) one front more so_far brings.just (front_of_two given given' front more is);
-        count = omega (arith, so_far.count, count, length-append given given');
+        read = so_far.moved.read ∙ ap (prepend given) end.read ∙ prepend-prepend given given' now'.left;
+        asked = end.asked ∙ ap (λ (x : List SignCall). x ++ gained') so_far.moved.asked ∙ append_assoc before.calls gained gained';
+        made = ap (λ (r : Run). r.calls) (whole_on given gained records given' gained' so_far) ∙ ap (λ (x : List SignCall). gained ++ x) end.made;
+        by = ends_as (ending_of a) now' given gained records given' gained' a so_far end.by;
+        count = omega (arith, so_far.moved.count, end.count, length-append given given');
+        few = holds_more given gained records given' le so_far end.few;
       },
     )
 
-cut_end_front : {S : Type 0} (first : S) (table : ℕ → ℕ → ℕ → S → List ℕ → Run) (max turns place last : ℕ) (s : S) (script left held now : Option (List ℕ)) (reads reads' : ℕ) (given : List ℕ) (records : List Record) (given' : List ℕ)
-    (front : List ℕ) (b : ℕ) (more : List ℕ) → Along first table max turns place last s script left held now reads reads' given records →
-    ((part : List ℕ) (c : ℕ) (rest : List ℕ) → given' ≡ part ++ c ∷ rest → IsCut (table (max - turns) place last s part).stop) → FrontOfTwo given given' front (b ∷ more) → IsCut (table max 0 0 first front).stop
-cut_end_front first table max turns place last s script left held now reads reads' given records given' front b more so_far just (inl (rest, is)) = so_far.just front rest is
-cut_end_front first table max turns place last s script left held now reads reads' given records given' front b more so_far just (inr (part, is, behind)) =
-    let here : (table max 0 0 first front).stop ≡ (table (max - turns) place last s part).stop =
-    ap (λ bytes. (table max 0 0 first bytes).stop) is ∙ ap (λ (r : Run). r.stop) (so_far.on part)
-    in
-    subst (λ (x : RunStop). IsCut x) (sym here) (just part b more behind)
-
-exact_end : {S : Type 0} (first : S) (table : ℕ → ℕ → ℕ → S → List ℕ → Run) (max turns place last : ℕ) (s : S) (script left left' held now now' : Option (List ℕ)) (reads reads' : ℕ) (given : List ℕ) (records : List Record) (given' : List ℕ) (a : Result Ended RunError) →
-    Along first table max turns place last s script left held now reads reads' given records → IsExact (table (max - turns) place last s) given' left' now now' a → IsExact (table max 0 0 first) (given ++ given') left' held now' a
-exact_end first table max turns place last s script left left' held now now' reads reads' given records given' a so_far exact =
-    let r : Run = table (max - turns) place last s given' in
-    let here : table max 0 0 first (given ++ given') ≡ after records r = so_far.on given' in
-    record {
-      all = rw here (lines_two records r.records held now now' so_far.wrote exact.all);
-      stop = ap (λ (x : Run). x.stop) here ∙ exact.stop;
-      rest = λ more e.
-          ap (table max 0 0 first) (append_assoc given given' more) ∙ so_far.on (given' ++ more) ∙ ap (after records) (exact.rest more e) ∙ sym here;
-      just = λ front b more is.
-          cut_end_front first table max turns place last s script left held now reads reads' given records given' front b more so_far exact.just (front_of_two given given' front (b ∷ more) is);
-      whole = exact.whole;
-    }
-
-cut_end : {S : Type 0} (first : S) (table : ℕ → ℕ → ℕ → S → List ℕ → Run) (max turns place last : ℕ) (s : S) (script left held now now' : Option (List ℕ)) (reads reads' : ℕ) (given : List ℕ) (records : List Record) (given' : List ℕ) →
-    Along first table max turns place last s script left held now reads reads' given records → WroteFront now now' (lines (table (max - turns) place last s given').records) → WroteFront held now' (lines (table max 0 0 first (given ++ given')).records)
-cut_end first table max turns place last s script left held now now' reads reads' given records given' so_far (part, others, due, wrote) =
-    let r : Run = table (max - turns) place last s given' in (
-      lines records ++ part,
-      others,
-      ap (λ (x : Run). lines x.records) (so_far.on given') ∙ flat_map-append line records r.records ∙ ap (λ t. lines records ++ t) due ∙ sym (append_assoc (lines records) part others),
-      wrote ∙ ap (λ o. append o part) so_far.wrote ∙ append-append held (lines records) part,
-    )
-
-unread_end : {S : Type 0} (first : S) (table : ℕ → ℕ → ℕ → S → List ℕ → Run) (max turns place last : ℕ) (s : S) (script left held now now' : Option (List ℕ)) (reads reads' : ℕ) (given : List ℕ) (records : List Record) (given' : List ℕ) →
-    Along first table max turns place last s script left held now reads reads' given records → now' ≡ append now (lines (table (max - turns) place last s given').records) → now' ≡ append held (lines (table max 0 0 first (given ++ given')).records)
-unread_end first table max turns place last s script left held now now' reads reads' given records given' so_far wrote =
-    let r : Run = table (max - turns) place last s given' in
-    lines_two records r.records held now now' so_far.wrote wrote ∙ ap (λ (x : Run). append held (lines x.records)) (sym (so_far.on given'))
-
-ends_as : {S : Type 0} (ending : Ending) (first : S) (table : ℕ → ℕ → ℕ → S → List ℕ → Run) (max turns place last : ℕ) (s : S) (script left left' held now now' : Option (List ℕ)) (reads reads' : ℕ) (given : List ℕ) (records : List Record) (given' : List ℕ) (a : Result Ended RunError) →
-    Along first table max turns place last s script left held now reads reads' given records → EndsAs ending (table (max - turns) place last s) given' left' now now' a → EndsAs ending (table max 0 0 first) (given ++ given') left' held now' a
-ends_as told first table max turns place last s script left left' held now now' reads reads' given records given' a so_far by = exact_end first table max turns place last s script left left' held now now' reads reads' given records given' a so_far by
-ends_as cut first table max turns place last s script left left' held now now' reads reads' given records given' a so_far by = cut_end first table max turns place last s script left held now now' reads reads' given records given' so_far by
-ends_as unread first table max turns place last s script left left' held now now' reads reads' given records given' a so_far by = unread_end first table max turns place last s script left held now now' reads reads' given records given' so_far by
-
--- where it ends
-pub along_ends : {S : Type 0} (first : S) (table : ℕ → ℕ → ℕ → S → List ℕ → Run) (max turns place last : ℕ) (s : S) (script left left' held now now' : Option (List ℕ)) (reads reads' reads'' : ℕ) (a : Result Ended RunError) →
-    turns ≤ max → IsAlong first table max turns place last s script left held now reads reads' →
-    Ends (max - turns) place last (table (max - turns) place last s) left left' now now' reads' reads'' a → Ends max 0 0 (table max 0 0 first) script left' held now' reads reads'' a
-along_ends first table max turns place last s script left left' held now now' reads reads' reads'' a le (given, records, so_far) (given', read, by, count, few) = (
-  given ++ given',
-  so_far.read ∙ ap (prepend given) read ∙ prepend-prepend given given' left',
-  ends_as (ending_of a) first table max turns place last s script left left' held now now' reads reads' given records given' a so_far by,
-  omega (arith, so_far.count, count, length-append given given'),
-  holds_more max turns place last given given' le so_far.counts few,
-)
-
--- the same where a turn was left
-pub turn_ends : {S : Type 0} (first : S) (table : ℕ → ℕ → ℕ → S → List ℕ → Run) (max turns place last : ℕ) (s : S) (script left left' held now now' : Option (List ℕ)) (reads reads' reads'' : ℕ) (a : Result Ended RunError) → turns < max →
-    IsAlong first table max turns place last s script left held now reads reads' → ((n : ℕ) → Ends (suc n) place last (table (suc n) place last s) left left' now now' reads' reads'' a) → Ends max 0 0 (table max 0 0 first) script left' held now' reads reads'' a
-turn_ends first table max turns place last s script left left' held now now' reads reads' reads'' a lt so_far ends =
-    let one : suc (max - (turns + 1)) ≡ max - turns = omega arith in
-    along_ends first table max turns place last s script left left' held now now' reads reads' reads'' a (omega arith) so_far (subst (λ n. Ends n place last (table n place last s) left left' now now' reads' reads'' a) one (ends (max - (turns + 1))))
+    -- the same where a turn was left
+    pub turn_ends : (now' : Streams) (a : Result Ended RunError) → turns < max → IsAlong table first max turns at before now → ((n : ℕ) → Ends (suc n) at.place at.last (table (suc n) at) now now' a) →
+        Ends max first.place first.last (table max first) before now' a
+    turn_ends now' a lt so_far ends =
+        let one : suc (max - (turns + 1)) ≡ max - turns = omega arith in
+        along_ends now' a (omega arith) so_far (subst (λ (n : ℕ). Ends n at.place at.last (table n at) now now' a) one (ends (max - (turns + 1))))
 
 -- one byte more
 pub one_more : (bytes : List ℕ) (old new : Option (List ℕ)) → length bytes ≤ 1 → 0 < length bytes → old ≡ prepend bytes new → (b : ℕ) × (old ≡ prepend (b ∷ []) new)

@@ -1,78 +1,40 @@
--- A run by its first event.
+-- A run by its first event, of any machine.
 use Rattle.std.proofs.Common.{◌≡◌, ℕ, zero, suc, ◌+◌, ◌≤◌, List, [], ◌∷◌, ◌++◌, length, Option, Some, None, Result, Ok, Err, refl, ap, sym, ◌∙◌, inl, inr, append_assoc, arith}
 use Rattle.std.specs.Option.{IfNone}
 use Rattle.std.proofs.lemmas.List.{append-nil}
 use Rattle.std.proofs.lemmas.List.Concat.{flat_map-append}
 use Rattle.sshc_wire.specs.Contents.{prepend, WroteFront, IsAtEnd, append-nothing, prepend-nothing}
 use Rattle.sshc_wire.specs.declared.record.Record.{Record}
+use Rattle.sshc_key.specs.Signers.{SignCall}
+use Rattle.sshc_key.specs.Asking.{Answer, Makes, MakesFirst}
+use Rattle.sshc_key.specs.AskingLaws.{always_makes, none_first, all_first}
 use Rattle.sshc_auth.specs.declared.ended.Ended.{Ended}
 use Rattle.sshc_auth.specs.declared.ended.Ended.TheVariants as ends
-use Rattle.sshc_auth.specs.OpeningState.{OpeningState}
 use Rattle.sshc_run.specs.declared.error.RunError.{RunError}
 use Rattle.sshc_run.specs.declared.error.RunError.TheVariants as errors
 use Rattle.sshc_run.specs.declared.script.NextError.{NextError}
 use Rattle.sshc_run.specs.declared.script.NextError.TheVariants as nexts
-use Rattle.sshc_run.specs.KnownHosts.{Hosts}
-use Rattle.sshc_run.specs.Outcome.{Ending, told, cut, unread, ending_of, stop_as, IsCut, IsExact, EndsAs, HoldsAtMost, Ends}
-use Rattle.sshc_run.specs.Reading.{IsNoEvent, IsOneAtMost, IsBad, IsWhole, Gave, NextGives}
+use Rattle.sshc_run.specs.Machine.{Onward, goes_on, opened, stopped, RunStop, ended, refused, unanswered_stop, TurnOf, Turns, stop_next, IsNoEnd, NeverAtEnd}
+use Rattle.sshc_run.specs.Outcome.{Streams, Ending, told, cut, unread, ending_of, stop_as, IsCut, IsExact, EndsAs, HoldsAtMost, Ends}
+use Rattle.sshc_run.specs.Reading.{IsNoEvent, IsOneAtMost, IsBad, IsWhole, Gave, ReadFor, NextGives}
 use Rattle.sshc_run.specs.RecordLines.{line, lines}
-use Rattle.sshc_run.specs.Script.{Frame, Head, Front, End, Bad, Whole, front, frame_at, size_of, events}
-use Rattle.sshc_run.specs.ScriptRun.{Run, run, run_on, after, stopped_run}
-use Rattle.sshc_run.specs.Turn.{Turn, Onward, goes_on, opened, stopped, RunStop, ended, refused, turn}
-use Rattle.sshc_run.specs.Turning.{stop_next, StopsBy, TakeAs, TakeGives, TurnGives, LimitGives}
-use Rattle.sshc_run.proofs.Caused.{turn_unended}
+use Rattle.sshc_run.specs.Script.{Head, Front, End, Bad, Whole, front, frame_at, size_of, stop_at_most, events}
+use Rattle.sshc_run.specs.ScriptRun.{Run, Spot, spot_after, run, run_on, at_end, after, stopped_with, asked_run, answers_of}
+use Rattle.sshc_run.specs.Turning.{StopsBy, CutBy, TakeAs, TakeGives, BringsOn, TurnGives, LimitGives}
+use Rattle.sshc_run.proofs.Answered.{asked_made, asked_first}
 use Rattle.sshc_run.proofs.Fronts.{none_more, front_short}
 use Rattle.sshc_run.proofs.Longer.{front_more}
-use Rattle.sshc_run.proofs.Turns.{wrote_nothing}
-
--- the run of a script, with no answers of the signer
-abbrev pub table : Hosts → ℕ → ℕ → ℕ → OpeningState → List ℕ → Run
-table hosts n place last s bytes = run hosts n place last s [] bytes
-
-pub run_end : (hosts : Hosts) (n place last : ℕ) (s : OpeningState) (bytes : List ℕ) → front last bytes ≡ End → table hosts (suc n) place last s bytes ≡ stopped_run (ended ends.ScriptEnd)
-unfolding run
-run_end hosts n place last s bytes h = rw (h, run) refl
-
-pub run_bad : (hosts : Hosts) (n place last : ℕ) (s : OpeningState) (bytes : List ℕ) → front last bytes ≡ Bad → table hosts (suc n) place last s bytes ≡ stopped_run (refused (errors.BadEvent place))
-unfolding run
-run_bad hosts n place last s bytes h = rw (h, run) refl
-
-pub run_whole : (hosts : Hosts) (n place last : ℕ) (s : OpeningState) (bytes : List ℕ) (head : Head) (rest : List ℕ) (t : Turn) → front last bytes ≡ Whole head rest → turn hosts s (frame_at place head) [] ≡ t →
-    table hosts (suc n) place last s bytes ≡ run_on t t.next (run hosts n (place + size_of head) head.0 t.state t.left rest)
-unfolding run
-run_whole hosts n place last s bytes head rest t h is = rw (h, run, is) refl
+use Rattle.sshc_run.proofs.Lines.{wrote_nothing}
 
 front_nothing : (last : ℕ) → front last [] ≡ End
 unfolding front
 front_nothing last = refl
 
--- a turn after which the run goes on, and one that stops it
-going_by : (t : Turn) (next : Onward) (r : Run) → stop_next next ≡ None → run_on t next r ≡ after t.records r
-going_by t goes_on r h = refl
-going_by t opened r h = refl
-going_by t (stopped stop) r h = absurd cc
-
-stopping_by : (t : Turn) (next : Onward) (r : Run) (stop : RunStop) → stop_next next ≡ Some stop → run_on t next r ≡ record { records = t.records; stop = stop }
-stopping_by t goes_on r stop h = absurd cc
-stopping_by t opened r stop h = absurd cc
-stopping_by t (stopped x) r stop h = let same : x ≡ stop = cc in ap (λ (y : RunStop). record { records = t.records; stop = y }) same
-
--- on nothing the run is at the script's end
-pub run_nothing : (hosts : Hosts) (n place last : ℕ) (s : OpeningState) (answers : List _) → (run hosts n place last s answers []).stop ≡ ended ends.ScriptEnd
-unfolding run
-run_nothing hosts zero place last s answers = refl
-run_nothing hosts (suc n) place last s answers = rw (front_nothing last, run) refl
-
--- ---- fronts of an event's bytes
-
--- where no event stands whole, the run goes to the end
-none_cut : (hosts : Hosts) (n place last : ℕ) (s : OpeningState) (bytes : List ℕ) → IsNoEvent last bytes → IsCut (table hosts (suc n) place last s bytes).stop
-none_cut hosts n place last s bytes (inl nothing) = inl (ap (λ (r : Run). r.stop) (run_end hosts n place last s bytes nothing))
-none_cut hosts n place last s bytes (inr bad) = inr (place, ap (λ (r : Run). r.stop) (run_bad hosts n place last s bytes bad))
-
 not_nothing : (part : List ℕ) (b : ℕ) (more : List ℕ) → [] ≡ part ++ b ∷ more → ⊥
 not_nothing [] b more is = cc
 not_nothing (c ∷ part) b more is = cc
+
+-- ---- fronts of an event's bytes
 
 -- a shorter front of a whole event's bytes is no event
 shorter_by : (last : ℕ) (head : Head) (bytes part : List ℕ) (b : ℕ) (more : List ℕ) (f : Front) → front last part ≡ f → IsWhole last head bytes → bytes ≡ part ++ b ∷ more → IsNoEvent last part
@@ -126,179 +88,332 @@ one_held n place last bytes (inr (head, is)) =
 whole_held : (n place last : ℕ) (head : Head) (bytes : List ℕ) → IsWhole last head bytes → HoldsAtMost (suc n) place last bytes
 whole_held n place last head bytes whole = one_held n place last bytes (inr (head, ap (front last) (sym (append-nil bytes)) ∙ whole.is []))
 
--- ---- a read that gives no event
+-- ---- any machine
 
--- the script ends
-pub end_ends : (hosts : Hosts) (place last : ℕ) (s : OpeningState) (script left held : Option (List ℕ)) (reads reads' : ℕ) → script ≡ left → IsAtEnd left → reads' ≤ reads + 1 →
-    (n : ℕ) → Ends (suc n) place last (table hosts (suc n) place last s) script left held held reads reads' (Ok ends.ScriptEnd)
-end_ends hosts place last s script left held reads reads' same end count n =
-    let none : table hosts (suc n) place last s [] ≡ stopped_run (ended ends.ScriptEnd) = run_end hosts n place last s [] (front_nothing last) in (
-      [],
-      same ∙ sym (prepend-nothing left),
+module _ {S : Type 0} (turn : Turns S) where
+  pub run_end : (n : ℕ) (at : Spot S) (answers : List Answer) (bytes : List ℕ) → front at.last bytes ≡ End → run turn (suc n) at answers bytes ≡ stopped_with [] (ended ends.ScriptEnd)
+  unfolding run
+  run_end n at answers bytes h = rw (h, run) refl
+
+  pub run_bad : (n : ℕ) (at : Spot S) (answers : List Answer) (bytes : List ℕ) → front at.last bytes ≡ Bad → run turn (suc n) at answers bytes ≡ stopped_with [] (refused (errors.BadEvent at.place))
+  unfolding run
+  run_bad n at answers bytes h = rw (h, run) refl
+
+  -- behind a turn
+  abbrev behind : ℕ → Spot S → Head → List ℕ → TurnOf S → List Answer → Run
+  behind n at head rest t left = run_on t t.next (run turn n (spot_after at head t.state) left rest)
+
+  pub run_whole : (n : ℕ) (at : Spot S) (answers : List Answer) (bytes : List ℕ) (head : Head) (rest : List ℕ) → front at.last bytes ≡ Whole head rest →
+      run turn (suc n) at answers bytes ≡ asked_run unanswered_stop (turn at.state (frame_at at.place head)) answers (behind n at head rest)
+  unfolding run
+  run_whole n at answers bytes head rest h = rw (h, run) refl
+
+  -- a turn after which the run goes on, and one that stops it
+  going_by : (t : TurnOf S) (next : Onward) (r : Run) → stop_next next ≡ None → run_on t next r ≡ after t.records [] r
+  going_by t goes_on r h = refl
+  going_by t opened r h = refl
+  going_by t (stopped stop) r h = absurd cc
+
+  stopping_by : (t : TurnOf S) (next : Onward) (r : Run) (stop : RunStop) → stop_next next ≡ Some stop → run_on t next r ≡ stopped_with t.records stop
+  stopping_by t goes_on r stop h = absurd cc
+  stopping_by t opened r stop h = absurd cc
+  stopping_by t (stopped x) r stop h = let same : x ≡ stop = cc in ap (λ (y : RunStop). stopped_with t.records y) same
+
+  -- on nothing the run is at the script's end
+  pub run_nothing : (n : ℕ) (at : Spot S) (answers : List Answer) → run turn n at answers [] ≡ stopped_with [] (ended ends.ScriptEnd)
+  unfolding run
+  run_nothing zero at answers = refl
+  run_nothing (suc n) at answers = run_end n at answers [] (front_nothing at.last)
+
+  -- behind a turn on nothing no call is made
+  quiet : (n : ℕ) (at : Spot S) (head : Head) (t : TurnOf S) (next : Onward) → (run_on t next (run turn n (spot_after at head t.state) [] [])).calls ≡ []
+  quiet n at head t goes_on = ap (λ (r : Run). r.calls) (run_nothing n (spot_after at head t.state) [])
+  quiet n at head t opened = ap (λ (r : Run). r.calls) (run_nothing n (spot_after at head t.state) [])
+  quiet n at head t (stopped stop) = refl
+
+  -- where no event stands whole, nothing is said or asked, and the run goes to the end
+  none_is : (n : ℕ) (at : Spot S) (answers : List Answer) (bytes : List ℕ) → IsNoEvent at.last bytes → (stop : RunStop) × (run turn (suc n) at answers bytes ≡ stopped_with [] stop) × IsCut stop
+  none_is n at answers bytes (inl nothing) = (ended ends.ScriptEnd, run_end n at answers bytes nothing, inl refl)
+  none_is n at answers bytes (inr bad) = (refused (errors.BadEvent at.place), run_bad n at answers bytes bad, inr (at.place, refl))
+
+  none_cut : (n : ℕ) (at : Spot S) (answers : List Answer) (bytes : List ℕ) → IsNoEvent at.last bytes → IsCut (run turn (suc n) at answers bytes).stop
+  none_cut n at answers bytes none = let is = none_is n at answers bytes none in rw is.1 is.2
+
+  -- ---- a read that gives no event
+
+  -- the script ends
+  pub end_ends : (at : Spot S) (before : Streams) (left : Option (List ℕ)) (reads : ℕ) → before.left ≡ left → IsAtEnd left → reads ≤ before.reads + 1 →
+      (n : ℕ) → Ends (suc n) at.place at.last (run turn (suc n) at) before (record before { left = left; reads = reads }) (Ok ends.ScriptEnd)
+  end_ends at before left reads same end count n =
+      let none : (answers : List Answer) → run turn (suc n) at answers [] ≡ stopped_with [] (ended ends.ScriptEnd) = λ answers. run_nothing (suc n) at answers in (
+        [],
+        [],
+        record {
+          read = same ∙ sym (prepend-nothing left);
+          asked = sym (append-nil before.calls);
+          made = rw (none []) refl;
+          by = record {
+            all = rw (none []) (sym (append-nothing before.held));
+            stop = rw (none []) refl;
+            rest = λ later more e. ap (run turn (suc n) at later) (none_more left more e end) ∙ none later ∙ sym (none []);
+            just = λ later part b more is. absurd (not_nothing part b more is);
+            whole = λ done. end;
+          };
+          count = omega (arith, count);
+          few = none_held (suc n) at.place at.last [] (inl (front_nothing at.last));
+        },
+      )
+
+  -- an event that can't be read
+  bad_ends : (at : Spot S) (before now : Streams) (bytes : List ℕ) → now.held ≡ before.held → IsBad at.last now.left bytes → (n : ℕ) → IsExact (run turn (suc n) at) bytes [] before now (Err (errors.BadEvent at.place))
+  bad_ends at before now bytes held bad n =
+      let none : (answers : List Answer) → run turn (suc n) at answers bytes ≡ stopped_with [] (refused (errors.BadEvent at.place)) = λ answers. run_bad n at answers bytes bad.given in
       record {
-        all = rw none (sym (append-nothing held));
-        stop = rw none refl;
-        rest = λ more e. ap (table hosts (suc n) place last s) (none_more left more e end);
-        just = λ part b more is. absurd (not_nothing part b more is);
+        all = rw (none []) (held ∙ sym (append-nothing before.held));
+        stop = rw (none []) refl;
+        rest = λ later more e. run_bad n at later (bytes ++ more) (bad.all more e) ∙ sym (none []);
+        just = λ later part b more is. none_cut n at later part (no_front at.last bytes part b more bad.given is);
+        whole = λ done. absurd cc;
+      }
+
+  -- whose bytes are no event, or one that no turn took
+  unread_ends : (at : Spot S) (before : Streams) (left : Option (List ℕ)) (reads : ℕ) (bytes : List ℕ) → before.left ≡ prepend bytes left → IsNoEvent at.last bytes → ReadFor before.reads reads bytes →
+      (a : Result Ended RunError) (n : ℕ) → EndsAs (ending_of a) (run turn (suc n) at) bytes [] before (record before { left = left; reads = reads }) a →
+      Ends (suc n) at.place at.last (run turn (suc n) at) before (record before { left = left; reads = reads }) a
+  unread_ends at before left reads bytes given none count a n by =
+      let is = none_is n at [] bytes none in
+      (bytes, [], record { read = given; asked = sym (append-nil before.calls); made = rw is.1 refl; by = by; count = count; few = none_held (suc n) at.place at.last bytes none })
+
+  -- what a refused read means for the run
+  pub next_ends : (at : Spot S) (before : Streams) (left : Option (List ℕ)) (reads : ℕ) (x : NextError) (e : RunError) → NextGives at.last before.left left before.reads reads (Err x) →
+      e ≡ (elim x [ nexts.NoMemory ↦ errors.NoMemory | nexts.ReadFault ↦ errors.ReadFault | nexts.Bad ↦ errors.BadEvent at.place ]) →
+      (n : ℕ) → Ends (suc n) at.place at.last (run turn (suc n) at) before (record before { left = left; reads = reads }) (Err e)
+  next_ends at before left reads nexts.NoMemory e (bytes, given, (inl none, count)) is n = rw is (unread_ends at before left reads bytes given none count (Err errors.NoMemory) n (wrote_nothing before.held _))
+  next_ends at before left reads nexts.NoMemory e (bytes, given, (inr (head, one), count)) is n =
+      rw is (
+        bytes,
+        [],
+        record {
+          read = given;
+          asked = sym (append-nil before.calls);
+          made = rw (run_whole n at [] bytes head [] one) (asked_first unanswered_stop (turn at.state (frame_at at.place head)) [] (behind n at head []) (λ t. quiet n at head t t.next) (none_first _));
+          by = wrote_nothing before.held _;
+          count = count;
+          few = one_held n at.place at.last bytes (inr (head, one));
+        },
+      )
+  next_ends at before left reads nexts.ReadFault e (bytes, given, (none, count)) is n =
+      let nothing = none_is n at [] bytes none in
+      rw is (unread_ends at before left reads bytes given none count (Err errors.ReadFault) n (rw nothing.1 (sym (append-nothing before.held))))
+  next_ends at before left reads nexts.Bad e (bytes, given, (bad, count)) is n =
+      rw is (unread_ends at before left reads bytes given (inr bad.given) count (Err (errors.BadEvent at.place)) n (bad_ends at before (record before { left = left; reads = reads }) bytes refl bad n))
+
+  -- ---- an event that is taken
+
+  -- a turn that stops the run
+  stop_is : (next : Onward) (stop : RunStop) → stop_next next ≡ Some stop → next ≡ stopped stop
+  stop_is goes_on stop is = absurd cc
+  stop_is opened stop is = absurd cc
+  stop_is (stopped x) stop is = let same : x ≡ stop = cc in ap stopped same
+
+  -- the spot behind an event
+  spot_is : (at at' : Spot S) (head : Head) (s : S) → at'.place ≡ at.place + size_of head → at'.last ≡ head.0 → at'.state ≡ s → at' ≡ spot_after at head s
+  spot_is at at' head s place last state =
+      ap (λ (p : ℕ). record at' { place = p }) place ∙ ap (λ (l : ℕ). record at' { place = at.place + size_of head; last = l }) last
+      ∙ ap (λ (x : S). record { place = at.place + size_of head; last = head.0; state = x }) state
+
+  -- the bytes of an event whose turn goes on bring the run on
+  brings : (at at' : Spot S) (head : Head) (t : TurnOf S) (gained : List SignCall) (bytes : List ℕ) → Makes (turn at.state (frame_at at.place head)) gained t → stop_next t.next ≡ None → at' ≡ spot_after at head t.state →
+      IsWhole at.last head bytes → BringsOn (run turn) at at' bytes gained t.records
+  brings at at' head t gained bytes makes on same whole =
+      let place : at'.place ≡ at.place + size_of head = ap (λ (x : Spot S). x.place) same in
+      record {
+        within = omega (arith, place, whole.within);
+        on = λ n later more.
+            run_whole n at (answers_of gained ++ later) (bytes ++ more) head more (whole.is more)
+            ∙ asked_made unanswered_stop (turn at.state (frame_at at.place head)) gained t later (behind n at head more) makes
+            ∙ ap (λ (r : Run). after [] gained r) (going_by t t.next _ on ∙ ap (λ (x : Spot S). after t.records [] (run turn n x later more)) (sym same));
+        counts = λ n more. event_counted n at.place at.last (bytes ++ more) head more (whole.is more) ∙ ap (λ (x : Spot S). suc (length (events n x.place x.last more))) (sym same);
+        just = λ n answers part b more parts. none_cut n at answers part (no_shorter at.last head bytes part b more whole parts);
+      }
+
+  -- the event alone, with its own calls alone
+  alone : (n : ℕ) (at : Spot S) (head : Head) (gained : List SignCall) (bytes : List ℕ) → IsWhole at.last head bytes →
+      run turn (suc n) at (answers_of gained) bytes ≡ asked_run unanswered_stop (turn at.state (frame_at at.place head)) (answers_of gained) (behind n at head [])
+  alone n at head gained bytes whole = run_whole n at (answers_of gained) bytes head [] (ap (front at.last) (sym (append-nil bytes)) ∙ whole.is [])
+
+  -- the same where all its calls were made
+  made_alone : (n : ℕ) (at : Spot S) (head : Head) (t : TurnOf S) (gained : List SignCall) (bytes : List ℕ) → Makes (turn at.state (frame_at at.place head)) gained t → IsWhole at.last head bytes →
+      run turn (suc n) at (answers_of gained) bytes ≡ after [] gained (behind n at head [] t [])
+  made_alone n at head t gained bytes makes whole =
+      alone n at head gained bytes whole
+      ∙ ap (λ (answers : List Answer). asked_run unanswered_stop (turn at.state (frame_at at.place head)) answers (behind n at head [])) (sym (append-nil (answers_of gained)))
+      ∙ asked_made unanswered_stop (turn at.state (frame_at at.place head)) gained t [] (behind n at head []) makes
+
+  -- whichever of its calls were made, the run keeps them
+  taken_made : (n : ℕ) (at : Spot S) (head : Head) (gained : List SignCall) (bytes : List ℕ) → MakesFirst (turn at.state (frame_at at.place head)) gained → IsWhole at.last head bytes → (run turn (suc n) at (answers_of gained) bytes).calls ≡ gained
+  taken_made n at head gained bytes first whole =
+      ap (λ (r : Run). r.calls) (alone n at head gained bytes whole)
+      ∙ asked_first unanswered_stop (turn at.state (frame_at at.place head)) gained (behind n at head []) (λ t. quiet n at head t t.next) first
+
+  -- where the run stops with an event
+  stops_exact : NeverAtEnd turn → (at : Spot S) (head : Head) (before now : Streams) (gained : List SignCall) (bytes : List ℕ) (a : Result Ended RunError) → IsWhole at.last head bytes →
+      StopsBy (turn at.state (frame_at at.place head)) gained before.held now.held a → (n : ℕ) → IsExact (run turn (suc n) at) bytes gained before now a
+  stops_exact never at head before now gained bytes a whole (t, makes, stops, wrote) n =
+      let stopped_so : (later : List Answer) (more : List ℕ) → run turn (suc n) at (answers_of gained ++ later) (bytes ++ more) ≡ after [] gained (stopped_with t.records (stop_as a)) = λ later more.
+      run_whole n at (answers_of gained ++ later) (bytes ++ more) head more (whole.is more)
+      ∙ asked_made unanswered_stop (turn at.state (frame_at at.place head)) gained t later (behind n at head more) makes
+      ∙ ap (λ (r : Run). after [] gained r) (stopping_by t t.next _ (stop_as a) stops)
+      in
+      let here : run turn (suc n) at (answers_of gained) bytes ≡ after [] gained (stopped_with t.records (stop_as a)) =
+      made_alone n at head t gained bytes makes whole ∙ ap (λ (r : Run). after [] gained r) (stopping_by t t.next _ (stop_as a) stops)
+      in
+      record {
+        all = rw here wrote;
+        stop = rw here refl;
+        rest = λ later more e. stopped_so later more ∙ sym here;
+        just = λ later part b more parts. none_cut n at (answers_of gained ++ later) part (no_shorter at.last head bytes part b more whole parts);
+        whole = λ done.
+            absurd (always_makes IsNoEnd (turn at.state (frame_at at.place head)) gained t (never at.state (frame_at at.place head)) makes
+            (stop_is t.next (stop_as a) stops ∙ ap (λ (x : Result Ended RunError). stopped (stop_as x)) done));
+      }
+
+  -- the records of a turn are the first of its run's
+  first_by : (t : TurnOf S) (next : Onward) (r : Run) → (rest : List Record) × ((run_on t next r).records ≡ t.records ++ rest)
+  first_by t goes_on r = (r.records, refl)
+  first_by t opened r = (r.records, refl)
+  first_by t (stopped stop) r = ([], sym (append-nil t.records))
+
+  -- where a front of its records was written
+  stops_cut : (at : Spot S) (head : Head) (held now : Option (List ℕ)) (gained : List SignCall) (bytes : List ℕ) → IsWhole at.last head bytes → CutBy (turn at.state (frame_at at.place head)) gained held now →
+      (n : ℕ) → WroteFront held now (lines (run turn (suc n) at (answers_of gained) bytes).records)
+  stops_cut at head held now gained bytes whole (inl (first, same)) n = rw same (wrote_nothing held _)
+  stops_cut at head held now gained bytes whole (inr (t, makes, (part, others, due, wrote))) n =
+      let first = first_by t t.next (run turn n (spot_after at head t.state) [] []) in (
+        part,
+        others ++ lines first.0,
+        ap (λ (r : Run). lines r.records) (made_alone n at head t gained bytes makes whole)
+            ∙ ap lines first.1 ∙ flat_map-append line t.records first.0 ∙ ap (λ (x : List ℕ). x ++ lines first.0) due ∙ append_assoc part others (lines first.0),
+        wrote,
+      )
+
+  -- the calls are the first of the turn's
+  cut_first : (at : Spot S) (head : Head) (held now : Option (List ℕ)) (gained : List SignCall) → CutBy (turn at.state (frame_at at.place head)) gained held now → MakesFirst (turn at.state (frame_at at.place head)) gained
+  cut_first at head held now gained (inl (first, same)) = first
+  cut_first at head held now gained (inr (t, makes, wrote)) = all_first (turn at.state (frame_at at.place head)) gained t makes
+
+  take_first : (ending : Ending) (at : Spot S) (head : Head) (held now : Option (List ℕ)) (gained : List SignCall) (a : Result Ended RunError) → TakeAs ending (turn at.state (frame_at at.place head)) gained held now a →
+      MakesFirst (turn at.state (frame_at at.place head)) gained
+  take_first told at head held now gained a (t, makes, stops, wrote) = all_first (turn at.state (frame_at at.place head)) gained t makes
+  take_first cut at head held now gained a gives = cut_first at head held now gained gives
+  take_first unread at head held now gained a (t, makes, stops, wrote) = all_first (turn at.state (frame_at at.place head)) gained t makes
+
+  taken_ends : NeverAtEnd turn → (ending : Ending) (at : Spot S) (head : Head) (before now : Streams) (gained : List SignCall) (bytes : List ℕ) (a : Result Ended RunError) → IsWhole at.last head bytes →
+      TakeAs ending (turn at.state (frame_at at.place head)) gained before.held now.held a → (n : ℕ) → EndsAs ending (run turn (suc n) at) bytes gained before now a
+  taken_ends never told at head before now gained bytes a whole gives n = stops_exact never at head before now gained bytes a whole gives n
+  taken_ends never cut at head before now gained bytes a whole gives n = stops_cut at head before.held now.held gained bytes whole gives n
+  taken_ends never unread at head before now gained bytes a whole gives n = (stops_exact never at head before now gained bytes a whole gives n).all
+
+  -- one event, whatever came of it
+  pub taken_gives : NeverAtEnd turn → (at at' : Spot S) (head : Head) (before now : Streams) (gained : List SignCall) (o : Option (Result Ended RunError)) → now.calls ≡ before.calls ++ gained →
+      Gave before.left now.left (λ bytes. IsWhole at.last head bytes × (now.reads ≤ before.reads + length bytes)) → TakeGives (turn at.state (frame_at at.place head)) gained at'.state before.held now.held o →
+      IfNone o ((at'.place ≡ at.place + size_of head) × (at'.last ≡ head.0)) → TurnGives (run turn) at at' before now o
+  taken_gives never at at' head before now gained None asked (bytes, given, (whole, count)) (t, makes, on, all, state) moved = (
+    bytes,
+    gained,
+    t.records,
+    record { read = given; asked = asked; wrote = all; count = count },
+    brings at at' head t gained bytes makes on (spot_is at at' head t.state moved.0 moved.1 state) whole,
+  )
+  taken_gives never at at' head before now gained (Some a) asked (bytes, given, (whole, count)) gives moved = λ n. (
+    bytes,
+    gained,
+    record {
+      read = given;
+      asked = asked;
+      made = taken_made n at head gained bytes (take_first (ending_of a) at head before.held now.held gained a gives) whole;
+      by = taken_ends never (ending_of a) at head before now gained bytes a whole gives n;
+      count = omega (arith, count);
+      few = whole_held n at.place at.last head bytes whole;
+    },
+  )
+
+  -- ---- the limit
+
+  pub run_limit : (at : Spot S) (answers : List Answer) (bytes : List ℕ) → run turn 0 at answers bytes ≡ stopped_with [] (at_end (stop_at_most bytes))
+  unfolding run
+  run_limit at answers bytes = refl
+
+  -- a shorter front of one byte is nothing
+  limit_front : (at : Spot S) (answers : List Answer) (b : ℕ) (part : List ℕ) (c : ℕ) (more : List ℕ) → b ∷ [] ≡ part ++ c ∷ more → IsCut (run turn 0 at answers part).stop
+  limit_front at answers b [] c more is = inl (ap (λ (r : Run). r.stop) (run_limit at answers []))
+  limit_front at answers b (x ∷ part) c more is = let nothing : [] ≡ part ++ c ∷ more = cc in absurd (not_nothing part c more nothing)
+
+  -- at the limit
+  pub limit_ends : (at : Spot S) (before : Streams) (left : Option (List ℕ)) (reads : ℕ) (a : Result Ended RunError) → LimitGives before.left left a → reads ≤ before.reads + 1 →
+      Ends 0 at.place at.last (run turn 0 at) before (record before { left = left; reads = reads }) a
+  unfolding run
+  limit_ends at before left reads (Ok ends.ScriptEnd) (same, end) count = (
+    [],
+    [],
+    record {
+      read = same ∙ sym (prepend-nothing left);
+      asked = sym (append-nil before.calls);
+      made = refl;
+      by = record {
+        all = sym (append-nothing before.held);
+        stop = refl;
+        rest = λ later more e. ap (run turn 0 at later) (none_more left more e end);
+        just = λ later part b more is. absurd (not_nothing part b more is);
         whole = λ done. end;
-      },
-      omega (arith, count),
-      none_held (suc n) place last [] (inl (front_nothing last)),
-    )
-
--- an event that can't be read
-bad_ends : (hosts : Hosts) (place last : ℕ) (s : OpeningState) (left held : Option (List ℕ)) (bytes : List ℕ) → IsBad last left bytes → (n : ℕ) → IsExact (table hosts (suc n) place last s) bytes left held held (Err (errors.BadEvent place))
-bad_ends hosts place last s left held bytes bad n =
-    let none : table hosts (suc n) place last s bytes ≡ stopped_run (refused (errors.BadEvent place)) = run_bad hosts n place last s bytes bad.given in
+      };
+      count = omega (arith, count);
+      few = none_held 0 at.place at.last [] (inl (front_nothing at.last));
+    },
+  )
+  limit_ends at before left reads (Ok ends.Disconnected) h count = absurd h
+  limit_ends at before left reads (Ok ends.Closed) h count = absurd h
+  limit_ends at before left reads (Ok (ends.RemoteDisconnect info)) h count = absurd h
+  limit_ends at before left reads (Err errors.ScriptTooLong) (b, given) count = (
+    b ∷ [],
+    [],
     record {
-      all = rw none (sym (append-nothing held));
-      stop = rw none refl;
-      rest = λ more e. run_bad hosts n place last s (bytes ++ more) (bad.all more e) ∙ sym none;
-      just = λ part b more is. none_cut hosts n place last s part (no_front last bytes part b more bad.given is);
-      whole = λ done. absurd cc;
-    }
-
-no_event_records : (hosts : Hosts) (place last : ℕ) (s : OpeningState) (bytes : List ℕ) (n : ℕ) → IsNoEvent last bytes → (table hosts (suc n) place last s bytes).records ≡ []
-no_event_records hosts place last s bytes n (inl end) = ap (λ (r : Run). r.records) (run_end hosts n place last s bytes end)
-no_event_records hosts place last s bytes n (inr bad) = ap (λ (r : Run). r.records) (run_bad hosts n place last s bytes bad)
-
--- what a refused read means for the run
-pub next_ends : (hosts : Hosts) (place last : ℕ) (s : OpeningState) (script left held : Option (List ℕ)) (reads reads' : ℕ) (x : NextError) (e : RunError) → NextGives last script left reads reads' (Err x) →
-    e ≡ (elim x [ nexts.NoMemory ↦ errors.NoMemory | nexts.ReadFault ↦ errors.ReadFault | nexts.Bad ↦ errors.BadEvent place ]) → (n : ℕ) → Ends (suc n) place last (table hosts (suc n) place last s) script left held held reads reads' (Err e)
-next_ends hosts place last s script left held reads reads' nexts.NoMemory e (bytes, given, (one, count)) is n = rw is (bytes, given, wrote_nothing held _, count, one_held n place last bytes one)
-next_ends hosts place last s script left held reads reads' nexts.ReadFault e (bytes, given, (none, count)) is n =
-    rw is (bytes, given, rw (no_event_records hosts place last s bytes n none) (sym (append-nothing held)), count, none_held (suc n) place last bytes none)
-next_ends hosts place last s script left held reads reads' nexts.Bad e (bytes, given, (bad, count)) is n = rw is (bytes, given, bad_ends hosts place last s left held bytes bad n, count, none_held (suc n) place last bytes (inr bad.given))
-
--- ---- an event that is taken
-
--- a turn that stops the run doesn't end it
-stop_is : (next : Onward) (stop : RunStop) → stop_next next ≡ Some stop → next ≡ stopped stop
-stop_is goes_on stop is = absurd cc
-stop_is opened stop is = absurd cc
-stop_is (stopped x) stop is = let same : x ≡ stop = cc in ap stopped same
-
-unended : (hosts : Hosts) (s : OpeningState) (frame : Frame) (t : Turn) (a : Result Ended RunError) (e : Ended) → turn hosts s frame [] ≡ t → stop_next t.next ≡ Some (stop_as a) → a ≡ Ok e → ⊥
-unended hosts s frame t a e is stops ends =
-    turn_unended hosts s frame [] e (ap (λ (x : Turn). x.next) is ∙ stop_is t.next (stop_as a) stops ∙ ap (λ (x : Result Ended RunError). stopped (stop_as x)) ends)
-
--- the signer's answers are none, before a turn and after it
-abbrev Left : Turn → Type 0
-Left t = t.left ≡ []
-
--- on a front of its bytes the run goes to the end
-taken_front : (hosts : Hosts) (place last : ℕ) (s : OpeningState) (head : Head) (t : Turn) (bytes : List ℕ) (n : ℕ) (part more : List ℕ) → turn hosts s (frame_at place head) [] ≡ t → stop_next t.next ≡ None → IsWhole last head bytes → bytes ≡ part ++ more →
-    IsCut (table hosts (suc n) place last s part).stop
-taken_front hosts place last s head t bytes n part [] is on whole parts =
-    let same : part ++ [] ≡ bytes ++ [] = sym parts ∙ sym (append-nil bytes) in
-    let here = run_whole hosts n place last s part head [] t (ap (front last) (sym (append-nil part) ∙ same) ∙ whole.is []) is in
-    inl (ap (λ (r : Run). r.stop) (here ∙ going_by t t.next _ on) ∙ run_nothing hosts n (place + size_of head) head.0 t.state t.left)
-taken_front hosts place last s head t bytes n part (b ∷ more) is on whole parts = none_cut hosts n place last s part (no_shorter last head bytes part b more whole parts)
-
--- where the run goes on after an event
-taken_on : (hosts : Hosts) (place last : ℕ) (s s' : OpeningState) (head : Head) (t : Turn) (script left held now : Option (List ℕ)) (reads reads' : ℕ) (bytes : List ℕ) → turn hosts s (frame_at place head) [] ≡ t → Left t →
-    script ≡ prepend bytes left → IsWhole last head bytes → reads' ≤ reads + length bytes →
-    TakeGives t s' held now None → TurnGives (table hosts) place last s (place + size_of head) head.0 s' script left held now reads reads' None
-taken_on hosts place last s s' head t script left held now reads reads' bytes is none given whole count (on, all, state) = (
-  bytes,
-  t.records,
-  given,
-  all,
-  record {
-    within = omega (arith, whole.within);
-    on = λ n more.
-        run_whole hosts n place last s (bytes ++ more) head more t (whole.is more) is ∙ going_by t t.next _ on
-        ∙ ap (λ (x : OpeningState). after t.records (run hosts n (place + size_of head) head.0 x t.left more)) (sym state)
-        ∙ ap (λ (answers : List _). after t.records (run hosts n (place + size_of head) head.0 s' answers more)) none;
-    counts = λ n more. event_counted n place last (bytes ++ more) head more (whole.is more);
-    just = λ n part more parts. taken_front hosts place last s head t bytes n part more is on whole parts;
-  },
-  count,
-)
-
--- where it stops as the table says
-stops_exact : (hosts : Hosts) (place last : ℕ) (s : OpeningState) (head : Head) (t : Turn) (left held now : Option (List ℕ)) (bytes : List ℕ) (a : Result Ended RunError) → turn hosts s (frame_at place head) [] ≡ t → IsWhole last head bytes →
-    StopsBy t held now a → (n : ℕ) → IsExact (table hosts (suc n) place last s) bytes left held now a
-stops_exact hosts place last s head t left held now bytes a is whole stops n =
-    let stopped_so : (more : List ℕ) → table hosts (suc n) place last s (bytes ++ more) ≡ record { records = t.records; stop = stop_as a } =
-    λ more. run_whole hosts n place last s (bytes ++ more) head more t (whole.is more) is ∙ stopping_by t t.next _ (stop_as a) stops.0
-    in
-    let here : table hosts (suc n) place last s bytes ≡ record { records = t.records; stop = stop_as a } = ap (table hosts (suc n) place last s) (sym (append-nil bytes)) ∙ stopped_so [] in
+      read = given;
+      asked = sym (append-nil before.calls);
+      made = refl;
+      by = record {
+        all = sym (append-nothing before.held);
+        stop = refl;
+        rest = λ later more e. refl;
+        just = λ later part c more is. limit_front at later b part c more is;
+        whole = λ done. absurd cc;
+      };
+      count = omega (arith, count);
+      few = none_held 0 at.place at.last (b ∷ []) (front_short at.last (b ∷ []) (omega arith));
+    },
+  )
+  limit_ends at before left reads (Err errors.ReadFault) same count = (
+    [],
+    [],
     record {
-      all = rw here stops.1;
-      stop = rw here refl;
-      rest = λ more e. stopped_so more ∙ sym here;
-      just = λ part b more parts. none_cut hosts n place last s part (no_shorter last head bytes part b more whole parts);
-      whole = λ done. absurd (unended hosts s (frame_at place head) t a ends.ScriptEnd is stops.0 done);
-    }
-
--- the records of a turn are the first of its run's
-first_by : (t : Turn) (next : Onward) (r : Run) → (rest : List Record) × ((run_on t next r).records ≡ t.records ++ rest)
-first_by t goes_on r = (r.records, refl)
-first_by t opened r = (r.records, refl)
-first_by t (stopped stop) r = ([], sym (append-nil t.records))
-
--- where a front of its records was written
-stops_cut : (hosts : Hosts) (place last : ℕ) (s : OpeningState) (head : Head) (t : Turn) (held now : Option (List ℕ)) (bytes : List ℕ) → turn hosts s (frame_at place head) [] ≡ t → IsWhole last head bytes →
-    WroteFront held now (lines t.records) → (n : ℕ) → WroteFront held now (lines (table hosts (suc n) place last s bytes).records)
-stops_cut hosts place last s head t held now bytes is whole (part, others, due, wrote) n =
-    let here = run_whole hosts n place last s bytes head [] t (ap (front last) (sym (append-nil bytes)) ∙ whole.is []) is in
-    let first = first_by t t.next (run hosts n (place + size_of head) head.0 t.state t.left []) in (
-      part,
-      others ++ lines first.0,
-      ap (λ (r : Run). lines r.records) here ∙ ap lines first.1 ∙ flat_map-append line t.records first.0 ∙ ap (λ x. x ++ lines first.0) due ∙ append_assoc part others (lines first.0),
-      wrote,
-    )
-
-taken_ends : (ending : Ending) (hosts : Hosts) (place last : ℕ) (s : OpeningState) (head : Head) (t : Turn) (left held now : Option (List ℕ)) (bytes : List ℕ) (a : Result Ended RunError) → turn hosts s (frame_at place head) [] ≡ t → IsWhole last head bytes →
-    TakeAs ending t held now a → (n : ℕ) → EndsAs ending (table hosts (suc n) place last s) bytes left held now a
-taken_ends told hosts place last s head t left held now bytes a is whole gives n = stops_exact hosts place last s head t left held now bytes a is whole gives n
-taken_ends cut hosts place last s head t left held now bytes a is whole gives n = stops_cut hosts place last s head t held now bytes is whole gives n
-taken_ends unread hosts place last s head t left held now bytes a is whole gives n = (stops_exact hosts place last s head t left held now bytes a is whole gives n).all
-
--- one event, whatever came of it
-pub taken_gives : (hosts : Hosts) (place last : ℕ) (s : OpeningState) (place' last' : ℕ) (s' : OpeningState) (head : Head) (t : Turn) (script left held now : Option (List ℕ)) (reads reads' : ℕ) (o : Option (Result Ended RunError)) →
-    turn hosts s (frame_at place head) [] ≡ t → Left t → Gave script left (λ bytes. IsWhole last head bytes × (reads' ≤ reads + length bytes)) →
-    TakeGives t s' held now o → IfNone o ((place' ≡ place + size_of head) × (last' ≡ head.0)) → TurnGives (table hosts) place last s place' last' s' script left held now reads reads' o
-taken_gives hosts place last s place' last' s' head t script left held now reads reads' None is none (bytes, given, (whole, count)) gives moved =
-    rw (moved.0, moved.1) (taken_on hosts place last s s' head t script left held now reads reads' bytes is none given whole count gives)
-taken_gives hosts place last s place' last' s' head t script left held now reads reads' (Some a) is none (bytes, given, (whole, count)) gives moved =
-    λ n. (bytes, given, taken_ends (ending_of a) hosts place last s head t left held now bytes a is whole gives n, omega (arith, count), whole_held n place last head bytes whole)
-
--- ---- the limit
-
--- a shorter front of one byte is nothing
-limit_front : (hosts : Hosts) (place last : ℕ) (s : OpeningState) (b : ℕ) (part : List ℕ) (c : ℕ) (more : List ℕ) → b ∷ [] ≡ part ++ c ∷ more → IsCut (table hosts 0 place last s part).stop
-limit_front hosts place last s b [] c more is = inl (run_nothing hosts 0 place last s [])
-limit_front hosts place last s b (x ∷ part) c more is = let nothing : [] ≡ part ++ c ∷ more = cc in absurd (not_nothing part c more nothing)
-
--- at the limit
-pub limit_ends : (hosts : Hosts) (place last : ℕ) (s : OpeningState) (script left held : Option (List ℕ)) (reads reads' : ℕ) (a : Result Ended RunError) → LimitGives script left a → reads' ≤ reads + 1 →
-    Ends 0 place last (table hosts 0 place last s) script left held held reads reads' a
-unfolding run
-limit_ends hosts place last s script left held reads reads' (Ok ends.ScriptEnd) (same, end) count = (
-  [],
-  same ∙ sym (prepend-nothing left),
-  record {
-    all = sym (append-nothing held);
-    stop = refl;
-    rest = λ more e. ap (table hosts 0 place last s) (none_more left more e end);
-    just = λ part b more is. absurd (not_nothing part b more is);
-    whole = λ done. end;
-  },
-  omega (arith, count),
-  none_held 0 place last [] (inl (front_nothing last)),
-)
-limit_ends hosts place last s script left held reads reads' (Ok ends.Disconnected) h count = absurd h
-limit_ends hosts place last s script left held reads reads' (Ok ends.Closed) h count = absurd h
-limit_ends hosts place last s script left held reads reads' (Ok (ends.RemoteDisconnect info)) h count = absurd h
-limit_ends hosts place last s script left held reads reads' (Err errors.ScriptTooLong) (b, given) count = (
-  b ∷ [],
-  given,
-  record { all = sym (append-nothing held); stop = refl; rest = λ more e. refl; just = λ part c more is. limit_front hosts place last s b part c more is; whole = λ done. absurd cc },
-  omega (arith, count),
-  none_held 0 place last (b ∷ []) (front_short last (b ∷ []) (omega arith)),
-)
-limit_ends hosts place last s script left held reads reads' (Err errors.ReadFault) same count = ([], same ∙ sym (prepend-nothing left), sym (append-nothing held), omega (arith, count), none_held 0 place last [] (inl (front_nothing last)))
-limit_ends hosts place last s script left held reads reads' (Err errors.NoMemory) same count = ([], same ∙ sym (prepend-nothing left), wrote_nothing held [], omega (arith, count), none_held 0 place last [] (inl (front_nothing last)))
-limit_ends hosts place last s script left held reads reads' (Err e) h count = absurd h
+      read = same ∙ sym (prepend-nothing left);
+      asked = sym (append-nil before.calls);
+      made = refl;
+      by = sym (append-nothing before.held);
+      count = omega (arith, count);
+      few = none_held 0 at.place at.last [] (inl (front_nothing at.last));
+    },
+  )
+  limit_ends at before left reads (Err errors.NoMemory) same count = (
+    [],
+    [],
+    record {
+      read = same ∙ sym (prepend-nothing left);
+      asked = sym (append-nil before.calls);
+      made = refl;
+      by = wrote_nothing before.held [];
+      count = omega (arith, count);
+      few = none_held 0 at.place at.last [] (inl (front_nothing at.last));
+    },
+  )
+  limit_ends at before left reads (Err e) h count = absurd h

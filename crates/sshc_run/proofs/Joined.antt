@@ -1,132 +1,61 @@
--- The recursion over bytes is the opening run over the script's events, and then what stands behind them.
-use Rattle.std.proofs.Common.{◌≡◌, ℕ, zero, suc, ◌+◌, Bool, true, false, List, ◌∷◌, Result, Ok, Err, refl, ap, sym, ◌∙◌}
-use Rattle.std.proofs.lemmas.List.{append-nil}
+-- The recursion over bytes is the fold of the turns over the script's events, and then what stands behind them; and the opening run
+-- is the first part of it.
+use Rattle.std.proofs.Common.{◌≡◌, ℕ, zero, suc, List, [], ◌∷◌, ◌++◌, refl, ap, sym, ◌∙◌, append_assoc}
 use Rattle.sshc_wire.specs.declared.record.Record.{Record}
 use Rattle.sshc_key.specs.Signers.{SignCall}
-use Rattle.sshc_auth.specs.declared.event.Event.{Event}
-use Rattle.sshc_auth.specs.declared.step.Asks.{Asks}
-use Rattle.sshc_auth.specs.declared.step.Asks.TheVariants as asking
-use Rattle.sshc_auth.specs.declared.step.Told.TheVariants as telling
-use Rattle.sshc_auth.specs.OpeningState.{OpeningState}
-use Rattle.sshc_auth.specs.OpeningTable.{open_row, asked_of}
-use Rattle.sshc_auth.specs.Row.{Row, Next, stays, opens, ends as ends_with, refuses, unanswered}
-use Rattle.sshc_run.specs.declared.error.EventError.{EventError}
-use Rattle.sshc_run.specs.declared.error.EventError.TheVariants as reads
-use Rattle.sshc_run.specs.declared.known_hosts_handler.HandlerError.{HandlerError}
-use Rattle.sshc_run.specs.Fields.{event_in}
-use Rattle.sshc_run.specs.KnownHosts.{Hosts, verdict}
-use Rattle.sshc_run.specs.OpeningRun.{OpeningRun, OpeningStop, opens_before, stops_with, through, opening, behind, by_turn}
-use Rattle.sshc_run.specs.Script.{Frame, Front, End, Bad, Whole, front, frame_at, size_of, ScriptStop, events, stop}
-use Rattle.sshc_run.specs.ScriptRun.{Run, run, run_on, after, stopped_run, concluded, concluded_by, once_open}
-use Rattle.sshc_run.specs.Turn.{Turn, Onward, goes_on, opened, stopped, RunStop, turn, next_turn, row_turn, judged_turn, asked_turn, event_turn, built_turn, timely_turn, is_out_of_turn, is_built_now}
+use Rattle.sshc_key.specs.Asking.{Answer, Asking, done, asks, call_of}
+use Rattle.sshc_run.specs.Machine.{unanswered_stop, Onward, goes_on, opened, stopped, TurnOf, Turns}
+use Rattle.sshc_run.specs.OpeningRun.{OpeningRun, OpeningStop, opens_before, stops_with, through, opening, by_turn, Concluded}
+use Rattle.sshc_run.specs.Script.{Frame, Front, End, Bad, Whole, front, frame_at, ScriptStop, events, stop}
+use Rattle.sshc_run.specs.ScriptRun.{Run, Spot, spot_after, run, events_run, run_on, asked_run, after}
+use Rattle.sshc_run.proofs.Answered.{asked_same}
 
--- ---- once the session is open, the opening is closed
+module _ {S : Type 0} (turn : Turns S) where
+  joined_front : (n : ℕ) (at : Spot S) (answers : List Answer) (bytes : List ℕ) (f : Front) → front at.last bytes ≡ f →
+      ((at' : Spot S) (left : List Answer) (rest : List ℕ) → run turn n at' left rest ≡ events_run turn at'.state (events n at'.place at'.last rest) (stop n at'.place at'.last rest) left) →
+      run turn (suc n) at answers bytes ≡ events_run turn at.state (events (suc n) at.place at.last bytes) (stop (suc n) at.place at.last bytes) answers
+  unfolding run events stop events_run
+  joined_front n at answers bytes End f later = rw (f, run, events, stop, events_run) refl
+  joined_front n at answers bytes Bad f later = rw (f, run, events, stop, events_run) refl
+  joined_front n at answers bytes (Whole head rest) f later =
+      rw (f, run, events, stop, events_run)
+      (asked_same unanswered_stop (turn at.state (frame_at at.place head)) answers _ _ (λ t left. ap (λ (r : Run). run_on t t.next r) (later (spot_after at head t.state) left rest)))
 
--- where a turn opens the session, the opening is closed
-abbrev Shuts : Turn → Type 0
-Shuts t = t.next ≡ opened → t.state.closed ≡ true
+  pub joined : (n : ℕ) (at : Spot S) (answers : List Answer) (bytes : List ℕ) → run turn n at answers bytes ≡ events_run turn at.state (events n at.place at.last bytes) (stop n at.place at.last bytes) answers
+  unfolding run events stop events_run
+  joined zero at answers bytes = refl
+  joined (suc n) at answers bytes = joined_front n at answers bytes (front at.last bytes) refl (λ at' left rest. joined n at' left rest)
 
-next_shuts : (place : ℕ) (s : OpeningState) (row : Row) (answers : List SignCall) (next : Next) → Shuts (next_turn place s row answers next)
-next_shuts place s row answers (stays s') = λ e. cc
-next_shuts place s row answers (opens s') = λ e. refl
-next_shuts place s row answers (ends_with x) = λ e. cc
-next_shuts place s row answers (refuses x) = λ e. cc
-next_shuts place s row answers unanswered = λ e. cc
+  -- ---- the opening run is the first part
 
-row_shuts : (place : ℕ) (s : OpeningState) (row : Row) (answers : List SignCall) → Shuts (row_turn place s answers row)
-row_shuts place s row answers = next_shuts place s row answers row.next
+  -- records and calls before the opening run and the whole run
+  concluded_after : (st : ScriptStop) (records : List Record) (calls : List SignCall) (o : OpeningRun S) (x : OpeningStop S) (r : Run) → Concluded turn st o x r → Concluded turn st (after records calls o) x (after records calls r)
+  concluded_after st records calls o (opens_before s frames left) r is =
+      ap (λ (y : Run). after records calls y) is
+      ∙ ap (λ (rs : List Record). record { records = rs; calls = calls ++ (o.calls ++ (events_run turn s frames st left).calls); stop = (events_run turn s frames st left).stop }) (sym (append_assoc records o.records (events_run turn s frames st left).records))
+      ∙ ap (λ (cs : List SignCall). record { records = (records ++ o.records) ++ (events_run turn s frames st left).records; calls = cs; stop = (events_run turn s frames st left).stop }) (sym (append_assoc calls o.calls (events_run turn s frames st left).calls))
+  concluded_after st records calls o (stops_with stop) r is = ap (λ (y : Run). after records calls y) is
+  concluded_after st records calls o through r is = ap (λ (y : Run). after records calls y) is
 
-judged_shuts : (place : ℕ) (s : OpeningState) (event : Event) (answers : List SignCall) (said : Result Bool HandlerError) → Shuts (judged_turn place s event answers said)
-judged_shuts place s event answers (Ok true) = row_shuts place s (open_row s event telling.Went answers) answers
-judged_shuts place s event answers (Ok false) = row_shuts place s (open_row s event telling.No answers) answers
-judged_shuts place s event answers (Err x) = λ e. cc
+  concluded_turn : (st : ScriptStop) (t : TurnOf S) (next : Onward) (frames : List Frame) (left : List Answer) (o : OpeningRun S) → Concluded turn st o o.stop (events_run turn t.state frames st left) →
+      Concluded turn st (by_turn t next frames left o) (by_turn t next frames left o).stop (run_on t next (events_run turn t.state frames st left))
+  concluded_turn st t goes_on frames left o is = concluded_after st t.records [] o o.stop (events_run turn t.state frames st left) is
+  concluded_turn st t opened frames left o is = refl
+  concluded_turn st t (stopped stop) frames left o is = refl
 
-asked_shuts : (hosts : Hosts) (place : ℕ) (s : OpeningState) (event : Event) (answers : List SignCall) (asks : Asks) → Shuts (asked_turn hosts place s event answers asks)
-asked_shuts hosts place s event answers asking.Nothing = row_shuts place s (open_row s event telling.NotAsked answers) answers
-asked_shuts hosts place s event answers (asking.HostKey key) = judged_shuts place s event answers (verdict hosts key)
-asked_shuts hosts place s event answers asking.Exchange = row_shuts place s (open_row s event telling.Went answers) answers
-asked_shuts hosts place s event answers (asking.Banner text) = row_shuts place s (open_row s event telling.Went answers) answers
+  concluded_asked : (st : ScriptStop) (asking : Asking (TurnOf S)) (answers : List Answer) (short : TurnOf S → List Answer → OpeningRun S) (long : TurnOf S → List Answer → Run) →
+      ((t : TurnOf S) (left : List Answer) → Concluded turn st (short t left) (short t left).stop (long t left)) →
+      Concluded turn st (asked_run (stops_with unanswered_stop) asking answers short) (asked_run (stops_with unanswered_stop) asking answers short).stop (asked_run unanswered_stop asking answers long)
+  concluded_asked st (done t) answers short long is = is t answers
+  concluded_asked st (asks asked on) [] short long is = refl
+  concluded_asked st (asks asked on) (answer ∷ answers) short long is =
+      concluded_after st [] (call_of asked answer ∷ []) (asked_run (stops_with unanswered_stop) (on answer) answers short) (asked_run (stops_with unanswered_stop) (on answer) answers short).stop
+      (asked_run unanswered_stop (on answer) answers long) (concluded_asked st (on answer) answers short long is)
 
-event_shuts : (hosts : Hosts) (place : ℕ) (s : OpeningState) (answers : List SignCall) (read : Result Event EventError) → Shuts (event_turn hosts place s answers read)
-event_shuts hosts place s answers (Ok event) = asked_shuts hosts place s event answers (asked_of s event)
-event_shuts hosts place s answers (Err reads.NoMemory) = λ e. cc
-event_shuts hosts place s answers (Err reads.Bad) = λ e. cc
-event_shuts hosts place s answers (Err reads.Unbuilt) = λ e. cc
-
-built_shuts : (is_built : Bool) (hosts : Hosts) (s : OpeningState) (frame : Frame) (answers : List SignCall) → Shuts (built_turn is_built hosts s frame answers)
-built_shuts true hosts s frame answers = event_shuts hosts frame.place s answers (event_in s.phase frame.kind frame.fields)
-built_shuts false hosts s frame answers = λ e. cc
-
-timely_shuts : (is_early : Bool) (hosts : Hosts) (s : OpeningState) (frame : Frame) (answers : List SignCall) → Shuts (timely_turn is_early hosts s frame answers)
-timely_shuts true hosts s frame answers = λ e. cc
-timely_shuts false hosts s frame answers = built_shuts (is_built_now frame.kind s) hosts s frame answers
-
-turn_shuts : (hosts : Hosts) (s : OpeningState) (frame : Frame) (answers : List SignCall) → Shuts (turn hosts s frame answers)
-unfolding turn
-turn_shuts hosts s frame answers = timely_shuts (is_out_of_turn frame.kind s.flag) hosts s frame answers
-
--- ---- a run on a closed opening
-
-closed_by : (is_early : Bool) (hosts : Hosts) (s : OpeningState) (frame : Frame) (answers : List SignCall) (later : Run) (frames : List Frame) (st : ScriptStop) → s.closed ≡ true → is_out_of_turn frame.kind s.flag ≡ is_early →
-    run_on (timely_turn is_early hosts s frame answers) (timely_turn is_early hosts s frame answers).next later ≡ stopped_run (once_open s (frame ∷ frames) st)
-closed_by true hosts s frame answers later frames st closed early = rw early refl
-closed_by false hosts s frame answers later frames st closed early = rw (early, closed) refl
-
-closed_turn : (hosts : Hosts) (s : OpeningState) (frame : Frame) (answers : List SignCall) (later : Run) (frames : List Frame) (st : ScriptStop) → s.closed ≡ true →
-    run_on (turn hosts s frame answers) (turn hosts s frame answers).next later ≡ stopped_run (once_open s (frame ∷ frames) st)
-unfolding turn
-closed_turn hosts s frame answers later frames st closed = closed_by (is_out_of_turn frame.kind s.flag) hosts s frame answers later frames st closed refl
-
-closed_front : (hosts : Hosts) (n place last : ℕ) (s : OpeningState) (answers : List SignCall) (bytes : List ℕ) (f : Front) → front last bytes ≡ f → s.closed ≡ true →
-    run hosts (suc n) place last s answers bytes ≡ stopped_run (once_open s (events (suc n) place last bytes) (stop (suc n) place last bytes))
-unfolding run events stop
-closed_front hosts n place last s answers bytes End f closed = rw (f, run, events, stop) refl
-closed_front hosts n place last s answers bytes Bad f closed = rw (f, run, events, stop) refl
-closed_front hosts n place last s answers bytes (Whole head rest) f closed =
-    rw (f, run, events, stop) (closed_turn hosts s (frame_at place head) answers _ (events n (place + size_of head) head.0 rest) (stop n (place + size_of head) head.0 rest) closed)
-
-closed_run : (hosts : Hosts) (n place last : ℕ) (s : OpeningState) (answers : List SignCall) (bytes : List ℕ) → s.closed ≡ true →
-    run hosts n place last s answers bytes ≡ stopped_run (once_open s (events n place last bytes) (stop n place last bytes))
-unfolding run events stop
-closed_run hosts zero place last s answers bytes closed = refl
-closed_run hosts (suc n) place last s answers bytes closed = closed_front hosts n place last s answers bytes (front last bytes) refl closed
-
--- ---- the law
-
-behind_by : (records outputs : List Record) (x : OpeningStop) (st : ScriptStop) → concluded (behind records (record { outputs = outputs; stop = x })) st ≡ after records (concluded_by outputs x st)
-behind_by records outputs (opens_before s frames) st = refl
-behind_by records outputs (stops_with stop) st = refl
-behind_by records outputs through st = refl
-
-after_nothing : (records : List Record) (stop : RunStop) → after records (stopped_run stop) ≡ record { records = records; stop = stop }
-after_nothing records stop = ap (λ (rs : List Record). record { records = rs; stop = stop }) (append-nil records)
-
--- the opening run and what stands behind the events, from here
-abbrev whole_run : Hosts → ℕ → ℕ → ℕ → OpeningState → List SignCall → List ℕ → Run
-whole_run hosts n place last s answers bytes = concluded (opening hosts s (events n place last bytes) answers) (stop n place last bytes)
-
-turn_joined : (hosts : Hosts) (n place last : ℕ) (t : Turn) (next : Onward) (bytes : List ℕ) → (next ≡ opened → t.state.closed ≡ true) →
-    run hosts n place last t.state t.left bytes ≡ whole_run hosts n place last t.state t.left bytes →
-    run_on t next (run hosts n place last t.state t.left bytes)
-    ≡ concluded (by_turn t next (events n place last bytes) (opening hosts t.state (events n place last bytes) t.left)) (stop n place last bytes)
-turn_joined hosts n place last t goes_on bytes shuts later =
-    let r : OpeningRun = opening hosts t.state (events n place last bytes) t.left in
-    ap (after t.records) later ∙ sym (behind_by t.records r.outputs r.stop (stop n place last bytes))
-turn_joined hosts n place last t opened bytes shuts later =
-    ap (after t.records) (closed_run hosts n place last t.state t.left bytes (shuts refl)) ∙ after_nothing t.records (once_open t.state (events n place last bytes) (stop n place last bytes))
-turn_joined hosts n place last t (stopped x) bytes shuts later = refl
-
-joined_front : (hosts : Hosts) (n place last : ℕ) (s : OpeningState) (answers : List SignCall) (bytes : List ℕ) (f : Front) → front last bytes ≡ f →
-    ((place' last' : ℕ) (s' : OpeningState) (answers' : List SignCall) (rest : List ℕ) → run hosts n place' last' s' answers' rest ≡ whole_run hosts n place' last' s' answers' rest) →
-    run hosts (suc n) place last s answers bytes ≡ whole_run hosts (suc n) place last s answers bytes
-unfolding run events stop opening
-joined_front hosts n place last s answers bytes End f later = rw (f, run, events, stop, opening) refl
-joined_front hosts n place last s answers bytes Bad f later = rw (f, run, events, stop, opening) refl
-joined_front hosts n place last s answers bytes (Whole head rest) f later =
-    let t : Turn = turn hosts s (frame_at place head) answers in
-    rw (f, run, events, stop, opening) (turn_joined hosts n (place + size_of head) head.0 t t.next rest (turn_shuts hosts s (frame_at place head) answers) (later (place + size_of head) head.0 t.state t.left rest))
-
-pub joined : (hosts : Hosts) (n place last : ℕ) (s : OpeningState) (answers : List SignCall) (bytes : List ℕ) → run hosts n place last s answers bytes ≡ whole_run hosts n place last s answers bytes
-unfolding run events stop opening
-joined hosts zero place last s answers bytes = refl
-joined hosts (suc n) place last s answers bytes = joined_front hosts n place last s answers bytes (front last bytes) refl (λ place' last' s' answers' rest. joined hosts n place' last' s' answers' rest)
+  -- the whole run is the opening run or, once the table opens the session, all of it followed by more
+  pub opening_first : (frames : List Frame) (s : S) (st : ScriptStop) (answers : List Answer) → Concluded turn st (opening turn s frames answers) (opening turn s frames answers).stop (events_run turn s frames st answers)
+  unfolding opening events_run
+  opening_first [] s st answers = refl
+  opening_first (frame ∷ frames) s st answers =
+      concluded_asked st (turn s frame) answers (λ t left. by_turn t t.next frames left (opening turn t.state frames left)) (λ t left. run_on t t.next (events_run turn t.state frames st left))
+      (λ t left. concluded_turn st t t.next frames left (opening turn t.state frames left) (opening_first frames t.state st left))

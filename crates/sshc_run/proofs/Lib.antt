@@ -1,13 +1,26 @@
 -- Facts that the answers cite.
 pub mod Fronts
 pub mod Lines
+pub mod Answered
+pub mod Taken
 pub mod Turns
 pub mod Caused
 pub mod Going
 pub mod Coming
 pub mod Joined
+pub mod Continued
+pub mod OverRuns
+pub mod Parted
+pub mod Products
+pub mod ProductRuns
+pub mod ProductTurns
+pub mod OpeningFirsts
+pub mod SessionPart
+pub mod Through
+pub mod AskersLaws
 pub mod Gated
 pub mod Promises
+pub mod Unasked
 pub mod CausedRuns
 pub mod WordLists
 pub mod Longer

@@ -1,5 +1,5 @@
 -- The records of a script are the first of those of a longer one.
-use Rattle.std.proofs.Common.{◌≡◌, ℕ, zero, suc, ◌+◌, ◌≤◌, Bool, true, false, List, [], ◌∷◌, ◌++◌, length, take, drop, Option, Result, Ok, Err, nat_lt, refl, ap, sym, ◌∙◌, append_assoc, length-append, arith}
+use Rattle.std.proofs.Common.{◌≡◌, ℕ, zero, suc, ◌≤◌, Bool, true, false, List, [], ◌∷◌, ◌++◌, length, take, drop, Option, Result, Ok, Err, nat_lt, refl, ap, sym, ◌∙◌, append_assoc, length-append, arith}
 use Rattle.std.specs.Prelude.{◌||◌, if◌then◌else◌}
 use Rattle.std.specs.Int.{w32, from_be_bytes}
 use Rattle.std.proofs.lemmas.List.{append-nil, take-append-le, drop-append-le}
@@ -7,14 +7,14 @@ use Rattle.std.proofs.lemmas.Bool.Decides.{nat_tests}
 use Rattle.std.proofs.lemmas.List.Concat.{flat_map-append}
 use Rattle.sshc_wire.specs.Contents.{WroteFront}
 use Rattle.sshc_wire.specs.declared.record.Record.{Record}
-use Rattle.sshc_key.specs.Signers.{SignCall}
-use Rattle.sshc_auth.specs.OpeningState.{OpeningState}
+use Rattle.sshc_key.specs.Asking.{Answer, Asking, done, asks, call_of}
 use Rattle.sshc_run.specs.declared.error.EventError.{EventError}
-use Rattle.sshc_run.specs.KnownHosts.{Hosts}
+use Rattle.sshc_run.specs.Firsts.{IsFront}
+use Rattle.sshc_run.specs.Machine.{Onward, goes_on, opened, stopped, unanswered_stop, TurnOf, Turns}
 use Rattle.sshc_run.specs.RecordLines.{line, lines}
-use Rattle.sshc_run.specs.Script.{Head, Front, End, Bad, Whole, whole_front, sized_front, front, frame_at, size_of, head_at}
-use Rattle.sshc_run.specs.ScriptRun.{Run, run, run_on}
-use Rattle.sshc_run.specs.Turn.{Turn, Onward, goes_on, opened, stopped, turn}
+use Rattle.sshc_run.specs.Script.{Head, Front, End, Bad, Whole, whole_front, sized_front, front, frame_at, head_at}
+use Rattle.sshc_run.specs.ScriptRun.{Run, Spot, spot_after, run, run_on, asked_run, after}
+use Rattle.sshc_run.proofs.Continued.{front_before}
 
 -- ---- a whole event stays the first of longer bytes
 
@@ -58,30 +58,43 @@ front_more last (a ∷ b ∷ c ∷ d ∷ bytes) more head rest h =
 
 -- ---- the records
 
--- the first records of a run, and those behind them
-abbrev Begins : List Record → List Record → Type 0
-Begins first whole = (rest : List Record) × (whole ≡ first ++ rest)
+-- a run whose records and calls are the first of another's
+abbrev pub Begins : Run → Run → Type 0
+Begins first whole = IsFront first.records whole.records × IsFront first.calls whole.calls
 
-turn_begins : (t : Turn) (next : Onward) (r r' : Run) → Begins r.records r'.records → Begins (run_on t next r).records (run_on t next r').records
-turn_begins t goes_on r r' (rest, whole) = (rest, ap (λ rs. t.records ++ rs) whole ∙ sym (append_assoc t.records r.records rest))
-turn_begins t opened r r' (rest, whole) = (rest, ap (λ rs. t.records ++ rs) whole ∙ sym (append_assoc t.records r.records rest))
-turn_begins t (stopped x) r r' later = ([], sym (append-nil t.records))
+-- what asks the signer, with more answers, and a run behind it that begins so
+asked_begins : {A : Type 0} (asking : Asking A) (answers later : List Answer) (short long : A → List Answer → Run) → ((x : A) (left : List Answer) → Begins (short x left) (long x (left ++ later))) →
+    Begins (asked_run unanswered_stop asking answers short) (asked_run unanswered_stop asking (answers ++ later) long)
+asked_begins (done x) answers later short long begins = begins x answers
+asked_begins (asks asked on) [] later short long begins = (((asked_run unanswered_stop (asks asked on) later long).records, refl), ((asked_run unanswered_stop (asks asked on) later long).calls, refl))
+asked_begins (asks asked on) (answer ∷ answers) later short long begins =
+    let so = asked_begins (on answer) answers later short long begins in
+    (so.0, front_before (call_of asked answer ∷ []) (asked_run unanswered_stop (on answer) answers short).calls (asked_run unanswered_stop (on answer) (answers ++ later) long).calls so.1)
 
-front_begins : (hosts : Hosts) (n place last : ℕ) (s : OpeningState) (answers : List SignCall) (bytes more : List ℕ) (f : Front) → front last bytes ≡ f →
-    ((place' last' : ℕ) (s' : OpeningState) (answers' : List SignCall) (rest : List ℕ) → Begins (run hosts n place' last' s' answers' rest).records (run hosts n place' last' s' answers' (rest ++ more)).records) →
-    Begins (run hosts (suc n) place last s answers bytes).records (run hosts (suc n) place last s answers (bytes ++ more)).records
-unfolding run
-front_begins hosts n place last s answers bytes more End f later = ((run hosts (suc n) place last s answers (bytes ++ more)).records, rw (f, run) refl)
-front_begins hosts n place last s answers bytes more Bad f later = ((run hosts (suc n) place last s answers (bytes ++ more)).records, rw (f, run) refl)
-front_begins hosts n place last s answers bytes more (Whole head rest) f later =
-    let t : Turn = turn hosts s (frame_at place head) answers in
-    rw (front_more last bytes more head rest f, f, run) (turn_begins t t.next _ _ (later (place + size_of head) head.0 t.state t.left rest))
+module _ {S : Type 0} (turn : Turns S) where
+  turn_begins : (t : TurnOf S) (next : Onward) (r r' : Run) → Begins r r' → Begins (run_on t next r) (run_on t next r')
+  turn_begins t goes_on r r' (records, calls) = (front_before t.records r.records r'.records records, calls)
+  turn_begins t opened r r' (records, calls) = (front_before t.records r.records r'.records records, calls)
+  turn_begins t (stopped x) r r' later = (([], sym (append-nil t.records)), ([], refl))
 
-pub begins : (hosts : Hosts) (n place last : ℕ) (s : OpeningState) (answers : List SignCall) (bytes more : List ℕ) → Begins (run hosts n place last s answers bytes).records (run hosts n place last s answers (bytes ++ more)).records
-unfolding run
-begins hosts zero place last s answers bytes more = ([], refl)
-begins hosts (suc n) place last s answers bytes more = front_begins hosts n place last s answers bytes more (front last bytes) refl (λ place' last' s' answers' rest. begins hosts n place' last' s' answers' rest more)
+  front_begins : (n : ℕ) (at : Spot S) (answers later : List Answer) (bytes more : List ℕ) (f : Front) → front at.last bytes ≡ f →
+      ((at' : Spot S) (left : List Answer) (rest : List ℕ) → Begins (run turn n at' left rest) (run turn n at' (left ++ later) (rest ++ more))) →
+      Begins (run turn (suc n) at answers bytes) (run turn (suc n) at (answers ++ later) (bytes ++ more))
+  unfolding run
+  front_begins n at answers later bytes more End f rest =
+      (((run turn (suc n) at (answers ++ later) (bytes ++ more)).records, rw (f, run) refl), ((run turn (suc n) at (answers ++ later) (bytes ++ more)).calls, rw (f, run) refl))
+  front_begins n at answers later bytes more Bad f rest =
+      (((run turn (suc n) at (answers ++ later) (bytes ++ more)).records, rw (f, run) refl), ((run turn (suc n) at (answers ++ later) (bytes ++ more)).calls, rw (f, run) refl))
+  front_begins n at answers later bytes more (Whole head tail) f rest =
+      rw (front_more at.last bytes more head tail f, f, run)
+      (asked_begins (turn at.state (frame_at at.place head)) answers later _ _ (λ t left. turn_begins t t.next _ _ (rest (spot_after at head t.state) left tail)))
 
-pub wrote_longer : (held written : Option (List ℕ)) (first whole : List Record) → Begins first whole → WroteFront held written (lines first) → WroteFront held written (lines whole)
+  -- the records and calls of a script with some answers are the first of those of a longer one with more
+  pub begins : (n : ℕ) (at : Spot S) (answers later : List Answer) (bytes more : List ℕ) → Begins (run turn n at answers bytes) (run turn n at (answers ++ later) (bytes ++ more))
+  unfolding run
+  begins zero at answers later bytes more = (([], refl), ([], refl))
+  begins (suc n) at answers later bytes more = front_begins n at answers later bytes more (front at.last bytes) refl (λ at' left rest. begins n at' left later rest more)
+
+pub wrote_longer : (held written : Option (List ℕ)) (first whole : List Record) → IsFront first whole → WroteFront held written (lines first) → WroteFront held written (lines whole)
 wrote_longer held written first whole (rest, is) (part, others, due, wrote) =
     (part, others ++ lines rest, ap lines is ∙ flat_map-append line first rest ∙ ap (λ bytes. bytes ++ lines rest) due ∙ append_assoc part others (lines rest), wrote)

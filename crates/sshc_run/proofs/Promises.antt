@@ -1,8 +1,12 @@
 -- What a run by its table promises.
-use Rattle.std.proofs.Common.{◌≡◌, ℕ, List, [], ◌++◌, Option, Some, None, Result, Ok, Err, refl, ap, sym, ◌∙◌, subst, inl, inr}
+use Rattle.std.proofs.Common.{◌≡◌, ℕ, List, [], ◌++◌, length, drop, Option, Some, None, Result, Ok, Err, refl, ap, sym, ◌∙◌, subst, inl, inr, arith}
 use Rattle.std.proofs.Math.Path.{fun_ext}
-use Rattle.sshc_wire.specs.Contents.{prepend, append, WroteFront}
+use Rattle.std.proofs.Math.Seq.{drop-append_seam}
+use Rattle.std.proofs.lemmas.List.{append-nil}
+use Rattle.sshc_wire.specs.Contents.{prepend, append, WroteFront, prepend-nothing}
 use Rattle.sshc_wire.specs.Faults.{Rose}
+use Rattle.sshc_key.specs.Signers.{SignCall, since}
+use Rattle.sshc_key.specs.Asking.{Answer}
 use Rattle.sshc_auth.specs.declared.ended.Ended.{Ended}
 use Rattle.sshc_auth.specs.declared.opening.Settings.{Settings}
 use Rattle.sshc_auth.specs.OpeningState.{start}
@@ -10,111 +14,150 @@ use Rattle.sshc_run.specs.declared.error.RunError.{RunError}
 use Rattle.sshc_run.specs.declared.error.RunError.TheVariants as errors
 use Rattle.sshc_run.specs.Headline.{IsGated, IsPrefix, IsDone, KeptBy, IsKept, IsComplete}
 use Rattle.sshc_run.specs.KnownHosts.{Hosts}
-use Rattle.sshc_run.specs.OpeningRun.{OpeningRun, OpeningStop, opens_before, stops_with, through, opening}
-use Rattle.sshc_run.specs.Outcome.{Ending, told, cut, unread, ending_of, IsExact, EndsAs, Ends}
+use Rattle.sshc_run.specs.Machine.{ended, refused, Machine}
+use Rattle.sshc_run.specs.Outcome.{Streams, Ending, told, cut, unread, ending_of, IsExact, EndsAs, EndsBy, Ends}
 use Rattle.sshc_run.specs.RecordLines.{lines}
-use Rattle.sshc_run.specs.Script.{ScriptStop, taken, stop_of}
-use Rattle.sshc_run.specs.ScriptRun.{Run, script_run, concluded_by}
-use Rattle.sshc_run.specs.Turn.{ended, refused}
+use Rattle.sshc_run.specs.Script.{taken, stop_of}
+use Rattle.sshc_run.specs.ScriptRun.{Run, at_first, run, script_run, answers_of, answers_since}
+use Rattle.sshc_run.specs.Turn.{opening_machine}
 use Rattle.sshc_run.proofs.Gated.{gated}
-use Rattle.sshc_run.proofs.Going.{table}
+use Rattle.sshc_run.proofs.Going.{run_nothing, nothing_held}
 use Rattle.sshc_run.proofs.Joined.{joined}
+use Rattle.sshc_run.proofs.Lines.{wrote_all, wrote_nothing}
 use Rattle.sshc_run.proofs.Longer.{begins, wrote_longer}
-use Rattle.sshc_run.proofs.Turns.{wrote_all}
 
--- by a table that says the same of all bytes
-ends_same : (n place last : ℕ) (table table' : List ℕ → Run) (script left held written : Option (List ℕ)) (reads reads' : ℕ) (a : Result Ended RunError) → ((bytes : List ℕ) → table bytes ≡ table' bytes) →
-    Ends n place last table script left held written reads reads' a → Ends n place last table' script left held written reads reads' a
-ends_same n place last table table' script left held written reads reads' a same ends = subst (λ (t : List ℕ → Run). Ends n place last t script left held written reads reads' a) (fun_ext same) ends
+-- what was gained since
+pub since_is : (old new gained : List SignCall) → new ≡ old ++ gained → since old new ≡ gained
+since_is old new gained is = ap (drop (length old)) is ∙ drop-append_seam old gained
 
--- the recursion over bytes is the opening run and what stands behind it
-pub by_events : (hosts : Hosts) (settings : Settings) (max : ℕ) (script left held written : Option (List ℕ)) (reads reads' : ℕ) (a : Result Ended RunError) →
-    Ends max 0 0 (table hosts max 0 0 (start settings)) script left held written reads reads' a → Ends max 0 0 (λ bytes. script_run hosts (start settings) max bytes []) script left held written reads reads' a
-by_events hosts settings max script left held written reads reads' a ends =
-    ends_same max 0 0 (table hosts max 0 0 (start settings)) (λ bytes. script_run hosts (start settings) max bytes []) script left held written reads reads' a (λ bytes. joined hosts max 0 0 (start settings) [] bytes) ends
+-- by a table that says the same of all answers and bytes
+ends_same : (n place last : ℕ) (table table' : List Answer → List ℕ → Run) (before now : Streams) (a : Result Ended RunError) → ((answers : List Answer) (bytes : List ℕ) → table answers bytes ≡ table' answers bytes) →
+    Ends n place last table before now a → Ends n place last table' before now a
+ends_same n place last table table' before now a same ends =
+    subst (λ (t : List Answer → List ℕ → Run). Ends n place last t before now a) (fun_ext (λ (answers : List Answer). fun_ext (same answers))) ends
 
 -- in each case a front of the lines is written
-wrote_some : (ending : Ending) (table : List ℕ → Run) (given : List ℕ) (left held written : Option (List ℕ)) (a : Result Ended RunError) → EndsAs ending table given left held written a → WroteFront held written (lines (table given).records)
-wrote_some told table given left held written a by = wrote_all held written (lines (table given).records) by.all
-wrote_some cut table given left held written a by = by
-wrote_some unread table given left held written a by = wrote_all held written (lines (table given).records) by
+wrote_some : (ending : Ending) (table : List Answer → List ℕ → Run) (given : List ℕ) (gained : List SignCall) (before now : Streams) (a : Result Ended RunError) → EndsAs ending table given gained before now a →
+    WroteFront before.held now.held (lines (table (answers_of gained) given).records)
+wrote_some told table given gained before now a by = wrote_all before.held now.held (lines (table (answers_of gained) given).records) by.all
+wrote_some cut table given gained before now a by = by
+wrote_some unread table given gained before now a by = wrote_all before.held now.held (lines (table (answers_of gained) given).records) by
 
-outputs_are : (outputs : List _) (x : OpeningStop) (st : ScriptStop) → (concluded_by outputs x st).records ≡ outputs
-outputs_are outputs (opens_before s frames) st = refl
-outputs_are outputs (stops_with x) st = refl
-outputs_are outputs through st = refl
+module _ {S : Type 0} (m : Machine S) (max : ℕ) where
+  -- the recursion over bytes is the run of the script
+  joined_at : (answers : List Answer) (bytes : List ℕ) → run m.turn max (at_first m.first) answers bytes ≡ script_run m max answers bytes
+  joined_at answers bytes = joined m.turn max (at_first m.first) answers bytes
 
-pub gate_of : (hosts : Hosts) (settings : Settings) (max : ℕ) (script left held written : Option (List ℕ)) (reads reads' : ℕ) (a : Result Ended RunError) →
-    Ends max 0 0 (λ bytes. script_run hosts (start settings) max bytes []) script left held written reads reads' a → IsGated hosts max script left held written
-gate_of hosts settings max script left held written reads reads' a (given, read, by, count, few) =
-    let r : OpeningRun = opening hosts (start settings) (taken max given) [] in (
-      given,
-      read,
-      λ no. (
-        r.outputs,
-        gated hosts (taken max given) (start settings) [] refl refl no,
-        subst (λ rs. WroteFront held written (lines rs)) (outputs_are r.outputs r.stop (stop_of max given)) (wrote_some (ending_of a) (λ bytes. script_run hosts (start settings) max bytes []) given left held written a by),
-      ),
-    )
+  pub by_events : (before now : Streams) (a : Result Ended RunError) → Ends max 0 0 (run m.turn max (at_first m.first)) before now a → Ends max 0 0 (script_run m max) before now a
+  by_events before now a ends = ends_same max 0 0 (run m.turn max (at_first m.first)) (script_run m max) before now a joined_at ends
 
-prefix_by : (hosts : Hosts) (settings : Settings) (max : ℕ) (given bytes : List ℕ) (script left held written : Option (List ℕ)) → script ≡ prepend given left → script ≡ Some bytes →
-    WroteFront held written (lines (table hosts max 0 0 (start settings) given).records) → WroteFront held written (lines (table hosts max 0 0 (start settings) bytes).records)
-prefix_by hosts settings max given bytes script None held written read said wrote = let e : Some bytes ≡ None = sym said ∙ read in absurd cc
-prefix_by hosts settings max given bytes script (Some more) held written read said wrote =
-    let e : Some bytes ≡ Some (given ++ more) = sym said ∙ read in
-    let same : bytes ≡ given ++ more = cc in
-    rw same (wrote_longer held written _ _ (begins hosts max 0 0 (start settings) [] given more) wrote)
+  -- where memory ran out before the first event was read
+  pub none_ran : (before : Streams) → Ends max 0 0 (script_run m max) before before (Err errors.NoMemory)
+  none_ran before = (
+    [],
+    [],
+    record {
+      read = sym (prepend-nothing before.left);
+      asked = sym (append-nil before.calls);
+      made = ap (λ (r : Run). r.calls) (sym (joined_at [] []) ∙ run_nothing m.turn max (at_first m.first) []);
+      by = wrote_nothing before.held _;
+      count = omega arith;
+      few = nothing_held max 0 0;
+    },
+  )
 
-pub prefix_of : (hosts : Hosts) (settings : Settings) (max : ℕ) (script left held written : Option (List ℕ)) (reads reads' : ℕ) (a : Result Ended RunError) →
-    Ends max 0 0 (λ bytes. script_run hosts (start settings) max bytes []) script left held written reads reads' a → IsPrefix (λ bytes. script_run hosts (start settings) max bytes []) script held written
-prefix_of hosts settings max script left held written reads reads' a (given, read, by, count, few) = λ bytes said.
-    let same : (x : List ℕ) → table hosts max 0 0 (start settings) x ≡ script_run hosts (start settings) max x [] = λ x. joined hosts max 0 0 (start settings) [] x in
-    subst (λ (r : Run). WroteFront held written (lines r.records)) (same bytes)
-    (prefix_by hosts settings max given bytes script left held written read said
-    (subst (λ (r : Run). WroteFront held written (lines r.records)) (sym (same given)) (wrote_some (ending_of a) (λ x. script_run hosts (start settings) max x []) given left held written a by)))
+  prefix_by : (given bytes : List ℕ) (answers : List Answer) (left held written : Option (List ℕ)) → prepend given left ≡ Some bytes → WroteFront held written (lines (run m.turn max (at_first m.first) answers given).records) →
+      (later : List Answer) → WroteFront held written (lines (run m.turn max (at_first m.first) (answers ++ later) bytes).records)
+  prefix_by given bytes answers None held written read wrote later = absurd cc
+  prefix_by given bytes answers (Some more) held written read wrote later =
+      let same : given ++ more ≡ bytes = cc in
+      rw (sym same) (wrote_longer held written _ _ (begins m.turn max (at_first m.first) answers later given more).0 wrote)
 
--- the table says the same of the whole script as of what was given
-pub same_table : (table : List ℕ → Run) (given bytes : List ℕ) (script left held written : Option (List ℕ)) (a : Result Ended RunError) → script ≡ prepend given left → script ≡ Some bytes → IsExact table given left held written a → table bytes ≡ table given
-same_table table given bytes script None held written a read said exact = let e : Some bytes ≡ None = sym said ∙ read in absurd cc
-same_table table given bytes script (Some more) held written a read said exact =
-    let e : Some bytes ≡ Some (given ++ more) = sym said ∙ read in
-    let same : bytes ≡ given ++ more = cc in
-    ap table same ∙ exact.rest more refl
+  -- what was written is a front of the whole script's records, whatever the signer would answer then
+  pub prefix_later : (before now : Streams) (a : Result Ended RunError) → Ends max 0 0 (script_run m max) before now a → (later : List Answer) → IsPrefix (script_run m max (answers_since before.calls now.calls ++ later)) before.left before.held now.held
+  prefix_later before now a (given, gained, end) later = λ bytes said.
+      let here : WroteFront before.held now.held (lines (script_run m max (answers_of gained) given).records) = wrote_some (ending_of a) (script_run m max) given gained before now a end.by in
+      let gained_is : gained ≡ since before.calls now.calls = sym (since_is before.calls now.calls gained end.asked) in
+      subst (λ (calls : List SignCall). WroteFront before.held now.held (lines (script_run m max (answers_of calls ++ later) bytes).records)) gained_is
+      (subst (λ (r : Run). WroteFront before.held now.held (lines r.records)) (joined_at (answers_of gained ++ later) bytes)
+      (prefix_by given bytes (answers_of gained) now.left before.held now.held (sym end.read ∙ said)
+      (subst (λ (r : Run). WroteFront before.held now.held (lines r.records)) (sym (joined_at (answers_of gained) given)) here) later))
 
-pub done_of : (max : ℕ) (table : List ℕ → Run) (script left held written : Option (List ℕ)) (reads reads' : ℕ) (a : Result Ended RunError) → Ends max 0 0 table script left held written reads reads' a → IsDone table script left held written a
-done_of max table script left held written reads reads' (Err e) ends = tt
-done_of max table script left held written reads reads' (Ok e) (given, read, exact, count, few) = (
-  λ end. exact.whole (ap Ok end),
-  λ bytes said.
-      (let same : table bytes ≡ table given = same_table table given bytes script left held written (Ok e) read said exact in
-      (ap (λ (r : Run). r.stop) same ∙ exact.stop, exact.all ∙ ap (λ (r : Run). append held (lines r.records)) (sym same))),
+  pub prefix_of : (before now : Streams) (a : Result Ended RunError) → Ends max 0 0 (script_run m max) before now a → IsPrefix (script_run m max (answers_since before.calls now.calls)) before.left before.held now.held
+  prefix_of before now a ends =
+      subst (λ (answers : List Answer). IsPrefix (script_run m max answers) before.left before.held now.held) (append-nil (answers_since before.calls now.calls)) (prefix_later before now a ends [])
+
+pub gate_of : (hosts : Hosts) (settings : Settings) (max : ℕ) (before now : Streams) (a : Result Ended RunError) → Ends max 0 0 (script_run (opening_machine hosts settings) max) before now a → IsGated hosts max before.left now.left before.held now.held
+gate_of hosts settings max before now a (given, gained, end) = (
+  given,
+  end.read,
+  λ no. (
+    (script_run (opening_machine hosts settings) max (answers_of gained) given).records,
+    gated hosts (taken max given) (start settings) (stop_of max given) (answers_of gained) refl refl no,
+    wrote_some (ending_of a) (script_run (opening_machine hosts settings) max) given gained before now a end.by,
+  ),
 )
 
-kept_as : (ending : Ending) (table : List ℕ → Run) (given : List ℕ) (left held written : Option (List ℕ)) (e : RunError) → EndsAs ending table given left held written (Err e) → KeptBy ending table given held written e
-kept_as told table given left held written e by = (by.stop, by.all)
-kept_as cut table given left held written e by = tt
-kept_as unread table given left held written e by = by
+-- ---- over any table
 
-pub kept_of : (max : ℕ) (table : List ℕ → Run) (script left held written : Option (List ℕ)) (reads reads' : ℕ) (a : Result Ended RunError) → Ends max 0 0 table script left held written reads reads' a → IsKept table script left held written a
-kept_of max table script left held written reads reads' (Ok e) ends = tt
-kept_of max table script left held written reads reads' (Err e) (given, read, by, count, few) = (given, read, kept_as (ending_of (Err e)) table given left held written e by)
+-- the table says the same of the whole script as of what was given
+same_by : (table : List Answer → List ℕ → Run) (given bytes : List ℕ) (gained : List SignCall) (before now : Streams) (left : Option (List ℕ)) (a : Result Ended RunError) → now.left ≡ left → prepend given left ≡ Some bytes → IsExact table given gained before now a →
+    table (answers_of gained) bytes ≡ table (answers_of gained) given
+same_by table given bytes gained before now None a is read exact = absurd cc
+same_by table given bytes gained before now (Some more) a is read exact =
+    let same : bytes ≡ given ++ more = cc in
+    ap (table (answers_of gained)) same ∙ ap (λ (answers : List Answer). table answers (given ++ more)) (sym (append-nil (answers_of gained))) ∙ exact.rest [] more is
 
-refused_not : (table : List ℕ → Run) (given bytes : List ℕ) (script left held written : Option (List ℕ)) (e : Ended) (x : RunError) → script ≡ prepend given left → script ≡ Some bytes → (table bytes).stop ≡ ended e → IsExact table given left held written (Err x) → ⊥
-refused_not table given bytes script left held written e x read said good exact =
-    let same : table bytes ≡ table given = same_table table given bytes script left held written (Err x) read said exact in
+pub same_table : (table : List Answer → List ℕ → Run) (given bytes : List ℕ) (gained : List SignCall) (before now : Streams) (a : Result Ended RunError) → before.left ≡ prepend given now.left → before.left ≡ Some bytes → IsExact table given gained before now a →
+    table (answers_of gained) bytes ≡ table (answers_of gained) given
+same_table table given bytes gained before now a read said exact = same_by table given bytes gained before now now.left a refl (sym read ∙ said) exact
+
+-- the answers that were given are those of the calls
+pub with_answers : (P : List Answer → Type 0) (before now : Streams) (gained : List SignCall) → now.calls ≡ before.calls ++ gained → P (answers_of gained) → P (answers_since before.calls now.calls)
+with_answers P before now gained asked holds = subst (λ (calls : List SignCall). P (answers_of calls)) (sym (since_is before.calls now.calls gained asked)) holds
+
+pub done_of : (max : ℕ) (table : List Answer → List ℕ → Run) (before now : Streams) (a : Result Ended RunError) → Ends max 0 0 table before now a → IsDone (table (answers_since before.calls now.calls)) before.left now.left before.held now.held a
+done_of max table before now (Err e) ends = tt
+done_of max table before now (Ok e) (given, gained, end) =
+    with_answers (λ (answers : List Answer). IsDone (table answers) before.left now.left before.held now.held (Ok e)) before now gained end.asked (
+      λ last. end.by.whole (ap Ok last),
+      λ bytes said.
+          (let same : table (answers_of gained) bytes ≡ table (answers_of gained) given = same_table table given bytes gained before now (Ok e) end.read said end.by in
+          (ap (λ (r : Run). r.stop) same ∙ end.by.stop, end.by.all ∙ ap (λ (r : Run). append before.held (lines r.records)) (sym same))),
+    )
+
+kept_as : (ending : Ending) (table : List Answer → List ℕ → Run) (given : List ℕ) (gained : List SignCall) (before now : Streams) (e : RunError) → EndsAs ending table given gained before now (Err e) → KeptBy ending (table (answers_of gained)) given before.held now.held e
+kept_as told table given gained before now e by = (by.stop, by.all)
+kept_as cut table given gained before now e by = tt
+kept_as unread table given gained before now e by = by
+
+pub kept_of : (max : ℕ) (table : List Answer → List ℕ → Run) (before now : Streams) (a : Result Ended RunError) → Ends max 0 0 table before now a → IsKept (table (answers_since before.calls now.calls)) before.left now.left before.held now.held a
+kept_of max table before now (Ok e) ends = tt
+kept_of max table before now (Err e) (given, gained, end) =
+    with_answers (λ (answers : List Answer). IsKept (table answers) before.left now.left before.held now.held (Err e)) before now gained end.asked (given, end.read, kept_as (ending_of (Err e)) table given gained before now e end.by)
+
+refused_not : (table : List Answer → List ℕ → Run) (given bytes : List ℕ) (gained : List SignCall) (before now : Streams) (e : Ended) (x : RunError) → before.left ≡ prepend given now.left → before.left ≡ Some bytes → (table (answers_of gained) bytes).stop ≡ ended e →
+    IsExact table given gained before now (Err x) → ⊥
+refused_not table given bytes gained before now e x read said good exact =
+    let same : table (answers_of gained) bytes ≡ table (answers_of gained) given = same_table table given bytes gained before now (Err x) read said exact in
     let clash : ended e ≡ refused x = sym good ∙ ap (λ (r : Run). r.stop) same ∙ exact.stop in
     cc
 
 ended_same : (x y : Ended) → ended x ≡ ended y → x ≡ y
 ended_same x y h = cc
 
-pub complete_of : (max : ℕ) (table : List ℕ → Run) (script left held written : Option (List ℕ)) (counts counts' reads reads' writes writes' : ℕ) (a : Result Ended RunError) → Ends max 0 0 table script left held written counts counts' a →
-    (a ≡ Err errors.ReadFault → Rose reads reads') → (a ≡ Err errors.WriteFault → Rose writes writes') → IsComplete table script reads reads' writes writes' a
-complete_of max table script left held written counts counts' reads reads' writes writes' (Ok x) (given, read, exact, count, few) r w = λ bytes e said good quiet still.
-    let same : table bytes ≡ table given = same_table table given bytes script left held written (Ok x) read said exact in
-    let ends : ended x ≡ ended e = sym exact.stop ∙ ap (λ (t : Run). t.stop) (sym same) ∙ good in
+complete_by : (max : ℕ) (table : List Answer → List ℕ → Run) (before now : Streams) (reads reads' writes writes' : ℕ) (a : Result Ended RunError) (given : List ℕ) (gained : List SignCall) → EndsBy max 0 0 table before now a given gained →
+    (a ≡ Err errors.ReadFault → Rose reads reads') → (a ≡ Err errors.WriteFault → Rose writes writes') → IsComplete (table (answers_of gained)) before.left reads reads' writes writes' a
+complete_by max table before now reads reads' writes writes' (Ok x) given gained end r w = λ bytes e said good quiet still.
+    let same : table (answers_of gained) bytes ≡ table (answers_of gained) given = same_table table given bytes gained before now (Ok x) end.read said end.by in
+    let ends : ended x ≡ ended e = sym end.by.stop ∙ ap (λ (t : Run). t.stop) (sym same) ∙ good in
     inl (ap Ok (ended_same x e ends))
-complete_of max table script left held written counts counts' reads reads' writes writes' (Err errors.NoMemory) ends r w = λ bytes e said good quiet still. inr refl
-complete_of max table script left held written counts counts' reads reads' writes writes' (Err errors.ReadFault) ends r w = λ bytes e said good quiet still. absurd (quiet (r refl))
-complete_of max table script left held written counts counts' reads reads' writes writes' (Err errors.WriteFault) ends r w = λ bytes e said good quiet still. absurd (still (w refl))
-complete_of max table script left held written counts counts' reads reads' writes writes' (Err x) (given, read, exact, count, few) r w = λ bytes e said good quiet still. absurd (refused_not table given bytes script left held written e x read said good exact)
+complete_by max table before now reads reads' writes writes' (Err errors.NoMemory) given gained end r w = λ bytes e said good quiet still. inr refl
+complete_by max table before now reads reads' writes writes' (Err errors.ReadFault) given gained end r w = λ bytes e said good quiet still. absurd (quiet (r refl))
+complete_by max table before now reads reads' writes writes' (Err errors.WriteFault) given gained end r w = λ bytes e said good quiet still. absurd (still (w refl))
+complete_by max table before now reads reads' writes writes' (Err x) given gained end r w = λ bytes e said good quiet still. absurd (refused_not table given bytes gained before now e x end.read said good end.by)
+
+pub complete_of : (max : ℕ) (table : List Answer → List ℕ → Run) (before now : Streams) (reads reads' writes writes' : ℕ) (a : Result Ended RunError) → Ends max 0 0 table before now a →
+    (a ≡ Err errors.ReadFault → Rose reads reads') → (a ≡ Err errors.WriteFault → Rose writes writes') → IsComplete (table (answers_since before.calls now.calls)) before.left reads reads' writes writes' a
+complete_of max table before now reads reads' writes writes' a (given, gained, end) r w =
+    with_answers (λ (answers : List Answer). IsComplete (table answers) before.left reads reads' writes writes' a) before now gained end.asked (complete_by max table before now reads reads' writes writes' a given gained end r w)

@@ -17,16 +17,12 @@ use Rattle.sshc_hosts.specs.Judgement.{known_keys, judged}
 use Rattle.sshc_hosts.specs.Learning.{Lacks, IsLearnable, IsLearnableKey, Learns, once_learned, learned}
 use Rattle.sshc_hosts.proofs.LearningLaws.{learns}
 use Rattle.sshc_auth.specs.declared.ended.Ended.TheVariants.{ScriptEnd}
-use Rattle.sshc_auth.specs.OpeningState.{start}
-use Rattle.sshc_run.specs.declared.error.RunError.TheVariants as errors
 use Rattle.sshc_run.specs.Headline.{IsValidScript}
 use Rattle.sshc_run.specs.KnownHosts.{Hosts, as_handler, verdict}
-use Rattle.sshc_run.specs.ScriptRun.{script_run}
-use Rattle.sshc_run.specs.Turn.{refused}
-use Rattle.sshc_run.specs.Words.{default_settings, words_table}
+use Rattle.sshc_run.specs.Words.{words_table}
 use Rattle.sshc_run.proofs.StandardEvents.{login_key, read_is}
 use Rattle.sshc_run.proofs.StandardFacts.{login}
-use Rattle.sshc_run.proofs.StandardLogin.{login_is_valid, stranger}
+use Rattle.sshc_run.proofs.StandardLogin.{refused_run, run_of, login_is_valid, stranger}
 
 -- the host at its port, by a known hosts text
 abbrev pub localhost : List ℕ
@@ -99,11 +95,11 @@ pub learned_alone_accepts : verdict (hosts_by (learned [] localhost (login_key, 
 learned_alone_accepts = learned_accepts [] false empty_knows_none
 
 -- so the login is a valid script by that text
-pub learned_login_is_valid : IsValidScript (λ bytes. script_run (hosts_by (learned [] localhost (login_key, []))) (start default_settings) 8192 bytes []) login ScriptEnd
+pub learned_login_is_valid : IsValidScript (run_of (hosts_by (learned [] localhost (login_key, []))) 8192) login ScriptEnd
 learned_login_is_valid = login_is_valid (hosts_by (learned [] localhost (login_key, []))) learned_alone_accepts
 
 -- the same of a run by words
-pub words_login_is_valid : IsValidScript (words_table (codes "localhost") 13265 (learned [] localhost (login_key, []))) login ScriptEnd
+pub words_login_is_valid : IsValidScript (words_table (codes "localhost") 13265 (learned [] localhost (login_key, [])) []) login ScriptEnd
 words_login_is_valid = learned_login_is_valid
 
 -- by an empty text the login is refused at its exchange
@@ -111,5 +107,5 @@ empty_refuses_key : verdict (hosts_by []) (PublicKey (login_key, []) None) ≡ O
 unfolding verdict
 empty_refuses_key = ap as_handler empty_knows_none
 
-pub stranger_by_empty_text : script_run (hosts_by []) (start default_settings) 8192 login [] ≡ record { records = []; stop = refused errors.UnknownKey }
+pub stranger_by_empty_text : run_of (hosts_by []) 8192 login ≡ refused_run
 stranger_by_empty_text = stranger (hosts_by []) empty_refuses_key

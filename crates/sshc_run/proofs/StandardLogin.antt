@@ -9,6 +9,7 @@ use Rattle.sshc_wire.specs.declared.record.Record.TheVariants.{KexDone, Payload,
 use Rattle.sshc_wire.specs.declared.resolution.Resolution.TheVariants.{AuthSuccess}
 use Rattle.sshc_key.specs.KeyGrammar.{Key}
 use Rattle.sshc_key.specs.declared.identity.PublicKeyOrCertificate.TheVariants.{PublicKey}
+use Rattle.sshc_key.specs.Asking.{Asking, done}
 use Rattle.sshc_auth.specs.HostKey.{bare, plain_identity}
 use Rattle.sshc_auth.specs.declared.ended.Ended.TheVariants.{ScriptEnd}
 use Rattle.sshc_auth.specs.declared.event.Event.{Event}
@@ -19,7 +20,7 @@ use Rattle.sshc_auth.specs.declared.opening.Phase.TheVariants as phases
 use Rattle.sshc_auth.specs.declared.step.Asks.{Asks}
 use Rattle.sshc_auth.specs.declared.step.Asks.TheVariants as asking
 use Rattle.sshc_auth.specs.OpeningState.{OpeningState, start, shut}
-use Rattle.sshc_auth.specs.OpeningTable.{open_row, asked_of, key_asked}
+use Rattle.sshc_auth.specs.OpeningTable.{plain_row, asked_of, key_asked}
 use Rattle.sshc_auth.specs.OpeningTable.Auth.{authenticated}
 use Rattle.sshc_auth.specs.RequestTexts.{service_request, request}
 use Rattle.sshc_run.specs.declared.error.EventError.{EventError}
@@ -29,10 +30,10 @@ use Rattle.sshc_run.specs.declared.event_kind.EventKind.TheVariants as kinds
 use Rattle.sshc_run.specs.declared.known_hosts_handler.HandlerError.{HandlerError}
 use Rattle.sshc_run.specs.Headline.{IsValidScript}
 use Rattle.sshc_run.specs.KnownHosts.{Hosts, verdict}
-use Rattle.sshc_run.specs.OpeningRun.{OpeningRun, opens_before, stops_with, behind, by_turn, opening}
+use Rattle.sshc_run.specs.Machine.{goes_on, opened, stopped, ended, refused, unanswered_stop}
 use Rattle.sshc_run.specs.Script.{Frame, ScriptStop, whole, taken, stop_of, events as events_at, front, sized_front, head_at}
-use Rattle.sshc_run.specs.ScriptRun.{Run, concluded, script_run}
-use Rattle.sshc_run.specs.Turn.{Turn, goes_on, opened, stopped, ended, refused, judged_turn, asked_turn, event_turn, turn}
+use Rattle.sshc_run.specs.ScriptRun.{Run, after, stopped_with, asked_run, run_on, at_end, events_run, script_run}
+use Rattle.sshc_run.specs.Turn.{Turn, judged_turn, asked_turn, event_turn, turn, opening_machine}
 use Rattle.sshc_run.specs.Words.{default_settings}
 use Rattle.sshc_run.proofs.StandardEvents.{login_key, whole_is, login_exchange, exchange_is, request_is, accepted_is, success_is}
 use Rattle.sshc_run.proofs.StandardFacts.{key, exchange, asked, accepted, login, stop_is}
@@ -68,10 +69,10 @@ in_auth = record requested { phase = phases.Auth }
 
 -- the records of a turn, and the state from which the run goes on
 abbrev on_from : List Record → OpeningState → Turn
-on_from records s = record { records = records; state = s; next = goes_on; left = [] }
+on_from records s = record { records = records; state = s; next = goes_on }
 
-pub kexinit_turn : (hosts : Hosts) → turn hosts (start default_settings) (frame_of 0 kinds.PeerKexinit []) [] ≡ on_from [] exchanging
-unfolding turn open_row asked_of
+pub kexinit_turn : (hosts : Hosts) → turn hosts (start default_settings) (frame_of 0 kinds.PeerKexinit []) ≡ done (on_from [] exchanging)
+unfolding turn plain_row asked_of
 kexinit_turn hosts = refl
 
 -- the exchange is judged by the verdict on its host key
@@ -80,54 +81,60 @@ unfolding asked_of
 asks_is = ap (λ (o : Option Key). key_asked (plain_identity (bare o))) whole_is
 
 judged_is : (hosts : Hosts) (said : Result Bool HandlerError) → verdict hosts (PublicKey (login_key, []) None) ≡ said
-    → turn hosts exchanging (frame_of 13 kinds.ExchangeDone (exchange 1 key)) [] ≡ judged_turn 13 exchanging (events.ExchangeDone login_exchange) [] said
+    → turn hosts exchanging (frame_of 13 kinds.ExchangeDone (exchange 1 key)) ≡ judged_turn 13 exchanging (events.ExchangeDone login_exchange) said
 unfolding turn
 judged_is hosts said says =
-    ap (λ (r : Result Event EventError). event_turn hosts 13 exchanging [] r) exchange_is
-    ∙ ap (λ (asks : Asks). asked_turn hosts 13 exchanging (events.ExchangeDone login_exchange) [] asks) asks_is
-    ∙ ap (λ (v : Result Bool HandlerError). judged_turn 13 exchanging (events.ExchangeDone login_exchange) [] v) says
+    ap (λ (r : Result Event EventError). event_turn hosts 13 exchanging r) exchange_is
+    ∙ ap (λ (asks : Asks). asked_turn hosts 13 exchanging (events.ExchangeDone login_exchange) asks) asks_is
+    ∙ ap (λ (v : Result Bool HandlerError). judged_turn 13 exchanging (events.ExchangeDone login_exchange) v) says
 
-went_is : judged_turn 13 exchanging (events.ExchangeDone login_exchange) [] (Ok true) ≡ on_from (KexDone (codes "curve25519-sha256") ∷ []) in_service
-unfolding open_row
+went_is : judged_turn 13 exchanging (events.ExchangeDone login_exchange) (Ok true) ≡ done (on_from (KexDone (codes "curve25519-sha256") ∷ []) in_service)
+unfolding plain_row
 went_is = refl
 
-no_is : judged_turn 13 exchanging (events.ExchangeDone login_exchange) [] (Ok false) ≡ record { records = []; state = shut exchanging; next = stopped (refused errors.UnknownKey); left = [] }
-unfolding open_row
+no_is : judged_turn 13 exchanging (events.ExchangeDone login_exchange) (Ok false) ≡ done (record { records = []; state = shut exchanging; next = stopped (refused errors.UnknownKey) })
+unfolding plain_row
 no_is = refl
 
-request_turn : (hosts : Hosts) → turn hosts in_service (frame_of 143 kinds.Authenticate asked) [] ≡ on_from (Payload service_request ∷ []) requested
-unfolding turn open_row asked_of
-request_turn hosts = ap (λ (r : Result Event EventError). event_turn hosts 143 in_service [] r) request_is
+request_turn : (hosts : Hosts) → turn hosts in_service (frame_of 143 kinds.Authenticate asked) ≡ done (on_from (Payload service_request ∷ []) requested)
+unfolding turn plain_row asked_of
+request_turn hosts = ap (λ (r : Result Event EventError). event_turn hosts 143 in_service r) request_is
 
 -- the service is there, and the password is written
-service_turn : (hosts : Hosts) → turn hosts requested (frame_of 176 kinds.Payload accepted) [] ≡ on_from (Payload (request (codes "alice") (Password (codes "pw"))) ∷ []) in_auth
-unfolding turn open_row asked_of string_at number_at string_text u32_text
-service_turn hosts = ap (λ (r : Result Event EventError). event_turn hosts 176 requested [] r) accepted_is
+service_turn : (hosts : Hosts) → turn hosts requested (frame_of 176 kinds.Payload accepted) ≡ done (on_from (Payload (request (codes "alice") (Password (codes "pw"))) ∷ []) in_auth)
+unfolding turn plain_row asked_of string_at number_at string_text u32_text
+service_turn hosts = ap (λ (r : Result Event EventError). event_turn hosts 176 requested r) accepted_is
 
-success_turn : (hosts : Hosts) → turn hosts in_auth (frame_of 206 kinds.Payload (52 ∷ [])) []
-    ≡ record { records = Resolved (record { 0 = 1 }) AuthSuccess ∷ Opened ∷ []; state = shut (authenticated in_auth); next = opened; left = [] }
-unfolding turn open_row asked_of
-success_turn hosts = ap (λ (r : Result Event EventError). event_turn hosts 206 in_auth [] r) success_is
+success_turn : (hosts : Hosts) → turn hosts in_auth (frame_of 206 kinds.Payload (52 ∷ []))
+    ≡ done (record { records = Resolved (record { 0 = 1 }) AuthSuccess ∷ Opened ∷ []; state = shut (authenticated in_auth); next = opened })
+unfolding turn plain_row asked_of
+success_turn hosts = ap (λ (r : Result Event EventError). event_turn hosts 206 in_auth r) success_is
 
 -- ---- the run
 
+-- the run of these events from a state, with no answers of the signer
+abbrev pub from : Hosts → OpeningState → List Frame → ScriptStop → Run
+from hosts s frames st = events_run (turn hosts) s frames st []
+
 -- the run by its first turn
-pub by_first : (hosts : Hosts) (s : OpeningState) (frame : Frame) (frames : List Frame) (t : Turn) → turn hosts s frame [] ≡ t
-    → opening hosts s (frame ∷ frames) [] ≡ by_turn t t.next frames (opening hosts t.state frames t.left)
-unfolding opening
-by_first hosts s frame frames t is = ap (λ (t : Turn). by_turn t t.next frames (opening hosts t.state frames t.left)) is
+pub by_first : (hosts : Hosts) (s : OpeningState) (frame : Frame) (frames : List Frame) (st : ScriptStop) (t : Turn) → turn hosts s frame ≡ done t
+    → from hosts s (frame ∷ frames) st ≡ run_on t t.next (from hosts t.state frames st)
+unfolding events_run
+by_first hosts s frame frames st t is = ap (λ (asked : Asking Turn). asked_run unanswered_stop asked [] (λ t left. run_on t t.next (events_run (turn hosts) t.state frames st left))) is
 
 -- the run by a first turn from which it goes on
-pub step_by : (hosts : Hosts) (s s' : OpeningState) (frame : Frame) (frames : List Frame) (records : List Record) (later : OpeningRun) → turn hosts s frame [] ≡ on_from records s'
-    → opening hosts s' frames [] ≡ later → opening hosts s (frame ∷ frames) [] ≡ behind records later
-step_by hosts s s' frame frames records later is rest = by_first hosts s frame frames (on_from records s') is ∙ ap (λ (r : OpeningRun). behind records r) rest
+pub step_by : (hosts : Hosts) (s s' : OpeningState) (frame : Frame) (frames : List Frame) (st : ScriptStop) (records : List Record) (later : Run) → turn hosts s frame ≡ done (on_from records s')
+    → from hosts s' frames st ≡ later → from hosts s (frame ∷ frames) st ≡ after records [] later
+step_by hosts s s' frame frames st records later is rest = by_first hosts s frame frames st (on_from records s') is ∙ ap (λ (r : Run). after records [] r) rest
+
+-- behind the last event
+pub at_last : (hosts : Hosts) (s : OpeningState) (st : ScriptStop) → from hosts s [] st ≡ stopped_with [] (at_end st)
+unfolding events_run
+at_last hosts s st = refl
 
 -- the run of the last events
 abbrev events_behind : ℕ → List Frame
 events_behind n = drop n login_events
-
-abbrev opened_run : List Record → OpeningRun
-opened_run outputs = record { outputs = outputs; stop = opens_before (shut (authenticated in_auth)) [] }
 
 abbrev password_record : Record
 password_record = Payload (request (codes "alice") (Password (codes "pw")))
@@ -136,65 +143,63 @@ abbrev last_records : List Record
 last_records = Resolved (record { 0 = 1 }) AuthSuccess ∷ Opened ∷ []
 
 -- once the host key is accepted, a request and the acceptance of its service are followed by the run from the phase Auth
-pub requested_opening : (hosts : Hosts) (frames : List Frame) (later : OpeningRun) → opening hosts in_auth frames [] ≡ later
-    → opening hosts in_service (frame_of 143 kinds.Authenticate asked ∷ frame_of 176 kinds.Payload accepted ∷ frames) [] ≡ behind (Payload service_request ∷ password_record ∷ []) later
-requested_opening hosts frames later rest =
-    step_by hosts in_service requested (frame_of 143 kinds.Authenticate asked) (frame_of 176 kinds.Payload accepted ∷ frames) (Payload service_request ∷ []) (behind (password_record ∷ []) later) (request_turn hosts)
-    (step_by hosts requested in_auth (frame_of 176 kinds.Payload accepted) frames (password_record ∷ []) later (service_turn hosts) rest)
+pub requested_from : (hosts : Hosts) (frames : List Frame) (st : ScriptStop) (later : Run) → from hosts in_auth frames st ≡ later
+    → from hosts in_service (frame_of 143 kinds.Authenticate asked ∷ frame_of 176 kinds.Payload accepted ∷ frames) st ≡ after (Payload service_request ∷ password_record ∷ []) [] later
+requested_from hosts frames st later rest =
+    step_by hosts in_service requested (frame_of 143 kinds.Authenticate asked) (frame_of 176 kinds.Payload accepted ∷ frames) st (Payload service_request ∷ []) (after (password_record ∷ []) [] later) (request_turn hosts)
+    (step_by hosts requested in_auth (frame_of 176 kinds.Payload accepted) frames st (password_record ∷ []) later (service_turn hosts) rest)
 
--- and the success opens the session
-service_opening : (hosts : Hosts) → opening hosts in_service (events_behind 2) [] ≡ opened_run (Payload service_request ∷ password_record ∷ last_records)
-service_opening hosts = requested_opening hosts (events_behind 4) (opened_run last_records) (by_first hosts in_auth (frame_of 206 kinds.Payload (52 ∷ [])) [] _ (success_turn hosts))
+-- the success opens the session, and the script ends
+success_from : (hosts : Hosts) → from hosts in_auth (events_behind 4) whole ≡ stopped_with last_records (ended ScriptEnd)
+success_from hosts = by_first hosts in_auth (frame_of 206 kinds.Payload (52 ∷ [])) [] whole _ (success_turn hosts) ∙ ap (λ (r : Run). after last_records [] r) (at_last hosts (shut (authenticated in_auth)) whole)
 
 -- the records of the login
 abbrev pub login_records : List Record
 login_records = KexDone (codes "curve25519-sha256") ∷ Payload service_request ∷ Payload (request (codes "alice") (Password (codes "pw"))) ∷ Resolved (record { 0 = 1 }) AuthSuccess ∷ Opened ∷ []
 
 -- where the verdict accepts the host key, the exchange is followed by the run from the phase Service
-pub accepted_opening : (hosts : Hosts) (frames : List Frame) (later : OpeningRun) → verdict hosts (PublicKey (login_key, []) None) ≡ Ok true → opening hosts in_service frames [] ≡ later
-    → opening hosts (start default_settings) (frame_of 0 kinds.PeerKexinit [] ∷ frame_of 13 kinds.ExchangeDone (exchange 1 key) ∷ frames) [] ≡ behind (KexDone (codes "curve25519-sha256") ∷ []) later
-accepted_opening hosts frames later accepts rest =
-    step_by hosts (start default_settings) exchanging (frame_of 0 kinds.PeerKexinit []) (frame_of 13 kinds.ExchangeDone (exchange 1 key) ∷ frames) []
-    (behind (KexDone (codes "curve25519-sha256") ∷ []) later) (kexinit_turn hosts)
-    (step_by hosts exchanging in_service (frame_of 13 kinds.ExchangeDone (exchange 1 key)) frames (KexDone (codes "curve25519-sha256") ∷ []) later (judged_is hosts (Ok true) accepts ∙ went_is) rest)
+pub accepted_from : (hosts : Hosts) (frames : List Frame) (st : ScriptStop) (later : Run) → verdict hosts (PublicKey (login_key, []) None) ≡ Ok true → from hosts in_service frames st ≡ later
+    → from hosts (start default_settings) (frame_of 0 kinds.PeerKexinit [] ∷ frame_of 13 kinds.ExchangeDone (exchange 1 key) ∷ frames) st ≡ after (KexDone (codes "curve25519-sha256") ∷ []) [] later
+accepted_from hosts frames st later accepts rest =
+    step_by hosts (start default_settings) exchanging (frame_of 0 kinds.PeerKexinit []) (frame_of 13 kinds.ExchangeDone (exchange 1 key) ∷ frames) st []
+    (after (KexDone (codes "curve25519-sha256") ∷ []) [] later) (kexinit_turn hosts)
+    (step_by hosts exchanging in_service (frame_of 13 kinds.ExchangeDone (exchange 1 key)) frames st (KexDone (codes "curve25519-sha256") ∷ []) later (judged_is hosts (Ok true) accepts ∙ went_is) rest)
 
-login_opening : (hosts : Hosts) → verdict hosts (PublicKey (login_key, []) None) ≡ Ok true → opening hosts (start default_settings) login_events [] ≡ opened_run login_records
-login_opening hosts accepts = accepted_opening hosts (events_behind 2) (opened_run (Payload service_request ∷ password_record ∷ last_records)) accepts (service_opening hosts)
+login_from : (hosts : Hosts) → verdict hosts (PublicKey (login_key, []) None) ≡ Ok true → from hosts (start default_settings) login_events whole ≡ stopped_with login_records (ended ScriptEnd)
+login_from hosts accepts =
+    accepted_from hosts (events_behind 2) whole (stopped_with (Payload service_request ∷ password_record ∷ last_records) (ended ScriptEnd)) accepts
+    (requested_from hosts (events_behind 4) whole (stopped_with last_records (ended ScriptEnd)) (success_from hosts))
 
 -- where the verdict refuses the host key, the run ends with its exchange
-abbrev pub refused_run : OpeningRun
-refused_run = record { outputs = []; stop = stops_with (refused errors.UnknownKey) }
+abbrev pub refused_run : Run
+refused_run = stopped_with [] (refused errors.UnknownKey)
 
-stranger_opening : (hosts : Hosts) → verdict hosts (PublicKey (login_key, []) None) ≡ Ok false → opening hosts (start default_settings) login_events [] ≡ refused_run
-stranger_opening hosts refuses =
-    step_by hosts (start default_settings) exchanging (frame_of 0 kinds.PeerKexinit []) (events_behind 1) [] refused_run (kexinit_turn hosts)
-    (by_first hosts exchanging (frame_of 13 kinds.ExchangeDone (exchange 1 key)) (events_behind 2) _ (judged_is hosts (Ok false) refuses ∙ no_is))
+stranger_from : (hosts : Hosts) → verdict hosts (PublicKey (login_key, []) None) ≡ Ok false → from hosts (start default_settings) login_events whole ≡ refused_run
+stranger_from hosts refuses =
+    step_by hosts (start default_settings) exchanging (frame_of 0 kinds.PeerKexinit []) (events_behind 1) whole [] refused_run (kexinit_turn hosts)
+    (by_first hosts exchanging (frame_of 13 kinds.ExchangeDone (exchange 1 key)) (events_behind 2) whole _ (judged_is hosts (Ok false) refuses ∙ no_is))
 
--- a script's run by its opening and what stands behind its events
-pub run_by : (hosts : Hosts) (max : ℕ) (script : List ℕ) (frames : List Frame) (r : OpeningRun) (st : ScriptStop) → taken max script ≡ frames → stop_of max script ≡ st
-    → opening hosts (start default_settings) frames [] ≡ r → script_run hosts (start default_settings) max script [] ≡ concluded r st
+-- the run of a script by the default settings, with no answers of the signer
+abbrev pub run_of : Hosts → ℕ → List ℕ → Run
+run_of hosts max script = script_run (opening_machine hosts default_settings) max [] script
+
+-- a script's run by its events and what stands behind them
+pub run_by : (hosts : Hosts) (max : ℕ) (script : List ℕ) (frames : List Frame) (r : Run) (st : ScriptStop) → taken max script ≡ frames → stop_of max script ≡ st
+    → from hosts (start default_settings) frames st ≡ r → run_of hosts max script ≡ r
 run_by hosts max script frames r st frames_are stop_is is =
-    ap (λ (fs : List Frame). concluded (opening hosts (start default_settings) fs []) (stop_of max script)) frames_are
-    ∙ ap (λ (o : OpeningRun). concluded o (stop_of max script)) is
-    ∙ ap (λ (st : ScriptStop). concluded r st) stop_is
-
--- the same of the login
-login_by : (hosts : Hosts) (r : OpeningRun) → opening hosts (start default_settings) login_events [] ≡ r → script_run hosts (start default_settings) 8192 login [] ≡ concluded r whole
-login_by hosts r is = run_by hosts 8192 login login_events r whole taken_is stop_is is
+    ap (λ (fs : List Frame). from hosts (start default_settings) fs (stop_of max script)) frames_are
+    ∙ ap (λ (st : ScriptStop). from hosts (start default_settings) frames st) stop_is ∙ is
 
 -- ---- the theorems
 
 -- where the known hosts text accepts the host key, the login gives its five records and ends at the script's end
-pub login_run : (hosts : Hosts) → verdict hosts (PublicKey (login_key, []) None) ≡ Ok true
-    → script_run hosts (start default_settings) 8192 login [] ≡ record { records = login_records; stop = ended ScriptEnd }
-login_run hosts accepts = login_by hosts (opened_run login_records) (login_opening hosts accepts)
+pub login_run : (hosts : Hosts) → verdict hosts (PublicKey (login_key, []) None) ≡ Ok true → run_of hosts 8192 login ≡ stopped_with login_records (ended ScriptEnd)
+login_run hosts accepts = run_by hosts 8192 login login_events (stopped_with login_records (ended ScriptEnd)) whole taken_is stop_is (login_from hosts accepts)
 
 -- and so it is a valid script
-pub login_is_valid : (hosts : Hosts) → verdict hosts (PublicKey (login_key, []) None) ≡ Ok true
-    → IsValidScript (λ bytes. script_run hosts (start default_settings) 8192 bytes []) login ScriptEnd
+pub login_is_valid : (hosts : Hosts) → verdict hosts (PublicKey (login_key, []) None) ≡ Ok true → IsValidScript (run_of hosts 8192) login ScriptEnd
 login_is_valid hosts accepts = ap (λ (r : Run). r.stop) (login_run hosts accepts)
 
 -- where the text doesn't know the host key, nothing is said, not even a payload
-pub stranger : (hosts : Hosts) → verdict hosts (PublicKey (login_key, []) None) ≡ Ok false
-    → script_run hosts (start default_settings) 8192 login [] ≡ record { records = []; stop = refused errors.UnknownKey }
-stranger hosts refuses = login_by hosts refused_run (stranger_opening hosts refuses)
+pub stranger : (hosts : Hosts) → verdict hosts (PublicKey (login_key, []) None) ≡ Ok false → run_of hosts 8192 login ≡ refused_run
+stranger hosts refuses = run_by hosts 8192 login login_events refused_run whole taken_is stop_is (stranger_from hosts refuses)

@@ -5,26 +5,27 @@ use Rattle.std.specs.Prelude.{codes, Result}
 use Rattle.sshc_wire.specs.Reads.{byte_at, number_at}
 use Rattle.sshc_wire.specs.Wire.{u32_text, u64_text, string_text}
 use Rattle.sshc_key.specs.declared.identity.PublicKeyOrCertificate.TheVariants.{PublicKey}
+use Rattle.sshc_key.specs.Asking.{done}
 use Rattle.sshc_hosts.specs.Judgement.{judged}
 use Rattle.sshc_hosts.proofs.StandardKey.{localhost_line, line_accepts}
 use Rattle.sshc_auth.specs.declared.ended.Ended.TheVariants.{ScriptEnd}
 use Rattle.sshc_auth.specs.declared.event.Event.{Event}
 use Rattle.sshc_auth.specs.OpeningState.{start, shut}
-use Rattle.sshc_auth.specs.OpeningTable.{open_row, asked_of}
+use Rattle.sshc_auth.specs.OpeningTable.{plain_row, asked_of}
 use Rattle.sshc_run.specs.declared.error.EventError.{EventError}
 use Rattle.sshc_run.specs.declared.error.RunError.TheVariants as errors
 use Rattle.sshc_run.specs.declared.event_kind.EventKind.TheVariants as kinds
 use Rattle.sshc_run.specs.Headline.{IsValidScript}
 use Rattle.sshc_run.specs.KnownHosts.{Hosts, as_handler, verdict}
-use Rattle.sshc_run.specs.OpeningRun.{OpeningRun, stops_with, through, opening}
+use Rattle.sshc_run.specs.Machine.{stopped, ended, refused}
 use Rattle.sshc_run.specs.Script.{Frame, whole, bad, more, taken, stop_of, stop, events as events_at, front, sized_front, head_at}
-use Rattle.sshc_run.specs.ScriptRun.{script_run}
-use Rattle.sshc_run.specs.Turn.{stopped, ended, refused, event_turn, turn}
+use Rattle.sshc_run.specs.ScriptRun.{Run, stopped_with}
+use Rattle.sshc_run.specs.Turn.{event_turn, turn}
 use Rattle.sshc_run.specs.Words.{default_settings, words_table}
 use Rattle.sshc_run.proofs.StandardEvents.{login_key, keyless_is}
 use Rattle.sshc_run.proofs.StandardFacts.{event, exchange, asked, accepted, script_with, login, cut_is, more_is}
 use Rattle.sshc_run.proofs.StandardLearned.{localhost, hosts_by, blob_is_read}
-use Rattle.sshc_run.proofs.StandardLogin.{frame_of, login_events, exchanging, in_service, in_auth, kexinit_turn, by_first, step_by, requested_opening, accepted_opening, refused_run, login_records, run_by, login_run}
+use Rattle.sshc_run.proofs.StandardLogin.{frame_of, login_events, exchanging, in_service, in_auth, kexinit_turn, from, by_first, step_by, at_last, requested_from, accepted_from, refused_run, login_records, run_of, run_by, login_run}
 
 -- ---- by the known hosts text of one line
 
@@ -38,11 +39,11 @@ unfolding verdict
 line_accepts_key = ap as_handler line_is_judged
 
 -- by this text the login gives its five records and ends at the script's end
-pub line_run : words_table (codes "localhost") 13265 localhost_line login ≡ record { records = login_records; stop = ended ScriptEnd }
+pub line_run : words_table (codes "localhost") 13265 localhost_line [] login ≡ stopped_with login_records (ended ScriptEnd)
 line_run = login_run (hosts_by localhost_line) line_accepts_key
 
 -- and so it is a valid script
-pub line_is_valid : IsValidScript (words_table (codes "localhost") 13265 localhost_line) login ScriptEnd
+pub line_is_valid : IsValidScript (words_table (codes "localhost") 13265 localhost_line []) login ScriptEnd
 line_is_valid = ap (λ r. r.stop) line_run
 
 -- ---- an exchange without a host key
@@ -66,19 +67,18 @@ unfolding u32_text u64_text string_text stop front sized_front head_at number_at
 keyless_stop_is = refl
 
 -- nothing is asked of the known hosts text, and the exchange is refused
-keyless_turn : (hosts : Hosts) → turn hosts exchanging (frame_of 13 kinds.ExchangeDone (exchange 0 [])) []
-    ≡ record { records = []; state = shut exchanging; next = stopped (refused errors.UnknownKey); left = [] }
-unfolding turn open_row asked_of
-keyless_turn hosts = ap (λ (r : Result Event EventError). event_turn hosts 13 exchanging [] r) keyless_is
+keyless_turn : (hosts : Hosts) → turn hosts exchanging (frame_of 13 kinds.ExchangeDone (exchange 0 [])) ≡ done (record { records = []; state = shut exchanging; next = stopped (refused errors.UnknownKey) })
+unfolding turn plain_row asked_of
+keyless_turn hosts = ap (λ (r : Result Event EventError). event_turn hosts 13 exchanging r) keyless_is
 
-keyless_opening : (hosts : Hosts) → opening hosts (start default_settings) keyless_events [] ≡ refused_run
-keyless_opening hosts =
-    step_by hosts (start default_settings) exchanging (frame_of 0 kinds.PeerKexinit []) (frame_of 13 kinds.ExchangeDone (exchange 0 []) ∷ keyless_rest) [] refused_run (kexinit_turn hosts)
-    (by_first hosts exchanging (frame_of 13 kinds.ExchangeDone (exchange 0 [])) keyless_rest _ (keyless_turn hosts))
+keyless_from : (hosts : Hosts) → from hosts (start default_settings) keyless_events whole ≡ refused_run
+keyless_from hosts =
+    step_by hosts (start default_settings) exchanging (frame_of 0 kinds.PeerKexinit []) (frame_of 13 kinds.ExchangeDone (exchange 0 []) ∷ keyless_rest) whole [] refused_run (kexinit_turn hosts)
+    (by_first hosts exchanging (frame_of 13 kinds.ExchangeDone (exchange 0 [])) keyless_rest whole _ (keyless_turn hosts))
 
 -- whatever the known hosts text, an exchange without a host key ends the run, and nothing is said
-pub keyless_run : (hosts : Hosts) → script_run hosts (start default_settings) 8192 keyless [] ≡ record { records = []; stop = refused errors.UnknownKey }
-keyless_run hosts = run_by hosts 8192 keyless keyless_events refused_run whole keyless_taken_is keyless_stop_is (keyless_opening hosts)
+pub keyless_run : (hosts : Hosts) → run_of hosts 8192 keyless ≡ refused_run
+keyless_run hosts = run_by hosts 8192 keyless keyless_events refused_run whole keyless_taken_is keyless_stop_is (keyless_from hosts)
 
 -- ---- the login without its last byte
 
@@ -86,21 +86,11 @@ cut_taken_is : taken 8192 (take 219 login) ≡ take 4 login_events
 unfolding u32_text u64_text string_text events_at front sized_front head_at number_at byte_at
 cut_taken_is = refl
 
--- the run over events that are used up
-abbrev through_with : ℕ → OpeningRun
-through_with n = record { outputs = take n login_records; stop = through }
-
-in_auth_ends : (hosts : Hosts) → opening hosts in_auth [] [] ≡ through_with 0
-unfolding opening
-in_auth_ends hosts = refl
-
-cut_opening : (hosts : Hosts) → verdict hosts (PublicKey (login_key, []) None) ≡ Ok true → opening hosts (start default_settings) (take 4 login_events) [] ≡ through_with 3
-cut_opening hosts accepts = accepted_opening hosts _ _ accepts (requested_opening hosts [] (through_with 0) (in_auth_ends hosts))
-
 -- the first three records are told, and then the place of the event that is cut
-pub cut_run : (hosts : Hosts) → verdict hosts (PublicKey (login_key, []) None) ≡ Ok true
-    → script_run hosts (start default_settings) 8192 (take 219 login) [] ≡ record { records = take 3 login_records; stop = refused (errors.BadEvent 206) }
-cut_run hosts accepts = run_by hosts 8192 (take 219 login) (take 4 login_events) (through_with 3) (bad 206) cut_taken_is cut_is (cut_opening hosts accepts)
+pub cut_run : (hosts : Hosts) → verdict hosts (PublicKey (login_key, []) None) ≡ Ok true → run_of hosts 8192 (take 219 login) ≡ stopped_with (take 3 login_records) (refused (errors.BadEvent 206))
+cut_run hosts accepts =
+    run_by hosts 8192 (take 219 login) (take 4 login_events) (stopped_with (take 3 login_records) (refused (errors.BadEvent 206))) (bad 206) cut_taken_is cut_is
+    (accepted_from hosts _ (bad 206) _ accepts (requested_from hosts [] (bad 206) (stopped_with [] (refused (errors.BadEvent 206))) (at_last hosts in_auth (bad 206))))
 
 -- ---- the login where two events are allowed
 
@@ -108,17 +98,11 @@ more_taken_is : taken 2 login ≡ take 2 login_events
 unfolding u32_text u64_text string_text events_at front sized_front head_at number_at byte_at
 more_taken_is = refl
 
-in_service_ends : (hosts : Hosts) → opening hosts in_service [] [] ≡ through_with 0
-unfolding opening
-in_service_ends hosts = refl
-
-more_opening : (hosts : Hosts) → verdict hosts (PublicKey (login_key, []) None) ≡ Ok true → opening hosts (start default_settings) (take 2 login_events) [] ≡ through_with 1
-more_opening hosts accepts = accepted_opening hosts [] (through_with 0) accepts (in_service_ends hosts)
-
 -- the first record is told, and then that the script is too long
-pub more_run : (hosts : Hosts) → verdict hosts (PublicKey (login_key, []) None) ≡ Ok true
-    → script_run hosts (start default_settings) 2 login [] ≡ record { records = take 1 login_records; stop = refused errors.ScriptTooLong }
-more_run hosts accepts = run_by hosts 2 login (take 2 login_events) (through_with 1) more more_taken_is more_is (more_opening hosts accepts)
+pub more_run : (hosts : Hosts) → verdict hosts (PublicKey (login_key, []) None) ≡ Ok true → run_of hosts 2 login ≡ stopped_with (take 1 login_records) (refused errors.ScriptTooLong)
+more_run hosts accepts =
+    run_by hosts 2 login (take 2 login_events) (stopped_with (take 1 login_records) (refused errors.ScriptTooLong)) more more_taken_is more_is
+    (accepted_from hosts [] more (stopped_with [] (refused errors.ScriptTooLong)) accepts (at_last hosts in_service more))
 
 -- ---- a second KEXINIT
 
@@ -136,19 +120,18 @@ twice_stop_is : stop_of 8192 twice ≡ whole
 unfolding u32_text u64_text stop front sized_front head_at number_at byte_at
 twice_stop_is = refl
 
-second_turn : (hosts : Hosts) → turn hosts exchanging (frame_of 13 kinds.PeerKexinit []) []
-    ≡ record { records = []; state = exchanging; next = stopped (refused (errors.OutOfTurn 13)); left = [] }
+second_turn : (hosts : Hosts) → turn hosts exchanging (frame_of 13 kinds.PeerKexinit []) ≡ done (record { records = []; state = exchanging; next = stopped (refused (errors.OutOfTurn 13)) })
 unfolding turn
 second_turn hosts = refl
 
-abbrev untimely_run : OpeningRun
-untimely_run = record { outputs = []; stop = stops_with (refused (errors.OutOfTurn 13)) }
+abbrev untimely_run : Run
+untimely_run = stopped_with [] (refused (errors.OutOfTurn 13))
 
-twice_opening : (hosts : Hosts) → opening hosts (start default_settings) twice_events [] ≡ untimely_run
-twice_opening hosts =
-    step_by hosts (start default_settings) exchanging (frame_of 0 kinds.PeerKexinit []) (frame_of 13 kinds.PeerKexinit [] ∷ []) [] untimely_run (kexinit_turn hosts)
-    (by_first hosts exchanging (frame_of 13 kinds.PeerKexinit []) [] _ (second_turn hosts))
+twice_from : (hosts : Hosts) → from hosts (start default_settings) twice_events whole ≡ untimely_run
+twice_from hosts =
+    step_by hosts (start default_settings) exchanging (frame_of 0 kinds.PeerKexinit []) (frame_of 13 kinds.PeerKexinit [] ∷ []) whole [] untimely_run (kexinit_turn hosts)
+    (by_first hosts exchanging (frame_of 13 kinds.PeerKexinit []) [] whole _ (second_turn hosts))
 
 -- whatever the known hosts text, a second KEXINIT is out of turn
-pub twice_run : (hosts : Hosts) → script_run hosts (start default_settings) 8192 twice [] ≡ record { records = []; stop = refused (errors.OutOfTurn 13) }
-twice_run hosts = run_by hosts 8192 twice twice_events untimely_run whole twice_taken_is twice_stop_is (twice_opening hosts)
+pub twice_run : (hosts : Hosts) → run_of hosts 8192 twice ≡ untimely_run
+twice_run hosts = run_by hosts 8192 twice twice_events untimely_run whole twice_taken_is twice_stop_is (twice_from hosts)

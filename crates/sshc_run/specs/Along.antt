@@ -1,22 +1,21 @@
 -- A run that has come so far.
-use Rattle.std.specs.Prelude.{◌≡◌, ℕ, ◌-◌, ◌+◌, ◌≤◌, List, ◌++◌, length, Option}
-use Rattle.sshc_wire.specs.Contents.{prepend, append}
+use Rattle.std.specs.Prelude.{◌≡◌, ℕ, ◌-◌, ◌+◌, List, ◌∷◌, ◌++◌, length}
 use Rattle.sshc_wire.specs.declared.record.Record.{Record}
-use Rattle.sshc_run.specs.Outcome.{IsCut}
+use Rattle.sshc_key.specs.Signers.{SignCall}
+use Rattle.sshc_key.specs.Asking.{Answer}
+use Rattle.sshc_run.specs.Outcome.{Streams, Moved, IsCut}
 use Rattle.sshc_run.specs.RecordLines.{lines}
 use Rattle.sshc_run.specs.Script.{events}
-use Rattle.sshc_run.specs.ScriptRun.{Run, after}
+use Rattle.sshc_run.specs.ScriptRun.{Spot, Table, after, answers_of}
 
--- these bytes, one event a turn, were given and these records written, and whatever follows, the run goes on from here; on each front of them it
--- goes to its end
-pub record Along {S : Type 0} (first : S) (table : ℕ → ℕ → ℕ → S → List ℕ → Run) (max turns place last : ℕ) (s : S) (script left held now : Option (List ℕ)) (reads reads' : ℕ) (given : List ℕ) (records : List Record) : Type 0 where
-  pub read : script ≡ prepend given left
-  pub wrote : now ≡ append held (lines records)
-  pub on : (more : List ℕ) → table max 0 0 first (given ++ more) ≡ after records (table (max - turns) place last s more)
-  pub counts : (n : ℕ) (more : List ℕ) → length (events (turns + n) 0 0 (given ++ more)) ≡ turns + length (events n place last more)
-  pub just : (front more : List ℕ) → given ≡ front ++ more → IsCut (table max 0 0 first front).stop
-  pub count : reads' ≤ reads + length given
+-- these bytes, one event a turn, were given, these calls of the signer made and these records written; whatever follows, and whatever
+-- the signer answers then, the run goes on from here; on each front of the bytes it goes to its end
+pub record Along {S : Type 0} (table : Table S) (first : Spot S) (max turns : ℕ) (at : Spot S) (before now : Streams) (given : List ℕ) (gained : List SignCall) (records : List Record) : Type 0 where
+  pub moved : Moved before now given gained (lines records)
+  pub on : (later : List Answer) (more : List ℕ) → table max first (answers_of gained ++ later) (given ++ more) ≡ after records gained (table (max - turns) at later more)
+  pub counts : (n : ℕ) (more : List ℕ) → length (events (turns + n) first.place first.last (given ++ more)) ≡ turns + length (events n at.place at.last more)
+  pub just : (later : List Answer) (front : List ℕ) (b : ℕ) (more : List ℕ) → given ≡ front ++ b ∷ more → IsCut (table max first (answers_of gained ++ later) front).stop
 
-abbrev pub IsAlong : {S : Type 0} → S → (ℕ → ℕ → ℕ → S → List ℕ → Run) → ℕ → ℕ → ℕ → ℕ → S → Option (List ℕ) → Option (List ℕ) → Option (List ℕ) → Option (List ℕ) → ℕ → ℕ → Type 0
-IsAlong first table max turns place last s script left held now reads reads' =
-    (given : List ℕ) × (records : List Record) × Along first table max turns place last s script left held now reads reads' given records
+abbrev pub IsAlong : {S : Type 0} → Table S → Spot S → ℕ → ℕ → Spot S → Streams → Streams → Type 0
+IsAlong table first max turns at before now =
+    (given : List ℕ) × (gained : List SignCall) × (records : List Record) × Along table first max turns at before now given gained records

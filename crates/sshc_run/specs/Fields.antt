@@ -147,4 +147,5 @@ event_in phase kinds.PeerKexinit fields = ended_at PeerKexinit fields
 event_in phase kinds.ExchangeDone fields = exchange_done_of fields
 event_in phase kinds.Payload fields = payload_of phase fields
 event_in phase kinds.Authenticate fields = authenticate_of fields
+event_in phase kinds.AgentEvent fields = Err reads.Unbuilt
 event_in phase kinds.Later fields = Err reads.Unbuilt

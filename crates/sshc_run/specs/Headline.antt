@@ -18,11 +18,11 @@ use Rattle.sshc_run.specs.declared.event_kind.EventKind.TheVariants as kinds
 use Rattle.sshc_run.specs.declared.known_hosts_handler.HandlerError.{HandlerError}
 use Rattle.sshc_run.specs.Fields.{exchange_done_of}
 use Rattle.sshc_run.specs.KnownHosts.{Hosts, verdict}
+use Rattle.sshc_run.specs.Machine.{ended, refused}
 use Rattle.sshc_run.specs.Outcome.{Ending, told, cut, unread, ending_of}
 use Rattle.sshc_run.specs.RecordLines.{lines}
 use Rattle.sshc_run.specs.Script.{Frame, taken}
 use Rattle.sshc_run.specs.ScriptRun.{Run}
-use Rattle.sshc_run.specs.Turn.{ended, refused}
 
 -- ---- the host key of the first exchange
 
@@ -45,6 +45,7 @@ said_at kinds.ExchangeDone hosts fields later = said_by hosts (exchange_done_of 
 said_at kinds.PeerKexinit hosts fields later = later
 said_at kinds.Payload hosts fields later = later
 said_at kinds.Authenticate hosts fields later = later
+said_at kinds.AgentEvent hosts fields later = later
 said_at kinds.Later hosts fields later = later
 
 -- what it says of the first exchange among these events; nothing where there is none or it can't be read

@@ -5,6 +5,8 @@ pub mod Handled
 pub mod Refusing
 pub mod KnownHosts
 pub mod Reading
+pub mod Firsts
+pub mod Machine
 pub mod Turn
 pub mod OpeningRun
 pub mod RecordLines
@@ -14,5 +16,12 @@ pub mod Turning
 pub mod Along
 pub mod Configured
 pub mod Headline
+pub mod Comes
 pub mod Causes
+pub mod RunFaults
 pub mod Words
+pub mod Part
+pub mod Askers
+pub mod OpeningFirst
+pub mod SessionPart
+pub mod Product

@@ -1,36 +1,56 @@
--- The opening run: the opening table folded over the events of a script.
+-- The opening run: a table folded over the events of a script until it opens the session.
 -- A fold over a whole list; the code takes one event at a time.
-use Rattle.std.specs.Prelude.{List, [], ◌∷◌, ◌++◌}
-use Rattle.sshc_wire.specs.declared.record.Record.{Record}
-use Rattle.sshc_key.specs.Signers.{SignCall}
-use Rattle.sshc_auth.specs.OpeningState.{OpeningState}
-use Rattle.sshc_run.specs.KnownHosts.{Hosts}
-use Rattle.sshc_run.specs.Script.{Frame}
-use Rattle.sshc_run.specs.Turn.{Turn, Onward, goes_on, opened, stopped, RunStop, turn}
+use Rattle.std.specs.Prelude.{◌≡◌, List, [], ◌∷◌}
+use Rattle.sshc_key.specs.Asking.{Answer, asked_on}
+use Rattle.sshc_run.specs.Firsts.{IsFront}
+use Rattle.sshc_run.specs.Machine.{RunStop, unanswered_stop, Onward, goes_on, opened, stopped, TurnOf, Turns}
+use Rattle.sshc_run.specs.Script.{Frame, ScriptStop}
+use Rattle.sshc_run.specs.ScriptRun.{RunOf, Run, stopped_with, after, asked_run, at_end, events_run}
 
--- how the opening run stops: the session is open and these events stand behind, the run stops, or the list is used up
-pub data OpeningStop : Type 0 where
-  opens_before : OpeningState → List Frame → OpeningStop
-  stops_with : RunStop → OpeningStop
-  through : OpeningStop
+-- how the opening run stops: the session is open, and these events and answers stand behind; the run stops; or the list is used up
+pub data OpeningStop (S : Type 0) : Type 0 where
+  opens_before : S → List Frame → List Answer → OpeningStop S
+  stops_with : RunStop → OpeningStop S
+  through : OpeningStop S
 
--- all records in order, and how it stops
-pub record OpeningRun : Type 0 where
-  pub outputs : List Record
-  pub stop : OpeningStop
-
--- these records, and then the run
-abbrev pub behind : List Record → OpeningRun → OpeningRun
-behind records r = record { outputs = records ++ r.outputs; stop = r.stop }
+-- all records and calls in order, and how it stops
+abbrev pub OpeningRun : Type 0 → Type 0
+OpeningRun S = RunOf (OpeningStop S)
 
 -- the run by its first turn
-abbrev pub by_turn : Turn → Onward → List Frame → OpeningRun → OpeningRun
-by_turn t goes_on frames later = behind t.records later
-by_turn t opened frames later = record { outputs = t.records; stop = opens_before t.state frames }
-by_turn t (stopped stop) frames later = record { outputs = t.records; stop = stops_with stop }
+abbrev pub by_turn : {S : Type 0} → TurnOf S → Onward → List Frame → List Answer → OpeningRun S → OpeningRun S
+by_turn t goes_on frames left later = after t.records [] later
+by_turn t opened frames left later = stopped_with t.records (opens_before t.state frames left)
+by_turn t (stopped stop) frames left later = stopped_with t.records (stops_with stop)
 
 -- the events in order, with the signer's answers in order
-unfoldable pub opening : Hosts → OpeningState → List Frame → List SignCall → OpeningRun
-opening hosts s [] answers = record { outputs = []; stop = through }
-opening hosts s (frame ∷ frames) answers =
-    let t = turn hosts s frame answers in by_turn t t.next frames (opening hosts t.state frames t.left)
+unfoldable pub opening : {S : Type 0} → Turns S → S → List Frame → List Answer → OpeningRun S
+opening turn s [] answers = stopped_with [] through
+opening turn s (frame ∷ frames) answers =
+    asked_run (stops_with unanswered_stop) (turn s frame) answers (λ t left. by_turn t t.next frames left (opening turn t.state frames left))
+
+-- ---- the law between the opening run and the whole run
+
+-- once the table opens the session, the whole run stands behind the opening's records; else the two stop alike
+abbrev pub Concluded : {S : Type 0} → Turns S → ScriptStop → OpeningRun S → OpeningStop S → Run → Type 0
+Concluded turn st o (opens_before s frames left) r = r ≡ after o.records o.calls (events_run turn s frames st left)
+Concluded turn st o (stops_with stop) r = r ≡ record { records = o.records; calls = o.calls; stop = stop }
+Concluded turn st o through r = r ≡ record { records = o.records; calls = o.calls; stop = at_end st }
+
+-- ---- a larger machine that begins as the opening
+
+-- until the table opens the session, the machine's turns are the table's, with what is kept seen so; where it opens the session, the
+-- table's records come first, and the machine goes on from a state of its own
+pub record Continues {A : Type 0} {B : Type 0} (short : Turns A) (long : Turns B) (as_kept : A → B) : Type 0 where
+  pub turn_of : TurnOf A → TurnOf B
+  pub same : (s : A) (frame : Frame) → long (as_kept s) frame ≡ asked_on turn_of (short s frame)
+  pub on : (t : TurnOf A) → t.next ≡ goes_on → turn_of t ≡ record { records = t.records; state = as_kept t.state; next = goes_on }
+  pub opens : (t : TurnOf A) → t.next ≡ opened → IsFront t.records (turn_of t).records × ((turn_of t).next ≡ opened)
+  pub stops : (t : TurnOf A) (stop : RunStop) → t.next ≡ stopped stop → ((turn_of t).records ≡ t.records) × ((turn_of t).next ≡ stopped stop)
+
+-- the records and the calls are the opening run's, and the stop is its own; or, once it opens the session, they are all of its records and
+-- calls followed by more, and where no event stands behind, the run stops at what stands behind the events
+abbrev pub Prefixed : {A : Type 0} → ScriptStop → OpeningRun A → OpeningStop A → Run → Type 0
+Prefixed st o (opens_before s frames left) r = IsFront o.records r.records × IsFront o.calls r.calls × (frames ≡ [] → r.stop ≡ at_end st)
+Prefixed st o (stops_with stop) r = r ≡ record { records = o.records; calls = o.calls; stop = stop }
+Prefixed st o through r = r ≡ record { records = o.records; calls = o.calls; stop = at_end st }

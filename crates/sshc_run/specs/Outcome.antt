@@ -1,15 +1,39 @@
--- What a run has given, written and answered.
-use Rattle.std.specs.Prelude.{◌≡◌, ◌⊎◌, ℕ, suc, ◌≤◌, List, ◌∷◌, ◌++◌, length, Option, Some, Result, Ok, Err}
+-- What a run has given, written, asked and answered.
+use Rattle.std.specs.Prelude.{◌≡◌, ◌⊎◌, ℕ, suc, ◌+◌, ◌≤◌, List, ◌∷◌, ◌++◌, length, Option, Some, Result, Ok, Err}
 use Rattle.sshc_wire.specs.Contents.{prepend, append, WroteFront, IsAtEnd}
+use Rattle.sshc_key.specs.Signers.{SignCall}
+use Rattle.sshc_key.specs.Asking.{Answer}
 use Rattle.sshc_auth.specs.declared.ended.Ended.{Ended}
 use Rattle.sshc_auth.specs.declared.ended.Ended.TheVariants.{ScriptEnd}
 use Rattle.sshc_run.specs.declared.error.RunError.{RunError}
 use Rattle.sshc_run.specs.declared.error.RunError.TheVariants as errors
+use Rattle.sshc_run.specs.Machine.{RunStop, ended, refused}
 use Rattle.sshc_run.specs.Reading.{ReadFor}
 use Rattle.sshc_run.specs.RecordLines.{lines}
 use Rattle.sshc_run.specs.Script.{events}
-use Rattle.sshc_run.specs.ScriptRun.{Run}
-use Rattle.sshc_run.specs.Turn.{RunStop, ended, refused}
+use Rattle.sshc_run.specs.ScriptRun.{Run, answers_of}
+
+-- ---- the outside
+
+-- what contracts see of the outside: what the source has still to give, what the sink holds, the reads that were made, and the
+-- signer's calls
+pub record Streams : Type 0 where
+  pub left : Option (List ℕ)
+  pub held : Option (List ℕ)
+  pub reads : ℕ
+  pub calls : List SignCall
+
+abbrev pub streams : Option (List ℕ) → Option (List ℕ) → ℕ → List SignCall → Streams
+streams left held reads calls = record { left = left; held = held; reads = reads; calls = calls }
+
+-- these bytes were given, the signer was called so, and this text was written
+pub record Moved (before now : Streams) (given : List ℕ) (gained : List SignCall) (text : List ℕ) : Type 0 where
+  pub read : before.left ≡ prepend given now.left
+  pub asked : now.calls ≡ before.calls ++ gained
+  pub wrote : now.held ≡ append before.held text
+  pub count : now.reads ≤ before.reads + length given
+
+-- ---- how a run ends
 
 -- how an answer was come by: the table tells it, a write was cut, or a read failed
 pub data Ending : Type 0 where
@@ -33,28 +57,35 @@ stop_as (Err e) = refused e
 abbrev pub IsCut : RunStop → Type 0
 IsCut stop = (stop ≡ ended ScriptEnd) ⊎ ((place : ℕ) × (stop ≡ refused (errors.BadEvent place)))
 
--- the answer is the table's over the bytes that were given, and no byte that is left would change it; all records are written.
--- No byte was taken past what decided: on each shorter front of the bytes the run goes to its end. At the script's end nothing
--- is left.
-pub record IsExact (table : List ℕ → Run) (given : List ℕ) (left held written : Option (List ℕ)) (answer : Result Ended RunError) : Type 0 where
-  pub all : written ≡ append held (lines (table given).records)
-  pub stop : (table given).stop ≡ stop_as answer
-  pub rest : (more : List ℕ) → left ≡ Some more → table (given ++ more) ≡ table given
-  pub just : (front : List ℕ) (b : ℕ) (more : List ℕ) → given ≡ front ++ b ∷ more → IsCut (table front).stop
-  pub whole : answer ≡ Ok ScriptEnd → IsAtEnd left
+-- the answer is the table's over the bytes that were given and the signer's answers, and no byte that is left and no answer more
+-- would change it; all records are written. No byte was taken past what decided: on each shorter front of the bytes the run goes
+-- to its end. At the script's end nothing is left.
+pub record IsExact (table : List Answer → List ℕ → Run) (given : List ℕ) (gained : List SignCall) (before now : Streams) (answer : Result Ended RunError) : Type 0 where
+  pub all : now.held ≡ append before.held (lines (table (answers_of gained) given).records)
+  pub stop : (table (answers_of gained) given).stop ≡ stop_as answer
+  pub rest : (later : List Answer) (more : List ℕ) → now.left ≡ Some more → table (answers_of gained ++ later) (given ++ more) ≡ table (answers_of gained) given
+  pub just : (later : List Answer) (front : List ℕ) (b : ℕ) (more : List ℕ) → given ≡ front ++ b ∷ more → IsCut (table (answers_of gained ++ later) front).stop
+  pub whole : answer ≡ Ok ScriptEnd → IsAtEnd now.left
 
 -- a cut write leaves a front of the lines, a failed read all lines of the whole events that were given
-abbrev pub EndsAs : Ending → (List ℕ → Run) → List ℕ → Option (List ℕ) → Option (List ℕ) → Option (List ℕ) → Result Ended RunError → Type 0
-EndsAs told table given left held written answer = IsExact table given left held written answer
-EndsAs cut table given left held written answer = WroteFront held written (lines (table given).records)
-EndsAs unread table given left held written answer = written ≡ append held (lines (table given).records)
+abbrev pub EndsAs : Ending → (List Answer → List ℕ → Run) → List ℕ → List SignCall → Streams → Streams → Result Ended RunError → Type 0
+EndsAs told table given gained before now answer = IsExact table given gained before now answer
+EndsAs cut table given gained before now answer = WroteFront before.held now.held (lines (table (answers_of gained) given).records)
+EndsAs unread table given gained before now answer = now.held ≡ append before.held (lines (table (answers_of gained) given).records)
 
 -- the bytes hold at most so many whole events, from a place and a moment
 abbrev pub HoldsAtMost : ℕ → ℕ → ℕ → List ℕ → Type 0
 HoldsAtMost n place last bytes = length (events (suc n) place last bytes) ≤ n
 
--- the bytes that the source gave, at most so many events, and what came of them
-abbrev pub Ends : ℕ → ℕ → ℕ → (List ℕ → Run) → Option (List ℕ) → Option (List ℕ) → Option (List ℕ) → Option (List ℕ) → ℕ → ℕ → Result Ended RunError → Type 0
-Ends n place last table script left held written reads reads' answer =
-    (given : List ℕ) × (script ≡ prepend given left) × EndsAs (ending_of answer) table given left held written answer
-    × ReadFor reads reads' given × HoldsAtMost n place last given
+-- these bytes were given, at most so many events, and the signer was called so, as the table calls it; and what came of them
+pub record EndsBy (n place last : ℕ) (table : List Answer → List ℕ → Run) (before now : Streams) (answer : Result Ended RunError) (given : List ℕ) (gained : List SignCall) : Type 0 where
+  pub read : before.left ≡ prepend given now.left
+  pub asked : now.calls ≡ before.calls ++ gained
+  pub made : (table (answers_of gained) given).calls ≡ gained
+  pub by : EndsAs (ending_of answer) table given gained before now answer
+  pub count : ReadFor before.reads now.reads given
+  pub few : HoldsAtMost n place last given
+
+-- the bytes that the source gave, the calls of the signer, and what came of them
+abbrev pub Ends : ℕ → ℕ → ℕ → (List Answer → List ℕ → Run) → Streams → Streams → Result Ended RunError → Type 0
+Ends n place last table before now answer = (given : List ℕ) × (gained : List SignCall) × EndsBy n place last table before now answer given gained

@@ -6,8 +6,11 @@ use Rattle.hex.specs.Hex.{encode_lower}
 use Rattle.sshc_wire.specs.declared.record.Record.{Record}
 use Rattle.sshc_wire.specs.Records.{record_text}
 
+abbrev pub text_line : List ℕ → List ℕ
+text_line text = encode_lower text ++ 10 ∷ []
+
 abbrev pub line : Record → List ℕ
-line said = encode_lower (record_text said) ++ 10 ∷ []
+line said = text_line (record_text said)
 
 abbrev pub lines : List Record → List ℕ
 lines records = flat_map line records

@@ -23,7 +23,7 @@ pub record Frame : Type 0 where
 abbrev pub is_later_number : ℕ → Bool
 is_later_number n =
     (nat_le 0x04 n && nat_le n 0x05) || (nat_le 0x08 n && nat_le n 0x09) || (nat_le 0x11 n && nat_le n 0x22)
-    || (nat_le 0x24 n && nat_le n 0x2b) || (n == 0x2f) || (nat_le 0x40 n && nat_le n 0x43)
+    || (nat_le 0x24 n && nat_le n 0x2b) || (n == 0x2f)
 
 -- the kind of this number, if there is one
 abbrev pub kind_numbered : ℕ → Option EventKind
@@ -32,7 +32,8 @@ kind_numbered n =
     else (if n == 0x02 then Some kinds.ExchangeDone
     else (if n == 0x03 then Some kinds.Payload
     else (if n == 0x10 then Some kinds.Authenticate
-    else (if is_later_number n then Some kinds.Later else None))))
+    else (if nat_le 0x40 n && nat_le n 0x43 then Some kinds.AgentEvent
+    else (if is_later_number n then Some kinds.Later else None)))))
 
 -- ---- one event
 

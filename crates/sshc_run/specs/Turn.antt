@@ -1,11 +1,9 @@
 -- What one event of a script gives: its records, what is kept then, and whether the run goes on.
 -- A table by cases over the opening's rows; the code asks the gate and applies the row.
-use Rattle.std.specs.Prelude.{ℕ, Bool, true, false, List, [], drop, Option, Some, None, Result, Ok, Err, if◌then◌else◌}
-use Rattle.sshc_wire.specs.declared.record.Record.{Record}
-use Rattle.sshc_key.specs.Signers.{SignCall}
+use Rattle.std.specs.Prelude.{ℕ, Bool, true, false, [], Result, Ok, Err, if◌then◌else◌}
 use Rattle.sshc_key.specs.declared.error.Error.{Error as KeyError}
 use Rattle.sshc_key.specs.declared.error.Error.TheVariants as key_errors
-use Rattle.sshc_auth.specs.declared.ended.Ended.{Ended}
+use Rattle.sshc_key.specs.Asking.{Asking, done, asked_on}
 use Rattle.sshc_auth.specs.declared.error.Error.{Error}
 use Rattle.sshc_auth.specs.declared.error.Error.TheVariants as auths
 use Rattle.sshc_auth.specs.declared.event.Event.{Event}
@@ -16,9 +14,10 @@ use Rattle.sshc_auth.specs.declared.opening.Phase.TheVariants as phases
 use Rattle.sshc_auth.specs.declared.step.Asks.{Asks}
 use Rattle.sshc_auth.specs.declared.step.Asks.TheVariants as asking
 use Rattle.sshc_auth.specs.declared.step.Told.TheVariants as telling
-use Rattle.sshc_auth.specs.OpeningState.{OpeningState, shut}
+use Rattle.sshc_auth.specs.declared.opening.Settings.{Settings}
+use Rattle.sshc_auth.specs.OpeningState.{OpeningState, shut, start}
 use Rattle.sshc_auth.specs.OpeningTable.{open_row, asked_of}
-use Rattle.sshc_auth.specs.Row.{Row, Next, stays, opens, ends as ends_with, refuses, unanswered}
+use Rattle.sshc_auth.specs.Row.{Row, Next, stays, opens, ends as ends_with, refuses}
 use Rattle.sshc_run.specs.declared.error.EventError.{EventError}
 use Rattle.sshc_run.specs.declared.error.EventError.TheVariants as reads
 use Rattle.sshc_run.specs.declared.error.RunError.{RunError}
@@ -29,6 +28,7 @@ use Rattle.sshc_run.specs.declared.known_hosts_handler.HandlerError.{HandlerErro
 use Rattle.sshc_run.specs.declared.known_hosts_handler.HandlerError.TheVariants.{Client, Key}
 use Rattle.sshc_run.specs.Fields.{event_in}
 use Rattle.sshc_run.specs.KnownHosts.{Hosts, verdict}
+use Rattle.sshc_run.specs.Machine.{goes_on, opened, stopped, ended, refused, TurnOf, Turns, Machine}
 use Rattle.sshc_run.specs.Script.{Frame}
 
 -- ---- errors, as the run tells them
@@ -64,62 +64,43 @@ handler_error_of place (Key e) = key_error_of e
 
 -- ---- a turn
 
--- how a run stops: an end, a refusal, or a sign call that nothing answers
-pub data RunStop : Type 0 where
-  ended : Ended → RunStop
-  refused : RunError → RunStop
-  unanswered_stop : RunStop
-
-pub data Onward : Type 0 where
-  goes_on : Onward
-  opened : Onward
-  stopped : RunStop → Onward
-
--- the records, what is kept then, whether the run goes on, and the signer's answers that are left
-pub record Turn : Type 0 where
-  pub records : List Record
-  pub state : OpeningState
-  pub next : Onward
-  pub left : List SignCall
+-- the turn of the opening
+abbrev pub Turn : Type 0
+Turn = TurnOf OpeningState
 
 -- the run stops with nothing said
-abbrev pub stops : OpeningState → List SignCall → RunError → Turn
-stops s answers e = record { records = []; state = s; next = stopped (refused e); left = answers }
-
-abbrev pub after_call : Option SignCall → List SignCall → List SignCall
-after_call None answers = answers
-after_call (Some call) answers = drop 1 answers
+abbrev pub stops : OpeningState → RunError → Turn
+stops s e = record { records = []; state = s; next = stopped (refused e) }
 
 -- the turn of a row, by what becomes of the opening
-abbrev pub next_turn : ℕ → OpeningState → Row → List SignCall → Next → Turn
-next_turn place s row answers (stays s') = record { records = row.records; state = s'; next = goes_on; left = after_call row.signs answers }
-next_turn place s row answers (opens s') = record { records = row.records; state = shut s'; next = opened; left = after_call row.signs answers }
-next_turn place s row answers (ends_with e) = record { records = row.records; state = shut s; next = stopped (ended e); left = after_call row.signs answers }
-next_turn place s row answers (refuses e) = record { records = row.records; state = shut s; next = stopped (refused (error_of place e)); left = after_call row.signs answers }
-next_turn place s row answers unanswered = record { records = row.records; state = shut s; next = stopped unanswered_stop; left = [] }
+abbrev pub next_turn : ℕ → OpeningState → Row → Next → Turn
+next_turn place s row (stays s') = record { records = row.records; state = s'; next = goes_on }
+next_turn place s row (opens s') = record { records = row.records; state = shut s'; next = opened }
+next_turn place s row (ends_with e) = record { records = row.records; state = shut s; next = stopped (ended e) }
+next_turn place s row (refuses e) = record { records = row.records; state = shut s; next = stopped (refused (error_of place e)) }
 
-abbrev pub row_turn : ℕ → OpeningState → List SignCall → Row → Turn
-row_turn place s answers row = next_turn place s row answers row.next
+abbrev pub row_turn : ℕ → OpeningState → Row → Turn
+row_turn place s row = next_turn place s row row.next
 
 -- by the verdict on the host key
-abbrev pub judged_turn : ℕ → OpeningState → Event → List SignCall → Result Bool HandlerError → Turn
-judged_turn place s event answers (Ok true) = row_turn place s answers (open_row s event telling.Went answers)
-judged_turn place s event answers (Ok false) = row_turn place s answers (open_row s event telling.No answers)
-judged_turn place s event answers (Err e) = stops (shut s) answers (handler_error_of place e)
+abbrev pub judged_turn : ℕ → OpeningState → Event → Result Bool HandlerError → Asking Turn
+judged_turn place s event (Ok true) = asked_on (row_turn place s) (open_row s event telling.Went)
+judged_turn place s event (Ok false) = asked_on (row_turn place s) (open_row s event telling.No)
+judged_turn place s event (Err e) = done (stops (shut s) (handler_error_of place e))
 
 -- by what the row asks of the gate
-abbrev pub asked_turn : Hosts → ℕ → OpeningState → Event → List SignCall → Asks → Turn
-asked_turn hosts place s event answers asking.Nothing = row_turn place s answers (open_row s event telling.NotAsked answers)
-asked_turn hosts place s event answers (asking.HostKey key) = judged_turn place s event answers (verdict hosts key)
-asked_turn hosts place s event answers asking.Exchange = row_turn place s answers (open_row s event telling.Went answers)
-asked_turn hosts place s event answers (asking.Banner text) = row_turn place s answers (open_row s event telling.Went answers)
+abbrev pub asked_turn : Hosts → ℕ → OpeningState → Event → Asks → Asking Turn
+asked_turn hosts place s event asking.Nothing = asked_on (row_turn place s) (open_row s event telling.NotAsked)
+asked_turn hosts place s event (asking.HostKey key) = judged_turn place s event (verdict hosts key)
+asked_turn hosts place s event asking.Exchange = asked_on (row_turn place s) (open_row s event telling.Went)
+asked_turn hosts place s event (asking.Banner text) = asked_on (row_turn place s) (open_row s event telling.Went)
 
 -- by the event that the fields give
-abbrev pub event_turn : Hosts → ℕ → OpeningState → List SignCall → Result Event EventError → Turn
-event_turn hosts place s answers (Ok event) = asked_turn hosts place s event answers (asked_of s event)
-event_turn hosts place s answers (Err reads.Bad) = stops s answers (errors.BadEvent place)
-event_turn hosts place s answers (Err reads.Unbuilt) = stops s answers (errors.Unbuilt place)
-event_turn hosts place s answers (Err reads.NoMemory) = stops s answers errors.NoMemory
+abbrev pub event_turn : Hosts → ℕ → OpeningState → Result Event EventError → Asking Turn
+event_turn hosts place s (Ok event) = asked_turn hosts place s event (asked_of s event)
+event_turn hosts place s (Err reads.Bad) = done (stops s (errors.BadEvent place))
+event_turn hosts place s (Err reads.Unbuilt) = done (stops s (errors.Unbuilt place))
+event_turn hosts place s (Err reads.NoMemory) = done (stops s errors.NoMemory)
 
 -- ---- tests before the fields are read
 
@@ -148,15 +129,19 @@ abbrev pub is_built_now : EventKind → OpeningState → Bool
 is_built_now kind s = if s.closed then false else is_kind_built kind s.phase s.requested
 
 -- an event that is built, by the event that its fields give
-abbrev pub built_turn : Bool → Hosts → OpeningState → Frame → List SignCall → Turn
-built_turn true hosts s frame answers = event_turn hosts frame.place s answers (event_in s.phase frame.kind frame.fields)
-built_turn false hosts s frame answers = stops s answers (errors.Unbuilt frame.place)
+abbrev pub built_turn : Bool → Hosts → OpeningState → Frame → Asking Turn
+built_turn true hosts s frame = event_turn hosts frame.place s (event_in s.phase frame.kind frame.fields)
+built_turn false hosts s frame = done (stops s (errors.Unbuilt frame.place))
 
 -- an event that may come now
-abbrev pub timely_turn : Bool → Hosts → OpeningState → Frame → List SignCall → Turn
-timely_turn true hosts s frame answers = stops s answers (errors.OutOfTurn frame.place)
-timely_turn false hosts s frame answers = built_turn (is_built_now frame.kind s) hosts s frame answers
+abbrev pub timely_turn : Bool → Hosts → OpeningState → Frame → Asking Turn
+timely_turn true hosts s frame = done (stops s (errors.OutOfTurn frame.place))
+timely_turn false hosts s frame = built_turn (is_built_now frame.kind s) hosts s frame
 
 -- the turn of an event
-unfoldable pub turn : Hosts → OpeningState → Frame → List SignCall → Turn
-turn hosts s frame answers = timely_turn (is_out_of_turn frame.kind s.flag) hosts s frame answers
+unfoldable pub turn : Hosts → Turns OpeningState
+turn hosts s frame = timely_turn (is_out_of_turn frame.kind s.flag) hosts s frame
+
+-- the opening with its settings, as a machine
+abbrev pub opening_machine : Hosts → Settings → Machine OpeningState
+opening_machine hosts settings = record { first = start settings; turn = turn hosts }

@@ -4,17 +4,19 @@ use Rattle.std.specs.Fmt.{decimal}
 use Rattle.sshc_wire.specs.Contents.{IsFound}
 use Rattle.sshc_wire.specs.Faults.{Rose}
 use Rattle.sshc_wire.specs.declared.files.Found.TheVariants as found
+use Rattle.sshc_key.specs.Asking.{Answer}
 use Rattle.sshc_hosts.specs.HostText.{host_text}
 use Rattle.sshc_auth.specs.declared.ended.Ended.{Ended}
 use Rattle.sshc_auth.specs.declared.ended.Ended.TheVariants as ends
 use Rattle.sshc_auth.specs.declared.opening.Settings.{Settings}
-use Rattle.sshc_auth.specs.OpeningState.{start}
 use Rattle.sshc_run.specs.declared.error.RunError.{RunError}
 use Rattle.sshc_run.specs.declared.error.RunError.TheVariants as errors
 use Rattle.sshc_words.specs.Adding.{Adds}
 use Rattle.sshc_words.specs.Port.{IsPort}
-use Rattle.sshc_run.specs.Outcome.{Ends}
+use Rattle.sshc_run.specs.Outcome.{Streams, Ends}
+use Rattle.sshc_run.specs.RunFaults.{FaultCounts, FaultsAnswered}
 use Rattle.sshc_run.specs.ScriptRun.{Run, script_run}
+use Rattle.sshc_run.specs.Turn.{opening_machine}
 
 -- ---- the words
 
@@ -118,19 +120,20 @@ default_settings = record { window_size = 2097152; anonymous = false; inactivity
 abbrev pub default_events : ℕ
 default_events = 8192
 
--- a run of a script by the table, and then the line that tells its answer
-abbrev pub RunsBy : (List ℕ → Run) → Option (List ℕ) → Option (List ℕ) → Option (List ℕ) → Option (List ℕ) → ℕ → ℕ → ℕ → ℕ → ℕ → Type 0
-RunsBy table script left held written reads reads' faults faults' status =
+-- a run of a script by the table, and then the line that tells its answer; a fault is answered just where a count rose
+abbrev pub RunsBy : (List Answer → List ℕ → Run) → Streams → Streams → FaultCounts → FaultCounts → ℕ → Type 0
+RunsBy table before now was is status =
     (answer : Result Ended RunError) × (mid : Option (List ℕ)) × (between : ℕ)
-    × Ends default_events 0 0 table script left held mid reads reads' answer × (faults ≤ between) × Tells answer mid written between faults' status
+    × Ends default_events 0 0 table before (record now { held = mid }) answer × FaultsAnswered was (record is { writes = between }) answer
+    × Tells answer mid now.held between is.writes status
 
 -- the table of a run by words
-abbrev pub words_table : List ℕ → ℕ → List ℕ → List ℕ → Run
-words_table host port known bytes = script_run (record { host = host_text host port; known = known }) (start default_settings) default_events bytes []
+abbrev pub words_table : List ℕ → ℕ → List ℕ → List Answer → List ℕ → Run
+words_table host port known = script_run (opening_machine (record { host = host_text host port; known = known }) default_settings) default_events
 
 -- what the words `script HOST PORT KNOWN` give: the run over the known hosts text, or a line that tells why there is none
-abbrev pub ScriptGives : List ℕ → ℕ → List ℕ → Option (List (List ℕ × List ℕ)) → Option (List ℕ) → Option (List ℕ) → Option (List ℕ) → Option (List ℕ) → ℕ → ℕ → ℕ → ℕ → ℕ → ℕ → ℕ → Type 0
-ScriptGives host port path files script left held written reads reads' faults faults' fails fails' status =
-    ((known : List ℕ) × IsKnownText files path known × RunsBy (words_table host port known) script left held written reads reads' faults faults' status)
-    ⊎ ((IsFound files path found.NotText ⊎ Rose fails fails') × (left ≡ script) × Adds (codes "error known-file" ++ 10 ∷ []) 3 held written faults faults' status)
-    ⊎ ((left ≡ script) × Adds (answer_line (Err errors.NoMemory)) 20 held written faults faults' status)
+abbrev pub ScriptGives : List ℕ → ℕ → List ℕ → Option (List (List ℕ × List ℕ)) → Streams → Streams → FaultCounts → FaultCounts → ℕ → ℕ → ℕ → Type 0
+ScriptGives host port path files before now was is fails fails' status =
+    ((known : List ℕ) × IsKnownText files path known × RunsBy (words_table host port known) before now was is status)
+    ⊎ ((IsFound files path found.NotText ⊎ Rose fails fails') × (now.left ≡ before.left) × (is.reads ≡ was.reads) × Adds (codes "error known-file" ++ 10 ∷ []) 3 before.held now.held was.writes is.writes status)
+    ⊎ ((now.left ≡ before.left) × (is.reads ≡ was.reads) × Adds (answer_line (Err errors.NoMemory)) 20 before.held now.held was.writes is.writes status)

@@ -10,6 +10,8 @@ pub enum EventKind {
     ExchangeDone,
     Payload,
     Authenticate,
+    /// An agent's event, of whichever kind.
+    AgentEvent,
     /// A kind of the table that isn't built yet.
     Later,
 }
@@ -24,9 +26,8 @@ impl EventKind {
             0x02 => Some(EventKind::ExchangeDone),
             0x03 => Some(EventKind::Payload),
             0x10 => Some(EventKind::Authenticate),
-            0x04..=0x05 | 0x08..=0x09 | 0x11..=0x22 | 0x24..=0x2b | 0x2f | 0x40..=0x43 => {
-                Some(EventKind::Later)
-            }
+            0x04..=0x05 | 0x08..=0x09 | 0x11..=0x22 | 0x24..=0x2b | 0x2f => Some(EventKind::Later),
+            0x40..=0x43 => Some(EventKind::AgentEvent),
             _ => None,
         }
     }

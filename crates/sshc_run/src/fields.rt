@@ -230,6 +230,6 @@ pub fn read_event(
         EventKind::ExchangeDone => exchange_done_in(alloc, &mut Cursor::new(fields)),
         EventKind::Payload => payload_in(alloc, phase, fields),
         EventKind::Authenticate => authenticate_in(alloc, &mut Cursor::new(fields)),
-        EventKind::Later => Err(EventError::Unbuilt),
+        EventKind::AgentEvent | EventKind::Later => Err(EventError::Unbuilt),
     }
 }

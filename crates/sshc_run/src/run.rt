@@ -1,15 +1,18 @@
 //! A run of a script.
 
-ghost use Rattle.std.specs.Prelude.{◌≡◌, ◌≤◌, [], Err};
+ghost use Rattle.std.specs.Prelude.{◌≡◌, ◌+◌, ◌≤◌, Err};
 ghost use Rattle.sshc_wire.specs.Contents.{WritesFor};
 ghost use Rattle.sshc_wire.specs.Faults.{Rose};
 ghost use Rattle.sshc_hosts.specs.HostText.{host_text};
-ghost use Rattle.sshc_auth.specs.OpeningState.{start};
+ghost use Rattle.sshc_key.specs.Signers.{since};
 ghost use Rattle.sshc_run.specs.Causes.{IsCaused};
 ghost use Rattle.sshc_run.specs.Configured.{settings_of};
 ghost use Rattle.sshc_run.specs.Headline.{IsGated, IsPrefix, IsDone, IsKept, IsComplete};
-ghost use Rattle.sshc_run.specs.Outcome.{Ends};
-ghost use Rattle.sshc_run.specs.ScriptRun.{script_run};
+ghost use Rattle.sshc_run.specs.OpeningFirst.{IsOpeningFirst, IsOpeningDone, IsOpeningComplete};
+ghost use Rattle.sshc_run.specs.Outcome.{streams, Ends};
+ghost use Rattle.sshc_run.specs.ScriptRun.{script_run, answers_since};
+ghost use Rattle.sshc_run.specs.SessionPart.{session_own, IsAgentCause};
+ghost use Rattle.sshc_run.specs.Turn.{opening_machine};
 ghost use Rattle.sshc_run.specs.Turning.{hosts_of};
 
 use crate::config::Config;
@@ -18,7 +21,7 @@ use crate::known_hosts_handler::KnownHostsHandler;
 use crate::turn::{Point, at_limit, one_turn};
 use sshc_auth::{Ended, Opening};
 use sshc_key::{LocalSigner, Verifier};
-use sshc_wire::{NoMemory, Sink, Source};
+use sshc_wire::{NoMemory, Outbox, Sink, Source};
 use std::alloc::Global;
 
 /// Takes the events of a script, at most so many.
@@ -30,10 +33,12 @@ fn run_events<S: Source, G: LocalSigner, K: Sink>(
     signer: &mut G,
     sink: &mut K,
 ) -> Result<Ended, RunError>
-    ensures run { Ends config.now.max_events 0 0 (λ bytes. script_run (hosts_of gate.old) (start (settings_of config.now)) config.now.max_events bytes [])
-        (S.left source.old) (S.left source.new) (K.contents sink.old) (K.contents sink.new) (S.reads source.old) (S.reads source.new) result }
-    ensures unsigned { G.calls signer.new ≡ G.calls signer.old }
+    ensures run { Ends config.now.max_events 0 0 (script_run (opening_machine (hosts_of gate.old) (settings_of config.now)) config.now.max_events)
+        (streams (S.left source.old) (K.contents sink.old) (S.reads source.old) (G.calls signer.old))
+        (streams (S.left source.new) (K.contents sink.new) (S.reads source.new) (G.calls signer.new)) result }
     ensures read_later { S.faults source.old ≤ S.faults source.new }
+    ensures last_read { S.empty_reads source.new ≤ S.empty_reads source.old + 1 }
+    ensures last_write { K.empty_writes sink.new ≤ K.empty_writes sink.old + 1 }
     ensures writes { WritesFor (K.contents sink.old) (K.contents sink.new) (K.writes sink.old) (K.writes sink.new) }
     ensures write_later { K.faults sink.old ≤ K.faults sink.new }
     ensures read_fault { result ≡ Err RunError.ReadFault → Rose (S.faults source.old) (S.faults source.new) }
@@ -50,6 +55,7 @@ fn run_events<S: Source, G: LocalSigner, K: Sink>(
         ),
         place: 0,
         last: 0,
+        out: Outbox::new(alloc),
     };
     for turn in 0..config.max_events {
         if let Some(answer) = one_turn(alloc, &mut at, gate, source, signer, sink) {
@@ -72,28 +78,44 @@ pub fn run_script<S: Source, K: Sink, G: LocalSigner, V: Verifier>(
     source: &mut S,
     sink: &mut K,
 ) -> Result<Ended, RunError>
-    // What was given, what was written and what is answered, by the opening table over the script's events.
-    ensures run { Ends config.now.max_events 0 0 (λ bytes. script_run (record { host = host_text host.now port; known = known.now }) (start (settings_of config.now)) config.now.max_events bytes [])
-        (S.left source.old) (S.left source.new) (K.contents sink.old) (K.contents sink.new) (S.reads source.old) (S.reads source.new) result }
+    // What was given, what was written, what the signer was asked and what is answered, by the opening table over the script's events.
+    ensures run { Ends config.now.max_events 0 0 (script_run (opening_machine (record { host = host_text host.now port; known = known.now }) (settings_of config.now)) config.now.max_events)
+        (streams (S.left source.old) (K.contents sink.old) (S.reads source.old) (G.calls signer.old))
+        (streams (S.left source.new) (K.contents sink.new) (S.reads source.new) (G.calls signer.new)) result }
     // No payload is written, not even in part, unless the known hosts text accepts the host key of the first exchange.
     ensures gate { IsGated (record { host = host_text host.now port; known = known.now }) config.now.max_events
         (S.left source.old) (S.left source.new) (K.contents sink.old) (K.contents sink.new) }
     // What is written is a front of the lines of the whole script's records, however the run ends.
-    ensures prefix { IsPrefix (λ bytes. script_run (record { host = host_text host.now port; known = known.now }) (start (settings_of config.now)) config.now.max_events bytes [])
+    ensures prefix { IsPrefix (script_run (opening_machine (record { host = host_text host.now port; known = known.now }) (settings_of config.now)) config.now.max_events (answers_since (G.calls signer.old) (G.calls signer.new)))
         (S.left source.old) (K.contents sink.old) (K.contents sink.new) }
     // Ok is the end of the whole script by the table, and all its records are written.
-    ensures done { IsDone (λ bytes. script_run (record { host = host_text host.now port; known = known.now }) (start (settings_of config.now)) config.now.max_events bytes [])
+    ensures done { IsDone (script_run (opening_machine (record { host = host_text host.now port; known = known.now }) (settings_of config.now)) config.now.max_events (answers_since (G.calls signer.old) (G.calls signer.new)))
         (S.left source.old) (S.left source.new) (K.contents sink.old) (K.contents sink.new) result }
     // Every error but WriteFault and NoMemory has all records of the events before it, and those of its own row.
-    ensures kept { IsKept (λ bytes. script_run (record { host = host_text host.now port; known = known.now }) (start (settings_of config.now)) config.now.max_events bytes [])
+    ensures kept { IsKept (script_run (opening_machine (record { host = host_text host.now port; known = known.now }) (settings_of config.now)) config.now.max_events (answers_since (G.calls signer.old) (G.calls signer.new)))
         (S.left source.old) (S.left source.new) (K.contents sink.old) (K.contents sink.new) result }
     // A script that the table refuses no event of is answered so, or with want of memory, where nothing fails.
-    ensures complete { IsComplete (λ bytes. script_run (record { host = host_text host.now port; known = known.now }) (start (settings_of config.now)) config.now.max_events bytes [])
+    ensures complete { IsComplete (script_run (opening_machine (record { host = host_text host.now port; known = known.now }) (settings_of config.now)) config.now.max_events (answers_since (G.calls signer.old) (G.calls signer.new)))
         (S.left source.old) (S.faults source.old) (S.faults source.new) (K.faults sink.old) (K.faults sink.new) result }
-    // Each end and each error comes by its cause in the script's own words: its events, their places, the known hosts text.
-    ensures causes { IsCaused (record { host = host_text host.now port; known = known.now }) config.now.anonymous config.now.max_events (S.left source.old) result }
+    // Each end and each error comes by its cause: a state that the table comes to and the event there, or what stands behind the events.
+    ensures causes { IsCaused (record { host = host_text host.now port; known = known.now }) (settings_of config.now) config.now.max_events
+        (answers_since (G.calls signer.old) (G.calls signer.new)) (S.left source.old) result }
+    // The session records that are written are a front of the opening table's outputs or, once that table opens the session, all of them
+    // followed by more, whatever events of agents stand in between.
+    ensures opening { IsOpeningFirst (opening_machine (record { host = host_text host.now port; known = known.now }) (settings_of config.now)) session_own config.now.max_events (since (G.calls signer.old) (G.calls signer.new))
+        (S.left source.old) (K.contents sink.old) (K.contents sink.new) }
+    // Where the table opens the session, Ok has all of its outputs written; else it has exactly these, and it is the table's end.
+    ensures opening_done { IsOpeningDone (opening_machine (record { host = host_text host.now port; known = known.now }) (settings_of config.now)) session_own config.now.max_events (since (G.calls signer.old) (G.calls signer.new))
+        (S.left source.old) (K.contents sink.old) (K.contents sink.new) result }
+    // A valid script of whose agents' events none stops the run gives its end or want of memory, where nothing fails.
+    ensures opening_complete { IsOpeningComplete (opening_machine (record { host = host_text host.now port; known = known.now }) (settings_of config.now)) session_own IsAgentCause config.now.max_events (since (G.calls signer.old) (G.calls signer.new))
+        (S.left source.old) (S.faults source.old) (S.faults source.new) (K.faults sink.old) (K.faults sink.new) result }
+    // No row asks the signer yet.
     ensures unsigned { G.calls signer.new ≡ G.calls signer.old }
     ensures read_later { S.faults source.old ≤ S.faults source.new }
+    // At most one read moved nothing, and at most one write.
+    ensures last_read { S.empty_reads source.new ≤ S.empty_reads source.old + 1 }
+    ensures last_write { K.empty_writes sink.new ≤ K.empty_writes sink.old + 1 }
     // Each write but the last moved at least a byte.
     ensures writes { WritesFor (K.contents sink.old) (K.contents sink.new) (K.writes sink.old) (K.writes sink.new) }
     ensures write_later { K.faults sink.old ≤ K.faults sink.new }

@@ -1,12 +1,13 @@
 //! One event of a script: it is taken, and its records are written.
 
-ghost use Rattle.std.specs.Prelude.{◌≡◌, ◌≢◌, ◌+◌, ◌<◌, ◌≤◌, ◌^◌, [], Some, None, Err, IfNone, true, false};
+ghost use Rattle.std.specs.Prelude.{◌≡◌, ◌≢◌, ◌+◌, ◌++◌, ◌<◌, ◌≤◌, ◌^◌, Some, None, Err, IfNone, true, false};
 ghost use Rattle.sshc_wire.specs.Contents.{WritesMove, WritesFor};
 ghost use Rattle.sshc_wire.specs.Faults.{Rose};
+ghost use Rattle.sshc_key.specs.Signers.{since};
 ghost use Rattle.sshc_auth.specs.OpeningTable.{asked_of};
-ghost use Rattle.sshc_run.specs.Outcome.{Ends};
+ghost use Rattle.sshc_run.specs.Outcome.{streams};
 ghost use Rattle.sshc_run.specs.Script.{frame_at, size_of};
-ghost use Rattle.sshc_run.specs.ScriptRun.{run};
+ghost use Rattle.sshc_run.specs.ScriptRun.{run, spot};
 ghost use Rattle.sshc_run.specs.Turn.{error_of, key_error_of, handler_error_of, is_out_of_turn, is_built_now, asked_turn, event_turn, turn};
 ghost use Rattle.sshc_run.specs.Turning.{hosts_of, step_answer, TakeGives, TurnGives, LimitGives};
 
@@ -21,12 +22,14 @@ use sshc_key::LocalSigner;
 use sshc_wire::{Failed, Outbox, Sink, Source, read_up_to};
 use std::alloc::Global;
 
-/// Where a run stands: the opening, the place of the next event and the last moment.
+/// Where a run stands: the opening, the place of the next event and the last moment. Its outbox keeps its room from turn
+/// to turn.
 #[derive(Debug, Drop)]
 pub struct Point {
     pub opening: Opening,
     pub place: u64,
     pub last: u64,
+    pub out: Outbox,
 }
 
 fn error_at(place: u64, e: Error) -> RunError
@@ -126,7 +129,7 @@ fn is_early(kind: EventKind, flag: ExchangeFlag) -> bool
         EventKind::PeerKexinit => flag == ExchangeFlag::Peer,
         EventKind::ExchangeDone => flag != ExchangeFlag::Peer,
         EventKind::Authenticate => flag != ExchangeFlag::Idle,
-        EventKind::Payload | EventKind::Later => false,
+        EventKind::Payload | EventKind::AgentEvent | EventKind::Later => false,
     }
 }
 
@@ -156,11 +159,13 @@ fn step_event<G: LocalSigner, K: Sink>(
     sink: &mut K,
 ) -> Option<Result<Ended, RunError>>
     requires fresh { at.old.opening.closed ≡ false }
-    ensures gives { TakeGives (asked_turn (hosts_of gate.old) at.old.place at.old.opening event.now [] (asked_of at.old.opening event.now))
-        at.new.opening (K.contents sink.old) (K.contents sink.new) result }
+    ensures gives { TakeGives (asked_turn (hosts_of gate.old) at.old.place at.old.opening event.now (asked_of at.old.opening event.now))
+        (since (G.calls signer.old) (G.calls signer.new)) at.new.opening (K.contents sink.old) (K.contents sink.new) result }
     ensures moved { (at.new.place ≡ at.old.place) × (at.new.last ≡ at.old.last) }
     ensures same { hosts_of gate.new ≡ hosts_of gate.old }
-    ensures unsigned { G.calls signer.new ≡ G.calls signer.old }
+    ensures gained { G.calls signer.new ≡ G.calls signer.old ++ since (G.calls signer.old) (G.calls signer.new) }
+    ensures moving_writes { IfNone result (K.empty_writes sink.new ≡ K.empty_writes sink.old) }
+    ensures last_write { K.empty_writes sink.new ≤ K.empty_writes sink.old + 1 }
     ensures moved_writes { IfNone result (WritesMove (K.contents sink.old) (K.contents sink.new) (K.writes sink.old) (K.writes sink.new)) }
     ensures writes { WritesFor (K.contents sink.old) (K.contents sink.new) (K.writes sink.old) (K.writes sink.new) }
     ensures write_later { K.faults sink.old ≤ K.faults sink.new }
@@ -168,9 +173,9 @@ fn step_event<G: LocalSigner, K: Sink>(
     ensures write_told { (result ≡ Some (Err RunError.WriteFault) → ⊥) → K.faults sink.new ≡ K.faults sink.old }
     ensures no_read { result ≢ Some (Err RunError.ReadFault) }
 {
-    let mut out = Outbox::new(alloc);
-    let step = at.opening.step(event, gate, signer, &mut out);
-    match write_lines(alloc, sink, out.as_slice()) {
+    at.out.clear();
+    let step = at.opening.step(event, gate, signer, &mut at.out);
+    match write_lines(alloc, sink, &at.out) {
         Ok(()) => stop_at(at.place, step),
         Err(failed) => Some(Err(write_failed(failed))),
     }
@@ -185,11 +190,13 @@ fn take_event<G: LocalSigner, K: Sink>(
     signer: &mut G,
     sink: &mut K,
 ) -> Option<Result<Ended, RunError>>
-    ensures gives { TakeGives (turn (hosts_of gate.old) at.old.opening (frame_at at.old.place event.now) [])
-        at.new.opening (K.contents sink.old) (K.contents sink.new) result }
+    ensures gives { TakeGives (turn (hosts_of gate.old) at.old.opening (frame_at at.old.place event.now))
+        (since (G.calls signer.old) (G.calls signer.new)) at.new.opening (K.contents sink.old) (K.contents sink.new) result }
     ensures moved { (at.new.place ≡ at.old.place) × (at.new.last ≡ at.old.last) }
     ensures same { hosts_of gate.new ≡ hosts_of gate.old }
-    ensures unsigned { G.calls signer.new ≡ G.calls signer.old }
+    ensures gained { G.calls signer.new ≡ G.calls signer.old ++ since (G.calls signer.old) (G.calls signer.new) }
+    ensures moving_writes { IfNone result (K.empty_writes sink.new ≡ K.empty_writes sink.old) }
+    ensures last_write { K.empty_writes sink.new ≤ K.empty_writes sink.old + 1 }
     ensures moved_writes { IfNone result (WritesMove (K.contents sink.old) (K.contents sink.new) (K.writes sink.old) (K.writes sink.new)) }
     ensures writes { WritesFor (K.contents sink.old) (K.contents sink.new) (K.writes sink.old) (K.writes sink.new) }
     ensures write_later { K.faults sink.old ≤ K.faults sink.new }
@@ -220,13 +227,17 @@ pub fn one_turn<S: Source, G: LocalSigner, K: Sink>(
     sink: &mut K,
 ) -> Option<Result<Ended, RunError>>
     requires { at.old.place + 262148 < 2 ^ 64 }
-    ensures gives { TurnGives (λ n place last s bytes. run (hosts_of gate.old) n place last s [] bytes) at.old.place at.old.last at.old.opening at.new.place at.new.last at.new.opening
-        (S.left source.old) (S.left source.new) (K.contents sink.old) (K.contents sink.new) (S.reads source.old) (S.reads source.new) result }
+    ensures gives { TurnGives (run (turn (hosts_of gate.old))) (spot at.old.place at.old.last at.old.opening) (spot at.new.place at.new.last at.new.opening)
+        (streams (S.left source.old) (K.contents sink.old) (S.reads source.old) (G.calls signer.old))
+        (streams (S.left source.new) (K.contents sink.new) (S.reads source.new) (G.calls signer.new)) result }
     ensures same { hosts_of gate.new ≡ hosts_of gate.old }
-    ensures unsigned { G.calls signer.new ≡ G.calls signer.old }
     ensures read_later { S.faults source.old ≤ S.faults source.new }
+    ensures moving_writes { IfNone result (K.empty_writes sink.new ≡ K.empty_writes sink.old) }
+    ensures last_write { K.empty_writes sink.new ≤ K.empty_writes sink.old + 1 }
     ensures moved_writes { IfNone result (WritesMove (K.contents sink.old) (K.contents sink.new) (K.writes sink.old) (K.writes sink.new)) }
     ensures writes { WritesFor (K.contents sink.old) (K.contents sink.new) (K.writes sink.old) (K.writes sink.new) }
+    ensures moving { IfNone result (S.empty_reads source.new ≡ S.empty_reads source.old) }
+    ensures last { S.empty_reads source.new ≤ S.empty_reads source.old + 1 }
     ensures write_later { K.faults sink.old ≤ K.faults sink.new }
     ensures read_fault { result ≡ Some (Err RunError.ReadFault) → Rose (S.faults source.old) (S.faults source.new) }
     ensures read_told { (result ≡ Some (Err RunError.ReadFault) → ⊥) → S.faults source.new ≡ S.faults source.old }
@@ -250,6 +261,7 @@ pub fn one_turn<S: Source, G: LocalSigner, K: Sink>(
 pub fn at_limit<S: Source>(alloc: Global, source: &mut S) -> Result<Ended, RunError>
     ensures gives { LimitGives (S.left source.old) (S.left source.new) result }
     ensures count { S.reads source.new ≤ S.reads source.old + 1 }
+    ensures last { S.empty_reads source.new ≤ S.empty_reads source.old + 1 }
     ensures later { S.faults source.old ≤ S.faults source.new }
     ensures fault { result ≡ Err RunError.ReadFault → Rose (S.faults source.old) (S.faults source.new) }
     ensures told { (result ≡ Err RunError.ReadFault → ⊥) → S.faults source.new ≡ S.faults source.old }

@@ -3,7 +3,8 @@
 ghost use Rattle.std.specs.Prelude.{◌≡◌, ◌≤◌, ℕ, List, Err, IfOk, IfSome, IsNone, string_bytes, codes, ◌++◌, ◌∷◌, []};
 ghost use Rattle.sshc_wire.specs.Faults.{Rose};
 ghost use Rattle.sshc_run.specs.Configured.{IsDefault};
-ghost use Rattle.sshc_run.specs.Outcome.{Ends};
+ghost use Rattle.sshc_run.specs.Outcome.{streams, Ends};
+ghost use Rattle.sshc_run.specs.RunFaults.{fault_counts, FaultsAnswered};
 ghost use Rattle.sshc_words.specs.Adding.{Adds};
 ghost use Rattle.sshc_words.specs.Asked.{Asked, Asks};
 ghost use Rattle.sshc_words.specs.HostsWords.{outside, AskedGives};
@@ -175,10 +176,10 @@ fn run_default<S: Source, K: Sink, G: LocalSigner, V: Verifier>(
     source: &mut S,
     sink: &mut K,
 ) -> Result<Ended, RunError>
-    ensures run { Ends default_events 0 0 (words_table asked.now.host.now asked.now.port known.now) (S.left source.old) (S.left source.new) (K.contents sink.old) (K.contents sink.new)
-        (S.reads source.old) (S.reads source.new) result }
-    ensures write_later { K.faults sink.old ≤ K.faults sink.new }
-    ensures write_fault { result ≡ Err RunError.WriteFault → Rose (K.faults sink.old) (K.faults sink.new) }
+    ensures run { Ends default_events 0 0 (words_table asked.now.host.now asked.now.port known.now)
+        (streams (S.left source.old) (K.contents sink.old) (S.reads source.old) (G.calls signer.old))
+        (streams (S.left source.new) (K.contents sink.new) (S.reads source.new) (G.calls signer.new)) result }
+    ensures faults { FaultsAnswered (fault_counts (S.faults source.old) (K.faults sink.old)) (fault_counts (S.faults source.new) (K.faults sink.new)) result }
 {
     match Config::default_in(alloc) {
         Ok(config) => run_script(
@@ -198,8 +199,10 @@ fn run_told<S: Source, K: Sink, G: LocalSigner, V: Verifier>(
     source: &mut S,
     sink: &mut K,
 ) -> u8
-    ensures runs { RunsBy (words_table asked.now.host.now asked.now.port known.now) (S.left source.old) (S.left source.new) (K.contents sink.old) (K.contents sink.new)
-        (S.reads source.old) (S.reads source.new) (K.faults sink.old) (K.faults sink.new) result }
+    ensures runs { RunsBy (words_table asked.now.host.now asked.now.port known.now)
+        (streams (S.left source.old) (K.contents sink.old) (S.reads source.old) (G.calls signer.old))
+        (streams (S.left source.new) (K.contents sink.new) (S.reads source.new) (G.calls signer.new))
+        (fault_counts (S.faults source.old) (K.faults sink.old)) (fault_counts (S.faults source.new) (K.faults sink.new)) result }
 {
     let answer = run_default(alloc, asked, known, signer, verifier, source, sink);
     tell(alloc, sink, &answer)
@@ -216,9 +219,12 @@ fn run_script_words<F: Files, S: Source, K: Sink, G: LocalSigner, V: Verifier>(
     source: &mut S,
     sink: &mut K,
 ) -> u8
-    ensures gives { ScriptGives asked.now.host.now asked.now.port asked.now.path.now (F.contents files.old) (S.left source.old) (S.left source.new)
-        (K.contents sink.old) (K.contents sink.new) (S.reads source.old) (S.reads source.new) (K.faults sink.old) (K.faults sink.new)
+    ensures gives { ScriptGives asked.now.host.now asked.now.port asked.now.path.now (F.contents files.old)
+        (streams (S.left source.old) (K.contents sink.old) (S.reads source.old) (G.calls signer.old))
+        (streams (S.left source.new) (K.contents sink.new) (S.reads source.new) (G.calls signer.new))
+        (fault_counts (S.faults source.old) (K.faults sink.old)) (fault_counts (S.faults source.new) (K.faults sink.new))
         (F.read_faults files.old) (F.read_faults files.new) result }
+    ensures kept { F.contents files.new ≡ F.contents files.old }
 {
     match files.read_text(asked.path) {
         Ok(Found::Text(known)) => run_told(
@@ -273,9 +279,13 @@ pub fn run_words<F: Files, S: Source, K: Sink, G: LocalSigner, V: Verifier>(
 ) -> u8
     // `script HOST PORT KNOWN`: the run, and the line that tells its answer.
     ensures script { (host : List ℕ) (port : ℕ) (path : List ℕ) → IsScriptWords words.now host port path →
-        ScriptGives host port path (F.contents files.old) (S.left source.old) (S.left source.new)
-        (K.contents sink.old) (K.contents sink.new) (S.reads source.old) (S.reads source.new) (K.faults sink.old) (K.faults sink.new)
+        ScriptGives host port path (F.contents files.old)
+        (streams (S.left source.old) (K.contents sink.old) (S.reads source.old) (G.calls signer.old))
+        (streams (S.left source.new) (K.contents sink.new) (S.reads source.new) (G.calls signer.new))
+        (fault_counts (S.faults source.old) (K.faults sink.old)) (fault_counts (S.faults source.new) (K.faults sink.new))
         (F.read_faults files.old) (F.read_faults files.new) result }
+    // The files are as they were: no script adds to a known hosts file.
+    ensures kept { (host : List ℕ) (port : ℕ) (path : List ℕ) → IsScriptWords words.now host port path → F.contents files.new ≡ F.contents files.old }
     // `hosts check`, `hosts keys` and `hosts learn`: the answer of known hosts, told; nothing is read from the source.
     ensures hosts { (asked : Asked) → Asks words.now asked → (S.left source.new ≡ S.left source.old) × AskedGives asked
         (outside (F.contents files.old) (F.read_faults files.old) (F.append_faults files.old) (K.contents sink.old) (K.faults sink.old))

@@ -117,7 +117,7 @@ fn an_exchange_that_is_accepted_asks_for_the_user(rt: HostRuntime) -> Result<(),
     assert_eq!(rt; opening.phase(), Phase::Service);
     assert_eq!(rt; opening.session_id(), b"session-id".as_slice());
     let kex = Text::from_str(rt.alloc(), "curve25519-sha256")?;
-    assert_eq!(rt; out.as_slice().first(), Some(&Record::KexDone { kex }));
+    assert_eq!(rt; out.take_first()?, Some(Record::KexDone { kex }));
     Ok(())
 }
 

@@ -18,6 +18,8 @@ impl Source for SlowSource {
 
     ghost reads = { λ s. s.source.calls };
 
+    ghost empty_reads = { λ s. s.source.empty };
+
     fn read(&mut self, buf: &mut [u8]) -> Result<usize, Failed> {
         let most = buf.len().min(1);
         self.source.read(&mut buf[..most])
@@ -36,6 +38,8 @@ impl Sink for SlowSink {
     ghost faults = { λ s. s.sink.faults };
 
     ghost writes = { λ s. s.sink.calls };
+
+    ghost empty_writes = { λ s. s.sink.empty };
 
     fn write(&mut self, piece: &[u8]) -> Result<usize, Failed> {
         let most = piece.len().min(1);

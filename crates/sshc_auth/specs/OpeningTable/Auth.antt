@@ -20,7 +20,6 @@ abbrev pub userauth_success_row : OpeningState → List ℕ → Row
 userauth_success_row s body =
     ends_at body (record {
       records = resolved s.ticket AuthSuccess ++ records.Opened ∷ [];
-      signs = None;
       next = opens (authenticated s);
     })
 

@@ -1,6 +1,5 @@
 -- Rows of key exchanges (RFC 4253, section 7).
-use Rattle.std.specs.Prelude.{ℕ, List, [], ◌∷◌, Bool, true, false, None}
-use Rattle.sshc_wire.specs.declared.record.Record.{Record}
+use Rattle.std.specs.Prelude.{[], ◌∷◌, Bool, true, false}
 use Rattle.sshc_wire.specs.declared.record.Record.TheVariants as records
 use Rattle.sshc_auth.specs.declared.error.Error.TheVariants.{OutOfTurn, UnknownKey}
 use Rattle.sshc_auth.specs.declared.event.ExchangeFlag.{ExchangeFlag}
@@ -27,7 +26,6 @@ abbrev pub accepted_row : Bool → OpeningState → ExchangeResult → Row
 accepted_row false s x = goes (records.KexDone x.names.kex ∷ []) (record s { phase = phases.Service; flag = flags.Idle; session_id = x.session_hash })
 accepted_row true s x = record {
   records = records.KexDone x.names.kex ∷ records.Opened ∷ [];
-  signs = None;
   next = opens (record s { phase = phases.Open; flag = flags.Idle; session_id = x.session_hash });
 }
 

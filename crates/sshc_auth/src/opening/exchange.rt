@@ -1,5 +1,6 @@
 //! Rows of key exchanges (RFC 4253, section 7).
 
+ghost use Rattle.std.specs.Prelude.{◌≡◌};
 ghost use Rattle.sshc_auth.specs.Row.{Follows};
 ghost use Rattle.sshc_auth.specs.OpeningTable.Exchange.{peer_kexinit_row, exchange_done_row, first_exchange_row, later_exchange_row};
 
@@ -7,7 +8,7 @@ use super::{Opening, Phase};
 use crate::error::Error;
 use crate::event::{ExchangeFlag, ExchangeResult};
 use crate::step::{Flow, Told};
-use sshc_wire::{Outbox, Record};
+use sshc_wire::{Octets, Outbox, Record};
 
 impl Opening {
     /// The peer's KEXINIT (RFC 4253, section 7.1).
@@ -60,18 +61,25 @@ impl Opening {
         }
         let session_id = exchange.session_hash.copy()?;
         let kex = exchange.names.kex.copy()?;
-        out.reserve(2)?;
-        out.push_reserved(Record::KexDone { kex });
-        self.session_id = session_id;
-        self.flag = ExchangeFlag::Idle;
+        let kex = Record::KexDone { kex };
         if self.settings.anonymous {
-            out.push_reserved(Record::Opened);
-            self.phase = Phase::Open;
+            out.push_both(Some(kex), Some(Record::Opened))?;
+            self.exchanged(session_id, Phase::Open);
             Ok(Flow::Opened)
         } else {
-            self.phase = Phase::Service;
+            out.push(kex)?;
+            self.exchanged(session_id, Phase::Service);
             Ok(Flow::Went)
         }
+    }
+
+    /// Keeps the session id, and goes on in a phase.
+    fn exchanged(&mut self, session_id: Octets, phase: Phase)
+        ensures { self.new ≡ record self.old { session_id = session_id; flag = ExchangeFlag.Idle; phase = phase } }
+    {
+        self.session_id = session_id;
+        self.flag = ExchangeFlag::Idle;
+        self.phase = phase;
     }
 
     /// A later exchange keeps the session id, and nobody judges it.

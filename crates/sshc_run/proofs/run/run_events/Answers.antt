@@ -1,25 +1,30 @@
-use Rattle.std.proofs.Common.{[], inl, arith, refl, subst, ap, ◌∙◌, ◌≡◌, ◌-◌, Some}
+use Rattle.std.proofs.Common.{arith, refl, subst, ap, ◌∙◌, ◌≡◌, ◌-◌, ℕ, Some}
 use Rattle.sshc_wire.specs.Contents.{no_writes, writes_on, writes_end, moved_for}
-use Rattle.sshc_auth.specs.OpeningState.{start}
+use Rattle.sshc_auth.specs.OpeningState.{OpeningState, start}
 use Rattle.sshc_run.specs.Configured.{settings_of}
-use Rattle.sshc_run.specs.Outcome.{Ends}
+use Rattle.sshc_run.specs.Outcome.{Streams, streams, Ends}
+use Rattle.sshc_run.specs.ScriptRun.{Spot, spot, at_first, run}
+use Rattle.sshc_run.specs.Turn.{turn, opening_machine}
 use Rattle.sshc_run.specs.Turning.{hosts_of}
 use Rattle.sshc_run.proofs.Coming.{along_none, along_more, along_ends, turn_ends}
 use Rattle.sshc_run.proofs.Promises.{by_events}
-use Rattle.sshc_run.proofs.Going.{table, run_nothing, limit_ends}
+use Rattle.sshc_run.proofs.Going.{limit_ends}
 use Rattle.sshc_run.proofs.run.run_events.Goals as goal
 
 pub loop-turn-init : goal.loop-turn-init
-loop-turn-init g c = record {
-  along = along_none _ _ _ _ _ _ _ (inl (run_nothing (hosts_of c.args.gate.now) c.args.config.now.max_events 0 0 (start (settings_of c.args.config.now)) [])) (rw c.is_some.ensures at c.new.ensures);
-  turns = omega arith;
-  same = refl;
-  unsigned = refl;
-  place = omega arith;
-  reads = refl;
-  moved = no_writes _ _;
-  writes = refl;
-}
+loop-turn-init g c =
+    let first = rw c.is_some.ensures at c.new.ensures in
+    record {
+      along = along_none (run (turn (hosts_of c.args.gate.now))) (at_first (start (settings_of c.args.config.now))) c.args.config.now.max_events _ _ (ap (λ (s : OpeningState). at_first s) first);
+      turns = omega arith;
+      same = refl;
+      place = omega arith;
+      moving = refl;
+      moving_writes = refl;
+      reads = refl;
+      moved = no_writes _ _;
+      writes = refl;
+    }
 
 pub one_turn-requires : goal.one_turn-requires
 one_turn-requires g c = omega (arith, c.loop-turn.invariant.place)
@@ -28,11 +33,12 @@ pub loop-turn-preserved : goal.loop-turn-preserved
 loop-turn-preserved g c =
     let gives = rw c.loop-turn.invariant.same at c.in_default.ensures.gives in
     record {
-      along = along_more (start (settings_of c.args.config.now)) (table (hosts_of c.args.gate.now)) _ _ _ _ _ _ _ _ _ _ _ _ _ _ _ _ _ c.loop-turn-test.true c.loop-turn.invariant.along gives;
+      along = along_more (run (turn (hosts_of c.args.gate.now))) (at_first (start (settings_of c.args.config.now))) c.args.config.now.max_events _ _ _ _ _ _ c.loop-turn-test.true c.loop-turn.invariant.along gives;
       turns = omega (arith, c.loop-turn-test.true);
       same = c.one_turn.ensures.same ∙ c.loop-turn.invariant.same;
-      unsigned = c.one_turn.ensures.unsigned ∙ c.loop-turn.invariant.unsigned;
       place = omega (arith, c.loop-turn.invariant.place, gives.4.within);
+      moving = c.in_default.ensures.moving ∙ c.loop-turn.invariant.moving;
+      moving_writes = c.in_default.ensures.moving_writes ∙ c.loop-turn.invariant.moving_writes;
       reads = c.in_default.ensures.read_told (λ e. absurd cc) ∙ c.loop-turn.invariant.reads;
       moved = writes_on _ _ _ _ _ _ c.loop-turn.invariant.moved (c.in_default.ensures.moved_writes);
       writes = c.in_default.ensures.write_told (λ e. absurd cc) ∙ c.loop-turn.invariant.writes;
@@ -41,11 +47,8 @@ loop-turn-preserved g c =
 pub returns-in-Some-clause-run : goal.returns-in-Some-clause-run
 returns-in-Some-clause-run g c =
     let gives = rw c.loop-turn.invariant.same at c.in-Some.ensures.gives in
-    by_events (hosts_of c.args.gate.now) (settings_of c.args.config.now) c.args.config.now.max_events _ _ _ _ _ _ c.in-Some.answer
-    (turn_ends (start (settings_of c.args.config.now)) (table (hosts_of c.args.gate.now)) _ _ _ _ _ _ _ _ _ _ _ _ _ _ c.in-Some.answer c.loop-turn-test.true c.loop-turn.invariant.along gives)
-
-pub returns-in-Some-clause-unsigned : goal.returns-in-Some-clause-unsigned
-returns-in-Some-clause-unsigned g c = c.one_turn.ensures.unsigned ∙ c.loop-turn.invariant.unsigned
+    by_events (opening_machine (hosts_of c.args.gate.now) (settings_of c.args.config.now)) c.args.config.now.max_events _ _ c.in-Some.answer
+    (turn_ends (run (turn (hosts_of c.args.gate.now))) (at_first (start (settings_of c.args.config.now))) c.args.config.now.max_events _ _ _ _ _ c.in-Some.answer c.loop-turn-test.true c.loop-turn.invariant.along gives)
 
 pub returns-in-Some-clause-read_fault : goal.returns-in-Some-clause-read_fault
 returns-in-Some-clause-read_fault g c = λ e. let rose = c.in-Some.ensures.read_fault (ap Some e) in omega (arith, rose, c.loop-turn.invariant.reads)
@@ -56,11 +59,12 @@ returns-in-Some-clause-write_fault g c = λ e. let rose = c.in-Some.ensures.writ
 pub returns-clause-run : goal.returns-clause-run
 returns-clause-run g c =
     let none : 0 ≡ c.args.config.now.max_events - c.loop-turn.turn = omega (arith, c.loop-turn-test.false) in
-    let ends = limit_ends (hosts_of c.args.gate.now) c.loop-turn.at.place c.loop-turn.at.last c.loop-turn.at.opening _ _ (g.K.Sink.contents c.loop-turn.sink) _ _ c.at_limit.result c.at_limit.ensures.gives c.at_limit.ensures.count in
-    by_events (hosts_of c.args.gate.now) (settings_of c.args.config.now) c.args.config.now.max_events _ _ _ _ _ _ c.at_limit.result
-    (along_ends (start (settings_of c.args.config.now)) (table (hosts_of c.args.gate.now)) _ _ _ _ _ _ _ _ _ _ _ _ _ _ c.at_limit.result (omega (arith, c.loop-turn.invariant.turns)) c.loop-turn.invariant.along
-    (subst (λ n. Ends n c.loop-turn.at.place c.loop-turn.at.last (table (hosts_of c.args.gate.now) n c.loop-turn.at.place c.loop-turn.at.last c.loop-turn.at.opening) (g.S.Source.left c.loop-turn.source) (g.S.Source.left c.at_limit.new.source)
-    (g.K.Sink.contents c.loop-turn.sink) (g.K.Sink.contents c.loop-turn.sink) (g.S.Source.reads c.loop-turn.source) (g.S.Source.reads c.at_limit.new.source) c.at_limit.result) none ends))
+    let at : Spot OpeningState = spot c.loop-turn.at.place c.loop-turn.at.last c.loop-turn.at.opening in
+    let now : Streams = streams (g.S.Source.left c.loop-turn.source) (g.K.Sink.contents c.loop-turn.sink) (g.S.Source.reads c.loop-turn.source) (g.G.LocalSigner.calls c.loop-turn.signer) in
+    let ends = limit_ends (turn (hosts_of c.args.gate.now)) at now (g.S.Source.left c.at_limit.new.source) (g.S.Source.reads c.at_limit.new.source) c.at_limit.result c.at_limit.ensures.gives c.at_limit.ensures.count in
+    by_events (opening_machine (hosts_of c.args.gate.now) (settings_of c.args.config.now)) c.args.config.now.max_events _ _ c.at_limit.result
+    (along_ends (run (turn (hosts_of c.args.gate.now))) (at_first (start (settings_of c.args.config.now))) c.args.config.now.max_events c.loop-turn.turn at _ now _ c.at_limit.result (omega (arith, c.loop-turn.invariant.turns)) c.loop-turn.invariant.along
+    (subst (λ (n : ℕ). Ends n at.place at.last (run (turn (hosts_of c.args.gate.now)) n at) now (record now { left = g.S.Source.left c.at_limit.new.source; reads = g.S.Source.reads c.at_limit.new.source }) c.at_limit.result) none ends))
 
 pub returns-in-Some-clause-writes : goal.returns-in-Some-clause-writes
 returns-in-Some-clause-writes g c = writes_end _ _ _ _ _ _ c.loop-turn.invariant.moved c.one_turn.ensures.writes

@@ -2,7 +2,7 @@ use Rattle.sshc_auth.specs.Causes.{GateSaysNo}
 use Rattle.sshc_auth.specs.HostKey.{host_key}
 use Rattle.sshc_auth.specs.declared.event.ExchangeResult.{ExchangeResult}
 use Rattle.sshc_auth.specs.declared.step.Told.TheVariants.{NotAsked}
-use Rattle.sshc_auth.proofs.CauseLaws.{told_cause, later_cause, unasked_also}
+use Rattle.sshc_auth.proofs.CauseLaws.{told_cause, unasked_also}
 use Rattle.sshc_auth.proofs.opening.Opening.step_asked.Goals as goal
 
 pub returns-in-Nothing-clause-cause : goal.returns-in-Nothing-clause-cause

@@ -1,5 +1,5 @@
-use Rattle.std.proofs.Common.{Ok}
-use Rattle.sshc_key.specs.declared.identity.PublicKeyOrCertificate.{PublicKeyOrCertificate}
+use Rattle.std.proofs.Common.{refl}
+use Rattle.std.proofs.Math.Seq.{drop-length}
 use Rattle.sshc_auth.specs.Causes.{GateSaysNo}
 use Rattle.sshc_auth.specs.HostKey.{host_key}
 use Rattle.sshc_auth.specs.declared.event.ExchangeResult.{ExchangeResult}
@@ -16,3 +16,6 @@ pub returns-in-Ok-false-clause-cause : goal.returns-in-Ok-false-clause-cause
 returns-in-Ok-false-clause-cause g c =
     told_cause g.G.Gate.told_as (λ (x : ExchangeResult). GateSaysNo (g.G.Gate.judges c.args.gate.now) (host_key x.key)) No c.args.self.now c.args.event.now _ _ c.apply.result c.as_told.result c.as_told.ensures c.apply.ensures.cause
     (denied_also (g.G.Gate.judges c.args.gate.now) c.args.self.now c.args.event.now c.args.key.now c.requires.fresh c.requires.asked (rw c.in-Ok-false.field-0-test at c.in-Ok-false.ensures.judged))
+
+pub returns-in-Err-clause-row : goal.returns-in-Err-clause-row
+returns-in-Err-clause-row g c = (_, c.in-Err.ensures.judged, (refl, c.shut.ensures, refl, drop-length (g.S.LocalSigner.calls c.args.signer.now)))

@@ -1,4 +1,5 @@
 use Rattle.std.proofs.Common.{Ok, Err, refl}
+use Rattle.std.proofs.Math.Seq.{drop-length}
 use Rattle.sshc_auth.specs.Causes.{NobodySaysNo}
 use Rattle.sshc_auth.specs.declared.step.Told.TheVariants.{Went}
 use Rattle.sshc_auth.proofs.CauseLaws.{told_cause, went_also}
@@ -17,7 +18,7 @@ returns-in-Err-clause-row g c = (
   Err c.in-Err.e,
   c.auth_banner.new.out,
   rw c.as_str.ensures.same at c.in-Err.ensures.added,
-  (refl, c.shut.ensures, refl, refl),
+  (refl, c.shut.ensures, refl, drop-length (g.S.LocalSigner.calls c.args.signer.now)),
 )
 
 pub returns-in-Ok-clause-cause : goal.returns-in-Ok-clause-cause

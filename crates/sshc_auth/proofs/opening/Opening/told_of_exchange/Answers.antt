@@ -1,4 +1,5 @@
 use Rattle.std.proofs.Common.{Ok, Err, refl}
+use Rattle.std.proofs.Math.Seq.{drop-length}
 use Rattle.sshc_auth.specs.Causes.{NobodySaysNo}
 use Rattle.sshc_auth.specs.declared.step.Told.TheVariants.{Went}
 use Rattle.sshc_auth.proofs.CauseLaws.{adds_told, told_cause, went_also}
@@ -17,7 +18,7 @@ returns-in-Err-clause-row g c = (
   Err c.in-Err.e,
   c.kex_done.new.out,
   adds_told g.G.Gate.tells c.args.event.now c.args.exchange.now _ c.args.out.now c.kex_done.new.out (Err c.in-Err.e) c.requires.event c.secret_of.ensures c.in-Err.ensures.added,
-  (refl, c.shut.ensures, refl, refl),
+  (refl, c.shut.ensures, refl, drop-length (g.S.LocalSigner.calls c.args.signer.now)),
 )
 
 pub returns-in-Ok-clause-cause : goal.returns-in-Ok-clause-cause

@@ -1,0 +1,106 @@
+-- What a run of two machines side by side promises by the opening that the one begins as.
+use Rattle.std.proofs.Common.{◌≡◌, ℕ, Bool, true, false, List, [], ◌∷◌, ◌++◌, Option, Err, Result, refl, ap, sym, ◌∙◌, subst, true≢false}
+use Rattle.sshc_wire.specs.Faults.{Rose}
+use Rattle.sshc_wire.specs.Records.{IsPayload}
+use Rattle.sshc_wire.specs.declared.record.Record.{Record}
+use Rattle.sshc_auth.specs.declared.ended.Ended.{Ended}
+use Rattle.sshc_key.specs.Asking.{Answer, Always}
+use Rattle.sshc_key.specs.Signers.{since}
+use Rattle.sshc_run.specs.declared.error.RunError.{RunError}
+use Rattle.sshc_run.specs.declared.error.RunError.TheVariants as errors
+use Rattle.sshc_run.specs.declared.event_kind.EventKind.{EventKind}
+use Rattle.sshc_run.specs.declared.event_kind.EventKind.TheVariants as kinds
+use Rattle.sshc_run.specs.declared.known_hosts_handler.HandlerError.{HandlerError}
+use Rattle.sshc_run.specs.Comes.{StopsFor}
+use Rattle.sshc_run.specs.Firsts.{IsFront}
+use Rattle.sshc_run.specs.Headline.{NonePayload, said_at, said_of_first, is_yes, is_accepted}
+use Rattle.sshc_run.specs.KnownHosts.{Hosts}
+use Rattle.sshc_run.specs.Machine.{RunStop, TurnOf, Turns, Machine}
+use Rattle.sshc_run.specs.OpeningFirst.{IsOpeningFirst, IsOpeningDone, IsOpeningComplete}
+use Rattle.sshc_run.specs.OpeningRun.{Continues}
+use Rattle.sshc_run.specs.Outcome.{Streams, Ends}
+use Rattle.sshc_run.specs.Part.{Own, own_events, own_records, own_answers, HasPart, StopsOthers, StopsElse, PartOf}
+use Rattle.sshc_run.specs.Product.{both_machine, Apart}
+use Rattle.sshc_run.specs.Script.{Frame, ScriptStop}
+use Rattle.sshc_run.specs.ScriptRun.{Run, events_run, script_run}
+use Rattle.sshc_run.proofs.OpeningFirsts.{EndsNone, opening_first_of, opening_done_of, opening_complete_of}
+use Rattle.sshc_run.proofs.Parted.{own_first, other_first, parted}
+use Rattle.sshc_run.proofs.Products.{one_part, other_stops}
+
+-- ---- the headline's sentence
+
+module _ {O : Type 0} {A : Type 0} {B : Type 0} (short : Machine O) (one : Machine A) (other : Machine B) (as_kept : O → A) (continues : Continues short.turn one.turn as_kept)
+    (own : Own) (apart : Apart own one.turn other.turn) (Cause : Frame → RunStop → Type 0)
+    (stops : (s : B) (frame : Frame) → own.event frame ≡ false → Always (λ (t : TurnOf B). StopsFor (Cause frame) t.next) (other.turn s frame))
+    (begin : one.first ≡ as_kept short.first) (max : ℕ) (before now : Streams) (a : Result Ended RunError) (ends : Ends max 0 0 (script_run (both_machine own one other) max) before now a) where
+  -- the one's records and calls are a front of the opening's or, once it opens the session, all of them followed by more
+  pub both_first : IsOpeningFirst short own max (since before.calls now.calls) before.left before.held now.held
+  both_first =
+      opening_first_of short one.turn as_kept continues (both_machine own one other) (λ s. s.one) own (one_part own one.turn other.turn apart) Cause (other_stops own one.turn other.turn apart Cause stops) begin max before now a ends
+
+  pub both_done : EndsNone Cause → IsOpeningDone short own max (since before.calls now.calls) before.left before.held now.held a
+  both_done none =
+      opening_done_of short one.turn as_kept continues (both_machine own one other) (λ s. s.one) own (one_part own one.turn other.turn apart) Cause (other_stops own one.turn other.turn apart Cause stops) begin max before now a none ends
+
+  pub both_complete : (reads reads' writes writes' : ℕ) → (a ≡ Err errors.ReadFault → Rose reads reads') → (a ≡ Err errors.WriteFault → Rose writes writes') →
+      IsOpeningComplete short own Cause max (since before.calls now.calls) before.left reads reads' writes writes' a
+  both_complete reads reads' writes writes' r w =
+      opening_complete_of short one.turn as_kept continues (both_machine own one other) (λ s. s.one) own (one_part own one.turn other.turn apart) Cause (other_stops own one.turn other.turn apart Cause stops) begin max before now a
+      reads reads' writes writes' ends r w
+
+-- ---- what holds of the part's records holds of the run's
+
+-- what holds of no payload of a list holds of a front of it
+none_front : (front rest : List Record) → NonePayload (front ++ rest) → NonePayload front
+none_front [] rest none = tt
+none_front (said ∷ front) rest (here, none) = (here, none_front front rest none)
+
+module _ (own : Own) (payloads : (said : Record) → IsPayload said → own.said said ≡ true) where
+  none_step : (b : Bool) (said : Record) (records : List Record) → own.said said ≡ b → (NonePayload (own_records own records) → NonePayload records) → NonePayload (own_records own (said ∷ records)) → NonePayload (said ∷ records)
+  none_step true said records is later none = let both : NonePayload (said ∷ own_records own records) = rw is at none in (both.0, later both.1)
+  none_step false said records is later none = ((λ payload. absurd (true≢false (sym (payloads said payload) ∙ is))), later (rw is at none))
+
+  -- where no record of its own is a payload, none is, since each payload is its own
+  pub none_of_own : (records : List Record) → NonePayload (own_records own records) → NonePayload records
+  none_of_own [] none = tt
+  none_of_own (said ∷ records) none = none_step (own.said said) said records refl (none_of_own records) none
+
+  none_by_front : (records whole : List Record) → IsFront (own_records own records) whole → NonePayload whole → NonePayload records
+  none_by_front records whole (rest, is) none = none_of_own records (none_front (own_records own records) rest (subst NonePayload is none))
+
+  -- the gate of the part is the gate of the run
+  pub none_of_part : (Else : RunStop → Type 0) (r : Run) (part : List Answer → Run) → PartOf own Else r part → ((answers : List Answer) → NonePayload (part answers).records) → NonePayload r.records
+  none_of_part Else r part so none = none_by_front r.records (part (own_answers own r.calls ++ [])).records (so.first []).0 (none (own_answers own r.calls ++ []))
+
+-- ---- the first exchange among the part's own events
+
+not_exchange : (kind : EventKind) (hosts : Hosts) (fields : List ℕ) (later : Option (Result Bool HandlerError)) → (kind ≡ kinds.ExchangeDone → ⊥) → said_at kind hosts fields later ≡ later
+not_exchange kinds.PeerKexinit hosts fields later other = refl
+not_exchange kinds.ExchangeDone hosts fields later other = absurd (other refl)
+not_exchange kinds.Payload hosts fields later other = refl
+not_exchange kinds.Authenticate hosts fields later other = refl
+not_exchange kinds.AgentEvent hosts fields later other = refl
+not_exchange kinds.Later hosts fields later other = refl
+
+module _ (own : Own) (hosts : Hosts) (exchanges : (frame : Frame) → frame.kind ≡ kinds.ExchangeDone → own.event frame ≡ true) where
+  said_step : (b : Bool) (frame : Frame) (frames : List Frame) → own.event frame ≡ b → said_of_first hosts (own_events own frames) ≡ said_of_first hosts frames → said_of_first hosts (own_events own (frame ∷ frames)) ≡ said_of_first hosts (frame ∷ frames)
+  unfolding said_of_first
+  said_step true frame frames is later = ap (said_of_first hosts) (own_first own frame frames is) ∙ ap (said_at frame.kind hosts frame.fields) later
+  said_step false frame frames is later =
+      ap (said_of_first hosts) (other_first own frame frames is) ∙ later
+      ∙ sym (not_exchange frame.kind hosts frame.fields (said_of_first hosts frames) (λ exchange. true≢false (sym (exchanges frame exchange) ∙ is)))
+
+  -- where each exchange is the part's own, the first is the same
+  pub said_of_own : (frames : List Frame) → said_of_first hosts (own_events own frames) ≡ said_of_first hosts frames
+  said_of_own [] = refl
+  said_of_own (frame ∷ frames) = said_step (own.event frame) frame frames refl (said_of_own frames)
+
+  module _ {P : Type 0} {A : Type 0} (whole : Turns P) (part : Turns A) (see : P → A) (has : HasPart whole part see own) (Cause : Frame → RunStop → Type 0) (stops : StopsOthers whole own Cause)
+      (payloads : (said : Record) → IsPayload said → own.said said ≡ true) where
+    -- where no exchange among the events is accepted first, and the part's runs then write no payload, no run writes one
+    pub gated_whole : (st : ScriptStop) (frames : List Frame) (s : P) (answers : List Answer) →
+        (is_accepted hosts (own_events own frames) ≡ false → (replies : List Answer) → NonePayload (events_run part (see s) (own_events own frames) st replies).records) →
+        is_accepted hosts frames ≡ false → NonePayload (events_run whole s frames st answers).records
+    gated_whole st frames s answers gated none =
+        none_of_part own payloads (StopsElse own Cause frames) (events_run whole s frames st answers) (λ replies. events_run part (see s) (own_events own frames) st replies)
+        (parted whole part see own has st Cause stops frames s answers) (gated (ap is_yes (said_of_own frames) ∙ none))

@@ -1,0 +1,85 @@
+-- The opening is a part of the run of today: it takes each session event, and an agent's event stops the run.
+use Rattle.std.proofs.Common.{◌≡◌, Bool, true, false, List, [], ◌∷◌, if◌then◌else◌, refl, ap, sym}
+use Rattle.std.proofs.Math.Path.{fun_ext}
+use Rattle.std.proofs.lemmas.List.{append-nil}
+use Rattle.sshc_wire.specs.declared.record.Record.{Record}
+use Rattle.sshc_key.specs.declared.signer.Asker.{Asker}
+use Rattle.sshc_key.specs.Asking.{Asking, done, asks, asked_on, Always}
+use Rattle.sshc_auth.specs.OpeningState.{OpeningState}
+use Rattle.sshc_run.specs.declared.error.RunError.TheVariants as errors
+use Rattle.sshc_run.specs.declared.event_kind.EventKind.{EventKind}
+use Rattle.sshc_run.specs.declared.event_kind.EventKind.TheVariants as kinds
+use Rattle.sshc_run.specs.KnownHosts.{Hosts}
+use Rattle.sshc_run.specs.Machine.{goes_on, Onward}
+use Rattle.sshc_run.specs.OpeningRun.{Continues}
+use Rattle.sshc_run.specs.Part.{SaysBy, AsksBy, HasPart, StopsOthers}
+use Rattle.sshc_run.specs.Script.{Frame}
+use Rattle.sshc_run.specs.SessionPart.{is_session_kind, is_session_record, session_own, IsAgentCause}
+use Rattle.sshc_run.specs.Turn.{Turn, stops, turn}
+use Rattle.sshc_run.proofs.OpeningFirsts.{EndsNone}
+use Rattle.sshc_run.proofs.Unasked.{AsksNothing, turn_unasked}
+
+asked_same_on : {A : Type 0} (asking : Asking A) → asking ≡ asked_on (λ (x : A). x) asking
+asked_same_on (done x) = refl
+asked_same_on (asks asked on) = ap (asks asked) (fun_ext (λ answer. asked_same_on (on answer)))
+
+pub always_each : {A : Type 0} (P : A → Type 0) (asking : Asking A) → ((x : A) → P x) → Always P asking
+always_each P (done x) each = each x
+always_each P (asks asked on) each = λ answer. always_each P (on answer) each
+
+pub said_all : (records : List Record) → SaysBy is_session_record true records
+said_all [] = tt
+said_all (said ∷ records) = (refl, said_all records)
+
+pub asks_none : {A : Type 0} (test : Asker → Bool) (is : Bool) (asking : Asking A) → AsksNothing asking → AsksBy test is asking
+asks_none test is (done x) nothing = tt
+asks_none test is (asks asked on) never = absurd never
+
+-- ---- an agent's event
+
+agent_kind : (kind : EventKind) → is_session_kind kind ≡ false → kind ≡ kinds.AgentEvent
+agent_kind kinds.PeerKexinit is = absurd cc
+agent_kind kinds.ExchangeDone is = absurd cc
+agent_kind kinds.Payload is = absurd cc
+agent_kind kinds.Authenticate is = absurd cc
+agent_kind kinds.Later is = absurd cc
+agent_kind kinds.AgentEvent is = refl
+
+not_built : (closed : Bool) → (if closed then false else false) ≡ false
+not_built true = refl
+not_built false = refl
+
+agent_turn : (hosts : Hosts) (s : OpeningState) (frame : Frame) → session_own.event frame ≡ false → turn hosts s frame ≡ done (stops s (errors.Unbuilt frame.place))
+unfolding turn
+agent_turn hosts s frame is = rw (agent_kind frame.kind is, not_built s.closed) refl
+
+-- ---- the opening, as a part of itself
+
+pub opening_part : (hosts : Hosts) → HasPart (turn hosts) (turn hosts) (λ (s : OpeningState). s) session_own
+opening_part hosts = record {
+  as_whole = λ s t. t;
+  same = λ s frame is. asked_same_on (turn hosts s frame);
+  seen = λ s t. (refl, refl, refl);
+  says = λ s frame is. always_each (λ (t : Turn). SaysBy is_session_record true t.records) (turn hosts s frame) (λ t. said_all t.records);
+  asks_own = λ s frame is. asks_none session_own.asker true (turn hosts s frame) (turn_unasked hosts s frame);
+  still = λ s frame is. rw (agent_turn hosts s frame is) (tt, refl);
+  asks_other = λ s frame is. asks_none session_own.asker false (turn hosts s frame) (turn_unasked hosts s frame);
+}
+
+pub agent_stops : (hosts : Hosts) → StopsOthers (turn hosts) session_own IsAgentCause
+agent_stops hosts = λ s frame is. rw (agent_turn hosts s frame is) refl
+
+pub agent_ends_none : EndsNone IsAgentCause
+agent_ends_none frame e is = cc
+
+goes_alike : (t : Turn) (next : Onward) → t.next ≡ next → t ≡ record { records = t.records; state = t.state; next = next }
+goes_alike t next is = ap (λ (n : Onward). record t { next = n }) is
+
+pub opening_continues : (hosts : Hosts) → Continues (turn hosts) (turn hosts) (λ (s : OpeningState). s)
+opening_continues hosts = record {
+  turn_of = λ t. t;
+  same = λ s frame. asked_same_on (turn hosts s frame);
+  on = λ t is. goes_alike t goes_on is;
+  opens = λ t is. (([], sym (append-nil t.records)), is);
+  stops = λ t stop is. (refl, is);
+}

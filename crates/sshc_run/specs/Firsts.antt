@@ -1,0 +1,5 @@
+-- The first of a list.
+use Rattle.std.specs.Prelude.{◌≡◌, List, ◌++◌}
+
+abbrev pub IsFront : {X : Type 0} → List X → List X → Type 0
+IsFront {X = X} front list = (rest : List X) × (list ≡ front ++ rest)

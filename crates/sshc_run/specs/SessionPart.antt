@@ -1,0 +1,30 @@
+-- What is the session's own in a run: every event but an agent's, every record but an agent's, and the calls that it makes of the signer.
+use Rattle.std.specs.Prelude.{◌≡◌, Bool, true, false}
+use Rattle.sshc_wire.specs.declared.record.Record.{Record}
+use Rattle.sshc_key.specs.declared.signer.Asker.{Asker}
+use Rattle.sshc_key.specs.declared.signer.Asker.TheVariants.{Session, Agent}
+use Rattle.sshc_run.specs.declared.error.RunError.TheVariants as errors
+use Rattle.sshc_run.specs.declared.event_kind.EventKind.{EventKind}
+use Rattle.sshc_run.specs.declared.event_kind.EventKind.TheVariants as kinds
+use Rattle.sshc_run.specs.Machine.{RunStop, refused}
+use Rattle.sshc_run.specs.Part.{Own}
+use Rattle.sshc_run.specs.Script.{Frame}
+
+abbrev pub is_session_kind : EventKind → Bool
+is_session_kind kinds.AgentEvent = false
+is_session_kind kind = true
+
+-- a record below 40 (hexadecimal); no other is built yet
+abbrev pub is_session_record : Record → Bool
+is_session_record said = true
+
+abbrev pub is_session_asker : Asker → Bool
+is_session_asker Session = true
+is_session_asker (Agent connection) = false
+
+abbrev pub session_own : Own
+session_own = record { event = λ frame. is_session_kind frame.kind; said = is_session_record; asker = is_session_asker }
+
+-- why an agent's event stops a run: none is built yet
+abbrev pub IsAgentCause : Frame → RunStop → Type 0
+IsAgentCause frame stop = stop ≡ refused (errors.Unbuilt frame.place)
