@@ -1,63 +1,201 @@
-//! Pieces of 32 KiB through a channel table.
+//! Bytes through a channel table: on open windows, by grants, after a flush, before a close, in small packets; and channels
+//! that come and go.
 
 use sshc_mux::{ChannelId, ChannelTable};
-use sshc_wire::{NoMemory, Outbox, Record};
+use sshc_wire::{NoMemory, Outbox};
 use std::alloc::Global;
 
 /// How many bytes a call hands in.
 const CALL: usize = 32_768;
 
-/// What the outboxes held.
+/// Our window, which a low one is brought back to.
+const TARGET: u32 = 2_097_152;
+
+/// What the outboxes held, and after how many events bytes waited.
 #[derive(Clone, Copy, Debug)]
-struct Counts {
+pub(crate) struct Counts {
     payloads: u64,
     bytes: u64,
+    waits: u64,
 }
 
 impl Counts {
-    fn add(&mut self, out: &Outbox) {
-        for said in out.as_slice() {
-            if let Record::Payload(payload) = said {
+    fn new() -> Counts {
+        Counts {
+            payloads: 0,
+            bytes: 0,
+            waits: 0,
+        }
+    }
+
+    /// Adds what the outbox holds, and clears it.
+    fn take(&mut self, out: &mut Outbox) {
+        for at in 0..out.len() {
+            if let Some(packet) = out.packet(at) {
                 self.payloads = self.payloads.saturating_add(1);
-                self.bytes = self.bytes.saturating_add(payload.as_slice().len() as u64);
+                self.bytes = self.bytes.saturating_add(packet.len() as u64);
             }
         }
+        out.clear();
     }
 }
 
-/// A table of established channels.
-fn opened(alloc: Global, channels: u32) -> Result<ChannelTable, NoMemory> {
+/// A table of established channels with this window and packet size.
+fn opened(
+    alloc: Global,
+    channels: u32,
+    window: u32,
+    packet: u32,
+) -> Result<ChannelTable, NoMemory> {
     let mut table = ChannelTable::new(alloc);
     for _ in 0..channels {
-        let id = table.open_user(2_097_152, 32_768, None)?;
-        let _ = table.confirm(id, id.0, u32::MAX, 32_768);
+        let id = table.open_user(TARGET, 32_768, None)?;
+        let _ = table.confirm(id, id.0, window, packet);
     }
     Ok(table)
 }
 
-/// Hands the bytes in, call by call over the channels in turn.
-fn sent(alloc: Global, channels: u32, calls: u32) -> Result<Counts, NoMemory> {
-    let mut table = opened(alloc, channels)?;
+/// The channel whose turn it is.
+fn turn_of(call: u32, channels: u32) -> ChannelId {
+    ChannelId(call.checked_rem(channels).unwrap_or(0).saturating_add(1))
+}
+
+/// Hands the bytes in, call by call over the channels in turn, on open windows.
+fn sent(alloc: Global, channels: u32, calls: u32, packet: u32) -> Result<Counts, NoMemory> {
+    let mut table = opened(alloc, channels, u32::MAX, packet)?;
     let body = Vec::from_elem(alloc, 0x5a, CALL)?;
-    let mut counts = Counts {
-        payloads: 0,
-        bytes: 0,
-    };
+    let mut counts = Counts::new();
+    let mut out = Outbox::new(alloc);
     for call in 0..calls {
-        let mut out = Outbox::new(alloc);
-        let channel = call.checked_rem(channels).unwrap_or(0).saturating_add(1);
-        table.data(ChannelId(channel), body.as_slice(), false, &mut out)?;
-        counts.add(&out);
+        table.data(turn_of(call, channels), body.as_slice(), false, &mut out)?;
+        counts.take(&mut out);
     }
     Ok(counts)
 }
 
-/// Makes so many calls over so many channels, and tells what was written.
-pub(crate) fn tell_channels(rt: &HostRuntime, channels: u32, calls: u32) -> anyhow::Result<()> {
-    let counts = sent(rt.alloc(), channels, calls)?;
+/// Hands the bytes in without a window, and lets them go by grants of half a call.
+fn granted(alloc: Global, channels: u32, calls: u32) -> Result<Counts, NoMemory> {
+    let mut table = opened(alloc, channels, 0, 32_768)?;
+    let body = Vec::from_elem(alloc, 0x5a, CALL)?;
+    let mut counts = Counts::new();
+    let mut out = Outbox::new(alloc);
+    for call in 0..calls {
+        let id = turn_of(call, channels);
+        table.data(id, body.as_slice(), false, &mut out)?;
+        let _ = table.grant(id, 16_384, false, &mut out)?;
+        let _ = table.grant(id, 16_384, false, &mut out)?;
+        counts.take(&mut out);
+    }
+    Ok(counts)
+}
+
+/// Hands the bytes in while an exchange runs, a call a channel, and flushes all after each such round.
+fn flushed(alloc: Global, channels: u32, calls: u32) -> Result<Counts, NoMemory> {
+    let mut table = opened(alloc, channels, u32::MAX, 32_768)?;
+    let body = Vec::from_elem(alloc, 0x5a, CALL)?;
+    let mut counts = Counts::new();
+    let mut out = Outbox::new(alloc);
+    for call in 0..calls {
+        let id = turn_of(call, channels);
+        table.data(id, body.as_slice(), true, &mut out)?;
+        if id.0 == channels {
+            table.flush_all(&mut out)?;
+            counts.take(&mut out);
+        }
+    }
+    table.flush_all(&mut out)?;
+    counts.take(&mut out);
+    Ok(counts)
+}
+
+/// Opens a channel a call and closes it with a call's bytes waiting, which go by a grant, before EOF and our close.
+fn closed(alloc: Global, calls: u32) -> Result<Counts, NoMemory> {
+    let mut table = ChannelTable::new(alloc);
+    let body = Vec::from_elem(alloc, 0x5a, CALL)?;
+    let mut counts = Counts::new();
+    let mut out = Outbox::new(alloc);
+    for _ in 0..calls {
+        let id = table.open_user(TARGET, 32_768, None)?;
+        let _ = table.confirm(id, id.0, 0, 32_768);
+        table.data(id, body.as_slice(), false, &mut out)?;
+        table.eof(id, &mut out)?;
+        table.close_own(id, &mut out)?;
+        let _ = table.grant(id, 32_768, false, &mut out)?;
+        let _ = table.close_peer(id, &mut out)?;
+        counts.take(&mut out);
+    }
+    Ok(counts)
+}
+
+/// Opens the channels, and then closes them, oldest first.
+fn churned(alloc: Global, channels: u32) -> Result<Counts, NoMemory> {
+    let mut table = opened(alloc, channels, u32::MAX, 32_768)?;
+    let mut counts = Counts::new();
+    let mut out = Outbox::new(alloc);
+    for number in 0..channels {
+        let _ = table.close_peer(ChannelId(number.saturating_add(1)), &mut out)?;
+        counts.take(&mut out);
+    }
+    Ok(counts)
+}
+
+/// Small events over the channels in turn: a byte of ours, a byte of the peer's, and a grant, with a look for bytes that wait.
+fn small_events(alloc: Global, channels: u32, events: u32) -> Result<Counts, NoMemory> {
+    let mut table = opened(alloc, channels, 0, 32_768)?;
+    let mut counts = Counts::new();
+    let mut out = Outbox::new(alloc);
+    for event in 0..events {
+        let id = turn_of(event / 3, channels);
+        match event % 3 {
+            0 => table.data(id, b"a", false, &mut out)?,
+            1 => {
+                let _ = table.received(id, 1, TARGET, &mut out)?;
+            }
+            _ => {
+                let _ = table.grant(id, 1, false, &mut out)?;
+            }
+        }
+        if table.has_any_pending_data() {
+            counts.waits = counts.waits.saturating_add(1);
+        }
+        counts.take(&mut out);
+    }
+    Ok(counts)
+}
+
+/// The counts of a run of this name, if there is one.
+pub(crate) fn counts_of(
+    alloc: Global,
+    name: &str,
+    first: u32,
+    second: u32,
+) -> Result<Option<Counts>, NoMemory> {
+    let counts = match name {
+        "channels" => sent(alloc, first, second, 32_768)?,
+        "packets" => sent(alloc, 1, second, first)?,
+        "grants" => granted(alloc, first, second)?,
+        "flushes" => flushed(alloc, first, second)?,
+        "closes" => closed(alloc, second)?,
+        "oldest-first" => churned(alloc, first)?,
+        "events" => small_events(alloc, first, second)?,
+        _ => return Ok(None),
+    };
+    Ok(Some(counts))
+}
+
+/// Makes a run of this name, and prints what was written.
+pub(crate) fn print_channels(
+    rt: &HostRuntime,
+    name: &str,
+    first: u32,
+    second: u32,
+) -> anyhow::Result<bool> {
+    let Some(counts) = counts_of(rt.alloc(), name, first, second)? else {
+        return Ok(false);
+    };
     println!(rt;
-        "{channels} channels, {calls} calls: {} payloads of {} bytes",
-        counts.payloads, counts.bytes
+        "{name} {first} {second}: {} payloads of {} bytes, {} waits",
+        counts.payloads, counts.bytes, counts.waits
     )?;
-    Ok(())
+    Ok(true)
 }
