@@ -7,7 +7,7 @@ use std::alloc::Global;
 use std::process::ExitCode;
 use std::{env, io};
 
-/// The status for want of memory.
+/// The status for out of memory.
 const NO_MEMORY: u8 = 20;
 
 /// The words behind the program's own name; none where they can't be had.

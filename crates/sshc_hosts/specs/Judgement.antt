@@ -68,7 +68,7 @@ judged_by known key = if is_certificate key then Ok false else (known >>= judged
 unfoldable pub judged : List ℕ → List ℕ → Key → Result Bool Error
 judged text host key = judged_by (known_keys text host) key
 
--- why a call that reads the lines refuses: a line that can't be read, or want of memory
+-- why a call that reads the lines refuses: a line that can't be read, or out of memory
 abbrev pub IsUnreadable : Error → Type 0
 IsUnreadable Decode = Unit {0}
 IsUnreadable SshKey = Unit {0}

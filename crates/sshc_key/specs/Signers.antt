@@ -21,7 +21,7 @@ pub record SignCall : Type 0 where
   pub bytes : List ℕ
   pub answer : Option (List ℕ)
 
--- the call is kept behind those before it, with its answer; for want of memory nothing is kept
+-- the call is kept behind those before it, with its answer; for out of memory nothing is kept
 abbrev pub KeepsCall : List SignCall → List SignCall → Asker → KeyPair → Option HashAlg → List ℕ → Result (Vec ℕ Global) SignRefused → Type 0
 KeepsCall old new by key hash bytes (Ok v) = new ≡ old ++ (record { by = by; key = key; hash = hash; bytes = bytes; answer = Some v.items }) ∷ []
 KeepsCall old new by key hash bytes (Err Refused) = new ≡ old ++ (record { by = by; key = key; hash = hash; bytes = bytes; answer = None }) ∷ []

@@ -135,7 +135,7 @@ module _ {P : Type 0} (m : Machine P) (max : ℕ) where
 
 -- ---- the answer, as the table over the whole script tells it
 
--- want of memory, or the table's stop, where no count rises
+-- out of memory, or the table's stop, where no count rises
 abbrev IsTold : List Answer → (List Answer → List ℕ → Run) → List ℕ → Result Ended RunError → Type 0
 IsTold answers table bytes a = (a ≡ Err errors.NoMemory) ⊎ ((table answers bytes).stop ≡ stop_as a)
 

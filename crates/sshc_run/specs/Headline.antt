@@ -100,7 +100,7 @@ IsKept table script left held written (Err e) = (given : List ℕ) × (script �
 abbrev pub IsValidScript : (List ℕ → Run) → List ℕ → Ended → Type 0
 IsValidScript table script e = (table script).stop ≡ ended e
 
--- a valid script gives its end or want of memory, where no count rises
+-- a valid script gives its end or out of memory, where no count rises
 abbrev pub IsComplete : (List ℕ → Run) → Option (List ℕ) → ℕ → ℕ → ℕ → ℕ → Result Ended RunError → Type 0
 IsComplete table script reads reads' writes writes' answer =
     (bytes : List ℕ) (e : Ended) → script ≡ Some bytes → IsValidScript table bytes e → (Rose reads reads' → ⊥) → (Rose writes writes' → ⊥) →

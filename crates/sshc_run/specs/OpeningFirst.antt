@@ -57,7 +57,7 @@ IsValidBy st (opens_before s frames left) e = (frames ≡ []) × (st ≡ whole) 
 IsValidBy st (stops_with stop) e = stop ≡ ended e
 IsValidBy st through e = (st ≡ whole) × (e ≡ ScriptEnd)
 
--- a valid script of whose other events none stops the run gives its end or want of memory, where no count rises
+-- a valid script of whose other events none stops the run gives its end or out of memory, where no count rises
 abbrev pub IsOpeningComplete : {S : Type 0} → Machine S → Own → (Frame → RunStop → Type 0) → ℕ → List SignCall → Option (List ℕ) → ℕ → ℕ → ℕ → ℕ → Result Ended RunError → Type 0
 IsOpeningComplete m own Cause max calls script reads reads' writes writes' answer =
     (bytes : List ℕ) (e : Ended) → script ≡ Some bytes → IsValidBy (stop_of max bytes) (opening_of m own max calls bytes).stop e →

@@ -94,7 +94,7 @@ pub fn run_script<S: Source, K: Sink, G: LocalSigner, V: Verifier>(
     // Every error but WriteFault and NoMemory has all records of the events before it, and those of its own row.
     ensures kept { IsKept (script_run (opening_machine (record { host = host_text host.now port; known = known.now }) (settings_of config.now)) config.now.max_events (answers_since (G.calls signer.old) (G.calls signer.new)))
         (S.left source.old) (S.left source.new) (K.contents sink.old) (K.contents sink.new) result }
-    // A script that the table refuses no event of is answered so, or with want of memory, where nothing fails.
+    // A script that the table refuses no event of is answered so, or with out of memory, where nothing fails.
     ensures complete { IsComplete (script_run (opening_machine (record { host = host_text host.now port; known = known.now }) (settings_of config.now)) config.now.max_events (answers_since (G.calls signer.old) (G.calls signer.new)))
         (S.left source.old) (S.faults source.old) (S.faults source.new) (K.faults sink.old) (K.faults sink.new) result }
     // Each end and each error comes by its cause: a state that the table comes to and the event there, or what stands behind the events.
@@ -107,7 +107,7 @@ pub fn run_script<S: Source, K: Sink, G: LocalSigner, V: Verifier>(
     // Where the table opens the session, Ok has all of its outputs written; else it has exactly these, and it is the table's end.
     ensures opening_done { IsOpeningDone (opening_machine (record { host = host_text host.now port; known = known.now }) (settings_of config.now)) session_own config.now.max_events (since (G.calls signer.old) (G.calls signer.new))
         (S.left source.old) (K.contents sink.old) (K.contents sink.new) result }
-    // A valid script of whose agents' events none stops the run gives its end or want of memory, where nothing fails.
+    // A valid script of whose agents' events none stops the run gives its end or out of memory, where nothing fails.
     ensures opening_complete { IsOpeningComplete (opening_machine (record { host = host_text host.now port; known = known.now }) (settings_of config.now)) session_own IsAgentCause config.now.max_events (since (G.calls signer.old) (G.calls signer.new))
         (S.left source.old) (S.faults source.old) (S.faults source.new) (K.faults sink.old) (K.faults sink.new) result }
     // No row asks the signer yet.

@@ -8,7 +8,7 @@ use sshc_auth::Ended;
 use sshc_run::{Config, RunError};
 use std::test::Fail;
 
-/// With ample memory: a run that always answers want of memory is proved under every clause, and is refused here.
+/// With ample memory: a run that always answers out of memory is proved under every clause, and is refused here.
 #[test]
 fn a_password_login_opens_the_session(rt: HostRuntime) -> Result<(), Fail> {
     let script = script_of(rt.alloc(), LOGIN.as_slice())?;

@@ -1,4 +1,4 @@
-//! Why a part of a packet can't be read, and want of memory.
+//! Why a part of a packet can't be read, and the error of running out of memory.
 
 ghost use Rattle.std.specs.Prelude.{◌≡◌};
 

@@ -2,6 +2,7 @@
 #![tactic(auto)]
 
 mod agent_record;
+mod agent_stream;
 mod auth_record;
 mod channel_id;
 mod channel_open_failure;
@@ -31,6 +32,7 @@ mod text;
 mod ticket;
 
 pub use agent_record::{AgentFault, AgentRecord};
+pub use agent_stream::AgentStream;
 pub use auth_record::{AuthRecord, GssapiRecord, Prompt};
 pub use channel_id::ChannelId;
 pub use channel_open_failure::ChannelOpenFailure;

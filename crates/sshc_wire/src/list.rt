@@ -54,7 +54,7 @@ impl<T> List<T> {
 }
 
 impl<T: Drop> List<T> {
-    /// The values, which stay where they are. More than 2^32 - 1 of them count as want of memory.
+    /// The values, which stay where they are. More than 2^32 - 1 of them count as out of memory.
     pub fn from_vec(items: Vec<T>) -> Result<List<T>, NoMemory>
         ensures { IfOk result (λ l. l ≡ items.items) }
     {
@@ -65,7 +65,7 @@ impl<T: Drop> List<T> {
         }
     }
 
-    /// Adds a value at the end. One value more than 2^32 - 1 counts as want of memory.
+    /// Adds a value at the end. One value more than 2^32 - 1 counts as out of memory.
     pub fn push(&mut self, item: T) -> Result<(), NoMemory>
         ensures ok { OnOk result (self.new ≡ self.old ++ item ∷ []) }
         ensures err { OnErr result (self.new ≡ self.old) }

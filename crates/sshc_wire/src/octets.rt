@@ -36,7 +36,7 @@ impl Octets {
         }
     }
 
-    /// A copy of the bytes. More than 2^32 - 1 of them count as want of memory.
+    /// A copy of the bytes. More than 2^32 - 1 of them count as out of memory.
     pub fn from_slice(alloc: Global, bytes: &[u8]) -> Result<Octets, NoMemory>
         ensures { IfOk result (λ o. o ≡ bytes.now) }
     {
@@ -49,7 +49,7 @@ impl Octets {
         }
     }
 
-    /// The bytes, which stay where they are. More than 2^32 - 1 of them count as want of memory.
+    /// The bytes, which stay where they are. More than 2^32 - 1 of them count as out of memory.
     pub fn from_vec(bytes: Vec<u8>) -> Result<Octets, NoMemory>
         ensures { IfOk result (λ o. o ≡ bytes.items) }
     {

@@ -4,6 +4,7 @@ ghost use Rattle.std.specs.Prelude.{◌≡◌, ◌<◌, ◌^◌, ◌∷◌, ◌+
 ghost use Rattle.std.specs.List.{flat_map};
 ghost use Rattle.sshc_wire.specs.Extending.{Extends};
 ghost use Rattle.sshc_wire.specs.Records.{agent_text, auth_text, channel_text, gssapi_text, hash_number, open_text, prompt_text, record_text};
+ghost use Rattle.sshc_wire.specs.Signals.{signal_name};
 ghost use Rattle.sshc_wire.specs.Wire.{bool_text, counted_text, string_text, u32_text};
 
 use crate::agent_record::AgentRecord;
@@ -16,6 +17,7 @@ use crate::list::List;
 use crate::octets::Octets;
 use crate::put::{put_bool, put_bytes, put_numbered, put_text, put_u32};
 use crate::resolution::{Resolution, put_resolution_parts};
+use crate::signal::Sig;
 use crate::text::Text;
 use crate::ticket::Ticket;
 
@@ -312,6 +314,59 @@ fn put_gssapi(out: &mut Vec<u8>, ticket: Ticket, step: &GssapiRecord) -> Result<
     }
 }
 
+/// A number with its kind, and bytes.
+#[tactic(auto, using(crate::proofs::Extended::extended, crate::proofs::Extended::extended_on, crate::proofs::Extended::unextended))]
+fn put_body(out: &mut Vec<u8>, kind: u8, n: u32, body: &Octets) -> Result<(), NoMemory>
+    ensures ok { OnOk result (out.new.items ≡ out.old.items ++ kind ∷ u32_text n ++ string_text body.now) }
+    ensures err { OnErr result (Extends out.old.items out.new.items) }
+{
+    put_numbered(out, kind, n)?;
+    put_bytes(out, body.as_slice())
+}
+
+/// A number with its kind, another number, and two texts.
+#[tactic(auto, using(crate::proofs::Extended::extended, crate::proofs::Extended::extended_on, crate::proofs::Extended::unextended))]
+fn put_told(
+    out: &mut Vec<u8>,
+    kind: u8,
+    n: u32,
+    other: u32,
+    message: &Text,
+    language: &Text,
+) -> Result<(), NoMemory>
+    ensures ok { OnOk result (out.new.items ≡ out.old.items ++ kind ∷ u32_text n ++ u32_text other ++ string_text message.now ++ string_text language.now) }
+    ensures err { OnErr result (Extends out.old.items out.new.items) }
+{
+    put_two_numbers(out, kind, n, other)?;
+    put_two(
+        out,
+        message.as_str().as_bytes(),
+        language.as_str().as_bytes(),
+    )
+}
+
+/// A signal that ended a command: its name, whether it left a core, a message in its language.
+#[tactic(auto, using(crate::proofs::Extended::extended, crate::proofs::Extended::extended_on, crate::proofs::Extended::unextended))]
+fn put_exit_signal(
+    out: &mut Vec<u8>,
+    signal: &Sig,
+    core_dumped: bool,
+    message: &Text,
+    language: &Text,
+) -> Result<(), NoMemory>
+    ensures ok { OnOk result (out.new.items ≡ out.old.items ++ string_text (signal_name signal.now) ++ bool_text core_dumped ++ string_text message.now ++ string_text language.now) }
+    ensures err { OnErr result (Extends out.old.items out.new.items) }
+{
+    put_text(out, signal.name())?;
+    put_bool(out, core_dumped)?;
+    put_two(
+        out,
+        message.as_str().as_bytes(),
+        language.as_str().as_bytes(),
+    )
+}
+
+/// What happened on a channel: the record's number, the channel, the fields.
 #[tactic(auto, unfolding(crate::specs::Records::channel_text), using(crate::proofs::Extended::extended, crate::proofs::Extended::extended_on, crate::proofs::Extended::unextended))]
 fn put_channel(out: &mut Vec<u8>, id: ChannelId, happened: &ChannelRecord) -> Result<(), NoMemory>
     ensures ok { OnOk result (out.new.items ≡ out.old.items ++ channel_text id.0 happened.now) }
@@ -322,10 +377,8 @@ fn put_channel(out: &mut Vec<u8>, id: ChannelId, happened: &ChannelRecord) -> Re
             max_packet_size,
             window_size,
         } => {
-            put_numbered(out, 0x22, id.0)?;
-            put_u32(out, *max_packet_size)?;
-            put_u32(out, *window_size)?;
-            Ok(())
+            put_two_numbers(out, 0x22, id.0, *max_packet_size)?;
+            put_u32(out, *window_size)
         }
         ChannelRecord::Success => put_numbered(out, 0x23, id.0),
         ChannelRecord::Failure => put_numbered(out, 0x24, id.0),
@@ -335,25 +388,11 @@ fn put_channel(out: &mut Vec<u8>, id: ChannelId, happened: &ChannelRecord) -> Re
             reason,
             description,
             language,
-        } => {
-            put_numbered(out, 0x27, id.0)?;
-            put_u32(out, reason.code())?;
-            put_two(
-                out,
-                description.as_str().as_bytes(),
-                language.as_str().as_bytes(),
-            )
-        }
-        ChannelRecord::Data { body } => {
-            put_numbered(out, 0x29, id.0)?;
-            put_bytes(out, body.as_slice())?;
-            Ok(())
-        }
+        } => put_told(out, 0x27, id.0, reason.code(), description, language),
+        ChannelRecord::Data { body } => put_body(out, 0x29, id.0, body),
         ChannelRecord::ExtendedData { ext, body } => {
-            put_numbered(out, 0x2a, id.0)?;
-            put_u32(out, *ext)?;
-            put_bytes(out, body.as_slice())?;
-            Ok(())
+            put_two_numbers(out, 0x2a, id.0, *ext)?;
+            put_bytes(out, body.as_slice())
         }
         ChannelRecord::WindowAdjusted { new_size } => put_two_numbers(out, 0x2e, id.0, *new_size),
         ChannelRecord::XonXoff { client_can_do } => put_flag(out, 0x2b, id.0, *client_can_do),
@@ -367,24 +406,19 @@ fn put_channel(out: &mut Vec<u8>, id: ChannelId, happened: &ChannelRecord) -> Re
             lang_tag,
         } => {
             put_numbered(out, 0x2d, id.0)?;
-            put_text(out, signal_name.name())?;
-            put_bool(out, *core_dumped)?;
-            put_two(
-                out,
-                error_message.as_str().as_bytes(),
-                lang_tag.as_str().as_bytes(),
-            )
+            put_exit_signal(out, signal_name, *core_dumped, error_message, lang_tag)
         }
     }
 }
 
+/// A channel that the server opens: the number of its type, the fields.
 #[tactic(auto, unfolding(crate::specs::Records::open_text), using(crate::proofs::Extended::extended, crate::proofs::Extended::extended_on, crate::proofs::Extended::unextended))]
 fn put_open(out: &mut Vec<u8>, opened: &ServerOpen) -> Result<(), NoMemory>
     ensures ok { OnOk result (out.new.items ≡ out.old.items ++ open_text opened.now) }
     ensures err { OnErr result (Extends out.old.items out.new.items) }
 {
     match opened {
-        ServerOpen::Session => out.push(0)?,
+        ServerOpen::Session => Ok(out.push(0)?),
         ServerOpen::DirectTcpIp {
             host_to_connect,
             port_to_connect,
@@ -393,18 +427,18 @@ fn put_open(out: &mut Vec<u8>, opened: &ServerOpen) -> Result<(), NoMemory>
         } => {
             out.push(1)?;
             put_address(out, host_to_connect, *port_to_connect)?;
-            put_address(out, originator_address, *originator_port)?;
+            put_address(out, originator_address, *originator_port)
         }
         ServerOpen::DirectStreamLocal { socket_path } => {
             out.push(2)?;
-            put_text(out, socket_path.as_str())?;
+            put_text(out, socket_path.as_str())
         }
         ServerOpen::X11 {
             originator_address,
             originator_port,
         } => {
             out.push(3)?;
-            put_address(out, originator_address, *originator_port)?;
+            put_address(out, originator_address, *originator_port)
         }
         ServerOpen::ForwardedTcpIp {
             connected_address,
@@ -414,16 +448,15 @@ fn put_open(out: &mut Vec<u8>, opened: &ServerOpen) -> Result<(), NoMemory>
         } => {
             out.push(4)?;
             put_address(out, connected_address, *connected_port)?;
-            put_address(out, originator_address, *originator_port)?;
+            put_address(out, originator_address, *originator_port)
         }
         ServerOpen::ForwardedStreamLocal { socket_path } => {
             out.push(5)?;
-            put_text(out, socket_path.as_str())?;
+            put_text(out, socket_path.as_str())
         }
-        ServerOpen::AgentForward => out.push(6)?,
-        ServerOpen::Unknown => out.push(7)?,
+        ServerOpen::AgentForward => Ok(out.push(6)?),
+        ServerOpen::Unknown => Ok(out.push(7)?),
     }
-    Ok(())
 }
 
 #[tactic(auto, unfolding(crate::specs::Records::agent_text), using(crate::proofs::Extended::extended, crate::proofs::Extended::extended_on, crate::proofs::Extended::unextended))]

@@ -194,7 +194,7 @@ impl<'a, R: std::rt::Files + AllocGlobal> StdFiles<'a, R> {
     }
 }
 
-/// What a failed call answers: want of memory by itself, anything else as a fault that is counted.
+/// What a failed call answers: out of memory by itself, anything else as a fault that is counted.
 fn failed(error: io::Error, faults: &mut u64) -> Failed
     ensures later { faults.old ≤ faults.new }
     ensures fault { result ≡ Failed.Fault → Rose faults.old faults.new }

@@ -34,7 +34,7 @@ impl Text {
         }
     }
 
-    /// A copy of the text. More than 2^32 - 1 bytes count as want of memory.
+    /// A copy of the text. More than 2^32 - 1 bytes count as out of memory.
     pub fn from_str(alloc: Global, text: &str) -> Result<Text, NoMemory>
         ensures { IfOk result (λ t. t ≡ text.now) }
     {
@@ -47,7 +47,7 @@ impl Text {
         }
     }
 
-    /// The text, which stays where it is. More than 2^32 - 1 bytes count as want of memory.
+    /// The text, which stays where it is. More than 2^32 - 1 bytes count as out of memory.
     pub fn from_string(text: String) -> Result<Text, NoMemory>
         ensures { IfOk result (λ t. t ≡ string_bytes text) }
     {

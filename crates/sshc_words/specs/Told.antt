@@ -18,7 +18,7 @@ line_of text = text ++ 10 ∷ []
 
 -- ---- errors
 
--- the name of a refusal, with its line; what is left is want of memory, since the calls refuse for no other cause
+-- the name of a refusal, with its line; what is left is out of memory, since the calls refuse for no other cause
 abbrev pub refusal_name : Error → List ℕ
 refusal_name ReadFault = codes "known-file"
 refusal_name Utf8 = codes "known-file"

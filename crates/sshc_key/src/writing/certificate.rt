@@ -16,7 +16,7 @@ use std::alloc::Global;
 /// The most bytes of a string, and one.
 const TOO_LONG: usize = 1 << 32;
 
-/// Writes a string of bytes that were put together. Too many of them count as want of memory.
+/// Writes a string of bytes that were put together. Too many of them count as out of memory.
 fn put_nested(out: &mut Vec<u8>, bytes: &[u8]) -> Result<(), NoMemory>
     ensures { OnOk result (out.new.items ≡ out.old.items ++ string_text bytes.now) }
 {
