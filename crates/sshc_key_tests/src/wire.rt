@@ -136,26 +136,55 @@ fn some_outbox(alloc: Global) -> Result<Outbox, NoMemory> {
     Ok(outbox)
 }
 
-#[test]
-fn records_are_kept_and_written(rt: HostRuntime) -> Result<(), Fail> {
-    let mut outbox = some_outbox(rt.alloc())?;
-    let mut out = Vec::new(rt.alloc());
+/// The texts of an outbox's records, one behind another.
+fn texts_of(alloc: Global, outbox: &Outbox) -> Result<Vec<u8>, NoMemory> {
+    let mut out = Vec::new(alloc);
     for at in 0..outbox.len() {
         outbox.put_text(at, &mut out)?;
     }
+    Ok(out)
+}
+
+#[test]
+fn records_are_kept_and_written(rt: HostRuntime) -> Result<(), Fail> {
+    let outbox = some_outbox(rt.alloc())?;
     assert_eq!(rt;
-        out.as_slice(),
+        texts_of(rt.alloc(), &outbox)?.as_slice(),
         b"\x01\x05\x20\x00\x00\x00\x01k\x02\x03\x04\x00\x00\x00\x01\x00\x21\x00\x00\x00\x01b".as_slice()
     );
+    Ok(())
+}
+
+#[test]
+fn packets_are_read_by_their_place(rt: HostRuntime) -> Result<(), Fail> {
+    let mut outbox = some_outbox(rt.alloc())?;
     assert_eq!(rt; outbox.packet(0), Some([5u8].as_slice()));
     assert_eq!(rt; outbox.packet(1), None);
-    assert_eq!(rt; outbox.take_first()?, Some(packet(rt.alloc(), &[5])?));
-    assert_eq!(rt; outbox.len(), 5);
     outbox.clear();
-    assert_eq!(rt; outbox.take_first()?, None);
-    outbox.push(packet(rt.alloc(), &[8])?)?;
-    assert_eq!(rt; outbox.packet(0), Some([8u8].as_slice()));
-    out.clear();
+    assert_eq!(rt; outbox.len(), 0);
+    Ok(())
+}
+
+/// Whether there is one, which is dropped.
+fn is_there<T: Drop>(found: Option<T>) -> bool {
+    found.is_some()
+}
+
+#[test]
+fn records_are_taken_from_the_front(rt: HostRuntime) -> Result<(), Fail> {
+    let mut outbox = Outbox::new(rt.alloc());
+    outbox.push(packet(rt.alloc(), &[5])?)?;
+    outbox.push(packet(rt.alloc(), &[6])?)?;
+    assert!(rt; is_there(outbox.take_first()?));
+    assert_eq!(rt; outbox.packet(0), Some([6u8].as_slice()));
+    assert!(rt; is_there(outbox.take_first()?));
+    assert!(rt; !is_there(outbox.take_first()?));
+    Ok(())
+}
+
+#[test]
+fn a_resolution_is_written(rt: HostRuntime) -> Result<(), Fail> {
+    let mut out = Vec::new(rt.alloc());
     put_resolution(&mut out, &Resolution::Dropped)?;
     assert_eq!(rt; out.as_slice(), [0x0d].as_slice());
     Ok(())
