@@ -1,5 +1,5 @@
 mod Listings
 mod Asked
-mod Constrained
+pub mod Constrained
 mod Stepped
 mod Fronts

@@ -35,7 +35,7 @@ pub use parsing::{parse_public_key, parse_whole_public_key};
 pub use public_key::PublicKey;
 pub use reading::{read_key_pair, read_signature};
 pub use signature::{Signature, SkFields};
-pub use signer::{Asker, LocalSigner, SignRefused};
+pub use signer::{Asker, LocalSigner, SignRefused, Signer};
 pub use sshc_wire::HashAlg;
 pub use verifier::{Verifier, Verify};
 pub use writing::write_key_pair;

@@ -5,6 +5,7 @@ pub mod Parts
 pub mod Whole
 pub mod Grammar
 pub mod Lookup
+pub mod Beside
 pub mod Faults
 pub mod Contents
 pub mod Records

@@ -2,6 +2,7 @@
 
 ghost use Rattle.std.specs.Prelude.{◌≡◌, ◌≤◌, ℕ, List, [], Option, Some, Err, IfOk, OnOk, OnErr, drop, length, option_copied, min};
 ghost use Rattle.std.specs.Prelude.{◌++◌, IsErrOf, take, true, ◌<◌};
+ghost use Rattle.sshc_wire.specs.Beside.{no_side};
 ghost use Rattle.sshc_wire.specs.Contents.{bytes_of, found_in, with_text};
 ghost use Rattle.sshc_wire.specs.Faults.{CountsEmpty, CountsOne, HasCause};
 ghost use Rattle.sshc_wire.specs.Memory.{is_failing};
@@ -72,6 +73,8 @@ impl Source for MemSource {
 
     ghost empty_reads = { λ s. s.empty };
 
+    ghost beside = { λ s. no_side };
+
     /// Fails exactly at the calls that are told to.
     fn read(&mut self, buf: &mut [u8]) -> Result<usize, Failed>
         ensures bound { IfOk result (λ n. n ≤ length buf.new) }
@@ -81,6 +84,7 @@ impl Source for MemSource {
         ensures cause { HasCause self.old.faults self.new.faults result }
         ensures counted { CountsOne self.old.calls self.new.calls }
         ensures empty { CountsEmpty result (length buf.new) self.old.empty self.new.empty }
+        ensures apart { no_side ≡ no_side }
         ensures fails { is_failing self.old.failing self.old.calls ≡ true → result ≡ Err Failed.Fault }
         ensures fault { IsErrOf result Failed.Fault → is_failing self.old.failing self.old.calls ≡ true }
         ensures failing { self.new.failing ≡ self.old.failing }
@@ -147,6 +151,8 @@ impl Sink for MemSink {
 
     ghost empty_writes = { λ s. s.empty };
 
+    ghost beside = { λ s. no_side };
+
     /// Takes the whole piece. Fails exactly at the calls that are told to, or out of memory.
     fn write(&mut self, piece: &[u8]) -> Result<usize, Failed>
         ensures bound { IfOk result (λ n. n ≡ length piece.now) }
@@ -155,6 +161,7 @@ impl Sink for MemSink {
         ensures cause { HasCause self.old.faults self.new.faults result }
         ensures counted { CountsOne self.old.calls self.new.calls }
         ensures empty { CountsEmpty result (length piece.now) self.old.empty self.new.empty }
+        ensures apart { no_side ≡ no_side }
         ensures fails { is_failing self.old.failing self.old.calls ≡ true → result ≡ Err Failed.Fault }
         ensures fault { IsErrOf result Failed.Fault → is_failing self.old.failing self.old.calls ≡ true }
         ensures failing { self.new.failing ≡ self.old.failing }

@@ -1,6 +1,7 @@
 //! Where bytes go.
 
 ghost use Rattle.std.specs.Prelude.{◌≡◌, ℕ, ◌+◌, ◌<◌, ◌≤◌, List, length, take, Option, IfOk, OnOk, OnErr};
+ghost use Rattle.sshc_wire.specs.Beside.{Beside};
 ghost use Rattle.sshc_wire.specs.Contents.{append, WroteFront, WritesFor};
 ghost use Rattle.sshc_wire.specs.Faults.{CountsOne, CountsEmpty, HasCause};
 
@@ -20,6 +21,9 @@ pub trait Sink {
     /// How many of these writes took no byte of a piece that isn't empty.
     ghost empty_writes: { Self → ℕ };
 
+    /// What it keeps beside what is written, as of a stream that is read too.
+    ghost beside: { Self → Beside };
+
     /// Takes a front of the piece, at least a byte of one that isn't empty.
     fn write(&mut self, piece: &[u8]) -> Result<usize, Failed>
         ensures bound { IfOk result (λ n. n ≤ length piece.now) }
@@ -28,7 +32,8 @@ pub trait Sink {
         ensures none { OnErr result (contents self.new ≡ contents self.old) }
         ensures cause { HasCause (faults self.old) (faults self.new) result }
         ensures counted { CountsOne (writes self.old) (writes self.new) }
-        ensures empty { CountsEmpty result (length piece.now) (empty_writes self.old) (empty_writes self.new) };
+        ensures empty { CountsEmpty result (length piece.now) (empty_writes self.old) (empty_writes self.new) }
+        ensures apart { beside self.new ≡ beside self.old };
 }
 
 /// Writes the whole piece, or a front of it. Each write but the last moves at least one byte.
@@ -41,6 +46,7 @@ pub fn write_whole<K: Sink>(sink: &mut K, piece: &[u8]) -> Result<(), Failed>
     ensures writes { OnErr result (WritesFor (K.contents sink.old) (K.contents sink.new) (K.writes sink.old) (K.writes sink.new)) }
     ensures empty { OnOk result (K.empty_writes sink.new ≡ K.empty_writes sink.old) }
     ensures last { K.empty_writes sink.new ≤ K.empty_writes sink.old + 1 }
+    ensures apart { K.beside sink.new ≡ K.beside sink.old }
 {
     let mut written = 0usize;
     while written < piece.len() {

@@ -1,6 +1,7 @@
 //! Where bytes come from.
 
 ghost use Rattle.std.specs.Prelude.{◌≡◌, ℕ, ◌+◌, ◌<◌, ◌≤◌, List, length, take, Ok, Option, IfOk, OnErr};
+ghost use Rattle.sshc_wire.specs.Beside.{Beside};
 ghost use Rattle.sshc_wire.specs.Contents.{prepend, IsAtEnd};
 ghost use Rattle.sshc_wire.specs.Faults.{CountsOne, CountsEmpty, HasCause};
 
@@ -29,6 +30,9 @@ pub trait Source {
     /// How many of these reads moved no byte into a buffer that isn't empty.
     ghost empty_reads: { Self → ℕ };
 
+    /// What it keeps beside what is read, as of a stream that is written too.
+    ghost beside: { Self → Beside };
+
     /// Fills a front of the buffer. No byte for a buffer that isn't empty is the end.
     fn read(&mut self, buf: &mut [u8]) -> Result<usize, Failed>
         ensures bound { IfOk result (λ n. n ≤ length buf.new) }
@@ -37,7 +41,8 @@ pub trait Source {
         ensures none { OnErr result (left self.new ≡ left self.old) }
         ensures cause { HasCause (faults self.old) (faults self.new) result }
         ensures counted { CountsOne (reads self.old) (reads self.new) }
-        ensures empty { CountsEmpty result (length buf.new) (empty_reads self.old) (empty_reads self.new) };
+        ensures empty { CountsEmpty result (length buf.new) (empty_reads self.old) (empty_reads self.new) }
+        ensures apart { beside self.new ≡ beside self.old };
 }
 
 /// The count of empty calls after one that moved so many of at most so many bytes.
@@ -65,6 +70,7 @@ fn read_full<S: Source>(source: &mut S, buf: &mut [u8]) -> Result<usize, Failed>
     ensures short { IfOk result (λ n. S.reads source.new ≤ S.reads source.old + n + 1) }
     ensures empty { IfOk result (λ n. n ≡ length buf.new → S.empty_reads source.new ≡ S.empty_reads source.old) }
     ensures last { S.empty_reads source.new ≤ S.empty_reads source.old + 1 }
+    ensures apart { S.beside source.new ≡ S.beside source.old }
 {
     let mut filled = 0usize;
     while filled < buf.len() {
@@ -91,6 +97,7 @@ pub fn read_up_to<S: Source>(alloc: Global, source: &mut S, count: usize) -> Res
     ensures short { IfOk result (λ v. S.reads source.new ≤ S.reads source.old + length v.items + 1) }
     ensures empty { IfOk result (λ v. length v.items ≡ count → S.empty_reads source.new ≡ S.empty_reads source.old) }
     ensures last { S.empty_reads source.new ≤ S.empty_reads source.old + 1 }
+    ensures apart { S.beside source.new ≡ S.beside source.old }
 {
     let Ok(mut bytes) = vec![in alloc; 0u8; count] else {
         return Err(Failed::NoMemory);

@@ -1,6 +1,7 @@
 //! Real streams and files, which tell no contents. Each is proved against its trait; that the real thing behaves so is not.
 
 ghost use Rattle.std.specs.Prelude.{None, Err, OnErr, IfOk, ◌≡◌, ◌≤◌, length};
+ghost use Rattle.sshc_wire.specs.Beside.{no_side};
 ghost use Rattle.sshc_wire.specs.Faults.{HasCause, Rose};
 
 use crate::error::NoMemory;
@@ -87,6 +88,8 @@ impl<R: Read> Source for StdSource<R> {
 
     ghost empty_reads = { λ s. s.empty };
 
+    ghost beside = { λ s. no_side };
+
     fn read(&mut self, buf: &mut [u8]) -> Result<usize, Failed> {
         self.reads = self.reads.saturating_add(1);
         match read_uninterrupted(&mut self.inner, buf) {
@@ -142,6 +145,8 @@ impl<W: Write> Sink for StdSink<W> {
     ghost writes = { λ s. s.calls };
 
     ghost empty_writes = { λ s. s.empty };
+
+    ghost beside = { λ s. no_side };
 
     fn write(&mut self, piece: &[u8]) -> Result<usize, Failed> {
         self.writes = self.writes.saturating_add(1);

@@ -132,3 +132,16 @@ pub(crate) fn key_bytes(alloc: Global, key: &KeyData) -> Result<Vec<u8>, NoMemor
     put_body(alloc, &mut out, key)?;
     Ok(out)
 }
+
+impl Certificate {
+    /// The certificate's blob.
+    pub fn to_bytes(&self) -> Result<Vec<u8>, NoMemory>
+        ensures { IfOk result (λ v. v.items ≡ key_text self.now) }
+    {
+        let alloc = self.key_id.allocator();
+        let mut out = Vec::new(alloc);
+        put_text(&mut out, self.name(alloc)?.as_str())?;
+        put_certificate(alloc, &mut out, self)?;
+        Ok(out)
+    }
+}

@@ -107,6 +107,16 @@ fn rsa_certificate_name(hash_alg: Option<HashAlg>) -> &'static str
     }
 }
 
+impl Certificate {
+    /// The name with which the certificate's blob begins.
+    pub(super) fn name(&self, alloc: Global) -> Result<Text, NoMemory>
+        ensures { IfOk result (λ t. t ≡ key_name self.now) }
+    {
+        let kind = self.public_key.kind()?;
+        kind.certificate_name(alloc)
+    }
+}
+
 impl KeyData {
     /// The algorithm that a request names for a certificate for this key.
     fn certified_name(&self, alloc: Global, hash_alg: Option<HashAlg>) -> Result<Text, NoMemory>

@@ -15,6 +15,7 @@ loop-written-preserved g c = record {
   counted =
       let some : 0 < length (take (length c.args.piece.now - c.loop-written.written) (drop c.loop-written.written c.args.piece.now)) = grind (arith, length-take, length-drop) in
       omega (arith, c.loop-written.invariant.counted, c.write.ensures.counted, c.in-Ok.ensures.moves some);
+  apart = c.write.ensures.apart ∙ c.loop-written.invariant.apart;
 }
 
 pub returns-in-Err-clause-cut : goal.returns-in-Err-clause-cut

@@ -10,6 +10,7 @@ invariant-loop-written g l =
       same : g.K.Sink.faults l.sink ≡ g.K.Sink.faults l.initial.sink;
       counted : g.K.Sink.writes l.sink ≤ g.K.Sink.writes l.initial.sink + l.written;
       moved : g.K.Sink.empty_writes l.sink ≡ g.K.Sink.empty_writes l.initial.sink;
+      apart : g.K.Sink.beside l.sink ≡ g.K.Sink.beside l.initial.sink;
     }
 
 abbrev pub decreases-loop-written : goal.decreases-loop-written

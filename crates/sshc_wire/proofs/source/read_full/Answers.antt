@@ -10,4 +10,5 @@ loop-filled-preserved g c = record {
   same = c.in-Ok.ensures.cause.same (λ e. absurd cc) ∙ c.loop-filled.invariant.same;
   moved = some_moved _ _ _ _ c.in-Ok.n-test.1 c.in-Ok.ensures.empty ∙ c.loop-filled.invariant.moved;
   counted = omega (arith, c.loop-filled.invariant.counted, c.read.ensures.counted);
+  apart = c.read.ensures.apart ∙ c.loop-filled.invariant.apart;
 }

@@ -10,6 +10,7 @@ invariant-loop-filled g l =
       same : g.S.Source.faults l.source ≡ g.S.Source.faults l.initial.source;
       counted : g.S.Source.reads l.source ≤ g.S.Source.reads l.initial.source + l.filled;
       moved : g.S.Source.empty_reads l.source ≡ g.S.Source.empty_reads l.initial.source;
+      apart : g.S.Source.beside l.source ≡ g.S.Source.beside l.initial.source;
     }
 
 abbrev pub decreases-loop-filled : goal.decreases-loop-filled
