@@ -1,4 +1,4 @@
 mod Rows
 mod PromptLemmas
-mod CauseLaws
+mod StepLemmas
 mod StandardFacts

@@ -19,6 +19,10 @@ use Rattle.sshc_event.specs.declared.method.Method.TheVariants as methods
 use Rattle.sshc_transport.specs.declared.exchange.ExchangeFlag.{ExchangeFlag}
 use Rattle.sshc_transport.specs.declared.exchange.ExchangeFlag.TheVariants as flags
 use Rattle.sshc_transport.specs.declared.exchange.ExchangeResult.{ExchangeResult}
+use Rattle.sshc_key.specs.Asking.{Asking, Always}
+use Rattle.sshc_opening.specs.declared.ended.Ended.{Ended}
+use Rattle.sshc_opening.specs.declared.ended.Ended.TheVariants as ends
+use Rattle.sshc_opening.specs.declared.ended.RemoteDisconnectInfo.{RemoteDisconnectInfo}
 use Rattle.sshc_opening.specs.declared.error.Error.{Error}
 use Rattle.sshc_opening.specs.declared.error.Error.TheVariants as errors
 use Rattle.sshc_opening.specs.declared.opening.Class.{Class}
@@ -31,6 +35,7 @@ use Rattle.sshc_opening.specs.declared.step.Told.{Told}
 use Rattle.sshc_opening.specs.declared.step.Told.TheVariants.{Went}
 use Rattle.sshc_opening.specs.OpeningState.{OpeningState, is_awaiting}
 use Rattle.sshc_opening.specs.OpeningTable.AuthPrompts.{prompts_at}
+use Rattle.sshc_opening.specs.Row.{Row, Next, stays, opens, ends as ends_with, refuses}
 use Rattle.sshc_opening.specs.Stepping.{GateAnswers, LentGate}
 
 -- ---- turns
@@ -233,12 +238,60 @@ IsCause SaysNo s event errors.RecvError = (event ≡ events.Gone) × (is_awaitin
 IsCause SaysNo s event errors.InactivityTimeout = (event ≡ events.InactivityTimer) × (s.settings.inactivity ≡ true) × (is_awaiting s.phase ≡ false)
 IsCause SaysNo s event e = ⊥
 
+-- ---- why a session ends
+
+-- a message and its language, and later bytes that pass
+abbrev pub ReadsTexts : RemoteDisconnectInfo → List ℕ → Type 0
+ReadsTexts info rest = (after' left : List ℕ) × (text_at rest ≡ Ok (info.message, after')) × (text_at after' ≡ Ok (info.lang_tag, left))
+
+-- the peer's disconnection says so (RFC 4253, section 11.1)
+abbrev pub Disconnects : RemoteDisconnectInfo → List ℕ → Type 0
+Disconnects info body = (code : ℕ) × (rest : List ℕ) × (number_at w32 body ≡ Ok (code, rest)) × (disconnect_of code ≡ Some info.reason_code) × ReadsTexts info rest
+
+abbrev pub IsPeersEnd : Event → RemoteDisconnectInfo → Type 0
+IsPeersEnd (events.Payload (n ∷ body)) info = (n ≡ DISCONNECT) × Disconnects info body
+IsPeersEnd event info = ⊥
+
+-- the user disconnects
+abbrev pub IsUsersEnd : Event → Type 0
+IsUsersEnd (events.Disconnect reason description language) = Unit {0}
+IsUsersEnd event = ⊥
+
+-- the peer or the user disconnects, or the user is gone; no event is a script's end
+abbrev pub IsEndCause : OpeningState → Event → Ended → Type 0
+IsEndCause s event (ends.RemoteDisconnect info) = IsPeersEnd event info
+IsEndCause s event ends.Disconnected = IsUsersEnd event
+IsEndCause s event ends.Closed = (event ≡ events.Gone) × (is_awaiting s.phase ≡ false)
+IsEndCause s event ends.ScriptEnd = ⊥
+
+-- why an event is refused with an error, and why it ends the session
+pub record Why : Type 1 where
+  pub refusal : Error → Type 0
+  pub end : Ended → Type 0
+
+abbrev pub why : (ExchangeResult → Type 0) → OpeningState → Event → Why
+why SaysNo s event = record { refusal = λ e. IsCause SaysNo s event e; end = λ e. IsEndCause s event e }
+
+-- what becomes of the opening has its reason
+abbrev pub Caused : Why → Next → Type 0
+Caused reason (stays s) = Unit {0}
+Caused reason (opens s) = Unit {0}
+Caused reason (ends_with e) = reason.end e
+Caused reason (refuses e) = reason.refusal e
+
+-- the same of each row that may be come to, whatever the signer answers
+abbrev pub AllCaused : Why → Asking Row → Type 0
+AllCaused reason asking = Always (λ (row : Row). Caused reason row.next) asking
+
+-- ---- calls
+
 -- once it is told what the gate said
 abbrev pub WasToldNo : Told → ExchangeResult → Type 0
 WasToldNo told x = told ≢ Went
 
 abbrev pub HasCause : Told → OpeningState → Event → Step Error → Type 0
 HasCause told s event (steps.Refused e) = IsCause (WasToldNo told) s event e
+HasCause told s event (steps.Ended e) = IsEndCause s event e
 HasCause told s event answer = Unit {0}
 
 -- there is no host key, or the gate says no to it
@@ -249,8 +302,10 @@ SaysNoTo judges (Some key) = judges key (Ok false)
 abbrev pub GateSaysNo : {E : Type 0} → GateAnswers E → ExchangeResult → Type 0
 GateSaysNo gate x = SaysNoTo gate.judges (host_key x.key)
 
--- a step is refused for a cause, told as the gate tells it, or because the gate refused, whose count of refusals then rose
+-- a step is refused for a cause, told as the gate tells it, or because the gate refused, whose count of refusals then rose; an end
+-- has its cause
 abbrev pub HasGateCause : {E : Type 0} → GateAnswers E → Event → LentGate → LentGate → Step E → Type 0
 HasGateCause gate event was is (steps.Refused e) =
     ((why : Error) × (e ≡ gate.told_as why) × IsCause (GateSaysNo gate) was.rest.opening event why) ⊎ Rose was.refusals is.refusals
+HasGateCause gate event was is (steps.Ended e) = IsEndCause was.rest.opening event e
 HasGateCause gate event was is answer = Unit {0}

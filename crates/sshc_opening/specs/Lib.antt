@@ -6,4 +6,8 @@ pub mod OpeningTable
 pub mod Signing
 pub mod Stepping
 pub mod Causes
+pub mod CauseLaws
+pub mod AskedLaws
+pub mod GateLaw
+pub mod AskerLaw
 pub mod Promises

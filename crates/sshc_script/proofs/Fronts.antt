@@ -17,6 +17,7 @@ use Rattle.sshc_script.specs.declared.error.NextError.TheVariants as nexts
 use Rattle.sshc_script.specs.EventKinds.{kind_numbered}
 use Rattle.sshc_script.specs.Script.{Head, Bad, whole_front, sized_front, front, head_at, size_of}
 use Rattle.sshc_script.specs.Gives.{Fails}
+use Rattle.sshc_script.specs.FrontLaws.{front_short, none_more}
 use Rattle.sshc_script.specs.Reading.{IsNoEvent, IsOneAtMost, IsBad, IsWhole, Gave, ReadFor, NextGives}
 
 drop_more : (n : ℕ) (bytes : List ℕ) → drop 1 (drop n bytes) ≡ drop (suc n) bytes
@@ -55,14 +56,6 @@ front_head last (a ∷ b ∷ c ∷ []) rest h = absurd (omega (arith, h))
 front_head last (a ∷ b ∷ c ∷ d ∷ []) rest h = refl
 front_head last (a ∷ b ∷ c ∷ d ∷ e ∷ more) rest h = absurd (omega (arith, h))
 
-pub front_short : (last : ℕ) (bytes : List ℕ) → length bytes < 4 → IsNoEvent last bytes
-unfolding front
-front_short last [] h = inl refl
-front_short last (a ∷ []) h = inr refl
-front_short last (a ∷ b ∷ []) h = inr refl
-front_short last (a ∷ b ∷ c ∷ []) h = inr refl
-front_short last (a ∷ b ∷ c ∷ d ∷ more) h = absurd (omega (arith, h))
-
 front_cut : (last : ℕ) (bytes : List ℕ) → 0 < length bytes → length bytes < 4 → front last bytes ≡ Bad
 unfolding front
 front_cut last [] p h = absurd (omega (arith, p))
@@ -88,11 +81,6 @@ unfolding sized_front
 sized_whole last n body more low high size =
     let enough : n ≤ length (body ++ more) = omega (arith, length-append body more) in
     rw (take_at body more n size, drop_at body more n size) (grind (arith, nat_tests))
-
--- what is left is nothing
-pub none_more : (new : Option (List ℕ)) (more : List ℕ) → new ≡ Some more → IsAtEnd new → more ≡ []
-none_more None more e end = cc
-none_more (Some x) more e end = (let same : x ≡ more = cc in sym same) ∙ end
 
 pub two_parts : (a b : List ℕ) (old mid new : Option (List ℕ)) → old ≡ prepend a mid → mid ≡ prepend b new → old ≡ prepend (a ++ b) new
 two_parts a b old mid new first second = first ∙ ap (prepend a) second ∙ prepend-prepend a b new

@@ -7,3 +7,5 @@ pub mod EventReading
 pub mod Gives
 pub mod Script
 pub mod Reading
+pub mod FrontLaws
+pub mod KindLaw

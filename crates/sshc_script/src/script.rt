@@ -123,6 +123,9 @@ pub fn next_event<S: Source>(
     ensures later { S.faults source.old ≤ S.faults source.new }
     ensures fault { result ≡ Err NextError.ReadFault → Rose (S.faults source.old) (S.faults source.new) }
     ensures told { (result ≡ Err NextError.ReadFault → ⊥) → S.faults source.new ≡ S.faults source.old }
+    // A whole event is taken by reads that each move a byte; else at most one read moves nothing.
+    ensures moving { IfOk result (λ taken. IfSome taken (λ _. S.empty_reads source.new ≡ S.empty_reads source.old)) }
+    ensures last { S.empty_reads source.new ≤ S.empty_reads source.old + 1 }
 {
     let head = match read_up_to(alloc, source, 4) {
         Ok(head) => head,

@@ -1,7 +1,7 @@
 use Rattle.std.proofs.Common.{rules}
 use Rattle.sshc_opening.specs.OpeningTable.{open_row}
 use Rattle.sshc_opening.specs.Row.{signer_at, span}
-use Rattle.sshc_opening.proofs.CauseLaws.{follows_cause}
+use Rattle.sshc_opening.proofs.StepLemmas.{follows_cause, ended_cause}
 use Rattle.sshc_opening.proofs.Rows.{signer_grows, step_went, step_opened, step_ended, step_refused}
 use Rattle.sshc_opening.proofs.opening.Opening.apply.Goals as goal
 
@@ -40,7 +40,7 @@ returns-in-Ok-Ended g c =
     record {
       closed = search rules;
       row = λ fresh. rw c.shut-in-Ok-Ended.ensures (step_ended asking was is c.args.self.now c.row.new.self c.args.out.now c.row.new.out c.in-Ok-Ended.e follows);
-      cause = tt;
+      cause = ended_cause c.args.self.now c.args.event.now c.args.told was is (span c.args.self.now c.row.new.self c.args.out.now c.row.new.out) c.in-Ok-Ended.e follows;
       signer = signer_grows asking (g.S.LocalSigner.calls c.args.signer.now) (g.S.LocalSigner.calls c.row.new.signer) (g.S.LocalSigner.refusals c.args.signer.now) (g.S.LocalSigner.refusals c.row.new.signer) (span c.args.self.now c.row.new.self c.args.out.now c.row.new.out) _ follows;
     }
 

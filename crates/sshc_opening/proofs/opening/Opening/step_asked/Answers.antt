@@ -1,6 +1,7 @@
 use Rattle.std.proofs.Common.{◌≡◌, Ok, inr, rules, sym}
 use Rattle.sshc_opening.specs.Stepping.{exchange_in, gate_answers, lent, with_gate}
-use Rattle.sshc_opening.proofs.CauseLaws.{has_exchange, fits_asked, told_cause}
+use Rattle.sshc_opening.specs.AskedLaws.{has_exchange}
+use Rattle.sshc_opening.proofs.StepLemmas.{fits_asked, told_cause}
 use Rattle.sshc_opening.proofs.opening.Opening.step_asked.Goals as goal
 
 pub ask_gate-requires : goal.ask_gate-requires

@@ -1,0 +1,145 @@
+-- Until the host key of the first exchange is accepted, no packet of the session is written and the session doesn't go on
+-- (RFC 4253, sections 7 and 8): a law above the table.
+use Rattle.std.proofs.Common.{◌≡◌, ◌≢◌, ℕ, ◌+◌, Bool, true, false, List, [], ◌∷◌, length, Option, Some, None, Result, Ok, Err, refl, sym, ◌∙◌}
+use Rattle.std.specs.Prelude.{◌==◌, if◌then◌else◌}
+use Rattle.std.specs.Int.{w32}
+use Rattle.sshc_wire.specs.Reads.{number_at, text_at}
+use Rattle.sshc_wire.specs.Reasons.{disconnect_of}
+use Rattle.sshc_wire.specs.Records.{IsPayload}
+use Rattle.sshc_wire.specs.declared.disconnect.Disconnect.{Disconnect}
+use Rattle.sshc_wire.specs.declared.error.WireError.{WireError}
+use Rattle.sshc_wire.specs.declared.msg.TheConstants.{DISCONNECT}
+use Rattle.sshc_wire.specs.declared.record.Record.{Record}
+use Rattle.sshc_key.specs.Asking.{Asking, done, Always}
+use Rattle.sshc_event.specs.declared.event.Event.{Event}
+use Rattle.sshc_event.specs.declared.event.Event.TheVariants as events
+use Rattle.sshc_transport.specs.declared.exchange.ExchangeFlag.{ExchangeFlag}
+use Rattle.sshc_transport.specs.declared.exchange.ExchangeFlag.TheVariants as flags
+use Rattle.sshc_transport.specs.declared.exchange.ExchangeResult.{ExchangeResult}
+use Rattle.sshc_opening.specs.declared.opening.Phase.{Phase}
+use Rattle.sshc_opening.specs.declared.opening.Phase.TheVariants as phases
+use Rattle.sshc_opening.specs.declared.order.EventSort.TheVariants as sorts
+use Rattle.sshc_opening.specs.declared.step.Told.{Told}
+use Rattle.sshc_opening.specs.declared.step.Told.TheVariants as telling
+use Rattle.sshc_opening.specs.OpeningState.{OpeningState, is_awaiting}
+use Rattle.sshc_opening.specs.OpeningTable.{is_exchanging, numbered_row, payload_row, plain_row, event_row, turn_row, open_row, held_packet_row, phase_packet_row}
+use Rattle.sshc_opening.specs.OpeningTable.Exchange.{peer_kexinit_row, peer_kexinit_row_at, exchange_done_row, exchange_row_in}
+use Rattle.sshc_opening.specs.OpeningTable.Order.{sort_of, is_early, is_early_at, is_out_of_turn, packet_in}
+use Rattle.sshc_opening.specs.OpeningTable.Packets.{disconnect_row, disconnect_reason_row, is_ignored, waits_for_exchange}
+use Rattle.sshc_opening.specs.declared.error.Error.TheVariants.{InactivityTimeout}
+use Rattle.sshc_opening.specs.Row.{Row, Next, stays, opens, ends, refuses, refused, passed_over, with_part, broken_row}
+
+-- ---- what is said
+
+-- none of these is a packet
+abbrev pub NonePayload : List Record → Type 0
+NonePayload [] = Unit {0}
+NonePayload (said ∷ records) = (IsPayload said → ⊥) × NonePayload records
+
+-- the first exchange runs
+pub record IsFirst (s : OpeningState) : Type 0 where
+  pub exchanging : s.phase ≡ phases.Exchanging
+  pub runs : s.flag ≢ flags.Idle
+  pub fresh : s.closed ≡ false
+
+-- an exchange whose host key the gate accepts
+abbrev pub IsAccepted : Event → Told → Type 0
+IsAccepted (events.ExchangeDone x) told = told ≡ telling.Went
+IsAccepted event told = ⊥
+
+abbrev pub IsNoExchange : Event → Type 0
+IsNoExchange (events.ExchangeDone x) = ⊥
+IsNoExchange event = Unit {0}
+
+-- the session doesn't go on behind the first exchange, and where it goes on this was none
+abbrev pub FirstNext : Event → Next → Type 0
+FirstNext event (stays s) = IsFirst s × IsNoExchange event
+FirstNext event (opens s) = ⊥
+FirstNext event (ends e) = Unit {0}
+FirstNext event (refuses e) = Unit {0}
+
+abbrev pub StaysFirst : Event → Row → Type 0
+StaysFirst event row = NonePayload row.records × FirstNext event row.next
+
+-- ---- the law
+
+part_first : {A : Type 0} (event : Event) (read : Result (A × List ℕ) WireError) (on : A → List ℕ → Row) → ((x : A) (rest : List ℕ) → StaysFirst event (on x rest)) → StaysFirst event (with_part broken_row read on)
+part_first event (Ok x) on each = each x.0 x.1
+part_first event (Err e) on each = (tt, tt)
+
+reason_first : (event : Event) (reason : Option Disconnect) (rest : List ℕ) → StaysFirst event (disconnect_reason_row reason rest)
+reason_first event None rest = (tt, tt)
+reason_first event (Some reason) rest = part_first event (text_at rest) _ (λ message after. part_first event (text_at after) _ (λ language left. (tt, tt)))
+
+disconnect_first : (event : Event) (body : List ℕ) → StaysFirst event (disconnect_row body)
+unfolding disconnect_row
+disconnect_first event body = part_first event (number_at w32 body) _ (λ code rest. reason_first event (disconnect_of code) rest)
+
+cond_first : (event : Event) (b : Bool) (x y : Asking Row) → Always (StaysFirst event) x → (b ≡ false → Always (StaysFirst event) y) → Always (StaysFirst event) (if b then x else y)
+cond_first event true x y one other = one
+cond_first event false x y one other = other refl
+
+-- while the first exchange runs, a packet is passed over, or disconnects
+first_is : (phase : Phase) → phase ≡ phases.Exchanging → is_exchanging phase ≡ true
+first_is phase is = rw is refl
+
+numbered_first : (event : Event) (s : OpeningState) (len n : ℕ) (body : List ℕ) → IsFirst s → IsNoExchange event → Always (StaysFirst event) (numbered_row s len n body)
+unfolding numbered_row
+numbered_first event s len n body first none =
+    cond_first event (n == DISCONNECT) _ _ (disconnect_first event body) (λ no.
+    cond_first event (is_ignored n) _ _ (tt, (first, none)) (λ no.
+    cond_first event (is_exchanging s.phase) _ _ (tt, (first, none)) (λ no. let clash : true ≡ false = sym (first_is s.phase first.exchanging) ∙ no in absurd cc)))
+
+packet_first : (event : Event) (s : OpeningState) (packet : List ℕ) → IsFirst s → IsNoExchange event → Always (StaysFirst event) (payload_row s packet)
+unfolding payload_row
+packet_first event s [] first none = (tt, (first, none))
+packet_first event s (n ∷ body) first none = numbered_first event s (length body + 1) n body first none
+
+kexinit_first : (s : OpeningState) (flag : ExchangeFlag) → s.flag ≡ flag → IsFirst s → StaysFirst events.PeerKexinit (peer_kexinit_row_at flag s)
+kexinit_first s flags.Idle is first = absurd (first.runs is)
+kexinit_first s flags.Ours is first = (tt, (record { exchanging = first.exchanging; runs = λ same. absurd cc; fresh = first.fresh }, tt))
+kexinit_first s flags.Peer is first = (tt, (record { exchanging = first.exchanging; runs = λ same. absurd cc; fresh = first.fresh }, tt))
+
+exchange_first : (s : OpeningState) (x : ExchangeResult) (told : Told) (phase : Phase) → s.phase ≡ phase → IsFirst s → (told ≡ telling.Went → ⊥) → StaysFirst (events.ExchangeDone x) (exchange_row_in phase s x told)
+exchange_first s x telling.Went phases.Exchanging is first denied = absurd (denied refl)
+exchange_first s x telling.No phases.Exchanging is first denied = (tt, tt)
+exchange_first s x telling.NotAsked phases.Exchanging is first denied = (tt, tt)
+exchange_first s x told phase is first denied = let clash : phase ≡ phases.Exchanging = sym is ∙ first.exchanging in absurd cc
+
+-- no user's event may come while an exchange runs
+users_later : (s : OpeningState) (flag : ExchangeFlag) → s.flag ≡ flag → is_early_at flag sorts.User ≡ false → s.flag ≡ flags.Idle
+users_later s flags.Idle is early = is
+users_later s flags.Ours is early = let clash : true ≡ false = early in absurd cc
+users_later s flags.Peer is early = let clash : true ≡ false = early in absurd cc
+
+timer_first : (s : OpeningState) (inactive : Bool) → IsFirst s → StaysFirst events.InactivityTimer (if inactive then refused InactivityTimeout else passed_over s)
+timer_first s true first = (tt, tt)
+timer_first s false first = (tt, (first, tt))
+
+plain_first : (s : OpeningState) (event : Event) (told : Told) → IsFirst s → (IsAccepted event told → ⊥) → is_early_at s.flag (sort_of event) ≡ false → StaysFirst event (plain_row s event told)
+unfolding plain_row peer_kexinit_row exchange_done_row
+plain_first s events.PeerKexinit told first denied early = kexinit_first s s.flag refl first
+plain_first s (events.ExchangeDone x) told first denied early = exchange_first s x told s.phase refl first denied
+plain_first s events.TransportFailed told first denied early = (tt, tt)
+plain_first s events.InactivityTimer told first denied early = timer_first s s.settings.inactivity first
+plain_first s events.RekeyLimit told first denied early = (tt, (first, tt))
+plain_first s events.KeepaliveTimer told first denied early = (tt, (first, tt))
+plain_first s (events.Payload packet) told first denied early = (tt, (first, tt))
+plain_first s event told first denied early = absurd (first.runs (users_later s s.flag refl early))
+
+event_first : (s : OpeningState) (event : Event) (told : Told) → IsFirst s → (IsAccepted event told → ⊥) → is_early_at s.flag (sort_of event) ≡ false → Always (StaysFirst event) (event_row s event told (packet_in event))
+event_first s (events.Payload packet) told first denied early = packet_first (events.Payload packet) s packet first tt
+event_first s event told first denied early = plain_first s event told first denied early
+
+calm : (phase : Phase) → phase ≡ phases.Exchanging → is_awaiting phase ≡ false
+calm phase is = rw is refl
+
+turn_first : (s : OpeningState) (event : Event) (told : Told) (awaits : Bool) → is_awaiting s.phase ≡ awaits → IsFirst s → (IsAccepted event told → ⊥) → is_early awaits s.flag (sort_of event) ≡ false → Always (StaysFirst event) (turn_row awaits s event told)
+turn_first s event told true is first denied early = let clash : true ≡ false = sym is ∙ calm s.phase first.exchanging in absurd cc
+turn_first s event told false is first denied early = event_first s event told first denied early
+
+-- while the first exchange runs, no packet is written and the session doesn't go on, but by an exchange whose host key is accepted
+pub first_law : (s : OpeningState) (event : Event) (told : Told) → IsFirst s → (IsAccepted event told → ⊥) → Always (StaysFirst event) (open_row s event told)
+unfolding open_row
+first_law s event told first denied =
+    cond_first event (is_out_of_turn s event) _ _ (tt, tt) (λ turn. turn_first s event told (is_awaiting s.phase) refl first denied turn)
