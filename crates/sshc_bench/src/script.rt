@@ -1,6 +1,6 @@
 //! A login script with a long run of requests to authenticate, over memory.
 
-use sshc_auth::Ended;
+use sshc_opening::Ended;
 use sshc_run::{Config, RefusingSigner, RefusingVerifier, RunError, run_script};
 use sshc_wire::{MemSink, MemSource, NoMemory, put_u32};
 use std::alloc::Global;

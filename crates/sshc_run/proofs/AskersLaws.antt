@@ -7,7 +7,7 @@ use Rattle.sshc_key.specs.declared.signer.Asker.TheVariants.{Session, Agent}
 use Rattle.sshc_key.specs.Asking.{SignRequest, Answer, Asking, done, asks, call_of}
 use Rattle.sshc_run.specs.Askers.{same_asker, next_by, with_next, asked_by, events_by}
 use Rattle.sshc_run.specs.Machine.{unanswered_stop, Onward, goes_on, opened, stopped, TurnOf, Turns}
-use Rattle.sshc_run.specs.Script.{Frame, ScriptStop}
+use Rattle.sshc_script.specs.Script.{Frame, ScriptStop}
 use Rattle.sshc_run.specs.ScriptRun.{Run, after, run_on, asked_run, answers_of, events_run}
 
 same_self : (a : Asker) → same_asker a a ≡ true

@@ -3,9 +3,9 @@ use Rattle.std.proofs.Common.{◌≡◌, ◌⊎◌, inl, inr, ℕ, List, ◌++�
 use Rattle.sshc_wire.specs.Contents.{prepend}
 use Rattle.sshc_key.specs.Signers.{SignCall}
 use Rattle.sshc_key.specs.Asking.{Answer}
-use Rattle.sshc_auth.specs.declared.ended.Ended.{Ended}
-use Rattle.sshc_auth.specs.declared.opening.Settings.{Settings}
-use Rattle.sshc_auth.specs.OpeningState.{start}
+use Rattle.sshc_opening.specs.declared.ended.Ended.{Ended}
+use Rattle.sshc_opening.specs.declared.opening.Settings.{Settings}
+use Rattle.sshc_opening.specs.OpeningState.{start}
 use Rattle.sshc_run.specs.declared.error.RunError.{RunError}
 use Rattle.sshc_run.specs.declared.error.RunError.TheVariants as errors
 use Rattle.sshc_run.specs.Causes.{IsStopCause, IsCaused}
@@ -13,7 +13,7 @@ use Rattle.sshc_run.specs.Comes.{CausedBy}
 use Rattle.sshc_run.specs.KnownHosts.{Hosts}
 use Rattle.sshc_run.specs.Machine.{RunStop, unanswered_stop}
 use Rattle.sshc_run.specs.Outcome.{Streams, stop_as, IsExact, Ends}
-use Rattle.sshc_run.specs.Script.{taken, stop_of}
+use Rattle.sshc_script.specs.Script.{taken, stop_of}
 use Rattle.sshc_run.specs.ScriptRun.{Run, script_run, answers_of, answers_since}
 use Rattle.sshc_run.specs.Turn.{turn, opening_machine}
 use Rattle.sshc_run.proofs.Caused.{turn_shows}

@@ -6,13 +6,13 @@ use Rattle.sshc_wire.specs.Contents.{prepend, append, WroteFront, append-nothing
 use Rattle.sshc_wire.specs.declared.record.Record.{Record}
 use Rattle.sshc_key.specs.Signers.{SignCall}
 use Rattle.sshc_key.specs.Asking.{Answer}
-use Rattle.sshc_auth.specs.declared.ended.Ended.{Ended}
+use Rattle.sshc_opening.specs.declared.ended.Ended.{Ended}
 use Rattle.sshc_run.specs.declared.error.RunError.{RunError}
 use Rattle.sshc_run.specs.Along.{Along, IsAlong}
 use Rattle.sshc_run.specs.Machine.{RunStop}
 use Rattle.sshc_run.specs.Outcome.{Streams, Moved, Ending, told, cut, unread, ending_of, IsCut, IsExact, EndsAs, HoldsAtMost, Ends}
 use Rattle.sshc_run.specs.RecordLines.{line, lines}
-use Rattle.sshc_run.specs.Script.{events}
+use Rattle.sshc_script.specs.Script.{events}
 use Rattle.sshc_run.specs.ScriptRun.{Run, Spot, Table, after, answers_of}
 use Rattle.sshc_run.specs.Turning.{BringsOn}
 use Rattle.sshc_run.proofs.Answered.{answers_two}

@@ -6,7 +6,7 @@ use Rattle.sshc_key.specs.Asking.{Answer, Asking, done, asks, call_of, asked_on}
 use Rattle.sshc_run.specs.Firsts.{IsFront}
 use Rattle.sshc_run.specs.Machine.{RunStop, unanswered_stop, Onward, goes_on, opened, stopped, TurnOf, Turns}
 use Rattle.sshc_run.specs.OpeningRun.{OpeningRun, OpeningStop, opens_before, stops_with, through, opening, by_turn, Continues, Prefixed}
-use Rattle.sshc_run.specs.Script.{Frame, ScriptStop}
+use Rattle.sshc_script.specs.Script.{Frame, ScriptStop}
 use Rattle.sshc_run.specs.ScriptRun.{RunOf, Run, events_run, run_on, asked_run, after, stopped_with}
 
 -- what asks the signer and is mapped

@@ -1,149 +1,137 @@
 -- No payload before an accepted exchange.
 use Rattle.std.proofs.Common.{◌≡◌, ℕ, Bool, true, false, List, [], ◌∷◌, ◌++◌, Option, Some, None, Result, Ok, Err, refl, ap, sym, ◌∙◌, subst}
+use Rattle.std.specs.Prelude.{if◌then◌else◌}
 use Rattle.sshc_wire.specs.declared.record.Record.{Record}
-use Rattle.sshc_wire.specs.declared.ticket.Ticket.{Ticket}
 use Rattle.sshc_key.specs.declared.identity.PublicKeyOrCertificate.{PublicKeyOrCertificate}
-use Rattle.sshc_key.specs.Asking.{Answer, Asking, Always}
-use Rattle.sshc_key.specs.AskingLaws.{always_also}
-use Rattle.sshc_auth.specs.HostKey.{host_key}
-use Rattle.sshc_auth.specs.declared.event.Event.{Event}
-use Rattle.sshc_auth.specs.declared.event.Event.TheVariants as events
-use Rattle.sshc_auth.specs.declared.event.ExchangeFlag.{ExchangeFlag}
-use Rattle.sshc_auth.specs.declared.event.ExchangeFlag.TheVariants as flags
-use Rattle.sshc_auth.specs.declared.event.ExchangeResult.{ExchangeResult}
-use Rattle.sshc_auth.specs.declared.opening.Phase.{Phase}
-use Rattle.sshc_auth.specs.declared.opening.Phase.TheVariants as phases
-use Rattle.sshc_auth.specs.declared.opening.Settings.{Settings}
-use Rattle.sshc_auth.specs.declared.opening.Stored.{Stored}
-use Rattle.sshc_auth.specs.OpeningState.{OpeningState}
-use Rattle.sshc_auth.specs.OpeningTable.{plain_row, asked_of, key_asked}
-use Rattle.sshc_run.specs.declared.error.EventError.{EventError}
-use Rattle.sshc_run.specs.declared.error.EventError.TheVariants as reads
-use Rattle.sshc_run.specs.declared.event_kind.EventKind.{EventKind}
-use Rattle.sshc_run.specs.declared.event_kind.EventKind.TheVariants as kinds
+use Rattle.sshc_key.specs.Asking.{Answer, Asking, done, asked_on, Always}
+use Rattle.sshc_key.specs.AskingLaws.{always_on}
+use Rattle.sshc_event.specs.HostKey.{host_key}
+use Rattle.sshc_event.specs.declared.event.Event.{Event}
+use Rattle.sshc_event.specs.declared.event.Event.TheVariants as events
+use Rattle.sshc_transport.specs.declared.exchange.ExchangeResult.{ExchangeResult}
+use Rattle.sshc_opening.specs.AskedLaws.{AsksFor, asks_for, IsKeyAtMost, first_at_most}
+use Rattle.sshc_opening.specs.GateLaw.{NonePayload, IsFirst, IsAccepted, IsNoExchange, FirstNext, StaysFirst, first_law}
+use Rattle.sshc_opening.specs.declared.step.Asks.{Asks}
+use Rattle.sshc_opening.specs.declared.step.Asks.TheVariants as wants
+use Rattle.sshc_opening.specs.declared.step.Told.{Told}
+use Rattle.sshc_opening.specs.declared.step.Told.TheVariants as telling
+use Rattle.sshc_opening.specs.OpeningState.{OpeningState}
+use Rattle.sshc_opening.specs.OpeningTable.{open_row, asked_of}
+use Rattle.sshc_opening.specs.Row.{Row, Next, stays, opens, ends as ends_with, refuses}
+use Rattle.sshc_script.specs.declared.error.EventError.{EventError}
+use Rattle.sshc_script.specs.declared.error.EventError.TheVariants as reads
+use Rattle.sshc_script.specs.declared.event_kind.EventKind.{EventKind}
+use Rattle.sshc_script.specs.declared.event_kind.EventKind.TheVariants as kinds
+use Rattle.sshc_script.specs.EventFields.{kind_of}
+use Rattle.sshc_script.specs.EventReading.{event_of}
+use Rattle.sshc_script.specs.KindLaw.{ReadAs, read_as}
+use Rattle.sshc_script.specs.Script.{Frame, ScriptStop}
 use Rattle.sshc_run.specs.declared.known_hosts_handler.HandlerError.{HandlerError}
-use Rattle.sshc_run.specs.Fields.{exchange_done_of}
-use Rattle.sshc_run.specs.Headline.{said_of_key, said_by, said_at, said_of_first, is_yes, is_accepted, NonePayload}
+use Rattle.sshc_run.specs.Headline.{said_of_key, said_by, said_at, said_of_first, is_yes, is_accepted}
 use Rattle.sshc_run.specs.KnownHosts.{Hosts, verdict}
 use Rattle.sshc_run.specs.Comes.{GoesOnIn}
-use Rattle.sshc_run.specs.Machine.{Onward, goes_on, opened, stopped}
-use Rattle.sshc_run.specs.Script.{Frame, ScriptStop}
+use Rattle.sshc_run.specs.Machine.{goes_on, opened, stopped}
 use Rattle.sshc_run.specs.ScriptRun.{events_run}
-use Rattle.sshc_run.specs.Turn.{Turn, turn, judged_turn, asked_turn, event_turn}
-use Rattle.sshc_run.proofs.Caused.{IsExchange, OnEvent, exchange_on}
+use Rattle.sshc_run.specs.Turn.{Turn, turn, next_turn, row_turn, judged_turn, asked_turn, event_turn, built_turn}
+use Rattle.sshc_run.specs.Unbuilt.{is_built}
 use Rattle.sshc_run.proofs.OverRuns.{records_hold}
 
 none_append : (a b : List Record) → NonePayload a → NonePayload b → NonePayload (a ++ b)
 none_append [] b p q = q
 none_append (said ∷ a) b p q = (p.0, none_append a b p.1 q)
 
--- the opening before the first exchange
-abbrev before : Settings → ExchangeFlag → List ℕ → Bool → Option Stored → Ticket → OpeningState
-before settings flag id requested stored ticket =
-    record { settings = settings; phase = phases.Exchanging; flag = flag; session_id = id; requested = requested; stored = stored; ticket = ticket; closed = false }
+-- no payload is written, and the run stops or goes on before the first exchange
+abbrev StaysOut : (OpeningState → Type 0) → Asking Turn → Type 0
+StaysOut Holds asking = Always (λ (t : Turn). NonePayload t.records × GoesOnIn Holds t.state t.next) asking
 
--- a turn that writes no payload, and stops the run or stays before the exchange
-abbrev Next : Onward → OpeningState → Bool → Type 0
-Next goes_on s later = (s.phase ≡ phases.Exchanging) × (s.closed ≡ false) × (later ≡ false)
-Next opened s later = ⊥
-Next (stopped x) s later = Unit {0}
+-- ---- one event
 
--- the same of what follows, where the run goes on
-abbrev StaysOut : Bool → Asking Turn → Type 0
-StaysOut later asking = Always (λ (t : Turn). NonePayload t.records × Next t.next t.state later) asking
+module _ (hosts : Hosts) (s : OpeningState) (frame : Frame) (frames : List Frame) (first : IsFirst s) (event : Event) (read : event_of frame.kind frame.fields ≡ Ok event)
+    (none : is_accepted hosts (frame ∷ frames) ≡ false) where
+  -- before the first exchange, where none of the events behind this one holds one whose host key is accepted first
+  abbrev Behind : OpeningState → Type 0
+  Behind to = IsFirst to × (is_accepted hosts frames ≡ false)
 
--- ---- an exchange that isn't accepted
+  -- the event has the frame's kind
+  kind_is : kind_of event ≡ frame.kind
+  kind_is = subst (λ (r : Result Event EventError). ReadAs frame.kind r) read (read_as frame.kind frame.fields)
 
-judged_out : (place : ℕ) (settings : Settings) (id : List ℕ) (requested : Bool) (stored : Option Stored) (ticket : Ticket) (x : ExchangeResult) (later : Bool) (said : Result Bool HandlerError) → is_yes (Some said) ≡ false →
-    StaysOut later (judged_turn place (before settings flags.Peer id requested stored ticket) (events.ExchangeDone x) said)
-unfolding plain_row
-judged_out place settings id requested stored ticket x later (Ok true) h = absurd cc
-judged_out place settings id requested stored ticket x later (Ok false) h = (tt, tt)
-judged_out place settings id requested stored ticket x later (Err e) h = (tt, tt)
+  -- behind an event that is no exchange the same is said
+  said_later : (kind : EventKind) (e : Event) → kind_of e ≡ kind → IsNoExchange e → (said : Option (Result Bool HandlerError)) → said_at kind hosts frame.fields said ≡ said
+  said_later kinds.ExchangeDone (events.ExchangeDone x) is never said = absurd never
+  said_later kinds.ExchangeDone e is never said = absurd cc
+  said_later kind e is never said = refl
 
-key_out : (hosts : Hosts) (place : ℕ) (settings : Settings) (id : List ℕ) (requested : Bool) (stored : Option Stored) (ticket : Ticket) (x : ExchangeResult) (later : Bool) (key : Option PublicKeyOrCertificate) → is_yes (Some (said_of_key hosts key)) ≡ false →
-    StaysOut later (asked_turn hosts place (before settings flags.Peer id requested stored ticket) (events.ExchangeDone x) (key_asked key))
-unfolding plain_row
-key_out hosts place settings id requested stored ticket x later None h = (tt, tt)
-key_out hosts place settings id requested stored ticket x later (Some key) h = judged_out place settings id requested stored ticket x later (verdict hosts key) h
+  none_later : IsNoExchange event → is_accepted hosts frames ≡ false
+  unfolding said_of_first
+  none_later never = sym (ap is_yes (said_later frame.kind event kind_is never (said_of_first hosts frames))) ∙ none
 
--- an event that was read while the peer's exchange runs, and isn't an exchange that is accepted
-event_out : (hosts : Hosts) (place : ℕ) (settings : Settings) (id : List ℕ) (requested : Bool) (stored : Option Stored) (ticket : Ticket) (later : Bool) (read : Result Event EventError) → OnEvent IsExchange read → is_yes (said_by hosts read) ≡ false →
-    StaysOut later (event_turn hosts place (before settings flags.Peer id requested stored ticket) read)
-unfolding plain_row asked_of
-event_out hosts place settings id requested stored ticket later (Ok events.PeerKexinit) on h = absurd on
-event_out hosts place settings id requested stored ticket later (Ok (events.ExchangeDone x)) on h = key_out hosts place settings id requested stored ticket x later (host_key x.key) h
-event_out hosts place settings id requested stored ticket later (Ok (events.Payload packet)) on h = absurd on
-event_out hosts place settings id requested stored ticket later (Ok (events.Authenticate t user method)) on h = absurd on
-event_out hosts place settings id requested stored ticket later (Err reads.NoMemory) on h = (tt, tt)
-event_out hosts place settings id requested stored ticket later (Err reads.Bad) on h = (tt, tt)
-event_out hosts place settings id requested stored ticket later (Err reads.Unbuilt) on h = (tt, tt)
+  -- the known hosts text says no to an exchange that is this event
+  said_now : (kind : EventKind) (x : ExchangeResult) → kind_of (events.ExchangeDone x) ≡ kind → (said : Option (Result Bool HandlerError)) → said_at kind hosts frame.fields said ≡ said_by hosts (event_of kind frame.fields)
+  said_now kinds.ExchangeDone x is said = refl
+  said_now kind x is said = absurd cc
 
--- ---- by the kind
+  said_of_exchange : (x : ExchangeResult) → event ≡ events.ExchangeDone x → is_yes (Some (said_of_key hosts (host_key x.key))) ≡ false
+  unfolding said_of_first
+  said_of_exchange x is =
+      let kind : kind_of (events.ExchangeDone x) ≡ frame.kind = ap kind_of (sym is) ∙ kind_is in
+      sym (ap is_yes (said_now frame.kind x kind (said_of_first hosts frames) ∙ ap (said_by hosts) (read ∙ ap Ok is))) ∙ none
 
-kexinit_out : (hosts : Hosts) (place moment : ℕ) (settings : Settings) (flag : ExchangeFlag) (id : List ℕ) (requested : Bool) (stored : Option Stored) (ticket : Ticket) (fields : List ℕ) (later : Bool) → later ≡ false →
-    StaysOut later (turn hosts (before settings flag id requested stored ticket) (record { place = place; moment = moment; kind = kinds.PeerKexinit; fields = fields }))
-unfolding turn plain_row asked_of
-kexinit_out hosts place moment settings flags.Idle id requested stored ticket [] later h = (((λ never. never), tt), (refl, refl, h))
-kexinit_out hosts place moment settings flags.Idle id requested stored ticket (b ∷ rest) later h = (tt, tt)
-kexinit_out hosts place moment settings flags.Ours id requested stored ticket [] later h = (tt, (refl, refl, h))
-kexinit_out hosts place moment settings flags.Ours id requested stored ticket (b ∷ rest) later h = (tt, tt)
-kexinit_out hosts place moment settings flags.Peer id requested stored ticket fields later h = (tt, tt)
+  -- ---- rows
 
-exchange_out : (hosts : Hosts) (place moment : ℕ) (settings : Settings) (flag : ExchangeFlag) (id : List ℕ) (requested : Bool) (stored : Option Stored) (ticket : Ticket) (fields : List ℕ) (later : Bool) →
-    is_yes (said_by hosts (exchange_done_of fields)) ≡ false →
-    StaysOut later (turn hosts (before settings flag id requested stored ticket) (record { place = place; moment = moment; kind = kinds.ExchangeDone; fields = fields }))
-unfolding turn
-exchange_out hosts place moment settings flags.Idle id requested stored ticket fields later h = (tt, tt)
-exchange_out hosts place moment settings flags.Ours id requested stored ticket fields later h = (tt, tt)
-exchange_out hosts place moment settings flags.Peer id requested stored ticket fields later h = event_out hosts place settings id requested stored ticket later (exchange_done_of fields) (exchange_on fields) h
+  next_out : (row : Row) (next : Next) → NonePayload row.records → FirstNext event next →
+      NonePayload (next_turn frame.place s row next).records × GoesOnIn Behind (next_turn frame.place s row next).state (next_turn frame.place s row next).next
+  next_out row (stays to) payloads goes = (payloads, (goes.0, none_later goes.1))
+  next_out row (opens to) payloads goes = absurd goes
+  next_out row (ends_with e) payloads goes = (payloads, tt)
+  next_out row (refuses e) payloads goes = (payloads, tt)
 
-authenticate_out : (hosts : Hosts) (place moment : ℕ) (settings : Settings) (flag : ExchangeFlag) (id : List ℕ) (requested : Bool) (stored : Option Stored) (ticket : Ticket) (fields : List ℕ) (later : Bool) → later ≡ false →
-    StaysOut later (turn hosts (before settings flag id requested stored ticket) (record { place = place; moment = moment; kind = kinds.Authenticate; fields = fields }))
-unfolding turn
-authenticate_out hosts place moment settings flags.Idle id requested stored ticket fields later h = (tt, tt)
-authenticate_out hosts place moment settings flags.Ours id requested stored ticket fields later h = (tt, tt)
-authenticate_out hosts place moment settings flags.Peer id requested stored ticket fields later h = (tt, tt)
+  -- the rest of a row that isn't an accepted exchange's
+  told_out : (told : Told) → (IsAccepted event told → ⊥) → StaysOut Behind (asked_on (row_turn frame.place s) (open_row s event told))
+  told_out told denied =
+      always_on (StaysFirst event) (λ (t : Turn). NonePayload t.records × GoesOnIn Behind t.state t.next) (row_turn frame.place s) (open_row s event told)
+      (λ row stays. next_out row row.next stays.0 stays.1) (first_law s event told first denied)
 
--- an event of each kind that isn't an exchange that is accepted
-kind_out : (hosts : Hosts) (place moment : ℕ) (settings : Settings) (flag : ExchangeFlag) (id : List ℕ) (requested : Bool) (stored : Option Stored) (ticket : Ticket) (kind : EventKind) (fields : List ℕ) (said : Option (Result Bool HandlerError)) →
-    is_yes (said_at kind hosts fields said) ≡ false → StaysOut (is_yes said) (turn hosts (before settings flag id requested stored ticket) (record { place = place; moment = moment; kind = kind; fields = fields }))
-unfolding turn
-kind_out hosts place moment settings flag id requested stored ticket kinds.PeerKexinit fields said h = kexinit_out hosts place moment settings flag id requested stored ticket fields (is_yes said) h
-kind_out hosts place moment settings flag id requested stored ticket kinds.ExchangeDone fields said h = exchange_out hosts place moment settings flag id requested stored ticket fields (is_yes said) h
-kind_out hosts place moment settings flag id requested stored ticket kinds.Payload fields said h = (tt, tt)
-kind_out hosts place moment settings flag id requested stored ticket kinds.Authenticate fields said h = authenticate_out hosts place moment settings flag id requested stored ticket fields (is_yes said) h
-kind_out hosts place moment settings flag id requested stored ticket kinds.AgentEvent fields said h = (tt, tt)
-kind_out hosts place moment settings flag id requested stored ticket kinds.Later fields said h = (tt, tt)
+  no_yes : (e : Event) (told : Told) → (told ≡ telling.Went → ⊥) → IsAccepted e told → ⊥
+  no_yes (events.ExchangeDone x) told denied is = denied is
+  no_yes e told denied is = is
 
--- ---- the whole opening run
+  judged_out : (key : PublicKeyOrCertificate) (said : Result Bool HandlerError) → AsksFor s event key → verdict hosts key ≡ said → StaysOut Behind (judged_turn frame.place s event said)
+  judged_out key (Ok true) for is =
+      let denied : is_yes (Some (said_of_key hosts (host_key for.exchange.key))) ≡ false = said_of_exchange for.exchange for.is in
+      let yes_said : is_yes (Some (said_of_key hosts (host_key for.exchange.key))) ≡ true = ap (λ (o : Option PublicKeyOrCertificate). is_yes (Some (said_of_key hosts o))) for.has ∙ ap (λ (r : Result Bool HandlerError). is_yes (Some r)) is in
+      let clash : true ≡ false = sym yes_said ∙ denied in absurd cc
+  judged_out key (Ok false) for is = told_out telling.No (no_yes event telling.No (λ same. absurd cc))
+  judged_out key (Err e) for is = (tt, tt)
 
-by_parts : (s : OpeningState) → s.phase ≡ phases.Exchanging → s.closed ≡ false → s ≡ before s.settings s.flag s.session_id s.requested s.stored s.ticket
-by_parts s p q = ap (λ (x : Phase). record s { phase = x }) p ∙ ap (λ (b : Bool). record s { phase = phases.Exchanging; closed = b }) q
+  asked_out : (asks : Asks) → asked_of s event ≡ asks → IsKeyAtMost asks → StaysOut Behind (asked_turn hosts frame.place s event asks)
+  asked_out wants.Nothing asked most = told_out telling.NotAsked (no_yes event telling.NotAsked (λ same. absurd cc))
+  asked_out (wants.HostKey key) asked most = judged_out key (verdict hosts key) (asks_for s event key asked) refl
+  asked_out wants.Exchange asked most = absurd most
+  asked_out (wants.Banner text) asked most = absurd most
 
-frame_out : (hosts : Hosts) (s : OpeningState) (frame : Frame) (said : Option (Result Bool HandlerError)) → s.phase ≡ phases.Exchanging → s.closed ≡ false → is_yes (said_at frame.kind hosts frame.fields said) ≡ false →
-    StaysOut (is_yes said) (turn hosts s frame)
-frame_out hosts s frame said p q h =
-    subst (λ (x : OpeningState). StaysOut (is_yes said) (turn hosts x frame)) (sym (by_parts s p q))
-    (kind_out hosts frame.place frame.moment s.settings s.flag s.session_id s.requested s.stored s.ticket frame.kind frame.fields said h)
+-- ---- every turn
 
 -- before the first exchange, where none of the events holds one whose host key is accepted first
 abbrev pub IsBefore : Hosts → OpeningState → List Frame → Type 0
-IsBefore hosts s frames = (s.phase ≡ phases.Exchanging) × (s.closed ≡ false) × (is_accepted hosts frames ≡ false)
+IsBefore hosts s frames = IsFirst s × (is_accepted hosts frames ≡ false)
 
-next_out : (hosts : Hosts) (frames : List Frame) (s : OpeningState) (next : Onward) → Next next s (is_accepted hosts frames) → GoesOnIn (λ (x : OpeningState). IsBefore hosts x frames) s next
-next_out hosts frames s goes_on out = out
-next_out hosts frames s opened out = absurd out
-next_out hosts frames s (stopped x) out = tt
+read_out : (hosts : Hosts) (s : OpeningState) (frame : Frame) (frames : List Frame) (read : Result Event EventError) → event_of frame.kind frame.fields ≡ read → IsBefore hosts s (frame ∷ frames) →
+    StaysOut (λ (to : OpeningState). IsBefore hosts to frames) (event_turn hosts frame.place s read)
+read_out hosts s frame frames (Ok event) is (first, none) = asked_out hosts s frame frames first event is none (asked_of s event) refl (first_at_most s event first.exchanging)
+read_out hosts s frame frames (Err reads.Bad) is before = (tt, tt)
+read_out hosts s frame frames (Err reads.NoMemory) is before = (tt, tt)
 
-turn_out : (hosts : Hosts) (s : OpeningState) (frame : Frame) (frames : List Frame) → IsBefore hosts s (frame ∷ frames) → Always (λ (t : Turn). NonePayload t.records × GoesOnIn (λ (x : OpeningState). IsBefore hosts x frames) t.state t.next) (turn hosts s frame)
-unfolding said_of_first
-turn_out hosts s frame frames (phase, fresh, none) =
-    always_also (λ (t : Turn). NonePayload t.records × Next t.next t.state (is_accepted hosts frames)) _ (turn hosts s frame) (λ t out. (out.0, next_out hosts frames t.state t.next out.1))
-    (frame_out hosts s frame (said_of_first hosts frames) phase fresh none)
+built_out : (hosts : Hosts) (s : OpeningState) (frame : Frame) (frames : List Frame) (built : Bool) → IsBefore hosts s (frame ∷ frames) → StaysOut (λ (to : OpeningState). IsBefore hosts to frames) (built_turn built hosts s frame)
+built_out hosts s frame frames true before = read_out hosts s frame frames (event_of frame.kind frame.fields) refl before
+built_out hosts s frame frames false before = (tt, tt)
+
+turn_out : (hosts : Hosts) (s : OpeningState) (frame : Frame) (frames : List Frame) → IsBefore hosts s (frame ∷ frames) → StaysOut (λ (to : OpeningState). IsBefore hosts to frames) (turn hosts s frame)
+unfolding turn
+turn_out hosts s frame frames before = built_out hosts s frame frames (is_built frame.kind s) before
 
 -- where the events hold no exchange whose host key is accepted first, no payload is written
-pub gated : (hosts : Hosts) (frames : List Frame) (s : OpeningState) (st : ScriptStop) (answers : List Answer) → s.phase ≡ phases.Exchanging → s.closed ≡ false → is_accepted hosts frames ≡ false →
+pub gated : (hosts : Hosts) (frames : List Frame) (s : OpeningState) (st : ScriptStop) (answers : List Answer) → IsFirst s → is_accepted hosts frames ≡ false →
     NonePayload (events_run (turn hosts) s frames st answers).records
-gated hosts frames s st answers phase fresh none =
-    records_hold (turn hosts) (IsBefore hosts) NonePayload tt none_append (λ x frame rest is. turn_out hosts x frame rest is) frames s st answers (phase, fresh, none)
+gated hosts frames s st answers first none =
+    records_hold (turn hosts) (IsBefore hosts) NonePayload tt none_append (λ x frame rest is. turn_out hosts x frame rest is) frames s st answers (first, none)

@@ -8,21 +8,21 @@ use Rattle.sshc_wire.specs.declared.record.Record.{Record}
 use Rattle.sshc_key.specs.Signers.{SignCall}
 use Rattle.sshc_key.specs.Asking.{Answer, Makes, MakesFirst}
 use Rattle.sshc_key.specs.AskingLaws.{always_makes, none_first, all_first}
-use Rattle.sshc_auth.specs.declared.ended.Ended.{Ended}
-use Rattle.sshc_auth.specs.declared.ended.Ended.TheVariants as ends
+use Rattle.sshc_opening.specs.declared.ended.Ended.{Ended}
+use Rattle.sshc_opening.specs.declared.ended.Ended.TheVariants as ends
 use Rattle.sshc_run.specs.declared.error.RunError.{RunError}
 use Rattle.sshc_run.specs.declared.error.RunError.TheVariants as errors
-use Rattle.sshc_run.specs.declared.script.NextError.{NextError}
-use Rattle.sshc_run.specs.declared.script.NextError.TheVariants as nexts
+use Rattle.sshc_script.specs.declared.error.NextError.{NextError}
+use Rattle.sshc_script.specs.declared.error.NextError.TheVariants as nexts
 use Rattle.sshc_run.specs.Machine.{Onward, goes_on, opened, stopped, RunStop, ended, refused, unanswered_stop, TurnOf, Turns, stop_next, IsNoEnd, NeverAtEnd}
 use Rattle.sshc_run.specs.Outcome.{Streams, Ending, told, cut, unread, ending_of, stop_as, IsCut, IsExact, EndsAs, HoldsAtMost, Ends}
-use Rattle.sshc_run.specs.Reading.{IsNoEvent, IsOneAtMost, IsBad, IsWhole, Gave, ReadFor, NextGives}
+use Rattle.sshc_script.specs.Reading.{IsNoEvent, IsOneAtMost, IsBad, IsWhole, Gave, ReadFor, NextGives}
 use Rattle.sshc_run.specs.RecordLines.{line, lines}
-use Rattle.sshc_run.specs.Script.{Head, Front, End, Bad, Whole, front, frame_at, size_of, stop_at_most, events}
+use Rattle.sshc_script.specs.Script.{Head, Front, End, Bad, Whole, front, frame_at, size_of, stop_at_most, events}
 use Rattle.sshc_run.specs.ScriptRun.{Run, Spot, spot_after, run, run_on, at_end, after, stopped_with, asked_run, answers_of}
 use Rattle.sshc_run.specs.Turning.{StopsBy, CutBy, TakeAs, TakeGives, BringsOn, TurnGives, LimitGives}
 use Rattle.sshc_run.proofs.Answered.{asked_made, asked_first}
-use Rattle.sshc_run.proofs.Fronts.{none_more, front_short}
+use Rattle.sshc_script.specs.FrontLaws.{none_more, front_short}
 use Rattle.sshc_run.proofs.Longer.{front_more}
 use Rattle.sshc_run.proofs.Lines.{wrote_nothing}
 

@@ -6,7 +6,7 @@ use Rattle.sshc_key.specs.Signers.{SignCall}
 use Rattle.sshc_key.specs.Asking.{Answer, Asking, done, asks, call_of}
 use Rattle.sshc_run.specs.Machine.{unanswered_stop, Onward, goes_on, opened, stopped, TurnOf, Turns}
 use Rattle.sshc_run.specs.OpeningRun.{OpeningRun, OpeningStop, opens_before, stops_with, through, opening, by_turn, Concluded}
-use Rattle.sshc_run.specs.Script.{Frame, Front, End, Bad, Whole, front, frame_at, ScriptStop, events, stop}
+use Rattle.sshc_script.specs.Script.{Frame, Front, End, Bad, Whole, front, frame_at, ScriptStop, events, stop}
 use Rattle.sshc_run.specs.ScriptRun.{Run, Spot, spot_after, run, events_run, run_on, asked_run, after}
 use Rattle.sshc_run.proofs.Answered.{asked_same}
 

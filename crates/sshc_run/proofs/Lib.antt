@@ -1,5 +1,4 @@
 -- Facts that the answers cite.
-pub mod Fronts
 pub mod Lines
 pub mod Answered
 pub mod Taken
@@ -15,12 +14,12 @@ pub mod Products
 pub mod ProductRuns
 pub mod ProductTurns
 pub mod OpeningFirsts
+pub mod SessionAsks
 pub mod SessionPart
 pub mod Through
 pub mod AskersLaws
 pub mod Gated
 pub mod Promises
-pub mod Unasked
 pub mod CausedRuns
 pub mod WordLists
 pub mod Longer

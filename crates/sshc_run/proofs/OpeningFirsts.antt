@@ -6,8 +6,8 @@ use Rattle.sshc_wire.specs.Contents.{prepend}
 use Rattle.sshc_wire.specs.Faults.{Rose}
 use Rattle.sshc_wire.specs.declared.record.Record.{Record}
 use Rattle.sshc_key.specs.Signers.{SignCall}
-use Rattle.sshc_auth.specs.declared.ended.Ended.{Ended}
-use Rattle.sshc_auth.specs.declared.ended.Ended.TheVariants.{ScriptEnd}
+use Rattle.sshc_opening.specs.declared.ended.Ended.{Ended}
+use Rattle.sshc_opening.specs.declared.ended.Ended.TheVariants.{ScriptEnd}
 use Rattle.sshc_key.specs.Asking.{Answer, Asking, done, asks}
 use Rattle.sshc_key.specs.Signers.{since}
 use Rattle.sshc_run.specs.declared.error.RunError.{RunError}
@@ -18,7 +18,7 @@ use Rattle.sshc_run.specs.OpeningFirst.{opening_of, BeginsAs, ConcludesAs, IsOpe
 use Rattle.sshc_run.specs.OpeningRun.{OpeningRun, OpeningStop, opens_before, stops_with, through, Continues, Prefixed}
 use Rattle.sshc_run.specs.Outcome.{Streams, stop_as, IsExact, EndsBy, Ends}
 use Rattle.sshc_run.specs.Part.{Own, own_events, own_records, own_calls, own_answers, HasPart, StopsOthers, StoppedByOther, StopsElse, IsWholePart, PartOf}
-use Rattle.sshc_run.specs.Script.{Frame, ScriptStop, whole, bad, more as goes_further, taken, stop_of}
+use Rattle.sshc_script.specs.Script.{Frame, ScriptStop, whole, bad, more as goes_further, taken, stop_of}
 use Rattle.sshc_run.specs.ScriptRun.{Run, at_end, at_first, run, events_run, script_run, run_on, asked_run, answers_of, answers_since}
 use Rattle.sshc_run.proofs.Answered.{answers_two}
 use Rattle.sshc_run.proofs.Continued.{prefixed}

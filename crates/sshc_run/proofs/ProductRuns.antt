@@ -3,17 +3,18 @@ use Rattle.std.proofs.Common.{◌≡◌, ℕ, Bool, true, false, List, [], ◌�
 use Rattle.sshc_wire.specs.Faults.{Rose}
 use Rattle.sshc_wire.specs.Records.{IsPayload}
 use Rattle.sshc_wire.specs.declared.record.Record.{Record}
-use Rattle.sshc_auth.specs.declared.ended.Ended.{Ended}
+use Rattle.sshc_opening.specs.declared.ended.Ended.{Ended}
 use Rattle.sshc_key.specs.Asking.{Answer, Always}
 use Rattle.sshc_key.specs.Signers.{since}
 use Rattle.sshc_run.specs.declared.error.RunError.{RunError}
 use Rattle.sshc_run.specs.declared.error.RunError.TheVariants as errors
-use Rattle.sshc_run.specs.declared.event_kind.EventKind.{EventKind}
-use Rattle.sshc_run.specs.declared.event_kind.EventKind.TheVariants as kinds
+use Rattle.sshc_script.specs.declared.event_kind.EventKind.{EventKind}
+use Rattle.sshc_script.specs.declared.event_kind.EventKind.TheVariants as kinds
 use Rattle.sshc_run.specs.declared.known_hosts_handler.HandlerError.{HandlerError}
 use Rattle.sshc_run.specs.Comes.{StopsFor}
 use Rattle.sshc_run.specs.Firsts.{IsFront}
-use Rattle.sshc_run.specs.Headline.{NonePayload, said_at, said_of_first, is_yes, is_accepted}
+use Rattle.sshc_opening.specs.GateLaw.{NonePayload}
+use Rattle.sshc_run.specs.Headline.{said_at, said_of_first, is_yes, is_accepted}
 use Rattle.sshc_run.specs.KnownHosts.{Hosts}
 use Rattle.sshc_run.specs.Machine.{RunStop, TurnOf, Turns, Machine}
 use Rattle.sshc_run.specs.OpeningFirst.{IsOpeningFirst, IsOpeningDone, IsOpeningComplete}
@@ -21,7 +22,7 @@ use Rattle.sshc_run.specs.OpeningRun.{Continues}
 use Rattle.sshc_run.specs.Outcome.{Streams, Ends}
 use Rattle.sshc_run.specs.Part.{Own, own_events, own_records, own_answers, HasPart, StopsOthers, StopsElse, PartOf}
 use Rattle.sshc_run.specs.Product.{both_machine, Apart}
-use Rattle.sshc_run.specs.Script.{Frame, ScriptStop}
+use Rattle.sshc_script.specs.Script.{Frame, ScriptStop}
 use Rattle.sshc_run.specs.ScriptRun.{Run, events_run, script_run}
 use Rattle.sshc_run.proofs.OpeningFirsts.{EndsNone, opening_first_of, opening_done_of, opening_complete_of}
 use Rattle.sshc_run.proofs.Parted.{own_first, other_first, parted}
@@ -75,12 +76,8 @@ module _ (own : Own) (payloads : (said : Record) → IsPayload said → own.said
 -- ---- the first exchange among the part's own events
 
 not_exchange : (kind : EventKind) (hosts : Hosts) (fields : List ℕ) (later : Option (Result Bool HandlerError)) → (kind ≡ kinds.ExchangeDone → ⊥) → said_at kind hosts fields later ≡ later
-not_exchange kinds.PeerKexinit hosts fields later other = refl
 not_exchange kinds.ExchangeDone hosts fields later other = absurd (other refl)
-not_exchange kinds.Payload hosts fields later other = refl
-not_exchange kinds.Authenticate hosts fields later other = refl
-not_exchange kinds.AgentEvent hosts fields later other = refl
-not_exchange kinds.Later hosts fields later other = refl
+not_exchange kind hosts fields later other = refl
 
 module _ (own : Own) (hosts : Hosts) (exchanges : (frame : Frame) → frame.kind ≡ kinds.ExchangeDone → own.event frame ≡ true) where
   said_step : (b : Bool) (frame : Frame) (frames : List Frame) → own.event frame ≡ b → said_of_first hosts (own_events own frames) ≡ said_of_first hosts frames → said_of_first hosts (own_events own (frame ∷ frames)) ≡ said_of_first hosts (frame ∷ frames)

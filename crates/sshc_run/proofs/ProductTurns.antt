@@ -3,7 +3,7 @@ use Rattle.std.proofs.Common.{◌≡◌, inl, inr, ℕ, true, false, List, Optio
 use Rattle.sshc_wire.specs.Contents.{append, WroteFront}
 use Rattle.sshc_wire.specs.declared.record.Record.{Record}
 use Rattle.sshc_key.specs.Signers.{SignCall}
-use Rattle.sshc_auth.specs.declared.ended.Ended.{Ended}
+use Rattle.sshc_opening.specs.declared.ended.Ended.{Ended}
 use Rattle.sshc_key.specs.Asking.{Asking, asked_on}
 use Rattle.sshc_key.specs.AskingLaws.{makes_on, first_on}
 use Rattle.sshc_run.specs.declared.error.RunError.{RunError}
@@ -12,7 +12,7 @@ use Rattle.sshc_run.specs.Outcome.{Ending, told, cut, unread, ending_of}
 use Rattle.sshc_run.specs.Part.{Own}
 use Rattle.sshc_run.specs.Product.{Both, in_one, in_other, both_turn}
 use Rattle.sshc_run.specs.RecordLines.{lines}
-use Rattle.sshc_run.specs.Script.{Frame}
+use Rattle.sshc_script.specs.Script.{Frame}
 use Rattle.sshc_run.specs.Turning.{StopsBy, CutBy, TakeAs, TakeGives}
 
 module _ {A : Type 0} {B : Type 0} (f : TurnOf A → TurnOf B) (g : A → B) (keeps : (t : TurnOf A) → ((f t).records ≡ t.records) × ((f t).next ≡ t.next) × ((f t).state ≡ g t.state)) where

@@ -7,9 +7,9 @@ use Rattle.sshc_wire.specs.Contents.{prepend, append, WroteFront, prepend-nothin
 use Rattle.sshc_wire.specs.Faults.{Rose}
 use Rattle.sshc_key.specs.Signers.{SignCall, since}
 use Rattle.sshc_key.specs.Asking.{Answer}
-use Rattle.sshc_auth.specs.declared.ended.Ended.{Ended}
-use Rattle.sshc_auth.specs.declared.opening.Settings.{Settings}
-use Rattle.sshc_auth.specs.OpeningState.{start}
+use Rattle.sshc_opening.specs.declared.ended.Ended.{Ended}
+use Rattle.sshc_opening.specs.declared.opening.Settings.{Settings}
+use Rattle.sshc_opening.specs.OpeningState.{start}
 use Rattle.sshc_run.specs.declared.error.RunError.{RunError}
 use Rattle.sshc_run.specs.declared.error.RunError.TheVariants as errors
 use Rattle.sshc_run.specs.Headline.{IsGated, IsPrefix, IsDone, KeptBy, IsKept, IsComplete}
@@ -17,7 +17,7 @@ use Rattle.sshc_run.specs.KnownHosts.{Hosts}
 use Rattle.sshc_run.specs.Machine.{ended, refused, Machine}
 use Rattle.sshc_run.specs.Outcome.{Streams, Ending, told, cut, unread, ending_of, IsExact, EndsAs, EndsBy, Ends}
 use Rattle.sshc_run.specs.RecordLines.{lines}
-use Rattle.sshc_run.specs.Script.{taken, stop_of}
+use Rattle.sshc_script.specs.Script.{taken, stop_of}
 use Rattle.sshc_run.specs.ScriptRun.{Run, at_first, run, script_run, answers_of, answers_since}
 use Rattle.sshc_run.specs.Turn.{opening_machine}
 use Rattle.sshc_run.proofs.Gated.{gated}
@@ -93,7 +93,7 @@ gate_of hosts settings max before now a (given, gained, end) = (
   end.read,
   λ no. (
     (script_run (opening_machine hosts settings) max (answers_of gained) given).records,
-    gated hosts (taken max given) (start settings) (stop_of max given) (answers_of gained) refl refl no,
+    gated hosts (taken max given) (start settings) (stop_of max given) (answers_of gained) (record { exchanging = refl; runs = λ same. absurd cc; fresh = refl }) no,
     wrote_some (ending_of a) (script_run (opening_machine hosts settings) max) given gained before now a end.by,
   ),
 )

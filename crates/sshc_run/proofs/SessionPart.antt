@@ -3,21 +3,18 @@ use Rattle.std.proofs.Common.{◌≡◌, Bool, true, false, List, [], ◌∷◌,
 use Rattle.std.proofs.Math.Path.{fun_ext}
 use Rattle.std.proofs.lemmas.List.{append-nil}
 use Rattle.sshc_wire.specs.declared.record.Record.{Record}
-use Rattle.sshc_key.specs.declared.signer.Asker.{Asker}
 use Rattle.sshc_key.specs.Asking.{Asking, done, asks, asked_on, Always}
-use Rattle.sshc_auth.specs.OpeningState.{OpeningState}
+use Rattle.sshc_opening.specs.OpeningState.{OpeningState}
 use Rattle.sshc_run.specs.declared.error.RunError.TheVariants as errors
-use Rattle.sshc_run.specs.declared.event_kind.EventKind.{EventKind}
-use Rattle.sshc_run.specs.declared.event_kind.EventKind.TheVariants as kinds
 use Rattle.sshc_run.specs.KnownHosts.{Hosts}
 use Rattle.sshc_run.specs.Machine.{goes_on, Onward}
 use Rattle.sshc_run.specs.OpeningRun.{Continues}
 use Rattle.sshc_run.specs.Part.{SaysBy, AsksBy, HasPart, StopsOthers}
-use Rattle.sshc_run.specs.Script.{Frame}
+use Rattle.sshc_script.specs.Script.{Frame}
 use Rattle.sshc_run.specs.SessionPart.{is_session_kind, is_session_record, session_own, IsAgentCause}
-use Rattle.sshc_run.specs.Turn.{Turn, stops, turn}
+use Rattle.sshc_run.specs.Turn.{Turn, stops, turn, built_turn}
 use Rattle.sshc_run.proofs.OpeningFirsts.{EndsNone}
-use Rattle.sshc_run.proofs.Unasked.{AsksNothing, turn_unasked}
+use Rattle.sshc_run.proofs.SessionAsks.{turn_asks}
 
 asked_same_on : {A : Type 0} (asking : Asking A) → asking ≡ asked_on (λ (x : A). x) asking
 asked_same_on (done x) = refl
@@ -31,27 +28,15 @@ pub said_all : (records : List Record) → SaysBy is_session_record true records
 said_all [] = tt
 said_all (said ∷ records) = (refl, said_all records)
 
-pub asks_none : {A : Type 0} (test : Asker → Bool) (is : Bool) (asking : Asking A) → AsksNothing asking → AsksBy test is asking
-asks_none test is (done x) nothing = tt
-asks_none test is (asks asked on) never = absurd never
-
 -- ---- an agent's event
 
-agent_kind : (kind : EventKind) → is_session_kind kind ≡ false → kind ≡ kinds.AgentEvent
-agent_kind kinds.PeerKexinit is = absurd cc
-agent_kind kinds.ExchangeDone is = absurd cc
-agent_kind kinds.Payload is = absurd cc
-agent_kind kinds.Authenticate is = absurd cc
-agent_kind kinds.Later is = absurd cc
-agent_kind kinds.AgentEvent is = refl
-
-not_built : (closed : Bool) → (if closed then false else false) ≡ false
-not_built true = refl
-not_built false = refl
+not_built : (closed mine : Bool) → mine ≡ false → (if closed then false else mine) ≡ false
+not_built true mine is = refl
+not_built false mine is = is
 
 agent_turn : (hosts : Hosts) (s : OpeningState) (frame : Frame) → session_own.event frame ≡ false → turn hosts s frame ≡ done (stops s (errors.Unbuilt frame.place))
 unfolding turn
-agent_turn hosts s frame is = rw (agent_kind frame.kind is, not_built s.closed) refl
+agent_turn hosts s frame is = ap (λ (built : Bool). built_turn built hosts s frame) (not_built s.closed (is_session_kind frame.kind) is)
 
 -- ---- the opening, as a part of itself
 
@@ -61,9 +46,9 @@ opening_part hosts = record {
   same = λ s frame is. asked_same_on (turn hosts s frame);
   seen = λ s t. (refl, refl, refl);
   says = λ s frame is. always_each (λ (t : Turn). SaysBy is_session_record true t.records) (turn hosts s frame) (λ t. said_all t.records);
-  asks_own = λ s frame is. asks_none session_own.asker true (turn hosts s frame) (turn_unasked hosts s frame);
+  asks_own = λ s frame is. turn_asks hosts s frame;
   still = λ s frame is. rw (agent_turn hosts s frame is) (tt, refl);
-  asks_other = λ s frame is. asks_none session_own.asker false (turn hosts s frame) (turn_unasked hosts s frame);
+  asks_other = λ s frame is. rw (agent_turn hosts s frame is) tt;
 }
 
 pub agent_stops : (hosts : Hosts) → StopsOthers (turn hosts) session_own IsAgentCause

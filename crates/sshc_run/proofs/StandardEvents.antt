@@ -9,9 +9,10 @@ use Rattle.std.proofs.lemmas.List.{append-nil}
 use Rattle.std.proofs.lemmas.List.Sums.{AllPass-from_list_all}
 use Rattle.std.proofs.lemmas.Str.{IsUtf8-from_ascii, is_utf8-from_IsUtf8}
 use Rattle.std.proofs.lemmas.Str.Ascii.{IsAscii-from_all}
-use Rattle.sshc_wire.specs.Format.{faults_as, known as known_or}
+use Rattle.sshc_wire.specs.Format.{faults_as, known as known_or, both_at, made_at}
+use Rattle.sshc_wire.specs.Grammar.{converted_at, finished_at}
 use Rattle.sshc_wire.specs.Parts.{number32, strings, texts}
-use Rattle.sshc_wire.specs.Reads.{◌>>=◌, byte_at, number_at, boolean_at, string_at, text_at}
+use Rattle.sshc_wire.specs.Reads.{Reader, ◌>>=◌, byte_at, number_at, boolean_at, string_at, text_at}
 use Rattle.sshc_wire.specs.Wire.{u32_text, string_text}
 use Rattle.sshc_wire.specs.declared.error.WireError.{WireError}
 use Rattle.sshc_key.specs.AlgorithmNames.{tag_named, known_named}
@@ -24,20 +25,20 @@ use Rattle.sshc_key.specs.declared.kind.Known.TheVariants as knowns
 use Rattle.sshc_key.specs.declared.kind.Kind.TheVariants as key_kinds
 use Rattle.sshc_key.specs.declared.kind.Tag.{Tag}
 use Rattle.sshc_key.specs.declared.kind.Tag.TheVariants as tags
-use Rattle.sshc_auth.specs.HostKey.{bare, plain_identity}
-use Rattle.sshc_auth.specs.declared.event.Event.{Event}
-use Rattle.sshc_auth.specs.declared.event.Event.TheVariants as events
-use Rattle.sshc_auth.specs.declared.event.ExchangeKey.{ExchangeKey}
-use Rattle.sshc_auth.specs.declared.event.ExchangeKey.TheVariants as keys
-use Rattle.sshc_auth.specs.declared.event.ExchangeResult.{ExchangeResult}
-use Rattle.sshc_auth.specs.declared.event.NamesChosen.{NamesChosen}
-use Rattle.sshc_auth.specs.declared.method.Method.{Method}
-use Rattle.sshc_auth.specs.declared.method.Method.TheVariants.{Password}
-use Rattle.sshc_auth.specs.declared.opening.Phase.TheVariants as phases
-use Rattle.sshc_run.specs.declared.error.EventError.TheVariants as reads
-use Rattle.sshc_run.specs.declared.event_kind.EventKind.TheVariants as kinds
-use Rattle.sshc_run.specs.Fields.{u8_at, u32_at, flag_at, octets_at, words_at, readable, key_at, secret_at, names_at, exchange_done_of, password_at, method_at, authenticate_of, event_in}
-use Rattle.sshc_run.specs.Script.{as_bad}
+use Rattle.sshc_event.specs.HostKey.{bare, plain_identity}
+use Rattle.sshc_event.specs.declared.event.Event.{Event}
+use Rattle.sshc_event.specs.declared.event.Event.TheVariants as events
+use Rattle.sshc_transport.specs.declared.exchange.ExchangeKey.{ExchangeKey}
+use Rattle.sshc_transport.specs.declared.exchange.ExchangeKey.TheVariants as keys
+use Rattle.sshc_transport.specs.declared.exchange.ExchangeResult.{ExchangeResult}
+use Rattle.sshc_transport.specs.declared.exchange.NamesChosen.{NamesChosen}
+use Rattle.sshc_event.specs.declared.method.Method.{Method}
+use Rattle.sshc_event.specs.declared.method.Method.TheVariants.{Password}
+use Rattle.sshc_script.specs.declared.error.EventError.{EventError}
+use Rattle.sshc_script.specs.declared.error.EventError.TheVariants as reads
+use Rattle.sshc_script.specs.declared.event_kind.EventKind.TheVariants as kinds
+use Rattle.sshc_script.specs.EventParts.{as_bad, u8_at, u32_at, flag_at, octets_at, words_at, ticket_at, method_sort_at}
+use Rattle.sshc_script.specs.EventReading.{readable, key_of_sort, exchange_key_at, secret_of, secret_at, names_at, exchange_at, exchange_done_of, payload_of, method_at, authenticate_at, authenticate_of, event_of}
 use Rattle.sshc_run.proofs.StandardFacts.{key_bytes, key, exchange, asked, accepted}
 
 -- ---- parts at the front
@@ -109,6 +110,21 @@ exchange_with host_key = record { key = host_key; session_hash = codes "session-
 abbrev pub login_exchange : ExchangeResult
 login_exchange = exchange_with (keys.Key key)
 
+-- ---- parts in a row
+
+module _ {A B : Type 0} where
+  both_is : (f : Reader EventError A) (g : Reader EventError B) (b0 b1 b2 : List ℕ) (x : A) (y : B) → f b0 ≡ Ok (x, b1) → g b1 ≡ Ok (y, b2) → both_at f g b0 ≡ Ok ((x, y), b2)
+  both_is f g b0 b1 b2 x y first second = rw (first, second) refl
+
+  made_is : (make : A → B) (f : Reader EventError A) (b0 b1 : List ℕ) (x : A) → f b0 ≡ Ok (x, b1) → made_at make f b0 ≡ Ok (make x, b1)
+  made_is make f b0 b1 x is = rw is refl
+
+  converted_is : (convert : A → Result B EventError) (f : Reader EventError A) (b0 b1 : List ℕ) (x : A) (y : B) → f b0 ≡ Ok (x, b1) → convert x ≡ Ok y → converted_at convert f b0 ≡ Ok (y, b1)
+  converted_is convert f b0 b1 x y is to = rw (is, to) refl
+
+finished_is : (f : Reader EventError Event) (b0 : List ℕ) (x : Event) → f b0 ≡ Ok (x, []) → finished_at reads.Bad f b0 ≡ Ok x
+finished_is f b0 x is = rw is refl
+
 readable_is : readable (keys.Key key) ≡ Ok (keys.Key key)
 readable_is = ap (λ (o : Option Key). if is_some (plain_identity (bare o)) then Ok (keys.Key key) else Err reads.Bad) whole_is
 
@@ -116,25 +132,25 @@ key_short : length key < 2 ^ 32
 unfolding string_text u32_text
 key_short = lit< tt
 
-key_is : (rest : List ℕ) → key_at (1 ∷ string_text key ++ rest) ≡ Ok (keys.Key key, rest)
-unfolding key_at
-key_is rest = rw (u8_is 1 (string_text key ++ rest), octets_is key rest key_short, readable_is) refl
+key_is : (rest : List ℕ) → exchange_key_at (1 ∷ string_text key ++ rest) ≡ Ok (keys.Key key, rest)
+unfolding exchange_key_at
+key_is rest =
+    converted_is key_of_sort (both_at u8_at octets_at) (1 ∷ string_text key ++ rest) rest (1, key) (keys.Key key)
+    (both_is u8_at octets_at (1 ∷ string_text key ++ rest) (string_text key ++ rest) rest 1 key (u8_is 1 (string_text key ++ rest)) (octets_is key rest key_short)) readable_is
 
 -- no key has an empty string
-missing_is : (rest : List ℕ) → key_at (0 ∷ string_text [] ++ rest) ≡ Ok (keys.Missing, rest)
-unfolding key_at
-missing_is rest = rw (u8_is 0 (string_text [] ++ rest), octets_is [] rest (lit< tt)) refl
+missing_is : (rest : List ℕ) → exchange_key_at (0 ∷ string_text [] ++ rest) ≡ Ok (keys.Missing, rest)
+unfolding exchange_key_at
+missing_is rest =
+    converted_is key_of_sort (both_at u8_at octets_at) (0 ∷ string_text [] ++ rest) rest (0, []) keys.Missing
+    (both_is u8_at octets_at (0 ∷ string_text [] ++ rest) (string_text [] ++ rest) rest 0 [] (u8_is 0 (string_text [] ++ rest)) (octets_is [] rest (lit< tt))) refl
 
 -- an absent secret
 secret_is : (rest : List ℕ) → secret_at (0 ∷ string_text [] ++ rest) ≡ Ok (None, rest)
 unfolding secret_at
-secret_is rest = rw (unset_is (string_text [] ++ rest), octets_is [] rest (lit< tt)) refl
-
-names_of : (b0 b1 b2 b3 b4 b5 b6 kex key cipher client server : List ℕ) (strict : Bool) → words_at b0 ≡ Ok (kex, b1) → words_at b1 ≡ Ok (key, b2) → words_at b2 ≡ Ok (cipher, b3)
-    → words_at b3 ≡ Ok (client, b4) → words_at b4 ≡ Ok (server, b5) → flag_at b5 ≡ Ok (strict, b6)
-    → names_at b0 ≡ Ok (record { kex = kex; key = key; cipher = cipher; client_mac = client; server_mac = server; strict_kex = strict }, b6)
-unfolding names_at
-names_of b0 b1 b2 b3 b4 b5 b6 kex key cipher client server strict e0 e1 e2 e3 e4 e5 = rw (e0, e1, e2, e3, e4, e5) refl
+secret_is rest =
+    converted_is secret_of (both_at flag_at octets_at) (0 ∷ string_text [] ++ rest) rest (false, []) None
+    (both_is flag_at octets_at (0 ∷ string_text [] ++ rest) (string_text [] ++ rest) rest false [] (unset_is (string_text [] ++ rest)) (octets_is [] rest (lit< tt))) refl
 
 none_is : (rest : List ℕ) → words_at (string_text [] ++ rest) ≡ Ok ([], rest)
 none_is rest = words_is [] rest (lit< tt) refl
@@ -145,15 +161,9 @@ unnamed zero = 0 ∷ []
 unnamed (suc n) = string_text [] ++ unnamed n
 
 names_is : names_at (string_text (codes "curve25519-sha256") ++ unnamed 4) ≡ Ok (names, [])
+unfolding names_at
 names_is =
-    names_of (string_text (codes "curve25519-sha256") ++ unnamed 4) (unnamed 4) (unnamed 3) (unnamed 2) (unnamed 1) (unnamed 0) [] (codes "curve25519-sha256") [] [] [] [] false
-    (words_is (codes "curve25519-sha256") (unnamed 4) (lit< tt) refl) (none_is (unnamed 3)) (none_is (unnamed 2)) (none_is (unnamed 1)) (none_is (unnamed 0)) (unset_is [])
-
-exchange_of : (b0 b1 b2 b3 b4 hash signature : List ℕ) (key : ExchangeKey) (secret : Option (List ℕ)) (names : NamesChosen) → key_at b0 ≡ Ok (key, b1) → octets_at b1 ≡ Ok (hash, b2)
-    → octets_at b2 ≡ Ok (signature, b3) → secret_at b3 ≡ Ok (secret, b4) → names_at b4 ≡ Ok (names, [])
-    → exchange_done_of b0 ≡ Ok (events.ExchangeDone (record { key = key; session_hash = hash; signature = signature; secret = secret; names = names }))
-unfolding exchange_done_of
-exchange_of b0 b1 b2 b3 b4 hash signature key secret names e0 e1 e2 e3 e4 = rw (e0, e1, e2, e3, e4) refl
+    rw (words_is (codes "curve25519-sha256") (unnamed 4) (lit< tt) refl, none_is (unnamed 3), none_is (unnamed 2), none_is (unnamed 1), none_is (unnamed 0), unset_is []) refl
 
 abbrev named : List ℕ
 named = string_text (codes "curve25519-sha256") ++ unnamed 4
@@ -165,50 +175,59 @@ secretless = 0 ∷ string_text [] ++ named
 abbrev keyed : List ℕ
 keyed = string_text (codes "session-id") ++ (string_text [] ++ secretless)
 
+exchange_of : (b0 b1 b2 b3 b4 hash signature : List ℕ) (key : ExchangeKey) (secret : Option (List ℕ)) (names : NamesChosen) → exchange_key_at b0 ≡ Ok (key, b1) → octets_at b1 ≡ Ok (hash, b2)
+    → octets_at b2 ≡ Ok (signature, b3) → secret_at b3 ≡ Ok (secret, b4) → names_at b4 ≡ Ok (names, [])
+    → exchange_done_of b0 ≡ Ok (events.ExchangeDone (record { key = key; session_hash = hash; signature = signature; secret = secret; names = names }))
+unfolding exchange_done_of exchange_at
+exchange_of b0 b1 b2 b3 b4 hash signature key secret names e0 e1 e2 e3 e4 = rw (e0, e1, e2, e3, e4) refl
+
 -- ---- the five events
 
-pub kexinit_is : event_in phases.Exchanging kinds.PeerKexinit [] ≡ Ok events.PeerKexinit
+pub kexinit_is : event_of kinds.PeerKexinit [] ≡ Ok events.PeerKexinit
+unfolding event_of
 kexinit_is = refl
 
 -- fields whose host key is read before these are an exchange's
-exchange_by : (fields : List ℕ) (host_key : ExchangeKey) → key_at fields ≡ Ok (host_key, keyed) → event_in phases.Exchanging kinds.ExchangeDone fields ≡ Ok (events.ExchangeDone (exchange_with host_key))
+exchange_by : (fields : List ℕ) (host_key : ExchangeKey) → exchange_key_at fields ≡ Ok (host_key, keyed) → event_of kinds.ExchangeDone fields ≡ Ok (events.ExchangeDone (exchange_with host_key))
+unfolding event_of
 exchange_by fields host_key is =
     exchange_of fields keyed (string_text [] ++ secretless) secretless named (codes "session-id") [] host_key None names
     is (octets_is (codes "session-id") (string_text [] ++ secretless) (lit< tt)) (octets_is [] secretless (lit< tt)) (secret_is named) names_is
 
-pub exchange_is : event_in phases.Exchanging kinds.ExchangeDone (exchange 1 key) ≡ Ok (events.ExchangeDone login_exchange)
+pub exchange_is : event_of kinds.ExchangeDone (exchange 1 key) ≡ Ok (events.ExchangeDone login_exchange)
 unfolding u32_text string_text
 exchange_is = exchange_by (exchange 1 key) (keys.Key key) (key_is keyed)
 
 -- the same exchange without a host key
-pub keyless_is : event_in phases.Exchanging kinds.ExchangeDone (exchange 0 []) ≡ Ok (events.ExchangeDone (exchange_with keys.Missing))
+pub keyless_is : event_of kinds.ExchangeDone (exchange 0 []) ≡ Ok (events.ExchangeDone (exchange_with keys.Missing))
 unfolding u32_text string_text
 keyless_is = exchange_by (exchange 0 []) keys.Missing (missing_is keyed)
 
 -- a password, and nothing behind it
 method_is : method_at (1 ∷ string_text (codes "pw")) ≡ Ok (Password (codes "pw"), [])
-unfolding method_at password_at
+unfolding method_at method_sort_at
 method_is =
     let read : words_at (string_text (codes "pw")) ≡ Ok (codes "pw", []) = ap words_at (sym (append-nil (string_text (codes "pw")))) ∙ words_is (codes "pw") [] (lit< tt) refl in
     rw (u8_is 1 (string_text (codes "pw")), read) refl
 
 request_of : (b0 b1 b2 user : List ℕ) (ticket : ℕ) (method : Method) → u32_at b0 ≡ Ok (ticket, b1) → words_at b1 ≡ Ok (user, b2) → method_at b2 ≡ Ok (method, [])
-    → authenticate_of b0 ≡ Ok (events.Authenticate (record { 0 = ticket }) user method)
-unfolding authenticate_of
+    → event_of kinds.Authenticate b0 ≡ Ok (events.Authenticate (record { 0 = ticket }) user method)
+unfolding event_of authenticate_of authenticate_at ticket_at
 request_of b0 b1 b2 user ticket method e0 e1 e2 = rw (e0, e1, e2) refl
 
 abbrev pub login_request : Event
 login_request = events.Authenticate (record { 0 = 1 }) (codes "alice") (Password (codes "pw"))
 
-pub request_is : event_in phases.Service kinds.Authenticate asked ≡ Ok login_request
+pub request_is : event_of kinds.Authenticate asked ≡ Ok login_request
 unfolding u32_text string_text
 request_is =
     request_of asked (string_text (codes "alice") ++ 1 ∷ string_text (codes "pw")) (1 ∷ string_text (codes "pw")) (codes "alice") 1 (Password (codes "pw"))
     (u32_is 1 (string_text (codes "alice") ++ 1 ∷ string_text (codes "pw")) (lit< tt)) (words_is (codes "alice") (1 ∷ string_text (codes "pw")) (lit< tt) refl) method_is
 
-pub accepted_is : event_in phases.Service kinds.Payload accepted ≡ Ok (events.Payload accepted)
-unfolding string_text u32_text
+pub accepted_is : event_of kinds.Payload accepted ≡ Ok (events.Payload accepted)
+unfolding event_of payload_of string_text u32_text
 accepted_is = refl
 
-pub success_is : event_in phases.Auth kinds.Payload (52 ∷ []) ≡ Ok (events.Payload (52 ∷ []))
+pub success_is : event_of kinds.Payload (52 ∷ []) ≡ Ok (events.Payload (52 ∷ []))
+unfolding event_of payload_of
 success_is = refl

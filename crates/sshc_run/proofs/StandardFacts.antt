@@ -1,5 +1,5 @@
 -- The script of a password login and its records, by computing them from the definitions. Its bytes and its lines are told in
--- docs/FORMATS.md; the steps of its opening are computed in sshc_auth, and the whole run is proved in StandardLogin and is a test.
+-- docs/FORMATS.md; the steps of its opening are computed in sshc_opening, and the whole run is proved in StandardLogin and is a test.
 use Rattle.std.proofs.Common.{◌≡◌, ℕ, ◌+◌, List, [], ◌∷◌, ◌++◌, length, take, refl}
 use Rattle.std.specs.Prelude.{codes}
 use Rattle.sshc_wire.specs.Reads.{byte_at, number_at}
@@ -7,9 +7,9 @@ use Rattle.sshc_wire.specs.Records.{record_text}
 use Rattle.sshc_wire.specs.Wire.{u32_text, u64_text, string_text}
 use Rattle.sshc_wire.specs.declared.record.Record.TheVariants.{KexDone, Payload, Resolved, Opened}
 use Rattle.sshc_wire.specs.declared.resolution.Resolution.TheVariants.{AuthSuccess}
-use Rattle.sshc_auth.specs.declared.method.Method.TheVariants.{Password}
-use Rattle.sshc_auth.specs.RequestTexts.{service_request, request}
-use Rattle.sshc_run.specs.Script.{whole, bad, more, taken, stop_of, stop, events, front, sized_front, head_at}
+use Rattle.sshc_event.specs.declared.method.Method.TheVariants.{Password}
+use Rattle.sshc_request.specs.RequestTexts.{service_request, request}
+use Rattle.sshc_script.specs.Script.{whole, bad, more, taken, stop_of, stop, events, front, sized_front, head_at}
 
 -- an event at moment 0
 abbrev pub event : ℕ → List ℕ → List ℕ

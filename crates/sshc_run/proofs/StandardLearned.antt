@@ -16,7 +16,7 @@ use Rattle.sshc_hosts.specs.HostText.{host_text}
 use Rattle.sshc_hosts.specs.Judgement.{known_keys, judged}
 use Rattle.sshc_hosts.specs.Learning.{Lacks, IsLearnable, IsLearnableKey, Learns, once_learned, learned}
 use Rattle.sshc_hosts.proofs.LearningLaws.{learns}
-use Rattle.sshc_auth.specs.declared.ended.Ended.TheVariants.{ScriptEnd}
+use Rattle.sshc_opening.specs.declared.ended.Ended.TheVariants.{ScriptEnd}
 use Rattle.sshc_run.specs.Headline.{IsValidScript}
 use Rattle.sshc_run.specs.KnownHosts.{Hosts, as_handler, verdict}
 use Rattle.sshc_run.specs.Words.{words_table}

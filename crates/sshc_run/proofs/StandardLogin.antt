@@ -10,28 +10,31 @@ use Rattle.sshc_wire.specs.declared.resolution.Resolution.TheVariants.{AuthSucce
 use Rattle.sshc_key.specs.KeyGrammar.{Key}
 use Rattle.sshc_key.specs.declared.identity.PublicKeyOrCertificate.TheVariants.{PublicKey}
 use Rattle.sshc_key.specs.Asking.{Asking, done}
-use Rattle.sshc_auth.specs.HostKey.{bare, plain_identity}
-use Rattle.sshc_auth.specs.declared.ended.Ended.TheVariants.{ScriptEnd}
-use Rattle.sshc_auth.specs.declared.event.Event.{Event}
-use Rattle.sshc_auth.specs.declared.event.Event.TheVariants as events
-use Rattle.sshc_auth.specs.declared.event.ExchangeFlag.TheVariants as flags
-use Rattle.sshc_auth.specs.declared.method.Method.TheVariants.{Password}
-use Rattle.sshc_auth.specs.declared.opening.Phase.TheVariants as phases
-use Rattle.sshc_auth.specs.declared.step.Asks.{Asks}
-use Rattle.sshc_auth.specs.declared.step.Asks.TheVariants as asking
-use Rattle.sshc_auth.specs.OpeningState.{OpeningState, start, shut}
-use Rattle.sshc_auth.specs.OpeningTable.{plain_row, asked_of, key_asked}
-use Rattle.sshc_auth.specs.OpeningTable.Auth.{authenticated}
-use Rattle.sshc_auth.specs.RequestTexts.{service_request, request}
-use Rattle.sshc_run.specs.declared.error.EventError.{EventError}
+use Rattle.sshc_event.specs.HostKey.{bare, plain_identity}
+use Rattle.sshc_opening.specs.declared.ended.Ended.TheVariants.{ScriptEnd}
+use Rattle.sshc_event.specs.declared.event.Event.{Event}
+use Rattle.sshc_event.specs.declared.event.Event.TheVariants as events
+use Rattle.sshc_transport.specs.declared.exchange.ExchangeFlag.TheVariants as flags
+use Rattle.sshc_event.specs.declared.method.Method.TheVariants.{Password}
+use Rattle.sshc_opening.specs.declared.opening.Phase.TheVariants as phases
+use Rattle.sshc_opening.specs.declared.step.Asks.{Asks}
+use Rattle.sshc_opening.specs.declared.step.Asks.TheVariants as asking
+use Rattle.sshc_opening.specs.OpeningState.{OpeningState, start, shut}
+use Rattle.sshc_opening.specs.OpeningTable.{open_row, plain_row, payload_row, numbered_row, held_packet_row, auth_packet_row, auth_row, asked_of, key_asked}
+use Rattle.sshc_opening.specs.OpeningTable.Auth.{answered, authenticate_again_row, userauth_success_row}
+use Rattle.sshc_opening.specs.OpeningTable.Exchange.{peer_kexinit_row, exchange_done_row}
+use Rattle.sshc_opening.specs.OpeningTable.Service.{authenticate_first_row, service_packet_row, service_accept_row}
+use Rattle.sshc_request.specs.RequestTexts.{service_request, request}
+use Rattle.sshc_script.specs.declared.error.EventError.{EventError}
+use Rattle.sshc_script.specs.EventReading.{event_of}
 use Rattle.sshc_run.specs.declared.error.RunError.TheVariants as errors
-use Rattle.sshc_run.specs.declared.event_kind.EventKind.{EventKind}
-use Rattle.sshc_run.specs.declared.event_kind.EventKind.TheVariants as kinds
+use Rattle.sshc_script.specs.declared.event_kind.EventKind.{EventKind}
+use Rattle.sshc_script.specs.declared.event_kind.EventKind.TheVariants as kinds
 use Rattle.sshc_run.specs.declared.known_hosts_handler.HandlerError.{HandlerError}
 use Rattle.sshc_run.specs.Headline.{IsValidScript}
 use Rattle.sshc_run.specs.KnownHosts.{Hosts, verdict}
 use Rattle.sshc_run.specs.Machine.{goes_on, opened, stopped, ended, refused, unanswered_stop}
-use Rattle.sshc_run.specs.Script.{Frame, ScriptStop, whole, taken, stop_of, events as events_at, front, sized_front, head_at}
+use Rattle.sshc_script.specs.Script.{Frame, ScriptStop, whole, taken, stop_of, events as events_at, front, sized_front, head_at}
 use Rattle.sshc_run.specs.ScriptRun.{Run, after, stopped_with, asked_run, run_on, at_end, events_run, script_run}
 use Rattle.sshc_run.specs.Turn.{Turn, judged_turn, asked_turn, event_turn, turn, opening_machine}
 use Rattle.sshc_run.specs.Words.{default_settings}
@@ -60,10 +63,13 @@ abbrev pub in_service : OpeningState
 in_service = record (start default_settings) { phase = phases.Service; flag = flags.Idle; session_id = codes "session-id" }
 
 abbrev requested : OpeningState
-requested = record in_service { requested = true; ticket = record { 0 = 1 }; stored = Some (record { user = codes "alice"; method = Password (codes "pw") }) }
+requested = record in_service { requested = true; ticket = record { 0 = 1 }; user = codes "alice"; method = Some (Password (codes "pw")) }
 
 abbrev pub in_auth : OpeningState
 in_auth = record requested { phase = phases.Auth }
+
+abbrev opened_state : OpeningState
+opened_state = record (answered in_auth) { phase = phases.Open }
 
 -- ---- the turns
 
@@ -72,7 +78,7 @@ abbrev on_from : List Record → OpeningState → Turn
 on_from records s = record { records = records; state = s; next = goes_on }
 
 pub kexinit_turn : (hosts : Hosts) → turn hosts (start default_settings) (frame_of 0 kinds.PeerKexinit []) ≡ done (on_from [] exchanging)
-unfolding turn plain_row asked_of
+unfolding turn event_of open_row plain_row payload_row numbered_row held_packet_row peer_kexinit_row exchange_done_row authenticate_first_row authenticate_again_row service_packet_row service_accept_row auth_packet_row auth_row userauth_success_row asked_of
 kexinit_turn hosts = refl
 
 -- the exchange is judged by the verdict on its host key
@@ -89,25 +95,25 @@ judged_is hosts said says =
     ∙ ap (λ (v : Result Bool HandlerError). judged_turn 13 exchanging (events.ExchangeDone login_exchange) v) says
 
 went_is : judged_turn 13 exchanging (events.ExchangeDone login_exchange) (Ok true) ≡ done (on_from (KexDone (codes "curve25519-sha256") ∷ []) in_service)
-unfolding plain_row
+unfolding open_row plain_row payload_row numbered_row held_packet_row peer_kexinit_row exchange_done_row authenticate_first_row authenticate_again_row service_packet_row service_accept_row auth_packet_row auth_row userauth_success_row
 went_is = refl
 
 no_is : judged_turn 13 exchanging (events.ExchangeDone login_exchange) (Ok false) ≡ done (record { records = []; state = shut exchanging; next = stopped (refused errors.UnknownKey) })
-unfolding plain_row
+unfolding open_row plain_row payload_row numbered_row held_packet_row peer_kexinit_row exchange_done_row authenticate_first_row authenticate_again_row service_packet_row service_accept_row auth_packet_row auth_row userauth_success_row
 no_is = refl
 
 request_turn : (hosts : Hosts) → turn hosts in_service (frame_of 143 kinds.Authenticate asked) ≡ done (on_from (Payload service_request ∷ []) requested)
-unfolding turn plain_row asked_of
+unfolding turn open_row plain_row payload_row numbered_row held_packet_row peer_kexinit_row exchange_done_row authenticate_first_row authenticate_again_row service_packet_row service_accept_row auth_packet_row auth_row userauth_success_row asked_of
 request_turn hosts = ap (λ (r : Result Event EventError). event_turn hosts 143 in_service r) request_is
 
 -- the service is there, and the password is written
 service_turn : (hosts : Hosts) → turn hosts requested (frame_of 176 kinds.Payload accepted) ≡ done (on_from (Payload (request (codes "alice") (Password (codes "pw"))) ∷ []) in_auth)
-unfolding turn plain_row asked_of string_at number_at string_text u32_text
+unfolding turn open_row plain_row payload_row numbered_row held_packet_row peer_kexinit_row exchange_done_row authenticate_first_row authenticate_again_row service_packet_row service_accept_row auth_packet_row auth_row userauth_success_row asked_of string_at number_at string_text u32_text
 service_turn hosts = ap (λ (r : Result Event EventError). event_turn hosts 176 requested r) accepted_is
 
 success_turn : (hosts : Hosts) → turn hosts in_auth (frame_of 206 kinds.Payload (52 ∷ []))
-    ≡ done (record { records = Resolved (record { 0 = 1 }) AuthSuccess ∷ Opened ∷ []; state = shut (authenticated in_auth); next = opened })
-unfolding turn plain_row asked_of
+    ≡ done (record { records = Resolved (record { 0 = 1 }) AuthSuccess ∷ Opened ∷ []; state = shut opened_state; next = opened })
+unfolding turn open_row plain_row payload_row numbered_row held_packet_row peer_kexinit_row exchange_done_row authenticate_first_row authenticate_again_row service_packet_row service_accept_row auth_packet_row auth_row userauth_success_row asked_of
 success_turn hosts = ap (λ (r : Result Event EventError). event_turn hosts 206 in_auth r) success_is
 
 -- ---- the run
@@ -151,7 +157,7 @@ requested_from hosts frames st later rest =
 
 -- the success opens the session, and the script ends
 success_from : (hosts : Hosts) → from hosts in_auth (events_behind 4) whole ≡ stopped_with last_records (ended ScriptEnd)
-success_from hosts = by_first hosts in_auth (frame_of 206 kinds.Payload (52 ∷ [])) [] whole _ (success_turn hosts) ∙ ap (λ (r : Run). after last_records [] r) (at_last hosts (shut (authenticated in_auth)) whole)
+success_from hosts = by_first hosts in_auth (frame_of 206 kinds.Payload (52 ∷ [])) [] whole _ (success_turn hosts) ∙ ap (λ (r : Run). after last_records [] r) (at_last hosts (shut opened_state) whole)
 
 -- the records of the login
 abbrev pub login_records : List Record

@@ -8,17 +8,21 @@ use Rattle.sshc_key.specs.declared.identity.PublicKeyOrCertificate.TheVariants.{
 use Rattle.sshc_key.specs.Asking.{done}
 use Rattle.sshc_hosts.specs.Judgement.{judged}
 use Rattle.sshc_hosts.proofs.StandardKey.{localhost_line, line_accepts}
-use Rattle.sshc_auth.specs.declared.ended.Ended.TheVariants.{ScriptEnd}
-use Rattle.sshc_auth.specs.declared.event.Event.{Event}
-use Rattle.sshc_auth.specs.OpeningState.{start, shut}
-use Rattle.sshc_auth.specs.OpeningTable.{plain_row, asked_of}
-use Rattle.sshc_run.specs.declared.error.EventError.{EventError}
+use Rattle.sshc_opening.specs.declared.ended.Ended.TheVariants.{ScriptEnd}
+use Rattle.sshc_event.specs.declared.event.Event.{Event}
+use Rattle.sshc_opening.specs.OpeningState.{start, shut}
+use Rattle.sshc_opening.specs.OpeningTable.{open_row, plain_row, payload_row, numbered_row, held_packet_row, auth_packet_row, auth_row, asked_of}
+use Rattle.sshc_opening.specs.OpeningTable.Auth.{authenticate_again_row, userauth_success_row}
+use Rattle.sshc_opening.specs.OpeningTable.Exchange.{peer_kexinit_row, exchange_done_row}
+use Rattle.sshc_opening.specs.OpeningTable.Service.{authenticate_first_row, service_packet_row, service_accept_row}
+use Rattle.sshc_script.specs.declared.error.EventError.{EventError}
+use Rattle.sshc_script.specs.EventReading.{event_of}
 use Rattle.sshc_run.specs.declared.error.RunError.TheVariants as errors
-use Rattle.sshc_run.specs.declared.event_kind.EventKind.TheVariants as kinds
+use Rattle.sshc_script.specs.declared.event_kind.EventKind.TheVariants as kinds
 use Rattle.sshc_run.specs.Headline.{IsValidScript}
 use Rattle.sshc_run.specs.KnownHosts.{Hosts, as_handler, verdict}
 use Rattle.sshc_run.specs.Machine.{stopped, ended, refused}
-use Rattle.sshc_run.specs.Script.{Frame, whole, bad, more, taken, stop_of, stop, events as events_at, front, sized_front, head_at}
+use Rattle.sshc_script.specs.Script.{Frame, whole, bad, more, taken, stop_of, stop, events as events_at, front, sized_front, head_at}
 use Rattle.sshc_run.specs.ScriptRun.{Run, stopped_with}
 use Rattle.sshc_run.specs.Turn.{event_turn, turn}
 use Rattle.sshc_run.specs.Words.{default_settings, words_table}
@@ -68,7 +72,7 @@ keyless_stop_is = refl
 
 -- nothing is asked of the known hosts text, and the exchange is refused
 keyless_turn : (hosts : Hosts) → turn hosts exchanging (frame_of 13 kinds.ExchangeDone (exchange 0 [])) ≡ done (record { records = []; state = shut exchanging; next = stopped (refused errors.UnknownKey) })
-unfolding turn plain_row asked_of
+unfolding turn open_row plain_row payload_row numbered_row held_packet_row peer_kexinit_row exchange_done_row authenticate_first_row authenticate_again_row service_packet_row service_accept_row auth_packet_row auth_row userauth_success_row asked_of
 keyless_turn hosts = ap (λ (r : Result Event EventError). event_turn hosts 13 exchanging r) keyless_is
 
 keyless_from : (hosts : Hosts) → from hosts (start default_settings) keyless_events whole ≡ refused_run
@@ -120,8 +124,8 @@ twice_stop_is : stop_of 8192 twice ≡ whole
 unfolding u32_text u64_text stop front sized_front head_at number_at byte_at
 twice_stop_is = refl
 
-second_turn : (hosts : Hosts) → turn hosts exchanging (frame_of 13 kinds.PeerKexinit []) ≡ done (record { records = []; state = exchanging; next = stopped (refused (errors.OutOfTurn 13)) })
-unfolding turn
+second_turn : (hosts : Hosts) → turn hosts exchanging (frame_of 13 kinds.PeerKexinit []) ≡ done (record { records = []; state = shut exchanging; next = stopped (refused (errors.OutOfTurn 13)) })
+unfolding turn event_of open_row asked_of
 second_turn hosts = refl
 
 abbrev untimely_run : Run

@@ -9,8 +9,8 @@ use Rattle.sshc_wire.specs.declared.source.Failed.{Failed}
 use Rattle.sshc_wire.specs.declared.source.Failed.TheVariants as failures
 use Rattle.sshc_key.specs.Signers.{SignCall, since}
 use Rattle.sshc_key.specs.Asking.{Asking, done, Makes}
-use Rattle.sshc_auth.specs.declared.ended.Ended.{Ended}
-use Rattle.sshc_auth.specs.declared.step.Step.{Step}
+use Rattle.sshc_opening.specs.declared.ended.Ended.{Ended}
+use Rattle.sshc_opening.specs.declared.step.Step.{Step}
 use Rattle.sshc_run.specs.declared.error.RunError.{RunError}
 use Rattle.sshc_run.specs.declared.error.RunError.TheVariants as errors
 use Rattle.sshc_run.specs.declared.known_hosts_handler.HandlerError.{HandlerError}

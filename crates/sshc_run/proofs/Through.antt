@@ -6,7 +6,7 @@ use Rattle.sshc_key.specs.AskingLaws.{always_makes, makes_on}
 use Rattle.sshc_run.specs.Machine.{RunStop, unanswered_stop, Onward, goes_on, opened, stopped, TurnOf, Turns, stop_next}
 use Rattle.sshc_run.specs.Part.{Own, own_events}
 use Rattle.sshc_run.specs.Product.{Both, in_one, in_other, both_turn, others}
-use Rattle.sshc_run.specs.Script.{Frame, ScriptStop}
+use Rattle.sshc_script.specs.Script.{Frame, ScriptStop}
 use Rattle.sshc_run.specs.ScriptRun.{Run, events_run, run_on, asked_run, answers_of}
 use Rattle.sshc_run.proofs.Answered.{asked_made}
 use Rattle.sshc_run.proofs.OverRuns.{CameTo, came_to}

@@ -5,7 +5,7 @@ use Rattle.sshc_key.specs.Signers.{SignCall}
 use Rattle.sshc_key.specs.Asking.{Answer}
 use Rattle.sshc_run.specs.Outcome.{Streams, Moved, IsCut}
 use Rattle.sshc_run.specs.RecordLines.{lines}
-use Rattle.sshc_run.specs.Script.{events}
+use Rattle.sshc_script.specs.Script.{events}
 use Rattle.sshc_run.specs.ScriptRun.{Spot, Table, after, answers_of}
 
 -- these bytes, one event a turn, were given, these calls of the signer made and these records written; whatever follows, and whatever

@@ -7,7 +7,7 @@ use Rattle.sshc_key.specs.declared.signer.Asker.{Asker}
 use Rattle.sshc_key.specs.declared.signer.Asker.TheVariants.{Session, Agent}
 use Rattle.sshc_key.specs.Asking.{SignRequest, Answer, Asking, done, asks, call_of}
 use Rattle.sshc_run.specs.Machine.{unanswered_stop, Turns}
-use Rattle.sshc_run.specs.Script.{Frame, ScriptStop}
+use Rattle.sshc_script.specs.Script.{Frame, ScriptStop}
 use Rattle.sshc_run.specs.ScriptRun.{Run, stopped_with, after, at_end, run_on}
 
 abbrev pub same_asker : Asker → Asker → Bool

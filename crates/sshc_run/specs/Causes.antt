@@ -1,65 +1,84 @@
 -- Why a run ends: by the state that its table comes to, the event there, and what the known hosts text says.
--- No row of the opening table is named here, so that an error made in the table and in the code shows.
+-- No row of the opening table is named here, so that an error made in the table and in the code shows; why the opening refuses or ends
+-- is said by its state and the event (sshc_opening, Causes).
 use Rattle.std.specs.Prelude.{◌≡◌, ◌⊎◌, ℕ, true, false, List, Option, Some, Result, Ok, Err, Bool}
 use Rattle.sshc_key.specs.declared.error.Error.TheVariants as key_errors
 use Rattle.sshc_key.specs.Asking.{Answer}
-use Rattle.sshc_auth.specs.declared.ended.Ended.{Ended}
-use Rattle.sshc_auth.specs.declared.opening.Phase.TheVariants as phases
-use Rattle.sshc_auth.specs.declared.opening.Settings.{Settings}
-use Rattle.sshc_auth.specs.OpeningState.{OpeningState, start}
-use Rattle.sshc_run.specs.declared.error.EventError.TheVariants as reads
+use Rattle.sshc_event.specs.HostKey.{host_key}
+use Rattle.sshc_event.specs.declared.event.Event.{Event}
+use Rattle.sshc_transport.specs.declared.exchange.ExchangeResult.{ExchangeResult}
+use Rattle.sshc_opening.specs.Causes.{IsCause, IsEndCause}
+use Rattle.sshc_opening.specs.declared.ended.Ended.{Ended}
+use Rattle.sshc_opening.specs.declared.error.Error.{Error}
+use Rattle.sshc_opening.specs.declared.error.Error.TheVariants as auths
+use Rattle.sshc_opening.specs.declared.opening.Phase.TheVariants as phases
+use Rattle.sshc_opening.specs.declared.opening.Settings.{Settings}
+use Rattle.sshc_opening.specs.OpeningState.{OpeningState, start}
+use Rattle.sshc_script.specs.declared.error.EventError.TheVariants as reads
 use Rattle.sshc_run.specs.declared.error.RunError.{RunError}
 use Rattle.sshc_run.specs.declared.error.RunError.TheVariants as errors
-use Rattle.sshc_run.specs.declared.event_kind.EventKind.TheVariants as kinds
 use Rattle.sshc_run.specs.declared.known_hosts_handler.HandlerError.{HandlerError}
 use Rattle.sshc_run.specs.declared.known_hosts_handler.HandlerError.TheVariants.{Key}
 use Rattle.sshc_run.specs.Comes.{CausedBy}
-use Rattle.sshc_run.specs.Fields.{event_in, exchange_done_of}
-use Rattle.sshc_run.specs.Headline.{said_by}
+use Rattle.sshc_run.specs.Headline.{said_of_key, said_by}
 use Rattle.sshc_run.specs.KnownHosts.{Hosts}
 use Rattle.sshc_run.specs.Machine.{RunStop, ended, refused, unanswered_stop}
 use Rattle.sshc_run.specs.Outcome.{stop_as}
-use Rattle.sshc_run.specs.Script.{Frame, taken, stop_of}
-use Rattle.sshc_run.specs.Turn.{is_out_of_turn, is_built_now, turn}
+use Rattle.sshc_script.specs.EventReading.{event_of}
+use Rattle.sshc_run.specs.Turn.{turn}
+use Rattle.sshc_run.specs.Unbuilt.{IsUnbuiltAt}
+use Rattle.sshc_script.specs.Script.{Frame, taken, stop_of}
 
 -- ---- what may be wrong with an event
 
--- at this place an event may not come while the exchange flag is so
-abbrev pub IsEarlyAt : ℕ → OpeningState → Frame → Type 0
-IsEarlyAt at s frame = (frame.place ≡ at) × (is_out_of_turn frame.kind s.flag ≡ true)
-
 -- the fields of the event at this place are outside the grammar
-abbrev pub IsBadAt : ℕ → OpeningState → Frame → Type 0
-IsBadAt at s frame = (frame.place ≡ at) × (event_in s.phase frame.kind frame.fields ≡ Err reads.Bad)
+abbrev pub IsBadAt : ℕ → Frame → Type 0
+IsBadAt at frame = (frame.place ≡ at) × (event_of frame.kind frame.fields ≡ Err reads.Bad)
 
--- the event at this place is in turn and isn't built: its kind in this phase, or what its fields ask
-abbrev pub IsUnbuiltAt : ℕ → OpeningState → Frame → Type 0
-IsUnbuiltAt at s frame =
-    (frame.place ≡ at) × (is_out_of_turn frame.kind s.flag ≡ false)
-    × ((is_built_now frame.kind s ≡ false) ⊎ (event_in s.phase frame.kind frame.fields ≡ Err reads.Unbuilt))
+-- its fields are read, and it holds of the event
+abbrev pub OnRead : Frame → (Event → Type 0) → Type 0
+OnRead frame Holds = (event : Event) × (event_of frame.kind frame.fields ≡ Ok event) × Holds event
 
--- what the known hosts text says of the first exchange, which this event is
+-- what the known hosts text says of the host key of the first exchange, which this event is
 abbrev pub IsSaid : Hosts → OpeningState → Frame → Result Bool HandlerError → Type 0
-IsSaid hosts s frame said = (s.phase ≡ phases.Exchanging) × (frame.kind ≡ kinds.ExchangeDone) × (said_by hosts (exchange_done_of frame.fields) ≡ Some said)
+IsSaid hosts s frame said = (s.phase ≡ phases.Exchanging) × OnRead frame (λ event. said_by hosts (Ok event) ≡ Some said)
+
+-- an exchange has no host key, or the known hosts text says no to it
+abbrev pub SaysNo : Hosts → ExchangeResult → Type 0
+SaysNo hosts x = said_of_key hosts (host_key x.key) ≡ Ok false
+
+-- the opening refuses the event with this error, for its cause
+abbrev pub IsRefusedBy : Hosts → OpeningState → Frame → Error → Type 0
+IsRefusedBy hosts s frame e = OnRead frame (λ event. IsCause (SaysNo hosts) s event e)
 
 -- ---- causes
 
--- why one event is refused; memory may run out at any time, and the rest comes from nothing that is built
+-- why one event is refused; memory may run out at any time
 abbrev pub IsEventCause : Hosts → OpeningState → Frame → RunError → Type 0
 IsEventCause hosts s frame errors.NoMemory = Unit {0}
-IsEventCause hosts s frame (errors.BadEvent at) = IsBadAt at s frame
-IsEventCause hosts s frame (errors.OutOfTurn at) = IsEarlyAt at s frame
-IsEventCause hosts s frame errors.UnknownKey = IsSaid hosts s frame (Ok false)
+IsEventCause hosts s frame (errors.BadEvent at) = IsBadAt at frame
+IsEventCause hosts s frame (errors.Unbuilt at) = IsUnbuiltAt at s frame
+IsEventCause hosts s frame (errors.OutOfTurn at) = (frame.place ≡ at) × IsRefusedBy hosts s frame auths.OutOfTurn
 IsEventCause hosts s frame (errors.KeyChanged line) = IsSaid hosts s frame (Err (Key (key_errors.KeyChanged line)))
 IsEventCause hosts s frame errors.Decode = IsSaid hosts s frame (Err (Key key_errors.Decode))
 IsEventCause hosts s frame errors.SshKey = IsSaid hosts s frame (Err (Key key_errors.SshKey))
-IsEventCause hosts s frame (errors.Unbuilt at) = IsUnbuiltAt at s frame
+IsEventCause hosts s frame errors.UnknownKey = IsRefusedBy hosts s frame auths.UnknownKey
+IsEventCause hosts s frame errors.SignerFault = IsRefusedBy hosts s frame auths.SignerFault
+IsEventCause hosts s frame errors.TransportFailed = IsRefusedBy hosts s frame auths.TransportFailed
+IsEventCause hosts s frame errors.Inconsistent = IsRefusedBy hosts s frame auths.Inconsistent
+IsEventCause hosts s frame errors.Pending = IsRefusedBy hosts s frame auths.Pending
+IsEventCause hosts s frame errors.NoAuthMethod = IsRefusedBy hosts s frame auths.NoAuthMethod
+IsEventCause hosts s frame errors.NotAuthenticated = IsRefusedBy hosts s frame auths.NotAuthenticated
+IsEventCause hosts s frame errors.SshEncoding = IsRefusedBy hosts s frame auths.SshEncoding
+IsEventCause hosts s frame errors.InvalidDisconnect = IsRefusedBy hosts s frame auths.InvalidDisconnect
+IsEventCause hosts s frame errors.RecvError = IsRefusedBy hosts s frame auths.RecvError
+IsEventCause hosts s frame errors.InactivityTimeout = IsRefusedBy hosts s frame auths.InactivityTimeout
 IsEventCause hosts s frame e = ⊥
 
--- why a run stops with an event: it is refused; no event ends a run yet
+-- why a run stops with an event: it is refused, or it ends the session
 abbrev pub IsStopCause : Hosts → OpeningState → Frame → RunStop → Type 0
 IsStopCause hosts s frame (refused e) = IsEventCause hosts s frame e
-IsStopCause hosts s frame (ended e) = ⊥
+IsStopCause hosts s frame (ended e) = OnRead frame (λ event. IsEndCause s event e)
 IsStopCause hosts s frame unanswered_stop = ⊥
 
 -- an answer's cause, by the script's first events, what stands behind them and the signer's answers; memory may run out at any time, and faults of reading

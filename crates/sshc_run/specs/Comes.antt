@@ -3,7 +3,7 @@ use Rattle.std.specs.Prelude.{◌≡◌, ◌⊎◌, List, [], ◌∷◌, ◌++�
 use Rattle.sshc_key.specs.Signers.{SignCall}
 use Rattle.sshc_key.specs.Asking.{Answer, Makes}
 use Rattle.sshc_run.specs.Machine.{RunStop, Onward, goes_on, opened, stopped, TurnOf, Turns, stop_next}
-use Rattle.sshc_run.specs.Script.{Frame, ScriptStop}
+use Rattle.sshc_script.specs.Script.{Frame, ScriptStop}
 use Rattle.sshc_run.specs.ScriptRun.{at_end, answers_of}
 
 -- these events, by the signer's answers in order, bring a run from a state to that one, where that event is the next

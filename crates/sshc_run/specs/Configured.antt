@@ -1,6 +1,6 @@
 -- The settings of a client that is told no others, and what of them the opening keeps.
 use Rattle.std.specs.Prelude.{◌≡◌, false, None, is_some, codes}
-use Rattle.sshc_auth.specs.declared.opening.Settings.{Settings}
+use Rattle.sshc_opening.specs.declared.opening.Settings.{Settings}
 use Rattle.sshc_run.specs.declared.config.Config.{Config}
 
 pub record IsDefault (c : Config) : Type 0 where

@@ -2,26 +2,26 @@
 use Rattle.std.specs.Prelude.{◌≡◌, ◌⊎◌, ℕ, Bool, false, List, [], ◌∷◌, Option, Some, None, Result, Ok, Err}
 use Rattle.sshc_wire.specs.Contents.{prepend, append, WroteFront, IsAtEnd}
 use Rattle.sshc_wire.specs.Faults.{Rose}
-use Rattle.sshc_wire.specs.Records.{IsPayload}
 use Rattle.sshc_wire.specs.declared.record.Record.{Record}
 use Rattle.sshc_key.specs.declared.identity.PublicKeyOrCertificate.{PublicKeyOrCertificate}
-use Rattle.sshc_auth.specs.HostKey.{host_key}
-use Rattle.sshc_auth.specs.declared.ended.Ended.{Ended}
-use Rattle.sshc_auth.specs.declared.ended.Ended.TheVariants.{ScriptEnd}
-use Rattle.sshc_auth.specs.declared.event.Event.{Event}
-use Rattle.sshc_auth.specs.declared.event.Event.TheVariants as events
-use Rattle.sshc_run.specs.declared.error.EventError.{EventError}
+use Rattle.sshc_event.specs.HostKey.{host_key}
+use Rattle.sshc_opening.specs.GateLaw.{NonePayload}
+use Rattle.sshc_opening.specs.declared.ended.Ended.{Ended}
+use Rattle.sshc_opening.specs.declared.ended.Ended.TheVariants.{ScriptEnd}
+use Rattle.sshc_event.specs.declared.event.Event.{Event}
+use Rattle.sshc_event.specs.declared.event.Event.TheVariants as events
+use Rattle.sshc_script.specs.declared.error.EventError.{EventError}
 use Rattle.sshc_run.specs.declared.error.RunError.{RunError}
 use Rattle.sshc_run.specs.declared.error.RunError.TheVariants as errors
-use Rattle.sshc_run.specs.declared.event_kind.EventKind.{EventKind}
-use Rattle.sshc_run.specs.declared.event_kind.EventKind.TheVariants as kinds
+use Rattle.sshc_script.specs.declared.event_kind.EventKind.{EventKind}
+use Rattle.sshc_script.specs.declared.event_kind.EventKind.TheVariants as kinds
 use Rattle.sshc_run.specs.declared.known_hosts_handler.HandlerError.{HandlerError}
-use Rattle.sshc_run.specs.Fields.{exchange_done_of}
 use Rattle.sshc_run.specs.KnownHosts.{Hosts, verdict}
 use Rattle.sshc_run.specs.Machine.{ended, refused}
 use Rattle.sshc_run.specs.Outcome.{Ending, told, cut, unread, ending_of}
 use Rattle.sshc_run.specs.RecordLines.{lines}
-use Rattle.sshc_run.specs.Script.{Frame, taken}
+use Rattle.sshc_script.specs.EventReading.{event_of}
+use Rattle.sshc_script.specs.Script.{Frame, taken}
 use Rattle.sshc_run.specs.ScriptRun.{Run}
 
 -- ---- the host key of the first exchange
@@ -34,19 +34,12 @@ said_of_key hosts (Some key) = verdict hosts key
 -- what it says of an exchange that can be read
 abbrev pub said_by : Hosts → Result Event EventError → Option (Result Bool HandlerError)
 said_by hosts (Ok (events.ExchangeDone x)) = Some (said_of_key hosts (host_key x.key))
-said_by hosts (Ok events.PeerKexinit) = None
-said_by hosts (Ok (events.Payload packet)) = None
-said_by hosts (Ok (events.Authenticate ticket user method)) = None
-said_by hosts (Err e) = None
+said_by hosts read = None
 
 -- what it says of an event that is an exchange, or else of the events behind it
 abbrev pub said_at : EventKind → Hosts → List ℕ → Option (Result Bool HandlerError) → Option (Result Bool HandlerError)
-said_at kinds.ExchangeDone hosts fields later = said_by hosts (exchange_done_of fields)
-said_at kinds.PeerKexinit hosts fields later = later
-said_at kinds.Payload hosts fields later = later
-said_at kinds.Authenticate hosts fields later = later
-said_at kinds.AgentEvent hosts fields later = later
-said_at kinds.Later hosts fields later = later
+said_at kinds.ExchangeDone hosts fields later = said_by hosts (event_of kinds.ExchangeDone fields)
+said_at kind hosts fields later = later
 
 -- what it says of the first exchange among these events; nothing where there is none or it can't be read
 unfoldable pub said_of_first : Hosts → List Frame → Option (Result Bool HandlerError)
@@ -63,10 +56,6 @@ abbrev pub is_accepted : Hosts → List Frame → Bool
 is_accepted hosts frames = is_yes (said_of_first hosts frames)
 
 -- ---- the promises
-
-abbrev pub NonePayload : List Record → Type 0
-NonePayload [] = Unit {0}
-NonePayload (said ∷ records) = (IsPayload said → ⊥) × NonePayload records
 
 -- where the bytes that were given hold no exchange whose host key is accepted first, no payload is written, not even in part
 abbrev pub IsGated : Hosts → ℕ → Option (List ℕ) → Option (List ℕ) → Option (List ℕ) → Option (List ℕ) → Type 0

@@ -1,12 +1,9 @@
-pub mod Script
-pub mod Fields
-pub mod Gives
 pub mod Handled
 pub mod Refusing
 pub mod KnownHosts
-pub mod Reading
 pub mod Firsts
 pub mod Machine
+pub mod Unbuilt
 pub mod Turn
 pub mod OpeningRun
 pub mod RecordLines

@@ -3,10 +3,10 @@
 use Rattle.std.specs.Prelude.{◌≡◌, List, Option, Some, None}
 use Rattle.sshc_wire.specs.declared.record.Record.{Record}
 use Rattle.sshc_key.specs.Asking.{Asking, Always}
-use Rattle.sshc_auth.specs.declared.ended.Ended.{Ended}
-use Rattle.sshc_auth.specs.declared.ended.Ended.TheVariants.{ScriptEnd}
+use Rattle.sshc_opening.specs.declared.ended.Ended.{Ended}
+use Rattle.sshc_opening.specs.declared.ended.Ended.TheVariants.{ScriptEnd}
 use Rattle.sshc_run.specs.declared.error.RunError.{RunError}
-use Rattle.sshc_run.specs.Script.{Frame}
+use Rattle.sshc_script.specs.Script.{Frame}
 
 -- how a run stops: an end, a refusal, or a sign call that nothing answers
 pub data RunStop : Type 0 where

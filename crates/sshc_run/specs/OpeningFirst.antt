@@ -5,8 +5,8 @@ use Rattle.sshc_wire.specs.Contents.{WroteFront, append}
 use Rattle.sshc_wire.specs.Faults.{Rose}
 use Rattle.sshc_wire.specs.declared.record.Record.{Record}
 use Rattle.sshc_key.specs.Signers.{SignCall}
-use Rattle.sshc_auth.specs.declared.ended.Ended.{Ended}
-use Rattle.sshc_auth.specs.declared.ended.Ended.TheVariants.{ScriptEnd}
+use Rattle.sshc_opening.specs.declared.ended.Ended.{Ended}
+use Rattle.sshc_opening.specs.declared.ended.Ended.TheVariants.{ScriptEnd}
 use Rattle.sshc_run.specs.declared.error.RunError.{RunError}
 use Rattle.sshc_run.specs.declared.error.RunError.TheVariants as errors
 use Rattle.sshc_run.specs.Firsts.{IsFront}
@@ -14,7 +14,7 @@ use Rattle.sshc_run.specs.Machine.{RunStop, ended, Machine}
 use Rattle.sshc_run.specs.OpeningRun.{OpeningRun, OpeningStop, opens_before, stops_with, through, opening}
 use Rattle.sshc_run.specs.Part.{Own, own_events, own_records, own_calls, own_answers, StoppedByOther}
 use Rattle.sshc_run.specs.RecordLines.{lines}
-use Rattle.sshc_run.specs.Script.{Frame, ScriptStop, whole, taken, stop_of}
+use Rattle.sshc_script.specs.Script.{Frame, ScriptStop, whole, taken, stop_of}
 
 -- the opening run over a script's session events, with the answers of the session's own calls
 abbrev pub opening_of : {S : Type 0} → Machine S → Own → ℕ → List SignCall → List ℕ → OpeningRun S

@@ -4,7 +4,7 @@ use Rattle.std.specs.Prelude.{◌≡◌, List, [], ◌∷◌}
 use Rattle.sshc_key.specs.Asking.{Answer, asked_on}
 use Rattle.sshc_run.specs.Firsts.{IsFront}
 use Rattle.sshc_run.specs.Machine.{RunStop, unanswered_stop, Onward, goes_on, opened, stopped, TurnOf, Turns}
-use Rattle.sshc_run.specs.Script.{Frame, ScriptStop}
+use Rattle.sshc_script.specs.Script.{Frame, ScriptStop}
 use Rattle.sshc_run.specs.ScriptRun.{RunOf, Run, stopped_with, after, asked_run, at_end, events_run}
 
 -- how the opening run stops: the session is open, and these events and answers stand behind; the run stops; or the list is used up

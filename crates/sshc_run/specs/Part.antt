@@ -8,7 +8,7 @@ use Rattle.sshc_key.specs.Asking.{Answer, Asking, done, asks, asked_on, Always}
 use Rattle.sshc_run.specs.Comes.{StopsFor}
 use Rattle.sshc_run.specs.Firsts.{IsFront}
 use Rattle.sshc_run.specs.Machine.{RunStop, unanswered_stop, TurnOf, Turns}
-use Rattle.sshc_run.specs.Script.{Frame}
+use Rattle.sshc_script.specs.Script.{Frame}
 use Rattle.sshc_run.specs.ScriptRun.{Run, answers_of}
 
 -- ---- what is a part's own

@@ -4,7 +4,7 @@ use Rattle.std.specs.Prelude.{◌≡◌, ◌⊎◌, true, false, not, if◌then�
 use Rattle.sshc_key.specs.Asking.{asked_on, Always}
 use Rattle.sshc_run.specs.Machine.{RunStop, TurnOf, Turns, Machine}
 use Rattle.sshc_run.specs.Part.{Own, SaysBy, AsksBy}
-use Rattle.sshc_run.specs.Script.{Frame}
+use Rattle.sshc_script.specs.Script.{Frame}
 
 pub record Both (A : Type 0) (B : Type 0) : Type 0 where
   pub one : A

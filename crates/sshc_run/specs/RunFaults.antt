@@ -1,7 +1,7 @@
 -- How often the source and the sink of a run failed, and that a fault is answered just where a count rose.
 use Rattle.std.specs.Prelude.{◌≡◌, ℕ, ◌≤◌, Result, Err}
 use Rattle.sshc_wire.specs.Faults.{Rose}
-use Rattle.sshc_auth.specs.declared.ended.Ended.{Ended}
+use Rattle.sshc_opening.specs.declared.ended.Ended.{Ended}
 use Rattle.sshc_run.specs.declared.error.RunError.{RunError}
 use Rattle.sshc_run.specs.declared.error.RunError.TheVariants as errors
 

@@ -5,10 +5,10 @@ use Rattle.std.specs.Prelude.{ℕ, zero, suc, ◌+◌, List, [], ◌∷◌, ◌+
 use Rattle.sshc_wire.specs.declared.record.Record.{Record}
 use Rattle.sshc_key.specs.Signers.{SignCall, since}
 use Rattle.sshc_key.specs.Asking.{Answer, Asking, done, asks, call_of}
-use Rattle.sshc_auth.specs.declared.ended.Ended.TheVariants.{ScriptEnd}
+use Rattle.sshc_opening.specs.declared.ended.Ended.TheVariants.{ScriptEnd}
 use Rattle.sshc_run.specs.declared.error.RunError.TheVariants as errors
 use Rattle.sshc_run.specs.Machine.{RunStop, ended, refused, unanswered_stop, Onward, goes_on, opened, stopped, TurnOf, Turns, Machine}
-use Rattle.sshc_run.specs.Script.{Frame, Head, End, Bad, Whole, front, frame_at, size_of, ScriptStop, whole, bad, more, stop_at_most, taken, stop_of}
+use Rattle.sshc_script.specs.Script.{Frame, Head, End, Bad, Whole, front, frame_at, size_of, ScriptStop, whole, bad, more, stop_at_most, taken, stop_of}
 
 -- all records in order, the calls of the signer in order, and how it stops
 pub record RunOf (E : Type 0) : Type 0 where

@@ -1,18 +1,17 @@
 -- What is the session's own in a run: every event but an agent's, every record but an agent's, and the calls that it makes of the signer.
-use Rattle.std.specs.Prelude.{◌≡◌, Bool, true, false}
+use Rattle.std.specs.Prelude.{◌≡◌, Bool, true, false, not}
 use Rattle.sshc_wire.specs.declared.record.Record.{Record}
 use Rattle.sshc_key.specs.declared.signer.Asker.{Asker}
 use Rattle.sshc_key.specs.declared.signer.Asker.TheVariants.{Session, Agent}
 use Rattle.sshc_run.specs.declared.error.RunError.TheVariants as errors
-use Rattle.sshc_run.specs.declared.event_kind.EventKind.{EventKind}
-use Rattle.sshc_run.specs.declared.event_kind.EventKind.TheVariants as kinds
+use Rattle.sshc_script.specs.declared.event_kind.EventKind.{EventKind}
+use Rattle.sshc_script.specs.EventKinds.{is_agent_kind}
 use Rattle.sshc_run.specs.Machine.{RunStop, refused}
 use Rattle.sshc_run.specs.Part.{Own}
-use Rattle.sshc_run.specs.Script.{Frame}
+use Rattle.sshc_script.specs.Script.{Frame}
 
 abbrev pub is_session_kind : EventKind → Bool
-is_session_kind kinds.AgentEvent = false
-is_session_kind kind = true
+is_session_kind kind = not (is_agent_kind kind)
 
 -- a record below 40 (hexadecimal); no other is built yet
 abbrev pub is_session_record : Record → Bool

@@ -4,32 +4,27 @@ use Rattle.std.specs.Prelude.{ℕ, Bool, true, false, [], Result, Ok, Err, if◌
 use Rattle.sshc_key.specs.declared.error.Error.{Error as KeyError}
 use Rattle.sshc_key.specs.declared.error.Error.TheVariants as key_errors
 use Rattle.sshc_key.specs.Asking.{Asking, done, asked_on}
-use Rattle.sshc_auth.specs.declared.error.Error.{Error}
-use Rattle.sshc_auth.specs.declared.error.Error.TheVariants as auths
-use Rattle.sshc_auth.specs.declared.event.Event.{Event}
-use Rattle.sshc_auth.specs.declared.event.ExchangeFlag.{ExchangeFlag}
-use Rattle.sshc_auth.specs.declared.event.ExchangeFlag.TheVariants as flags
-use Rattle.sshc_auth.specs.declared.opening.Phase.{Phase}
-use Rattle.sshc_auth.specs.declared.opening.Phase.TheVariants as phases
-use Rattle.sshc_auth.specs.declared.step.Asks.{Asks}
-use Rattle.sshc_auth.specs.declared.step.Asks.TheVariants as asking
-use Rattle.sshc_auth.specs.declared.step.Told.TheVariants as telling
-use Rattle.sshc_auth.specs.declared.opening.Settings.{Settings}
-use Rattle.sshc_auth.specs.OpeningState.{OpeningState, shut, start}
-use Rattle.sshc_auth.specs.OpeningTable.{open_row, asked_of}
-use Rattle.sshc_auth.specs.Row.{Row, Next, stays, opens, ends as ends_with, refuses}
-use Rattle.sshc_run.specs.declared.error.EventError.{EventError}
-use Rattle.sshc_run.specs.declared.error.EventError.TheVariants as reads
+use Rattle.sshc_opening.specs.declared.error.Error.{Error}
+use Rattle.sshc_opening.specs.declared.error.Error.TheVariants as auths
+use Rattle.sshc_event.specs.declared.event.Event.{Event}
+use Rattle.sshc_opening.specs.declared.step.Asks.{Asks}
+use Rattle.sshc_opening.specs.declared.step.Asks.TheVariants as asking
+use Rattle.sshc_opening.specs.declared.step.Told.TheVariants as telling
+use Rattle.sshc_opening.specs.declared.opening.Settings.{Settings}
+use Rattle.sshc_opening.specs.OpeningState.{OpeningState, shut, start}
+use Rattle.sshc_opening.specs.OpeningTable.{open_row, asked_of}
+use Rattle.sshc_opening.specs.Row.{Row, Next, stays, opens, ends as ends_with, refuses}
+use Rattle.sshc_script.specs.declared.error.EventError.{EventError}
+use Rattle.sshc_script.specs.declared.error.EventError.TheVariants as reads
 use Rattle.sshc_run.specs.declared.error.RunError.{RunError}
 use Rattle.sshc_run.specs.declared.error.RunError.TheVariants as errors
-use Rattle.sshc_run.specs.declared.event_kind.EventKind.{EventKind}
-use Rattle.sshc_run.specs.declared.event_kind.EventKind.TheVariants as kinds
 use Rattle.sshc_run.specs.declared.known_hosts_handler.HandlerError.{HandlerError}
 use Rattle.sshc_run.specs.declared.known_hosts_handler.HandlerError.TheVariants.{Client, Key}
-use Rattle.sshc_run.specs.Fields.{event_in}
 use Rattle.sshc_run.specs.KnownHosts.{Hosts, verdict}
+use Rattle.sshc_run.specs.Unbuilt.{is_built}
 use Rattle.sshc_run.specs.Machine.{goes_on, opened, stopped, ended, refused, TurnOf, Turns, Machine}
-use Rattle.sshc_run.specs.Script.{Frame}
+use Rattle.sshc_script.specs.EventReading.{event_of}
+use Rattle.sshc_script.specs.Script.{Frame}
 
 -- ---- errors, as the run tells them
 
@@ -99,48 +94,16 @@ asked_turn hosts place s event (asking.Banner text) = asked_on (row_turn place s
 abbrev pub event_turn : Hosts → ℕ → OpeningState → Result Event EventError → Asking Turn
 event_turn hosts place s (Ok event) = asked_turn hosts place s event (asked_of s event)
 event_turn hosts place s (Err reads.Bad) = done (stops s (errors.BadEvent place))
-event_turn hosts place s (Err reads.Unbuilt) = done (stops s (errors.Unbuilt place))
 event_turn hosts place s (Err reads.NoMemory) = done (stops s errors.NoMemory)
 
--- ---- tests before the fields are read
-
--- a second KEXINIT of the peer, an exchange done without one, and a user's event while an exchange runs
-abbrev pub is_out_of_turn : EventKind → ExchangeFlag → Bool
-is_out_of_turn kinds.PeerKexinit flags.Peer = true
-is_out_of_turn kinds.PeerKexinit flag = false
-is_out_of_turn kinds.ExchangeDone flags.Peer = false
-is_out_of_turn kinds.ExchangeDone flag = true
-is_out_of_turn kinds.Authenticate flags.Idle = false
-is_out_of_turn kinds.Authenticate flag = true
-is_out_of_turn kind flag = false
-
--- the kinds that are built in a phase: exchanges at first, packets once the service is asked for, and requests before the session is open
-abbrev pub is_kind_built : EventKind → Phase → Bool → Bool
-is_kind_built kinds.PeerKexinit phases.Exchanging requested = true
-is_kind_built kinds.ExchangeDone phases.Exchanging requested = true
-is_kind_built kinds.Payload phases.Service requested = requested
-is_kind_built kinds.Payload phases.Auth requested = true
-is_kind_built kinds.Authenticate phases.Service requested = true
-is_kind_built kinds.Authenticate phases.Auth requested = true
-is_kind_built kind phase requested = false
-
--- nothing is built once the opening is closed
-abbrev pub is_built_now : EventKind → OpeningState → Bool
-is_built_now kind s = if s.closed then false else is_kind_built kind s.phase s.requested
-
--- an event that is built, by the event that its fields give
+-- an event that is built, by its fields
 abbrev pub built_turn : Bool → Hosts → OpeningState → Frame → Asking Turn
-built_turn true hosts s frame = event_turn hosts frame.place s (event_in s.phase frame.kind frame.fields)
+built_turn true hosts s frame = event_turn hosts frame.place s (event_of frame.kind frame.fields)
 built_turn false hosts s frame = done (stops s (errors.Unbuilt frame.place))
-
--- an event that may come now
-abbrev pub timely_turn : Bool → Hosts → OpeningState → Frame → Asking Turn
-timely_turn true hosts s frame = done (stops s (errors.OutOfTurn frame.place))
-timely_turn false hosts s frame = built_turn (is_built_now frame.kind s) hosts s frame
 
 -- the turn of an event
 unfoldable pub turn : Hosts → Turns OpeningState
-turn hosts s frame = timely_turn (is_out_of_turn frame.kind s.flag) hosts s frame
+turn hosts s frame = built_turn (is_built frame.kind s) hosts s frame
 
 -- the opening with its settings, as a machine
 abbrev pub opening_machine : Hosts → Settings → Machine OpeningState

@@ -5,10 +5,10 @@ use Rattle.sshc_wire.specs.Contents.{prepend, append, WroteFront, IsAtEnd}
 use Rattle.sshc_wire.specs.declared.record.Record.{Record}
 use Rattle.sshc_key.specs.Signers.{SignCall}
 use Rattle.sshc_key.specs.Asking.{Answer, Asking, Makes, MakesFirst}
-use Rattle.sshc_auth.specs.declared.ended.Ended.{Ended}
-use Rattle.sshc_auth.specs.declared.ended.Ended.TheVariants as ends
-use Rattle.sshc_auth.specs.declared.step.Step.{Step}
-use Rattle.sshc_auth.specs.declared.step.Step.TheVariants as steps
+use Rattle.sshc_opening.specs.declared.ended.Ended.{Ended}
+use Rattle.sshc_opening.specs.declared.ended.Ended.TheVariants as ends
+use Rattle.sshc_opening.specs.declared.step.Step.{Step}
+use Rattle.sshc_opening.specs.declared.step.Step.TheVariants as steps
 use Rattle.sshc_run.specs.declared.error.RunError.{RunError}
 use Rattle.sshc_run.specs.declared.error.RunError.TheVariants as errors
 use Rattle.sshc_run.specs.declared.known_hosts_handler.HandlerError.{HandlerError}
@@ -17,7 +17,7 @@ use Rattle.sshc_run.specs.KnownHosts.{Hosts}
 use Rattle.sshc_run.specs.Machine.{TurnOf, stop_next}
 use Rattle.sshc_run.specs.Outcome.{Streams, Moved, Ending, told, cut, unread, ending_of, stop_as, IsCut, Ends}
 use Rattle.sshc_run.specs.RecordLines.{lines}
-use Rattle.sshc_run.specs.Script.{events}
+use Rattle.sshc_script.specs.Script.{events}
 use Rattle.sshc_run.specs.ScriptRun.{Spot, Table, after, answers_of}
 use Rattle.sshc_run.specs.Turn.{handler_error_of}
 

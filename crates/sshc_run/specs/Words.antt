@@ -6,9 +6,9 @@ use Rattle.sshc_wire.specs.Faults.{Rose}
 use Rattle.sshc_wire.specs.declared.files.Found.TheVariants as found
 use Rattle.sshc_key.specs.Asking.{Answer}
 use Rattle.sshc_hosts.specs.HostText.{host_text}
-use Rattle.sshc_auth.specs.declared.ended.Ended.{Ended}
-use Rattle.sshc_auth.specs.declared.ended.Ended.TheVariants as ends
-use Rattle.sshc_auth.specs.declared.opening.Settings.{Settings}
+use Rattle.sshc_opening.specs.declared.ended.Ended.{Ended}
+use Rattle.sshc_opening.specs.declared.ended.Ended.TheVariants as ends
+use Rattle.sshc_opening.specs.declared.opening.Settings.{Settings}
 use Rattle.sshc_run.specs.declared.error.RunError.{RunError}
 use Rattle.sshc_run.specs.declared.error.RunError.TheVariants as errors
 use Rattle.sshc_words.specs.Adding.{Adds}

@@ -1,10 +1,5 @@
 //! How a run fails.
 
-ghost use Rattle.std.specs.Prelude.{◌≡◌};
-ghost use Rattle.sshc_run.specs.declared.error.EventError.TheVariants as reads;
-
-use sshc_wire::{NoMemory, WireError};
-use std::alloc::{AllocError, AllocFailed};
 use thiserror::Error;
 
 /// Why a run ends before its script does. A place is of an event's length field, in bytes from 0.
@@ -76,50 +71,4 @@ pub enum RunError {
     /// The event at the place isn't built yet.
     #[error("Unbuilt")]
     Unbuilt { at: u64 },
-}
-
-/// Why an event's fields give no event.
-#[derive(Clone, Copy, Debug, PartialEq, Eq, Error)]
-pub enum EventError {
-    /// Memory ran out.
-    #[error("NoMemory")]
-    NoMemory,
-    /// They are outside the grammar.
-    #[error("Bad")]
-    Bad,
-    /// The event isn't built yet.
-    #[error("Unbuilt")]
-    Unbuilt,
-}
-
-impl From<NoMemory> for EventError {
-    ghost from_gives = { λ _ e. e ≡ reads.NoMemory };
-
-    fn from(_error: NoMemory) -> EventError {
-        EventError::NoMemory
-    }
-}
-
-impl From<AllocError> for EventError {
-    ghost from_gives = { λ _ e. e ≡ reads.NoMemory };
-
-    fn from(_error: AllocError) -> EventError {
-        EventError::NoMemory
-    }
-}
-
-impl<T: Drop> From<AllocFailed<T>> for EventError {
-    ghost from_gives = { λ _ e. e ≡ reads.NoMemory };
-
-    fn from(_error: AllocFailed<T>) -> EventError {
-        EventError::NoMemory
-    }
-}
-
-impl From<WireError> for EventError {
-    ghost from_gives = { λ _ e. e ≡ reads.Bad };
-
-    fn from(_error: WireError) -> EventError {
-        EventError::Bad
-    }
 }

@@ -4,9 +4,10 @@ ghost use Rattle.std.specs.Prelude.{◌≡◌, ◌≤◌, ◌∷◌, [], ℕ, Li
 ghost use Rattle.sshc_hosts.specs.HostText.{host_text};
 ghost use Rattle.sshc_run.specs.declared.known_hosts_handler.HandlerError.TheVariants as errors;
 
-use sshc_auth::{Error, Gate, NamesChosen};
 use sshc_hosts::judge_text;
 use sshc_key::PublicKeyOrCertificate;
+use sshc_opening::{Error, Gate};
+use sshc_transport::NamesChosen;
 use sshc_wire::{NoMemory, Outbox, Text};
 use std::alloc::Global;
 use std::marker::Model;

@@ -10,19 +10,51 @@ ghost use Rattle.sshc_run.specs.Configured.{settings_of};
 ghost use Rattle.sshc_run.specs.Headline.{IsGated, IsPrefix, IsDone, IsKept, IsComplete};
 ghost use Rattle.sshc_run.specs.OpeningFirst.{IsOpeningFirst, IsOpeningDone, IsOpeningComplete};
 ghost use Rattle.sshc_run.specs.Outcome.{streams, Ends};
-ghost use Rattle.sshc_run.specs.ScriptRun.{script_run, answers_since};
+ghost use Rattle.sshc_run.specs.ScriptRun.{script_run, answers_since, run, spot};
 ghost use Rattle.sshc_run.specs.SessionPart.{session_own, IsAgentCause};
-ghost use Rattle.sshc_run.specs.Turn.{opening_machine};
+ghost use Rattle.sshc_run.specs.Turn.{opening_machine, turn};
 ghost use Rattle.sshc_run.specs.Turning.{hosts_of};
 
 use crate::config::Config;
 use crate::error::RunError;
 use crate::known_hosts_handler::KnownHostsHandler;
-use crate::turn::{Point, at_limit, one_turn};
-use sshc_auth::{Ended, Opening};
+use crate::turn::{Point, at_limit, let_go, one_turn};
 use sshc_key::{LocalSigner, Verifier};
-use sshc_wire::{NoMemory, Outbox, Sink, Source};
+use sshc_opening::Ended;
+use sshc_wire::{NoMemory, Sink, Source};
 use std::alloc::Global;
+
+/// Takes events from where a run stands, at most so many.
+fn take_turns<S: Source, G: LocalSigner, K: Sink>(
+    alloc: Global,
+    max_events: u32,
+    at: &mut Point,
+    gate: &mut KnownHostsHandler,
+    source: &mut S,
+    signer: &mut G,
+    sink: &mut K,
+) -> Result<Ended, RunError>
+    requires room { at.old.place ≡ 0 }
+    ensures run { Ends max_events at.old.place at.old.last (run (turn (hosts_of gate.old)) max_events (spot at.old.place at.old.last at.old.opening))
+        (streams (S.left source.old) (K.contents sink.old) (S.reads source.old) (G.calls signer.old))
+        (streams (S.left source.new) (K.contents sink.new) (S.reads source.new) (G.calls signer.new)) result }
+    ensures read_later { S.faults source.old ≤ S.faults source.new }
+    ensures last_read { S.empty_reads source.new ≤ S.empty_reads source.old + 1 }
+    ensures last_write { K.empty_writes sink.new ≤ K.empty_writes sink.old + 1 }
+    ensures writes { WritesFor (K.contents sink.old) (K.contents sink.new) (K.writes sink.old) (K.writes sink.new) }
+    ensures write_later { K.faults sink.old ≤ K.faults sink.new }
+    ensures read_fault { result ≡ Err RunError.ReadFault → Rose (S.faults source.old) (S.faults source.new) }
+    ensures read_told { (result ≡ Err RunError.ReadFault → ⊥) → S.faults source.new ≡ S.faults source.old }
+    ensures write_fault { result ≡ Err RunError.WriteFault → Rose (K.faults sink.old) (K.faults sink.new) }
+    ensures write_told { (result ≡ Err RunError.WriteFault → ⊥) → K.faults sink.new ≡ K.faults sink.old }
+{
+    for turn in 0..max_events {
+        if let Some(answer) = one_turn(alloc, at, gate, source, signer, sink) {
+            return answer;
+        }
+    }
+    at_limit(alloc, source)
+}
 
 /// Takes the events of a script, at most so many.
 fn run_events<S: Source, G: LocalSigner, K: Sink>(
@@ -46,23 +78,18 @@ fn run_events<S: Source, G: LocalSigner, K: Sink>(
     ensures write_fault { result ≡ Err RunError.WriteFault → Rose (K.faults sink.old) (K.faults sink.new) }
     ensures write_told { (result ≡ Err RunError.WriteFault → ⊥) → K.faults sink.new ≡ K.faults sink.old }
 {
-    let mut at = Point {
-        opening: Opening::new(
-            alloc,
-            config.window_size,
-            config.anonymous,
-            config.inactivity_timeout.is_some(),
-        ),
-        place: 0,
-        last: 0,
-        out: Outbox::new(alloc),
-    };
-    for turn in 0..config.max_events {
-        if let Some(answer) = one_turn(alloc, &mut at, gate, source, signer, sink) {
-            return answer;
-        }
-    }
-    at_limit(alloc, source)
+    let mut at = Point::at_start(alloc, config);
+    let answer = take_turns(
+        alloc,
+        config.max_events,
+        &mut at,
+        gate,
+        source,
+        signer,
+        sink,
+    );
+    let_go(at);
+    answer
 }
 
 /// Runs a script: takes its events one at a time, judges host keys by the known hosts text, and writes a line for each
@@ -110,8 +137,6 @@ pub fn run_script<S: Source, K: Sink, G: LocalSigner, V: Verifier>(
     // A valid script of whose agents' events none stops the run gives its end or out of memory, where nothing fails.
     ensures opening_complete { IsOpeningComplete (opening_machine (record { host = host_text host.now port; known = known.now }) (settings_of config.now)) session_own IsAgentCause config.now.max_events (since (G.calls signer.old) (G.calls signer.new))
         (S.left source.old) (S.faults source.old) (S.faults source.new) (K.faults sink.old) (K.faults sink.new) result }
-    // No row asks the signer yet.
-    ensures unsigned { G.calls signer.new ≡ G.calls signer.old }
     ensures read_later { S.faults source.old ≤ S.faults source.new }
     // At most one read moved nothing, and at most one write.
     ensures last_read { S.empty_reads source.new ≤ S.empty_reads source.old + 1 }

@@ -4,21 +4,24 @@ ghost use Rattle.std.specs.Prelude.{◌≡◌, ◌≢◌, ◌+◌, ◌++◌, ◌
 ghost use Rattle.sshc_wire.specs.Contents.{WritesMove, WritesFor};
 ghost use Rattle.sshc_wire.specs.Faults.{Rose};
 ghost use Rattle.sshc_key.specs.Signers.{since};
-ghost use Rattle.sshc_auth.specs.OpeningTable.{asked_of};
+ghost use Rattle.sshc_opening.specs.OpeningTable.{asked_of};
+ghost use Rattle.sshc_opening.specs.OpeningState.{start};
+ghost use Rattle.sshc_run.specs.Configured.{settings_of};
 ghost use Rattle.sshc_run.specs.Outcome.{streams};
-ghost use Rattle.sshc_run.specs.Script.{frame_at, size_of};
+ghost use Rattle.sshc_script.specs.Script.{frame_at, size_of};
 ghost use Rattle.sshc_run.specs.ScriptRun.{run, spot};
-ghost use Rattle.sshc_run.specs.Turn.{error_of, key_error_of, handler_error_of, is_out_of_turn, is_built_now, asked_turn, event_turn, turn};
+ghost use Rattle.sshc_run.specs.Turn.{error_of, key_error_of, handler_error_of, asked_turn, event_turn, turn};
 ghost use Rattle.sshc_run.specs.Turning.{hosts_of, step_answer, TakeGives, TurnGives, LimitGives};
 
-use crate::error::{EventError, RunError};
-use crate::event_kind::EventKind;
-use crate::fields::read_event;
+use crate::config::Config;
+use crate::error::RunError;
 use crate::known_hosts_handler::{HandlerError, KnownHostsHandler};
 use crate::record_lines::write_lines;
-use crate::script::{NextError, RawEvent, next_event};
-use sshc_auth::{Ended, Error, Event, ExchangeFlag, Opening, Phase, Step};
+use crate::unbuilt::is_built;
+use sshc_event::Event;
 use sshc_key::LocalSigner;
+use sshc_opening::{Ended, Error, Opening, Step};
+use sshc_script::{EventError, NextError, RawEvent, next_event, read_event};
 use sshc_wire::{Failed, Outbox, Sink, Source, read_up_to};
 use std::alloc::Global;
 
@@ -30,6 +33,27 @@ pub struct Point {
     pub place: u64,
     pub last: u64,
     pub out: Outbox,
+}
+
+impl Point {
+    /// Where a run begins.
+    pub fn at_start(alloc: Global, config: &Config) -> Point
+        ensures opening { result.opening ≡ start (settings_of config.now) }
+        ensures place { result.place ≡ 0 }
+        ensures last { result.last ≡ 0 }
+    {
+        Point {
+            opening: Opening::new(
+                alloc,
+                config.window_size,
+                config.anonymous,
+                config.inactivity_timeout.is_some(),
+            ),
+            place: 0,
+            last: 0,
+            out: Outbox::new(alloc),
+        }
+    }
 }
 
 fn error_at(place: u64, e: Error) -> RunError
@@ -72,12 +96,11 @@ fn handler_error_at(place: u64, e: HandlerError) -> RunError
 }
 
 fn event_error_at(place: u64, e: EventError) -> RunError
-    ensures { result ≡ (elim e [ EventError.NoMemory ↦ RunError.NoMemory | EventError.Bad ↦ RunError.BadEvent place | EventError.Unbuilt ↦ RunError.Unbuilt place ]) }
+    ensures { result ≡ (elim e [ EventError.NoMemory ↦ RunError.NoMemory | EventError.Bad ↦ RunError.BadEvent place ]) }
 {
     match e {
         EventError::NoMemory => RunError::NoMemory,
         EventError::Bad => RunError::BadEvent { at: place },
-        EventError::Unbuilt => RunError::Unbuilt { at: place },
     }
 }
 
@@ -121,34 +144,6 @@ fn stop_at(place: u64, step: Step<HandlerError>) -> Option<Result<Ended, RunErro
     }
 }
 
-/// Whether an event of this kind may not come while the exchange flag is so.
-fn is_early(kind: EventKind, flag: ExchangeFlag) -> bool
-    ensures { result ≡ is_out_of_turn kind flag }
-{
-    match kind {
-        EventKind::PeerKexinit => flag == ExchangeFlag::Peer,
-        EventKind::ExchangeDone => flag != ExchangeFlag::Peer,
-        EventKind::Authenticate => flag != ExchangeFlag::Idle,
-        EventKind::Payload | EventKind::AgentEvent | EventKind::Later => false,
-    }
-}
-
-/// Whether events of this kind are built where the opening stands.
-fn is_built(kind: EventKind, opening: &Opening) -> bool
-    ensures { result ≡ is_built_now kind opening.now }
-{
-    if opening.is_closed() {
-        return false;
-    }
-    match (kind, opening.phase()) {
-        (EventKind::PeerKexinit | EventKind::ExchangeDone, Phase::Exchanging) => true,
-        (EventKind::Payload, Phase::Service) => opening.has_requested(),
-        (EventKind::Payload, Phase::Auth) => true,
-        (EventKind::Authenticate, Phase::Service | Phase::Auth) => true,
-        _ => false,
-    }
-}
-
 /// Steps the opening, and writes the records.
 fn step_event<G: LocalSigner, K: Sink>(
     alloc: Global,
@@ -181,6 +176,9 @@ fn step_event<G: LocalSigner, K: Sink>(
     }
 }
 
+/// Drops a value whose kinds need not be told apart.
+pub(crate) fn let_go<T: Drop>(_value: T) {}
+
 /// Takes an event, and writes its records.
 fn take_event<G: LocalSigner, K: Sink>(
     alloc: Global,
@@ -205,14 +203,15 @@ fn take_event<G: LocalSigner, K: Sink>(
     ensures no_read { result ≢ Some (Err RunError.ReadFault) }
 {
     let place = at.place;
-    if is_early(event.kind(), at.opening.flag()) {
-        return Some(Err(RunError::OutOfTurn { at: place }));
-    }
     if !is_built(event.kind(), &at.opening) {
         return Some(Err(RunError::Unbuilt { at: place }));
     }
-    match read_event(alloc, at.opening.phase(), event.kind(), event.fields()) {
-        Ok(event) => step_event(alloc, at, &event, gate, signer, sink),
+    match read_event(alloc, event.kind(), event.fields()) {
+        Ok(event) => {
+            let answer = step_event(alloc, at, &event, gate, signer, sink);
+            let_go(event);
+            answer
+        }
         Err(e) => Some(Err(event_error_at(place, e))),
     }
 }

@@ -13,8 +13,8 @@ ghost use Rattle.sshc_run.specs.Words.{IsScriptWords, default_events, end_name, 
 use crate::config::Config;
 use crate::error::RunError;
 use crate::run::run_script;
-use sshc_auth::Ended;
 use sshc_key::{LocalSigner, Verifier};
+use sshc_opening::Ended;
 use sshc_wire::{Failed, Files, Found, NoMemory, Sink, Source, Text};
 use sshc_words::{
     KNOWN_FILE_STATUS, NO_MEMORY_STATUS, WORDS_STATUS, WRITE_FAULT_STATUS, add_line, port_of,

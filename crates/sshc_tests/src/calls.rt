@@ -1,18 +1,18 @@
 //! Each public call of the opening and of runs that takes memory, with ample memory.
 
 use crate::scripts::{EXCHANGE, KEXINIT, KNOWN, LOGIN, PASSWORD, script_of};
-use sshc_auth::{
-    Asks, Event, ExchangeFlag, ExchangeKey, Gate, Method, Opening, Outbox, Phase, Record, Step,
-    Ticket, Told, host_key_of, write_auth_request,
-};
+use sshc_event::{Event, Method, host_key_of};
 use sshc_key::{
     Asker, Error, LocalSigner, PrivateKey, PublicKeyOrCertificate, SignRefused, read_key_pair,
 };
-use sshc_run::{
-    Config, EventKind, HandlerError, KnownHostsHandler, NextError, RefusingSigner, next_event,
-    read_event,
+use sshc_opening::{Asks, Gate, Opening, Phase, Step, Told};
+use sshc_request::write_auth_request;
+use sshc_run::{Config, HandlerError, KnownHostsHandler, RefusingSigner};
+use sshc_script::{EventKind, NextError, next_event, read_event};
+use sshc_transport::{ExchangeFlag, ExchangeKey};
+use sshc_wire::{
+    Cursor, MemSource, NoMemory, Octets, Outbox, Record, Text, Ticket, put_bytes, put_text, put_u32,
 };
-use sshc_wire::{Cursor, MemSource, NoMemory, Octets, Text, put_bytes, put_text, put_u32};
 use std::alloc::Global;
 use std::test::Fail;
 
@@ -23,12 +23,7 @@ fn fields(event: &[u8]) -> &[u8] {
 
 /// The event of the login's exchange.
 fn exchange(alloc: Global) -> Result<Event, Fail> {
-    Ok(read_event(
-        alloc,
-        Phase::Exchanging,
-        EventKind::ExchangeDone,
-        fields(EXCHANGE),
-    )?)
+    Ok(read_event(alloc, EventKind::ExchangeDone, fields(EXCHANGE))?)
 }
 
 fn password(alloc: Global) -> Result<Method, NoMemory> {
@@ -69,12 +64,7 @@ fn events_are_taken_and_read(rt: HostRuntime) -> Result<(), Fail> {
         }
     }
     assert_eq!(rt; sizes.as_slice(), [13u64, 130, 33, 30, 14].as_slice());
-    let event = read_event(
-        rt.alloc(),
-        Phase::Service,
-        EventKind::Authenticate,
-        fields(PASSWORD),
-    )?;
+    let event = read_event(rt.alloc(), EventKind::Authenticate, fields(PASSWORD))?;
     let wanted = Event::Authenticate {
         ticket: Ticket(1),
         user: Text::from_str(rt.alloc(), "alice")?,
@@ -90,7 +80,7 @@ fn events_are_taken_and_read(rt: HostRuntime) -> Result<(), Fail> {
 }
 
 #[test]
-#[tactic(auto, unfolding(sshc_auth::specs::OpeningTable::asked_of))]
+#[tactic(auto, unfolding(sshc_opening::specs::OpeningTable::asked_of))]
 fn the_key_of_an_exchange_is_asked_for(rt: HostRuntime) -> Result<(), Fail> {
     let event = exchange(rt.alloc())?;
     let Event::ExchangeDone(done) = &event else {

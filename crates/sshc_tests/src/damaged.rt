@@ -3,7 +3,7 @@
 use crate::scripts::{
     KNOWN, LOGIN, PLACES, WRITTEN, assert_gives, run_of, script_of, whole_events,
 };
-use sshc_auth::Ended;
+use sshc_opening::Ended;
 use sshc_run::RunError;
 use sshc_wire::NoMemory;
 use std::alloc::Global;

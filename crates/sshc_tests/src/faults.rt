@@ -4,7 +4,7 @@ use crate::outside::{SlowSink, SlowSource, StoppingWriter};
 use crate::scripts::{
     KNOWN, LINES, LOGIN, Outcome, WRITTEN, assert_gives, run_over, script_of, whole_events,
 };
-use sshc_auth::Ended;
+use sshc_opening::Ended;
 use sshc_run::RunError;
 use sshc_wire::{MemSink, MemSource, NoMemory, StdSink};
 use std::alloc::Global;

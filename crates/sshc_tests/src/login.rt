@@ -4,7 +4,7 @@ use crate::scripts::{
     ACCEPTED, EXCHANGE, KEXINIT, KNOWN, LINES, LOGIN, PASSWORD, PLACES, SUCCESS, WRITTEN,
     assert_gives, run_of, run_with, script_of,
 };
-use sshc_auth::Ended;
+use sshc_opening::Ended;
 use sshc_run::{Config, RunError};
 use std::test::Fail;
 
@@ -149,22 +149,18 @@ fn events_out_of_turn_are_refused(rt: HostRuntime) -> Result<(), Fail> {
     Ok(())
 }
 
+/// The transport failed.
+const FAILED: &[u8] = b"\0\0\0\x09\0\0\0\0\0\0\0\0\x04";
+
+/// Bytes of an agent's connection.
+const AGENT_BYTES: &[u8] = b"\0\0\0\x0d\0\0\0\0\0\0\0\0\x40\0\0\0\x01";
+
 #[test]
 fn what_is_not_built_is_told_with_its_place(rt: HostRuntime) -> Result<(), Fail> {
-    let failed: &[u8] = b"\0\0\0\x09\0\0\0\0\0\0\0\0\x04";
-    let in_service: [&[u8]; 5] = [KEXINIT, EXCHANGE, PASSWORD, failed, SUCCESS];
-    let at_first: [&[u8]; 1] = [failed];
-    let unasked: [&[u8]; 3] = [KEXINIT, EXCHANGE, ACCEPTED];
+    let agents: [&[u8]; 2] = [KEXINIT, AGENT_BYTES];
     let once_open: [&[u8]; 6] = [KEXINIT, EXCHANGE, PASSWORD, ACCEPTED, SUCCESS, SUCCESS];
     for (case, events, at, written) in [
-        (
-            "a failed transport in the service",
-            in_service.as_slice(),
-            176u64,
-            82usize,
-        ),
-        ("a packet before any request", unasked.as_slice(), 143, 45),
-        ("a failed transport at first", at_first.as_slice(), 0, 0),
+        ("an agent's event", agents.as_slice(), 13u64, 0usize),
         (
             "a packet once the session is open",
             once_open.as_slice(),
@@ -187,12 +183,45 @@ fn what_is_not_built_is_told_with_its_place(rt: HostRuntime) -> Result<(), Fail>
 }
 
 #[test]
-fn a_method_that_is_not_built_is_told(rt: HostRuntime) -> Result<(), Fail> {
-    for method in [0u8, 2, 3, 4, 5, 6, 7] {
+fn refusals_of_the_opening_are_told(rt: HostRuntime) -> Result<(), Fail> {
+    let in_service: [&[u8]; 5] = [KEXINIT, EXCHANGE, PASSWORD, FAILED, SUCCESS];
+    let at_first: [&[u8]; 1] = [FAILED];
+    let unasked: [&[u8]; 3] = [KEXINIT, EXCHANGE, ACCEPTED];
+    for (case, events, answer, written) in [
+        (
+            "a failed transport in the service",
+            in_service.as_slice(),
+            RunError::TransportFailed,
+            82usize,
+        ),
+        (
+            "a failed transport at first",
+            at_first.as_slice(),
+            RunError::TransportFailed,
+            0,
+        ),
+        (
+            "a packet before any request",
+            unasked.as_slice(),
+            RunError::Inconsistent,
+            45,
+        ),
+    ] {
+        let script = script_of(rt.alloc(), events)?;
+        let outcome = run_of(rt.alloc(), KNOWN, 8192, script);
+        assert_gives(&rt, case, 0, &outcome, &Err(answer), written);
+    }
+    Ok(())
+}
+
+/// In place of the password's method these have other fields.
+#[test]
+fn a_method_with_the_fields_of_another_is_bad(rt: HostRuntime) -> Result<(), Fail> {
+    for method in [0u8, 2, 3, 4, 5, 7] {
         let mut script = script_of(rt.alloc(), LOGIN.as_slice())?;
         *script.get_mut(169).ok_or("no method")? = method;
         let outcome = run_of(rt.alloc(), KNOWN, 8192, script);
-        let answer = Err(RunError::Unbuilt { at: 143 });
+        let answer = Err(RunError::BadEvent { at: 143 });
         assert_gives(&rt, "method", 0, &outcome, &answer, 45);
     }
     Ok(())

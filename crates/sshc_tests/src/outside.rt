@@ -1,6 +1,7 @@
 //! A source and a sink that take a byte at a time, and a writer that takes none once.
 
 ghost use Rattle.std.specs.Prelude.{Some};
+ghost use Rattle.sshc_wire.specs.Beside.{no_side};
 
 use sshc_wire::{Failed, MemSink, MemSource, Sink, Source};
 use std::io::{self, ErrorKind, Write};
@@ -19,6 +20,8 @@ impl Source for SlowSource {
     ghost reads = { λ s. s.source.calls };
 
     ghost empty_reads = { λ s. s.source.empty };
+
+    ghost beside = { λ s. no_side };
 
     fn read(&mut self, buf: &mut [u8]) -> Result<usize, Failed> {
         let most = buf.len().min(1);
@@ -40,6 +43,8 @@ impl Sink for SlowSink {
     ghost writes = { λ s. s.sink.calls };
 
     ghost empty_writes = { λ s. s.sink.empty };
+
+    ghost beside = { λ s. no_side };
 
     fn write(&mut self, piece: &[u8]) -> Result<usize, Failed> {
         let most = piece.len().min(1);

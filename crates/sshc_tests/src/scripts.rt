@@ -1,6 +1,6 @@
 //! The script of a password login, its lines, and runs of scripts.
 
-use sshc_auth::Ended;
+use sshc_opening::Ended;
 use sshc_run::{Config, RefusingSigner, RefusingVerifier, RunError, run_script};
 use sshc_wire::{MemSink, MemSource, NoMemory, Sink, Source};
 use std::alloc::Global;

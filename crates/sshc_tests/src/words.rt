@@ -147,7 +147,7 @@ fn a_script_that_ends_or_is_refused_is_told(rt: HostRuntime) -> Result<(), Fail>
     let failed: &[u8] = b"\0\0\0\x09\0\0\0\0\0\0\0\0\x04";
     let empty: [&[u8]; 0] = [];
     let keyless: [&[u8]; 5] = [KEXINIT, KEYLESS, PASSWORD, ACCEPTED, SUCCESS];
-    let unbuilt: [&[u8]; 5] = [KEXINIT, EXCHANGE, PASSWORD, failed, SUCCESS];
+    let failed: [&[u8]; 5] = [KEXINIT, EXCHANGE, PASSWORD, failed, SUCCESS];
     let twice: [&[u8]; 2] = [KEXINIT, KEXINIT];
     let unasked: [&[u8]; 4] = [EXCHANGE, PASSWORD, ACCEPTED, SUCCESS];
     for (case, events, status, written, line) in [
@@ -167,10 +167,10 @@ fn a_script_that_ends_or_is_refused_is_told(rt: HostRuntime) -> Result<(), Fail>
         ),
         (
             "a failed transport",
-            unbuilt.as_slice(),
-            41,
+            failed.as_slice(),
+            27,
             82,
-            "error unbuilt 176\n",
+            "error transport-failed\n",
         ),
         (
             "a second KEXINIT",

@@ -1,73 +1,14 @@
-use Rattle.std.proofs.Common.{arith, refl, subst, ap, ◌∙◌, ◌≡◌, ◌-◌, ℕ, Some}
-use Rattle.sshc_wire.specs.Contents.{no_writes, writes_on, writes_end, moved_for}
-use Rattle.sshc_auth.specs.OpeningState.{OpeningState, start}
+use Rattle.std.proofs.Common.{ap, subst}
+use Rattle.sshc_opening.specs.OpeningState.{OpeningState, start}
 use Rattle.sshc_run.specs.Configured.{settings_of}
-use Rattle.sshc_run.specs.Outcome.{Streams, streams, Ends}
-use Rattle.sshc_run.specs.ScriptRun.{Spot, spot, at_first, run}
+use Rattle.sshc_run.specs.ScriptRun.{Spot, spot, run}
+use Rattle.sshc_run.specs.Outcome.{streams, Ends}
 use Rattle.sshc_run.specs.Turn.{turn, opening_machine}
 use Rattle.sshc_run.specs.Turning.{hosts_of}
-use Rattle.sshc_run.proofs.Coming.{along_none, along_more, along_ends, turn_ends}
 use Rattle.sshc_run.proofs.Promises.{by_events}
-use Rattle.sshc_run.proofs.Going.{limit_ends}
 use Rattle.sshc_run.proofs.run.run_events.Goals as goal
-
-pub loop-turn-init : goal.loop-turn-init
-loop-turn-init g c =
-    let first = rw c.is_some.ensures at c.new.ensures in
-    record {
-      along = along_none (run (turn (hosts_of c.args.gate.now))) (at_first (start (settings_of c.args.config.now))) c.args.config.now.max_events _ _ (ap (λ (s : OpeningState). at_first s) first);
-      turns = omega arith;
-      same = refl;
-      place = omega arith;
-      moving = refl;
-      moving_writes = refl;
-      reads = refl;
-      moved = no_writes _ _;
-      writes = refl;
-    }
-
-pub one_turn-requires : goal.one_turn-requires
-one_turn-requires g c = omega (arith, c.loop-turn.invariant.place)
-
-pub loop-turn-preserved : goal.loop-turn-preserved
-loop-turn-preserved g c =
-    let gives = rw c.loop-turn.invariant.same at c.in_default.ensures.gives in
-    record {
-      along = along_more (run (turn (hosts_of c.args.gate.now))) (at_first (start (settings_of c.args.config.now))) c.args.config.now.max_events _ _ _ _ _ _ c.loop-turn-test.true c.loop-turn.invariant.along gives;
-      turns = omega (arith, c.loop-turn-test.true);
-      same = c.one_turn.ensures.same ∙ c.loop-turn.invariant.same;
-      place = omega (arith, c.loop-turn.invariant.place, gives.4.within);
-      moving = c.in_default.ensures.moving ∙ c.loop-turn.invariant.moving;
-      moving_writes = c.in_default.ensures.moving_writes ∙ c.loop-turn.invariant.moving_writes;
-      reads = c.in_default.ensures.read_told (λ e. absurd cc) ∙ c.loop-turn.invariant.reads;
-      moved = writes_on _ _ _ _ _ _ c.loop-turn.invariant.moved (c.in_default.ensures.moved_writes);
-      writes = c.in_default.ensures.write_told (λ e. absurd cc) ∙ c.loop-turn.invariant.writes;
-    }
-
-pub returns-in-Some-clause-run : goal.returns-in-Some-clause-run
-returns-in-Some-clause-run g c =
-    let gives = rw c.loop-turn.invariant.same at c.in-Some.ensures.gives in
-    by_events (opening_machine (hosts_of c.args.gate.now) (settings_of c.args.config.now)) c.args.config.now.max_events _ _ c.in-Some.answer
-    (turn_ends (run (turn (hosts_of c.args.gate.now))) (at_first (start (settings_of c.args.config.now))) c.args.config.now.max_events _ _ _ _ _ c.in-Some.answer c.loop-turn-test.true c.loop-turn.invariant.along gives)
-
-pub returns-in-Some-clause-read_fault : goal.returns-in-Some-clause-read_fault
-returns-in-Some-clause-read_fault g c = λ e. let rose = c.in-Some.ensures.read_fault (ap Some e) in omega (arith, rose, c.loop-turn.invariant.reads)
-
-pub returns-in-Some-clause-write_fault : goal.returns-in-Some-clause-write_fault
-returns-in-Some-clause-write_fault g c = λ e. let rose = c.in-Some.ensures.write_fault (ap Some e) in omega (arith, rose, c.loop-turn.invariant.writes)
 
 pub returns-clause-run : goal.returns-clause-run
 returns-clause-run g c =
-    let none : 0 ≡ c.args.config.now.max_events - c.loop-turn.turn = omega (arith, c.loop-turn-test.false) in
-    let at : Spot OpeningState = spot c.loop-turn.at.place c.loop-turn.at.last c.loop-turn.at.opening in
-    let now : Streams = streams (g.S.Source.left c.loop-turn.source) (g.K.Sink.contents c.loop-turn.sink) (g.S.Source.reads c.loop-turn.source) (g.G.LocalSigner.calls c.loop-turn.signer) in
-    let ends = limit_ends (turn (hosts_of c.args.gate.now)) at now (g.S.Source.left c.at_limit.new.source) (g.S.Source.reads c.at_limit.new.source) c.at_limit.result c.at_limit.ensures.gives c.at_limit.ensures.count in
-    by_events (opening_machine (hosts_of c.args.gate.now) (settings_of c.args.config.now)) c.args.config.now.max_events _ _ c.at_limit.result
-    (along_ends (run (turn (hosts_of c.args.gate.now))) (at_first (start (settings_of c.args.config.now))) c.args.config.now.max_events c.loop-turn.turn at _ now _ c.at_limit.result (omega (arith, c.loop-turn.invariant.turns)) c.loop-turn.invariant.along
-    (subst (λ (n : ℕ). Ends n at.place at.last (run (turn (hosts_of c.args.gate.now)) n at) now (record now { left = g.S.Source.left c.at_limit.new.source; reads = g.S.Source.reads c.at_limit.new.source }) c.at_limit.result) none ends))
-
-pub returns-in-Some-clause-writes : goal.returns-in-Some-clause-writes
-returns-in-Some-clause-writes g c = writes_end _ _ _ _ _ _ c.loop-turn.invariant.moved c.one_turn.ensures.writes
-
-pub returns-clause-writes : goal.returns-clause-writes
-returns-clause-writes g c = moved_for _ _ _ _ c.loop-turn.invariant.moved
+    let ends = rw (c.at_start-at.ensures.place, c.at_start-at.ensures.last, c.at_start-at.ensures.opening) at c.take_turns-answer.ensures.run in
+    by_events (opening_machine (hosts_of c.args.gate.now) (settings_of c.args.config.now)) c.args.config.now.max_events _ _ c.take_turns-answer.result ends

@@ -6,14 +6,13 @@ use Rattle.sshc_run.specs.KnownHosts.{Hosts}
 use Rattle.sshc_run.specs.Machine.{Machine}
 use Rattle.sshc_run.specs.SessionPart.{session_own, IsAgentCause}
 use Rattle.sshc_run.specs.Turn.{opening_machine, turn}
-use Rattle.sshc_auth.specs.OpeningState.{OpeningState}
+use Rattle.sshc_opening.specs.OpeningState.{OpeningState}
 use Rattle.sshc_key.specs.Signers.{since}
 use Rattle.sshc_run.proofs.CausedRuns.{caused_of}
 use Rattle.sshc_run.proofs.Lines.{wrote_nothing}
 use Rattle.sshc_run.proofs.OpeningFirsts.{opening_first_of, opening_done_of, opening_complete_of, none_first, none_since}
 use Rattle.sshc_run.proofs.SessionPart.{opening_part, agent_stops, agent_ends_none, opening_continues}
 use Rattle.sshc_run.proofs.Promises.{none_ran, gate_of, prefix_of, done_of, kept_of, complete_of}
-use Rattle.sshc_run.proofs.Unasked.{unsigned_of}
 use Rattle.sshc_run.proofs.run.run_script.Goals as goal
 
 pub returns-in-Ok-clause-run : goal.returns-in-Ok-clause-run
@@ -33,11 +32,6 @@ pub returns-in-Ok-clause-causes : goal.returns-in-Ok-clause-causes
 returns-in-Ok-clause-causes g c =
     let hosts : Hosts = record { host = host_text c.args.host.now c.args.port; known = c.args.known.now } in
     caused_of hosts (settings_of c.args.config.now) c.args.config.now.max_events _ _ c.run_events.result (rw c.in-Ok.ensures at c.run_events.ensures.run)
-
-pub returns-in-Ok-clause-unsigned : goal.returns-in-Ok-clause-unsigned
-returns-in-Ok-clause-unsigned g c =
-    let hosts : Hosts = record { host = host_text c.args.host.now c.args.port; known = c.args.known.now } in
-    unsigned_of hosts (settings_of c.args.config.now) c.args.config.now.max_events _ _ c.run_events.result (rw c.in-Ok.ensures at c.run_events.ensures.run)
 
 pub returns-in-Ok-clause-done : goal.returns-in-Ok-clause-done
 returns-in-Ok-clause-done g c = done_of c.args.config.now.max_events _ _ _ c.run_events.result (rw c.in-Ok.ensures at c.run_events.ensures.run)

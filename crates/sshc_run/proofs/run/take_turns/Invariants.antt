@@ -1,21 +1,19 @@
 use Rattle.std.proofs.Common.{◌≡◌, ◌*◌, ◌≤◌}
 use Rattle.sshc_wire.specs.Contents.{WritesMove}
-use Rattle.sshc_auth.specs.OpeningState.{start}
 use Rattle.sshc_run.specs.Along.{IsAlong}
-use Rattle.sshc_run.specs.Configured.{settings_of}
 use Rattle.sshc_run.specs.Outcome.{streams}
-use Rattle.sshc_run.specs.ScriptRun.{run, spot, at_first}
+use Rattle.sshc_run.specs.ScriptRun.{run, spot}
 use Rattle.sshc_run.specs.Turn.{turn}
 use Rattle.sshc_run.specs.Turning.{hosts_of}
-use Rattle.sshc_run.proofs.run.run_events.Given as goal
+use Rattle.sshc_run.proofs.run.take_turns.Given as goal
 
 abbrev pub invariant-loop-turn : goal.invariant-loop-turn
 invariant-loop-turn g l =
     record {
-      along : IsAlong (run (turn (hosts_of l.initial.gate))) (at_first (start (settings_of l.config))) l.config.max_events l.turn (spot l.at.place l.at.last l.at.opening)
+      along : IsAlong (run (turn (hosts_of l.initial.gate))) (spot l.initial.at.place l.initial.at.last l.initial.at.opening) l.max_events l.turn (spot l.at.place l.at.last l.at.opening)
           (streams (g.S.Source.left l.initial.source) (g.K.Sink.contents l.initial.sink) (g.S.Source.reads l.initial.source) (g.G.LocalSigner.calls l.initial.signer))
           (streams (g.S.Source.left l.source) (g.K.Sink.contents l.sink) (g.S.Source.reads l.source) (g.G.LocalSigner.calls l.signer));
-      turns : l.turn ≤ l.config.max_events;
+      turns : l.turn ≤ l.max_events;
       same : hosts_of l.gate ≡ hosts_of l.initial.gate;
       place : l.at.place ≤ 262148 * l.turn;
       moving : g.S.Source.empty_reads l.source ≡ g.S.Source.empty_reads l.initial.source;

@@ -1,3 +1,0 @@
-mod Rows
-mod CauseLaws
-mod StandardFacts
