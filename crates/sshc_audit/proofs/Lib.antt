@@ -1,0 +1,17 @@
+pub mod Parts
+pub mod Loops
+pub mod Following
+pub mod JudgedBy
+pub mod Agreement
+pub mod LineFacts
+pub mod DoubledLaws
+pub mod RemovingLaws
+pub mod SaltLemmas
+pub mod LineText
+pub mod SeenLemmas
+pub mod HashedEntries
+pub mod HashingLaws
+pub mod SaltListLemmas
+pub mod WordLists
+pub mod WordsLemmas
+pub mod StandardFacts

@@ -1,0 +1,10 @@
+pub mod Lines
+pub mod Rewriting
+pub mod Joining
+pub mod Doubled
+pub mod Removing
+pub mod Salts
+pub mod Hashing
+pub mod HashingSteps
+pub mod SaltLines
+pub mod AuditWords

@@ -1,0 +1,24 @@
+//! Cutting a text at a character.
+
+ghost use Rattle.std.specs.Prelude.{◌≡◌, ◌<◌, ◌==◌, length, position, IfNone, IfSome, [], ◌∷◌};
+ghost use Rattle.sshc_hosts.specs.MatchingLines.{parts_at};
+
+/// The place of the first such byte.
+fn first_of(text: &str, at: u8) -> Option<usize>
+    ensures { result ≡ position (λ b. b == at) text.now }
+{
+    text.as_bytes().iter().position(|b| *b == at)
+}
+
+/// The part before the first such ASCII character, and what is behind that character.
+pub fn cut(text: &str, at: u8) -> (&str, Option<&str>)
+    requires { at < 128 }
+    ensures none { IfNone result.1 (parts_at at text.now ≡ result.0.now ∷ []) }
+    ensures some { IfSome result.1 (λ rest. parts_at at text.now ≡ result.0.now ∷ parts_at at rest.now) }
+    ensures shorter { IfSome result.1 (λ rest. length rest.now < length text.now) }
+{
+    match first_of(text, at) {
+        None => (text, None),
+        Some(i) => (&text[..i], Some(&text[i + 1..])),
+    }
+}

@@ -1,0 +1,80 @@
+//! Entries of a host field, plain and hashed.
+
+ghost use Rattle.std.specs.Prelude.{◌≡◌, IfOk, filter};
+ghost use Rattle.sshc_key.specs.KeyText.{is_no_line_end};
+ghost use Rattle.sshc_hosts.specs.MatchingLines.{base64_bytes, hash_matches, hashed_matches, entry_matches, parts_at};
+
+use crate::cutting::cut;
+use base64::DecodeAllocError;
+use base64::engine::general_purpose::STANDARD;
+use sshc_hosts::hmac_sha1;
+use sshc_wire::{NoMemory, Octets};
+use std::alloc::Global;
+
+/// The text without carriage returns and line feeds.
+fn without_line_ends(alloc: Global, text: &str) -> Result<Vec<u8>, NoMemory>
+    ensures { IfOk result (λ kept. kept.items ≡ filter is_no_line_end text.now) }
+{
+    Ok(
+        text.as_bytes()
+            .iter()
+            .copied()
+            .filter(|b| *b != b'\r' && *b != b'\n')
+            .collect(alloc)?,
+    )
+}
+
+/// The bytes of a padded base64 text.
+#[tactic(auto, unfolding(base64::specs::GeneralPurpose::decoded_of))]
+fn decoded(alloc: Global, text: &str) -> Result<Option<Octets>, NoMemory>
+    ensures { IfOk result (λ bytes. bytes ≡ base64_bytes text.now) }
+{
+    let kept = without_line_ends(alloc, text)?;
+    match STANDARD.decode(alloc, kept.as_slice()) {
+        Ok(bytes) => Ok(Some(Octets::from_vec(bytes)?)),
+        Err(DecodeAllocError::DecodeError(_)) => Ok(None),
+        Err(DecodeAllocError::OutOfMemory) => Err(NoMemory),
+    }
+}
+
+/// Whether the HMAC of the host text under the salt is the hash, both of them in base64.
+fn is_hash_of(alloc: Global, host: &str, salt: &str, hash: &str) -> Result<bool, NoMemory>
+    ensures { IfOk result (λ b. b ≡ hash_matches host.now (base64_bytes salt.now) (base64_bytes hash.now)) }
+{
+    let Some(salt) = decoded(alloc, salt)? else {
+        return Ok(false);
+    };
+    let Some(hash) = decoded(alloc, hash)? else {
+        return Ok(false);
+    };
+    let digest = hmac_sha1(salt.as_slice(), host.as_bytes());
+    Ok(digest.as_slice() == hash.as_slice())
+}
+
+/// Whether the parts of a hashed entry have the host's hash.
+fn is_hashed_host(alloc: Global, host: &str, entry: &str) -> Result<bool, NoMemory>
+    ensures { IfOk result (λ b. b ≡ hashed_matches host.now (parts_at 124 entry.now)) }
+{
+    let (_front, Some(rest)) = cut(entry, b'|') else {
+        return Ok(false);
+    };
+    let (_version, Some(rest)) = cut(rest, b'|') else {
+        return Ok(false);
+    };
+    let (salt, Some(rest)) = cut(rest, b'|') else {
+        return Ok(false);
+    };
+    let (hash, _later) = cut(rest, b'|');
+    is_hash_of(alloc, host, salt, hash)
+}
+
+/// Whether an entry is the host.
+pub fn is_host(alloc: Global, host: &str, entry: &str) -> Result<bool, NoMemory>
+    ensures { IfOk result (λ b. b ≡ entry_matches host.now entry.now) }
+{
+    if entry.starts_with("|1|") {
+        is_hashed_host(alloc, host, entry)
+    } else {
+        Ok(entry == host)
+    }
+}

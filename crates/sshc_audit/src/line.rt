@@ -1,0 +1,110 @@
+//! The lines of a known hosts text.
+
+ghost use Rattle.std.specs.Prelude.{◌≡◌, ◌∷◌, Some, OnOk, option_map};
+ghost use Rattle.sshc_hosts.specs.MatchingLines.{parts_at, is_comment};
+ghost use Rattle.sshc_audit.specs.Lines.{is_mark, line_in, line_of, line_seen, mark_text};
+ghost use Rattle.sshc_audit.specs.Joining.{with_text};
+ghost use Rattle.sshc_audit.specs.Removing.{with_host};
+
+use crate::cutting::cut;
+use crate::joining::Joining;
+use sshc_wire::NoMemory;
+
+/// A line: whether it is marked `@revoked`, its host field, its third field, and all behind the host field and its
+/// space.
+#[derive(Clone, Copy, Debug)]
+pub struct LineFields<'a> {
+    pub marked: bool,
+    pub host: &'a str,
+    pub key: &'a str,
+    pub rest: &'a str,
+}
+
+/// Whether the part is a comment.
+fn is_comment(part: &str) -> bool
+    ensures { result ≡ is_comment part.now }
+{
+    match part.as_bytes().first() {
+        Some(b) => *b == b'#',
+        None => false,
+    }
+}
+
+/// Whether a first field is a mark.
+fn is_mark(field: &str) -> bool
+    ensures { result ≡ is_mark field.now }
+{
+    match field.as_bytes().split_first() {
+        Some((b, rest)) => *b == b'@' && !rest.contains(&b','),
+        None => false,
+    }
+}
+
+/// The line with this host field and the fields of what is behind it.
+fn line_with<'a>(marked: bool, host: &'a str, rest: &'a str) -> Option<LineFields<'a>>
+    ensures { option_map line_seen result ≡ line_in marked (host.now ∷ parts_at 32 rest.now) }
+{
+    let (_name, behind) = cut(rest, b' ');
+    match behind {
+        None => None,
+        Some(behind) => {
+            let (key, _later) = cut(behind, b' ');
+            Some(LineFields {
+                marked,
+                host,
+                key,
+                rest,
+            })
+        }
+    }
+}
+
+/// The line of the fields in a text, which stands behind the mark.
+fn line_in(marked: bool, text: &str) -> Option<LineFields<'_>>
+    ensures { option_map line_seen result ≡ line_in marked (parts_at 32 text.now) }
+{
+    let (host, rest) = cut(text, b' ');
+    match rest {
+        None => None,
+        Some(rest) => line_with(marked, host, rest),
+    }
+}
+
+/// The line that a part of the text is. Comments, parts with another mark and parts with too few fields are none.
+#[tactic(auto, unfolding(crate::specs::Lines::line_of))]
+pub fn line_of(part: &str) -> Option<LineFields<'_>>
+    ensures { option_map line_seen result ≡ line_of part.now }
+{
+    if is_comment(part) {
+        return None;
+    }
+    let (first, rest) = cut(part, b' ');
+    if first == "@revoked" {
+        return match rest {
+            Some(text) => line_in(true, text),
+            None => None,
+        };
+    }
+    if is_mark(first) {
+        return None;
+    }
+    line_in(false, part)
+}
+
+/// The mark and its space.
+fn mark_text(marked: bool) -> &'static str
+    ensures { result.now ≡ mark_text marked }
+{
+    if marked { "@revoked " } else { "" }
+}
+
+/// Adds the line with another host field.
+pub fn add_with_host(out: &mut Joining, line: LineFields<'_>, host: &str) -> Result<(), NoMemory>
+    ensures { OnOk result (out.new ≡ with_text out.old (Some (with_host (line_seen line.entry) host.now))) }
+{
+    out.start()?;
+    out.push(mark_text(line.marked))?;
+    out.push(host)?;
+    out.push(" ")?;
+    out.push(line.rest)
+}
