@@ -1,0 +1,6 @@
+mod MessageLemmas
+mod LengthLemmas
+mod AnswerLemmas
+mod CallLemmas
+mod Lists
+mod Faults

@@ -1,0 +1,94 @@
+//! Unix sockets, which tell no contents. The opener is proved against its trait; that a real socket behaves so is not.
+
+ghost use Rattle.std.specs.Prelude.{None, ◌≡◌};
+ghost use Rattle.sshc_ask.specs.Opens.{CountsFault};
+
+use crate::duplex::Duplex;
+use crate::opener::{OpenFailed, Opener};
+use sshc_wire::{StdSink, StdSource};
+use std::alloc::Global;
+use std::io::{self, ErrorKind};
+use std::marker::Model;
+use std::net::Net;
+use std::os::unix::net::UnixStream;
+
+/// A Unix socket, which is read behind a buffer.
+pub type UnixAgentStream = Duplex<StdSource<UnixStream>, StdSink<UnixStream>>;
+
+/// Opens Unix sockets. A path that doesn't exist is not found.
+#[derive(Drop)]
+pub struct UnixOpener<'a, R> {
+    system: &'a R,
+    alloc: Global,
+    missing: u64,
+    failures: u64,
+}
+
+impl<'a, R> Model for UnixOpener<'a, R> {
+    ghost use Rattle.sshc_ask.specs.Opens.{CountedOpens};
+
+    ghost Value = { CountedOpens };
+
+    ghost view = { λ o. record { missing = o.missing; failures = o.failures } };
+}
+
+impl<'a, R: Net + AllocGlobal> UnixOpener<'a, R> {
+    /// An opener that nothing was asked of yet.
+    pub fn new(system: &'a R) -> UnixOpener<'a, R>
+        ensures { result ≡ record { missing = 0; failures = 0 } }
+    {
+        UnixOpener {
+            system,
+            alloc: system.alloc(),
+            missing: 0,
+            failures: 0,
+        }
+    }
+
+    fn connected(&self, path: &str) -> io::Result<UnixAgentStream> {
+        let reading = UnixStream::connect(self.system, path)?;
+        let writing = reading.try_clone()?;
+        match StdSource::new(self.alloc, reading) {
+            Ok(source) => Ok(Duplex {
+                source,
+                sink: StdSink::new(writing),
+            }),
+            Err(_) => Err(io::Error::from(ErrorKind::OutOfMemory)),
+        }
+    }
+}
+
+/// Why opening failed, counted.
+fn failed(error: io::Error, missing: &mut u64, failures: &mut u64) -> OpenFailed
+    ensures not_found { CountsFault OpenFailed.NotFound missing.old missing.new result }
+    ensures other { CountsFault OpenFailed.Other failures.old failures.new result }
+{
+    match error.kind() {
+        ErrorKind::NotFound => {
+            *missing = missing.saturating_add(1);
+            OpenFailed::NotFound
+        }
+        ErrorKind::OutOfMemory => OpenFailed::NoMemory,
+        _ => {
+            *failures = failures.saturating_add(1);
+            OpenFailed::Other
+        }
+    }
+}
+
+impl<'a, R: Net + AllocGlobal> Opener for UnixOpener<'a, R> {
+    type Stream = UnixAgentStream;
+
+    ghost paths = { λ o. None };
+
+    ghost missing = { λ o. o.missing };
+
+    ghost failures = { λ o. o.failures };
+
+    fn open(&mut self, path: &str) -> Result<UnixAgentStream, OpenFailed> {
+        match self.connected(path) {
+            Ok(stream) => Ok(stream),
+            Err(error) => Err(failed(error, &mut self.missing, &mut self.failures)),
+        }
+    }
+}

@@ -1,0 +1,4 @@
+mod Short
+mod Messages
+mod Constraints
+mod Answers
