@@ -1,0 +1,14 @@
+pub mod SessionState
+pub mod Messages
+pub mod Moves
+pub mod ListLaws
+pub mod MoveLaws
+pub mod SessionAccount
+pub mod ReplyQueue
+pub mod OpensOnce
+pub mod RecordsTaken
+pub mod Grown
+pub mod Keeps
+pub mod KeptChannels
+pub mod SessionRow
+pub mod SessionTable

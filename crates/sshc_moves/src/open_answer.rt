@@ -1,0 +1,12 @@
+//! What a handler answers to a channel that the server opens.
+
+use sshc_wire::ChannelOpenFailure;
+
+/// What a handler answers to a channel that the server opens.
+#[derive(Clone, Copy, Debug, PartialEq, Eq)]
+pub enum OpenAnswer {
+    Accept,
+    Reject(ChannelOpenFailure),
+    /// The user will answer.
+    Later,
+}

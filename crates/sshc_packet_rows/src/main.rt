@@ -1,0 +1,18 @@
+//! Worked packets: writes a packet of each kind and prints it in hexadecimal, and reads packets and prints what they
+//! say.
+#![tactic(auto)]
+
+mod reading;
+mod writing;
+
+fn main(rt: HostRuntime) -> anyhow::Result<()> {
+    writing::global_requests(&rt)?;
+    writing::opens(&rt)?;
+    writing::channel_requests(&rt)?;
+    writing::answers(&rt)?;
+    reading::channel_packets(&rt)?;
+    reading::channel_requests(&rt)?;
+    reading::opens(&rt)?;
+    reading::globals(&rt)?;
+    reading::replies(&rt)
+}

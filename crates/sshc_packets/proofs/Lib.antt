@@ -1,0 +1,4 @@
+mod KeyLists
+mod PacketGrammar
+mod ProofLemmas
+mod StandardFacts

@@ -1,0 +1,12 @@
+pub mod GlobalRequests
+pub mod ChannelOpens
+pub mod ChannelRequests
+pub mod Messages
+pub mod Parts
+pub mod ChannelPackets
+pub mod PeerOpens
+pub mod PeerRequests
+pub mod PeerGlobals
+pub mod Replies
+pub mod Grammars
+pub mod HostKeyProof

@@ -1,0 +1,109 @@
+//! Judges the proof of host keys (OpenSSH's PROTOCOL, section 2.5).
+
+ghost use Rattle.std.specs.Prelude.{◌≡◌, Some, None, IfOk, Ok};
+ghost use Rattle.sshc_key.specs.Algorithms.{whole_signature};
+ghost use Rattle.sshc_packets.specs.HostKeyProof.{JudgedIsProof, proof_bytes, proof_judged, signature_judged};
+
+use crate::global_request::put_blob;
+use crate::putting::{put_string, put_words};
+use sshc_key::{Error, PublicKey, Signature, Verifier, read_signature};
+use sshc_wire::{Cursor, HostKeysFault, NoMemory};
+use std::alloc::Global;
+
+/// The bytes that a host key signs in its proof.
+#[tactic(auto, using(std::proofs::lemmas::List::append_assoc), unfolding(crate::specs::HostKeyProof::proof_bytes))]
+fn proof_bytes(alloc: Global, session_id: &[u8], key: &PublicKey) -> Result<Vec<u8>, NoMemory>
+    ensures { IfOk result (λ v. v.items ≡ proof_bytes session_id.now key.now.0) }
+{
+    let mut bytes = Vec::new(alloc);
+    put_words(&mut bytes, "hostkeys-prove-00@openssh.com")?;
+    put_string(&mut bytes, session_id)?;
+    put_blob(&mut bytes, key)?;
+    Ok(bytes)
+}
+
+/// The signature that the whole bytes are, if they are one.
+#[tactic(auto, unfolding(sshc_key::specs::Algorithms::whole_signature))]
+fn signature_in(alloc: Global, bytes: &[u8]) -> Result<Option<Signature>, NoMemory>
+    ensures { IfOk result (λ o. o ≡ whole_signature bytes.now) }
+{
+    let mut c = Cursor::new(bytes);
+    match read_signature(alloc, &mut c) {
+        Ok(signature) => {
+            if c.rest().is_empty() {
+                Ok(Some(signature))
+            } else {
+                Ok(None)
+            }
+        }
+        Err(error) => {
+            if error == Error::NoMemory {
+                Err(NoMemory)
+            } else {
+                Ok(None)
+            }
+        }
+    }
+}
+
+/// Judges the string of one key: none where it is one whole signature of the key's.
+fn part_fault<V: Verifier>(
+    alloc: Global,
+    verifier: &V,
+    session_id: &[u8],
+    key: &PublicKey,
+    part: &[u8],
+) -> Result<Result<(), HostKeysFault>, NoMemory>
+    ensures { IfOk result (λ r. r ≡ signature_judged (V.accepts verifier.now key.now.0 (proof_bytes session_id.now key.now.0)) (whole_signature part.now)) }
+{
+    let Some(signature) = signature_in(alloc, part)? else {
+        return Ok(Err(HostKeysFault::SshEncoding));
+    };
+    let bytes = proof_bytes(alloc, session_id, key)?;
+    if verifier.verifies(&key.key, &bytes, &signature)? {
+        Ok(Ok(()))
+    } else {
+        Ok(Err(HostKeysFault::WrongServerSig))
+    }
+}
+
+fn judge_from<V: Verifier>(
+    alloc: Global,
+    verifier: &V,
+    session_id: &[u8],
+    keys: &[PublicKey],
+    reply: &[u8],
+) -> Result<Result<(), HostKeysFault>, NoMemory>
+    ensures { IfOk result (λ r. r ≡ proof_judged (V.accepts verifier.now) session_id.now keys.now reply.now) }
+{
+    let mut c = Cursor::new(reply);
+    for key in keys {
+        let Ok(part) = c.bytes() else {
+            return Ok(Err(HostKeysFault::SshEncoding));
+        };
+        if let Err(fault) = part_fault(alloc, verifier, session_id, key, part)? {
+            return Ok(Err(fault));
+        }
+    }
+    if c.rest().is_empty() {
+        Ok(Ok(()))
+    } else {
+        Ok(Err(HostKeysFault::SshEncoding))
+    }
+}
+
+/// Judges the reply to a request to prove these keys, without the reply's number. The first part that fails decides:
+/// a signature that isn't the key's is `WrongServerSig`, everything else `SshEncoding`.
+pub fn judge_host_key_proof<V: Verifier>(
+    alloc: Global,
+    verifier: &V,
+    session_id: &[u8],
+    keys: &[PublicKey],
+    reply: &[u8],
+) -> Result<Result<(), HostKeysFault>, NoMemory>
+    ensures judged { IfOk result (λ r. r ≡ proof_judged (V.accepts verifier.now) session_id.now keys.now reply.now) }
+    // It is a proof just where the reply is one signature of each key, in order, and nothing more.
+    ensures proof { JudgedIsProof (V.accepts verifier.now) session_id.now keys.now reply.now }
+{
+    judge_from(alloc, verifier, session_id, keys, reply)
+}

@@ -1,0 +1,41 @@
+//! Parts of packets that are written. More than 2^32 - 1 bytes of a string count as out of memory.
+
+ghost use Rattle.std.specs.Prelude.{◌≡◌, ◌∷◌, ◌++◌, OnOk};
+ghost use Rattle.sshc_wire.specs.Wire.{string_text, u32_text};
+
+use sshc_wire::{NoMemory, put_bytes, put_u32};
+
+/// A string of these bytes.
+pub(crate) fn put_string(out: &mut Vec<u8>, bytes: &[u8]) -> Result<(), NoMemory>
+    ensures { OnOk result (out.new.items ≡ out.old.items ++ string_text bytes.now) }
+{
+    if bytes.len() >= 1 << 32 {
+        return Err(NoMemory);
+    }
+    put_bytes(out, bytes)
+}
+
+/// A string of this text.
+pub(crate) fn put_words(out: &mut Vec<u8>, text: &str) -> Result<(), NoMemory>
+    ensures { OnOk result (out.new.items ≡ out.old.items ++ string_text text.now) }
+{
+    put_string(out, text.as_bytes())
+}
+
+/// A message's number, and the recipient's number of a channel.
+#[tactic(auto, using(std::proofs::lemmas::List::append_assoc))]
+pub(crate) fn put_addressed(out: &mut Vec<u8>, number: u8, recipient: u32) -> Result<(), NoMemory>
+    ensures { OnOk result (out.new.items ≡ out.old.items ++ number ∷ u32_text recipient) }
+{
+    out.push(number)?;
+    put_u32(out, recipient)
+}
+
+/// An address and a port.
+#[tactic(auto, using(std::proofs::lemmas::List::append_assoc))]
+pub(crate) fn put_address(out: &mut Vec<u8>, address: &str, port: u32) -> Result<(), NoMemory>
+    ensures { OnOk result (out.new.items ≡ out.old.items ++ string_text address.now ++ u32_text port) }
+{
+    put_words(out, address)?;
+    put_u32(out, port)
+}
