@@ -4,7 +4,7 @@ use Rattle.std.specs.Prelude.{if◌then◌else◌}
 use Rattle.std.specs.List.{join_with_byte, AllByRecursion}
 use Rattle.std.proofs.lemmas.List.{append-nil}
 use Rattle.sshc_audit.specs.Joining.{Joined, nothing_joined}
-use Rattle.sshc_audit.specs.Salts.{SaltState, IsSalt, before_left, Took, Wants}
+use Rattle.sshc_audit.specs.Salts.{SaltState, IsSalt, before_left, Took, TookAtMost, Wants}
 use Rattle.sshc_audit.specs.Hashing.{first_salt, with_salts, total, is_name, entry_needs, hashed_entry, hashed_or_same, entries_of, part_needs, hashed_line, hashed_part}
 use Rattle.sshc_audit.specs.HashingSteps.{Made, MadeNext}
 use Rattle.sshc_audit.specs.Lines.{Line, line_of}
@@ -36,6 +36,24 @@ took_more s mid t a b first then_ = record {
   left = first.left ∙ ap (before_left a) then_.left ∙ left_more a b t.left;
   sized = sized_more a b first.sized then_.sized;
 }
+
+-- ---- no more than so many salts
+
+pub took_nothing_at_most : (s t : SaltState) → Took s t [] → TookAtMost s t 0
+took_nothing_at_most s t took = record { salts = []; took = took; few = omega arith }
+
+pub took_one_at_most : (s t : SaltState) (salt : List ℕ) → Took s t (salt ∷ []) → TookAtMost s t 1
+took_one_at_most s t salt took = record { salts = salt ∷ []; took = took; few = omega arith }
+
+pub untouched_at_most : (s : SaltState) (n : ℕ) → TookAtMost s s n
+untouched_at_most s n = record { salts = []; took = took_none s; few = omega arith }
+
+pub at_most_more : (s t : SaltState) (n m : ℕ) → n ≤ m → TookAtMost s t n → TookAtMost s t m
+at_most_more s t n m le h = record { salts = h.salts; took = h.took; few = omega (arith, h.few, le) }
+
+-- salts that made a text, which was not handed on
+pub made_at_most : (s t : SaltState) (n : ℕ) (make : List (List ℕ) → List ℕ) (text : List ℕ) → Made s t n make text → TookAtMost s t n
+made_at_most s t n make text made = record { salts = made.salts; took = made.took; few = omega (arith, made.count) }
 
 wants_case : (salts : List (List ℕ)) (old mid : Option (List (List ℕ))) (m n : ℕ) → old ≡ before_left salts mid → length salts ≡ m → IfSome mid (λ rest. (length rest + 1) ≤ n)
     → IfSome old (λ rest. (length rest + 1) ≤ m + n)
@@ -115,6 +133,22 @@ module _ (needs : List ℕ → ℕ) (make : List (List ℕ) → List ℕ → Lis
   pub loop_wants : (rest : List (List ℕ)) (text : List ℕ) (texts : List (List ℕ)) (mid : SaltState) (out : Joined) → rest ≡ text ∷ texts → SoFar needs make all rest separator s mid out → Wants mid (needs text)
       → Wants s (total needs all)
   loop_wants rest text texts mid out is so wants = wants_of text texts mid out (subst (λ (r : List (List ℕ)). SoFar needs make all r separator s mid out) is so) wants
+
+  few_of : (text : List ℕ) (texts : List (List ℕ)) (mid now : SaltState) (out : Joined) → SoFar needs make all (text ∷ texts) separator s mid out → TookAtMost mid now (needs text) → TookAtMost s now (total needs all)
+  few_of text texts mid now out so more = record {
+    salts = so.done ++ more.salts;
+    took = took_more s mid now so.done more.salts so.took more.took;
+    few = omega (arith, so.count, more.few, length-append so.done more.salts);
+  }
+
+  -- a text that was refused
+  pub loop_few : (rest : List (List ℕ)) (text : List ℕ) (texts : List (List ℕ)) (mid now : SaltState) (out : Joined) → rest ≡ text ∷ texts → SoFar needs make all rest separator s mid out
+      → TookAtMost mid now (needs text) → TookAtMost s now (total needs all)
+  loop_few rest text texts mid now out is so more = few_of text texts mid now out (subst (λ (r : List (List ℕ)). SoFar needs make all r separator s mid out) is so) more
+
+  -- all texts were made
+  pub all_few : (now : SaltState) (out : Joined) → SoFar needs make all [] separator s now out → TookAtMost s now (total needs all)
+  all_few now out so = record { salts = so.done; took = so.took; few = omega (arith, so.count) }
 
   pub loop_end : (now : SaltState) (out : Joined) (so : SoFar needs make all [] separator s now out) → out.text ≡ join_with_byte separator (with_salts needs make so.done all)
   loop_end now out so = sym (so.same []) ∙ ap (λ (salts : List (List ℕ)). join_with_byte separator (with_salts needs make salts all)) (append-nil so.done)

@@ -27,6 +27,12 @@ pub record Took (before after : SaltState) (salts : List (List ℕ)) : Type 0 wh
   pub left : before.left ≡ before_left salts after.left
   pub sized : AllByRecursion IsSalt salts
 
+-- some salts were answered in between, and no more than so many
+pub record TookAtMost (before after : SaltState) (most : ℕ) : Type 0 where
+  pub salts : List (List ℕ)
+  pub took : Took before after salts
+  pub few : length salts ≤ most
+
 -- where the salts are told, there are fewer than these
 abbrev pub Wants : SaltState → ℕ → Type 0
 Wants before count = IfSome before.left (λ salts. (length salts + 1) ≤ count)

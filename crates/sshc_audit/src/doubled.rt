@@ -6,9 +6,9 @@ ghost use Rattle.sshc_audit.specs.Rewriting.{rewritten, Agrees};
 ghost use Rattle.sshc_audit.specs.Joining.{with_text};
 ghost use Rattle.sshc_audit.specs.Doubled.{is_doubled, drops_doubled, IsSeen};
 
-use crate::cutting::cut;
 use crate::joining::Joining;
 use crate::line::line_of;
+use sshc_hosts::cut;
 use sshc_wire::{NoMemory, Text};
 use std::alloc::Global;
 use std::collections::HashSet;

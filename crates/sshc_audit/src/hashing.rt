@@ -1,19 +1,18 @@
 //! Names are hashed.
 
-ghost use Rattle.std.specs.Prelude.{◌≡◌, ◌∷◌, [], IfOk, OnOk, IsErrOf};
+ghost use Rattle.std.specs.Prelude.{◌≡◌, ◌∷◌, [], IfOk, OnOk, OnErr, IsErrOf};
 ghost use Rattle.sshc_hosts.specs.MatchingLines.{parts_at};
 ghost use Rattle.sshc_audit.specs.declared.error.AuditError.TheVariants.{SaltFault};
 ghost use Rattle.sshc_audit.specs.Joining.{with_piece};
-ghost use Rattle.sshc_audit.specs.Salts.{Took, Wants, HasSaltCause};
+ghost use Rattle.sshc_audit.specs.Salts.{Took, TookAtMost, Wants, HasSaltCause};
 ghost use Rattle.sshc_audit.specs.Hashing.{is_name, hashed_entry, total, first_salt, entry_needs, hashed_or_same, hashed_field, part_needs, hashed_part, names_of, Hashes};
 ghost use Rattle.sshc_audit.specs.HashingSteps.{Made, MadeNext};
 
-use crate::cutting::cut;
 use crate::error::AuditError;
 use crate::joining::Joining;
 use crate::line::{add_with_host, line_of};
 use crate::salts::Salts;
-use sshc_hosts::hmac_sha1;
+use sshc_hosts::{cut, hmac_sha1};
 use sshc_wire::{Failed, NoMemory, Text};
 use std::alloc::Global;
 
@@ -36,9 +35,11 @@ fn push_hashed(out: &mut Joining, salt: &[u8; 20], entry: &str) -> Result<(), No
 }
 
 /// The next salt.
+#[tactic(auto, using(crate::proofs::SaltLemmas::took_nothing_at_most))]
 fn next_salt<S: Salts>(salts: &mut S) -> Result<[u8; 20], AuditError>
     ensures took { IfOk result (λ salt. Took (S.state salts.old) (S.state salts.new) (salt ∷ [])) }
     ensures wants { IsErrOf result SaltFault → Wants (S.state salts.old) 1 }
+    ensures refused { OnErr result (TookAtMost (S.state salts.old) (S.state salts.new) 0) }
     ensures cause { HasSaltCause (S.state salts.old).faults (S.state salts.new).faults result }
 {
     match salts.salt() {
@@ -53,6 +54,7 @@ fn add_hashed<S: Salts>(salts: &mut S, out: &mut Joining, entry: &str) -> Result
     ensures made { OnOk result (MadeNext (S.state salts.old) (S.state salts.new)
         1 (λ ss. hashed_entry (first_salt ss) entry.now) out.old out.new) }
     ensures wants { IsErrOf result SaltFault → Wants (S.state salts.old) 1 }
+    ensures refused { OnErr result (TookAtMost (S.state salts.old) (S.state salts.new) 1) }
     ensures cause { HasSaltCause (S.state salts.old).faults (S.state salts.new).faults result }
 {
     let salt = next_salt(salts)?;
@@ -66,6 +68,7 @@ fn add_entry<S: Salts>(salts: &mut S, out: &mut Joining, entry: &str) -> Result<
     ensures made { OnOk result (MadeNext (S.state salts.old) (S.state salts.new)
         (entry_needs entry.now) (λ ss. hashed_or_same ss entry.now) out.old out.new) }
     ensures wants { IsErrOf result SaltFault → Wants (S.state salts.old) (entry_needs entry.now) }
+    ensures refused { OnErr result (TookAtMost (S.state salts.old) (S.state salts.new) (entry_needs entry.now)) }
     ensures cause { HasSaltCause (S.state salts.old).faults (S.state salts.new).faults result }
 {
     if is_name(entry) {
@@ -80,6 +83,8 @@ fn hashed_field<S: Salts>(alloc: Global, salts: &mut S, field: &str) -> Result<T
     ensures made { IfOk result (λ t. Made (S.state salts.old) (S.state salts.new)
         (total entry_needs (parts_at 44 field.now)) (λ ss. hashed_field ss field.now) t) }
     ensures wants { IsErrOf result SaltFault → Wants (S.state salts.old) (total entry_needs (parts_at 44 field.now)) }
+    ensures refused { OnErr result (TookAtMost (S.state salts.old) (S.state salts.new)
+        (total entry_needs (parts_at 44 field.now))) }
     ensures cause { HasSaltCause (S.state salts.old).faults (S.state salts.new).faults result }
 {
     let mut out = Joining::new(alloc, b',');
@@ -104,6 +109,7 @@ fn add_part<S: Salts>(
     ensures made { OnOk result (MadeNext (S.state salts.old) (S.state salts.new)
         (part_needs part.now) (λ ss. hashed_part ss part.now) out.old out.new) }
     ensures wants { IsErrOf result SaltFault → Wants (S.state salts.old) (part_needs part.now) }
+    ensures refused { OnErr result (TookAtMost (S.state salts.old) (S.state salts.new) (part_needs part.now)) }
     ensures cause { HasSaltCause (S.state salts.old).faults (S.state salts.new).faults result }
 {
     match line_of(part) {
@@ -116,10 +122,12 @@ fn add_part<S: Salts>(
 }
 
 /// The known hosts text with each name hashed under the next salt: HMAC-SHA1, as OpenSSH's `HashKnownHosts` has it.
-/// Entries that are empty or hashed already stay. `SaltFault` comes only where there was no salt for a name.
+/// Entries that are empty or hashed already stay. `SaltFault` comes only where there was no salt for a name; after an
+/// error the salts that were answered are gone, no more than there are names.
 pub fn hash_names<S: Salts>(alloc: Global, text: &str, salts: &mut S) -> Result<Text, AuditError>
     ensures hashed { IfOk result (λ t. Hashes text.now (S.state salts.old) (S.state salts.new) t) }
     ensures wants { IsErrOf result SaltFault → Wants (S.state salts.old) (names_of text.now) }
+    ensures refused { OnErr result (TookAtMost (S.state salts.old) (S.state salts.new) (names_of text.now)) }
     ensures cause { HasSaltCause (S.state salts.old).faults (S.state salts.new).faults result }
 {
     let mut out = Joining::new(alloc, b'\n');

@@ -2,9 +2,7 @@
 #![tactic(auto)]
 
 mod asked;
-mod cutting;
 mod doubled;
-mod entry;
 mod error;
 mod hashing;
 mod joining;

@@ -1,13 +1,13 @@
 //! The lines of a known hosts text.
 
 ghost use Rattle.std.specs.Prelude.{◌≡◌, ◌∷◌, Some, OnOk, option_map};
-ghost use Rattle.sshc_hosts.specs.MatchingLines.{parts_at, is_comment};
+ghost use Rattle.sshc_hosts.specs.MatchingLines.{parts_at};
 ghost use Rattle.sshc_audit.specs.Lines.{is_mark, line_in, line_of, line_seen, mark_text};
 ghost use Rattle.sshc_audit.specs.Joining.{with_text};
 ghost use Rattle.sshc_audit.specs.Removing.{with_host};
 
-use crate::cutting::cut;
 use crate::joining::Joining;
+use sshc_hosts::{cut, is_comment};
 use sshc_wire::NoMemory;
 
 /// A line: whether it is marked `@revoked`, its host field, its third field, and all behind the host field and its
@@ -18,16 +18,6 @@ pub struct LineFields<'a> {
     pub host: &'a str,
     pub key: &'a str,
     pub rest: &'a str,
-}
-
-/// Whether the part is a comment.
-fn is_comment(part: &str) -> bool
-    ensures { result ≡ is_comment part.now }
-{
-    match part.as_bytes().first() {
-        Some(b) => *b == b'#',
-        None => false,
-    }
 }
 
 /// Whether a first field is a mark.

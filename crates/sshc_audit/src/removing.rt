@@ -4,36 +4,17 @@ ghost use Rattle.std.specs.Prelude.{◌≡◌, IfOk, OnOk, Some, Ok, List, ℕ, 
 ghost use Rattle.sshc_key.specs.KeyGrammar.{Key};
 ghost use Rattle.sshc_hosts.specs.HostText.{host_text};
 ghost use Rattle.sshc_hosts.specs.Judgement.{judged};
-ghost use Rattle.sshc_hosts.specs.MatchingLines.{parts_at, entry_matches, field_matches};
+ghost use Rattle.sshc_hosts.specs.MatchingLines.{parts_at};
 ghost use Rattle.sshc_audit.specs.Lines.{line_seen};
 ghost use Rattle.sshc_audit.specs.Rewriting.{rewritten, Agrees};
 ghost use Rattle.sshc_audit.specs.Joining.{with_text};
 ghost use Rattle.sshc_audit.specs.Removing.{begins_apart, stays, joined_entries, with_host, line_without, part_without, removes_host, removed_entries, NoneMatches};
 
-use crate::cutting::cut;
-use crate::entry::is_host;
 use crate::joining::Joining;
 use crate::line::{LineFields, add_with_host, line_of};
-use sshc_hosts::host_text;
+use sshc_hosts::{cut, has_host, host_text, is_host};
 use sshc_wire::{NoMemory, Text};
 use std::alloc::Global;
-
-/// Whether an entry of the field is the host.
-fn has_host(alloc: Global, host: &str, field: &str) -> Result<bool, NoMemory>
-    ensures { IfOk result (λ b. b ≡ field_matches host.now field.now) }
-{
-    let mut left = field;
-    'entries: loop {
-        let (entry, rest) = cut(left, b',');
-        if is_host(alloc, host, entry)? {
-            return Ok(true);
-        }
-        match rest {
-            None => return Ok(false),
-            Some(others) => left = others,
-        }
-    }
-}
 
 /// Whether an entry begins with `#` or `@`, so that at the front of its line it would make a comment or a mark.
 fn begins_apart(entry: &str) -> bool

@@ -4,9 +4,9 @@ ghost use Rattle.std.specs.Prelude.{◌≡◌, IfOk, length};
 ghost use Rattle.base64.specs.GeneralPurpose.{IsBytes};
 ghost use Rattle.sshc_audit.specs.SaltLines.{salts_in, all_salts};
 
-use crate::cutting::cut;
 use crate::salts::Salts;
 use hex::FromHex;
+use sshc_hosts::cut;
 use sshc_wire::{Failed, NoMemory};
 use std::alloc::Global;
 use std::marker::Model;

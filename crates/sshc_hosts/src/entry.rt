@@ -1,6 +1,8 @@
 //! Entries of a host field, plain and hashed.
 
-ghost use Rattle.std.specs.Prelude.{◌≡◌, IfOk, filter};
+ghost use Rattle.std.specs.Prelude.{◌≡◌, IfOk, IsFalse, filter};
+ghost use Rattle.base64.specs.Engines.{standard};
+ghost use Rattle.base64.specs.GeneralPurpose.{decoded_of};
 ghost use Rattle.sshc_key.specs.KeyText.{is_no_line_end};
 ghost use Rattle.sshc_hosts.specs.MatchingLines.{base64_bytes, hash_matches, hashed_matches, entry_matches, parts_at};
 
@@ -8,32 +10,40 @@ use crate::cutting::cut;
 use crate::hmac::hmac_sha1;
 use base64::DecodeAllocError;
 use base64::engine::general_purpose::STANDARD;
+use memchr::memchr2;
+use sshc_key::without_line_ends;
 use sshc_wire::{NoMemory, Octets};
 use std::alloc::Global;
 
-/// The text without carriage returns and line feeds.
-fn without_line_ends(alloc: Global, text: &str) -> Result<Vec<u8>, NoMemory>
-    ensures { IfOk result (λ kept. kept.items ≡ filter is_no_line_end text.now) }
+/// Whether the text has a carriage return or a line feed.
+#[tactic(auto, using(crate::proofs::Places::no_line_ends))]
+fn has_line_ends(text: &str) -> bool
+    ensures { IsFalse result → filter is_no_line_end text.now ≡ text.now }
 {
-    Ok(
-        text.as_bytes()
-            .iter()
-            .copied()
-            .filter(|b| *b != b'\r' && *b != b'\n')
-            .collect(alloc)?,
-    )
+    memchr2(b'\r', b'\n', text.as_bytes()).is_some()
 }
 
-/// The bytes of a padded base64 text.
+/// The bytes of a padded base64 text without line ends.
 #[tactic(auto, unfolding(base64::specs::GeneralPurpose::decoded_of))]
-fn decoded(alloc: Global, text: &str) -> Result<Option<Octets>, NoMemory>
-    ensures { IfOk result (λ bytes. bytes ≡ base64_bytes text.now) }
+fn decoded_whole(alloc: Global, text: &[u8]) -> Result<Option<Octets>, NoMemory>
+    ensures { IfOk result (λ bytes. bytes ≡ decoded_of standard text.now) }
 {
-    let kept = without_line_ends(alloc, text)?;
-    match STANDARD.decode(alloc, kept.as_slice()) {
+    match STANDARD.decode(alloc, text) {
         Ok(bytes) => Ok(Some(Octets::from_vec(bytes)?)),
         Err(DecodeAllocError::DecodeError(_)) => Ok(None),
         Err(DecodeAllocError::OutOfMemory) => Err(NoMemory),
+    }
+}
+
+/// The bytes of a padded base64 text, whose line ends are dropped.
+fn decoded(alloc: Global, text: &str) -> Result<Option<Octets>, NoMemory>
+    ensures { IfOk result (λ bytes. bytes ≡ base64_bytes text.now) }
+{
+    if has_line_ends(text) {
+        let kept = without_line_ends(alloc, text.as_bytes())?;
+        decoded_whole(alloc, kept.as_slice())
+    } else {
+        decoded_whole(alloc, text.as_bytes())
     }
 }
 
@@ -68,7 +78,7 @@ fn is_hashed_host(alloc: Global, host: &str, entry: &str) -> Result<bool, NoMemo
     is_hash_of(alloc, host, salt, hash)
 }
 
-/// Whether an entry is the host.
+/// Whether an entry of a host field is the host text: by its hash, where it begins `|1|`, and else byte by byte.
 pub fn is_host(alloc: Global, host: &str, entry: &str) -> Result<bool, NoMemory>
     ensures { IfOk result (λ b. b ≡ entry_matches host.now entry.now) }
 {

@@ -8,8 +8,8 @@ use crate::entry::is_host;
 use sshc_wire::NoMemory;
 use std::alloc::Global;
 
-/// Whether an entry of the field is the host.
-fn has_host(alloc: Global, host: &str, field: &str) -> Result<bool, NoMemory>
+/// Whether an entry of the host field, which commas part, is the host text.
+pub fn has_host(alloc: Global, host: &str, field: &str) -> Result<bool, NoMemory>
     ensures { IfOk result (λ b. b ≡ field_matches host.now field.now) }
 {
     let mut left = field;
@@ -25,8 +25,8 @@ fn has_host(alloc: Global, host: &str, field: &str) -> Result<bool, NoMemory>
     }
 }
 
-/// Whether the line is a comment.
-fn comments(line: &str) -> bool
+/// Whether the line is a comment: it begins with `#`.
+pub fn is_comment(line: &str) -> bool
     ensures { result ≡ is_comment line.now }
 {
     match line.as_bytes().first() {
@@ -39,7 +39,7 @@ fn comments(line: &str) -> bool
 fn key_of<'a>(alloc: Global, host: &str, line: &'a str) -> Result<Option<&'a str>, NoMemory>
     ensures { IfOk result (λ key. option_copied key ≡ line_key host.now line.now) }
 {
-    if comments(line) {
+    if is_comment(line) {
         return Ok(None);
     }
     let (field, Some(rest)) = cut(line, b' ') else {
