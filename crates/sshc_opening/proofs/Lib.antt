@@ -1,4 +1,7 @@
 mod Rows
 mod PromptLemmas
+mod CountedLemmas
+mod FaultLemmas
 mod StepLemmas
+mod KeptLemmas
 mod StandardFacts

@@ -34,7 +34,7 @@ one_more : (call : SignCall) (asked : SignRequest) (on : Answer → Asking Row) 
 one_more call asked on gained s result is (inl (row, makes, follows)) = inl (row, (is, makes), follows)
 one_more call asked on gained s result is (inr (memory, same, adds, first)) = inr (memory, same, adds, (is, first))
 
-gains : (asking : Asking Row) (was is : SignerAt) (s : Span) (result : Result Flow Error) → FollowsAsking asking was is s result → Gains asking was is s result
+pub gains : (asking : Asking Row) (was is : SignerAt) (s : Span) (result : Result Flow Error) → FollowsAsking asking was is s result → Gains asking was is s result
 gains (done row) was is s result (same, follows) = record {
   gained = [];
   calls = ap (λ (at : SignerAt). at.calls) same ∙ sym (append-nil was.calls);

@@ -104,12 +104,13 @@ said_no gate s event old mid told fresh answered = λ x is peer first no.
 
 -- the rest of a row, told as the gate tells it
 pub told_cause : {E : Type 0} (gate : GateAnswers E) (event : Event) (was is : LentGate) (old mid : Outgoing) (told : Told) (answer : Step Error) (result : Step E) →
-    result ≡ map_step gate.told_as answer → was.rest.opening.closed ≡ false → Answered gate (exchange_in event) old mid (Ok told) (asked_of was.rest.opening event) → HasCause told was.rest.opening event answer → HasGateCause gate event was is result
+    result ≡ map_step gate.told_as answer → was.rest.opening.closed ≡ false → Answered gate (exchange_in event) old mid (Ok told) (asked_of was.rest.opening event) →
+    HasCause told event (record was.rest { outbox = mid }) is.rest answer → HasGateCause gate event was is result
 told_cause gate event was is old mid told steps.Went result same fresh answered reason = rw same tt
 told_cause gate event was is old mid told steps.Opened result same fresh answered reason = rw same tt
 told_cause gate event was is old mid told (steps.Ended x) result same fresh answered reason = rw same reason
 told_cause gate event was is old mid told (steps.Refused e) result same fresh answered reason =
-    rw same (inl (e, refl, cause_also (WasToldNo told) (GateSaysNo gate) was.rest.opening event e (said_no gate was.rest.opening event old mid told fresh answered) reason))
+    rw same (inl (e, refl, cause_also (WasToldNo told) (GateSaysNo gate) was.rest.opening event e (said_no gate was.rest.opening event old mid told fresh answered) reason.0, reason.1))
 told_cause gate event was is old mid told steps.Closed result same fresh answered reason = rw same tt
 
 -- ---- what was asked and told

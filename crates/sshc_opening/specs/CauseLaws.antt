@@ -12,7 +12,7 @@ use Rattle.sshc_wire.specs.declared.auth_record.Prompt.{Prompt}
 use Rattle.sshc_wire.specs.declared.disconnect.Disconnect.{Disconnect}
 use Rattle.sshc_wire.specs.declared.error.WireError.{WireError}
 use Rattle.sshc_wire.specs.declared.methods.MethodKind.{MethodKind}
-use Rattle.sshc_wire.specs.declared.msg.TheConstants.{DISCONNECT, SERVICE_ACCEPT, USERAUTH_FAILURE, USERAUTH_SUCCESS, USERAUTH_BANNER, USERAUTH_PK_OK, USERAUTH_GSSAPI_TOKEN, USERAUTH_GSSAPI_ERROR, USERAUTH_GSSAPI_ERRTOK}
+use Rattle.sshc_wire.specs.declared.msg.TheConstants.{DISCONNECT, EXT_INFO, SERVICE_ACCEPT, USERAUTH_FAILURE, USERAUTH_SUCCESS, USERAUTH_BANNER, USERAUTH_PK_OK, USERAUTH_GSSAPI_TOKEN, USERAUTH_GSSAPI_ERROR, USERAUTH_GSSAPI_ERRTOK}
 use Rattle.sshc_wire.specs.declared.record.Record.{Record}
 use Rattle.sshc_wire.specs.declared.record.Record.TheVariants as records
 use Rattle.sshc_wire.specs.declared.auth_record.AuthRecord.TheVariants.{AuthInfoRequest}
@@ -48,9 +48,9 @@ use Rattle.sshc_opening.specs.declared.step.Step.{Step}
 use Rattle.sshc_opening.specs.declared.step.Step.TheVariants as steps
 use Rattle.sshc_opening.specs.declared.step.Told.{Told}
 use Rattle.sshc_opening.specs.declared.step.Told.TheVariants as telling
-use Rattle.sshc_opening.specs.Causes.{Part, number, boolean, string, text, prompts, end, Breaks, BreaksBehind, after, after_prompts, rest_of, AreTooMany, HasTooManyPrompts, AreUnknown, IsInvalidReason, IsLocal, IsUnexpectedIn, IsCause, IsEarly, IsNotUsers, IsOutOfTurn, WasToldNo, Disconnects, ReadsTexts, Why, why, Caused, AllCaused, behind, auth_parts, answer_parts, parts_in, is_answer}
+use Rattle.sshc_opening.specs.Causes.{Part, number, boolean, string, text, prompts, extensions, end, Breaks, BreaksBehind, after, after_prompts, rest_of, AreTooMany, HasTooManyPrompts, AreUnknown, IsInvalidReason, IsLocal, IsUnexpectedIn, IsCause, IsEarly, IsNotUsers, IsOutOfTurn, WasToldNo, Disconnects, ReadsTexts, Why, why, Caused, AllCaused, behind, auth_parts, answer_parts, parts_in, is_answer}
 use Rattle.sshc_opening.specs.OpeningState.{OpeningState, is_awaiting}
-use Rattle.sshc_opening.specs.OpeningTable.{answer_row, auth_row, gssapi_row, is_pk_ok, auth_packet_row, packet_row_in, phase_packet_row, held_packet_row, is_exchanging, numbered_row, payload_row, authenticate_row_in, plain_row, event_row, turn_row, open_row, asked_of, event_asks, exchange_asks, key_asked, packet_asks, number_asks, is_held_back, banner_asks, banner_at_end, FitsAsked}
+use Rattle.sshc_opening.specs.OpeningTable.{answer_row, auth_row, gssapi_row, is_pk_ok, auth_packet_row, packet_row_in, phase_packet_row, held_packet_row, is_exchanging, numbered_row, payload_row, authenticate_row_in, plain_row, user_row, unopened_row, event_row, turn_row, open_row, asked_of, event_asks, exchange_asks, key_asked, packet_asks, number_asks, is_held_back, banner_asks, banner_at_end, FitsAsked}
 use Rattle.sshc_opening.specs.OpeningTable.Order.{sort_of, is_early, is_early_at, is_early_awaiting, is_out_of_turn, packet_in}
 use Rattle.sshc_opening.specs.OpeningTable.Exchange.{peer_kexinit_row, peer_kexinit_row_at, accepted_row, first_exchange_row, exchange_row_in, exchange_done_row}
 use Rattle.sshc_opening.specs.OpeningTable.Auth.{userauth_failure_row, userauth_success_row, userauth_banner_row, authenticate_again_row, known_behind, known_methods, add_known, next_without}
@@ -59,6 +59,9 @@ use Rattle.sshc_opening.specs.OpeningTable.AuthKey.{pk_ok_row, is_pk_ok_body, is
 use Rattle.sshc_opening.specs.OpeningTable.AuthPrompts.{info_request_row, info_response_row, is_too_many, prompts_at, prompts_row}
 use Rattle.sshc_opening.specs.OpeningTable.Awaiting.{awaiting_row, answer_row_in, responses_row, signature_row, signed_row, is_signed}
 use Rattle.sshc_opening.specs.OpeningTable.Packets.{disconnect_row, disconnect_reason_row, is_ignored, waits_for_exchange, is_too_much, counted_with}
+use Rattle.sshc_opening.specs.declared.extension.TheConstants.{MOST_EXT_INFOS}
+use Rattle.sshc_opening.specs.Extensions.{extensions_at}
+use Rattle.sshc_opening.specs.OpeningTable.ExtInfo.{ext_info_row, extensions_row, is_third}
 use Rattle.sshc_opening.specs.OpeningTable.Service.{service_accept_row, service_packet_row, authenticate_first_row, stored_request}
 use Rattle.sshc_opening.specs.OpeningTable.User.{rekey_row, await_extension_info_row, get_server_sig_algs_row, is_seen, user_disconnect_row}
 use Rattle.sshc_request.specs.RequestTexts.{mic}
@@ -218,6 +221,15 @@ error_cause P s body breaks =
     part_cause P (end ∷ []) (text_at rest) _ breaks (λ language left read breaks.
     end_cause P left (gssapi_step s (gssapi.Error major minor message)) breaks (tt)))))
 
+-- ---- extensions
+
+pub ext_info_cause : (P : Why) (s : OpeningState) (body : List ℕ) → (Breaks (extensions ∷ end ∷ []) body → P.refusal errors.SshEncoding) → (MOST_EXT_INFOS ≤ s.ext_infos → P.refusal errors.Inconsistent) → Caused P (ext_info_row s body).next
+unfolding ext_info_row
+ext_info_cause P s body breaks third =
+    cond_cause P (is_third s) _ _
+    (λ is. by_error P errors.Inconsistent (third (grind (arith, nat_tests))))
+    (λ is. part_cause P (end ∷ []) (extensions_at body) _ breaks (λ told left read breaks. end_cause P left (extensions_row s told) breaks tt))
+
 -- ---- rows that may ask
 
 pub cond_all : (P : Why) (b : Bool) (x y : Asking Row) → (b ≡ true → AllCaused P x) → (b ≡ false → AllCaused P y) → AllCaused P (if b then x else y)
@@ -243,28 +255,30 @@ service_cause : (P : Why) (s : OpeningState) (n : ℕ) (body : List ℕ) → s.p
 unfolding service_packet_row
 service_cause P s n body is c =
     cond_cause P (n == SERVICE_ACCEPT) _ _
-    (λ accept. accept_cause P s body (λ broken. c.breaks (rw (is, accept) broken)) (λ unasked. c.unexpected (rw is (inr unasked))))
-    (λ other. by_error P errors.Inconsistent (c.unexpected (rw is (inl (other_number n SERVICE_ACCEPT other)))))
+    (λ accept. accept_cause P s body (λ broken. c.breaks (rw (is, accept) broken)) (λ unasked. c.unexpected (rw is (inr (inl (same_number n SERVICE_ACCEPT accept, unasked))))))
+    (λ no6. cond_cause P (n == EXT_INFO) _ _
+    (λ info. let same = same_number n EXT_INFO info in ext_info_cause P s body (λ broken. c.breaks (rw (is, same) broken)) (λ third. c.unexpected (rw is (inr (inr (same, third))))))
+    (λ no7. by_error P errors.Inconsistent (c.unexpected (rw is (inl (rw (no6, no7) refl))))))
 
 gssapi_cause : (P : Why) (s : OpeningState) (n : ℕ) (body : List ℕ) (class : Class) → s.phase ≡ phases.Auth → s.class ≡ class →
-    (n == USERAUTH_FAILURE) ≡ false → (n == USERAUTH_SUCCESS) ≡ false → (n == USERAUTH_BANNER) ≡ false → (n == USERAUTH_PK_OK) ≡ false →
+    (n == USERAUTH_FAILURE) ≡ false → (n == USERAUTH_SUCCESS) ≡ false → (n == USERAUTH_BANNER) ≡ false → (n == USERAUTH_PK_OK) ≡ false → (n == EXT_INFO) ≡ false →
     PacketCauses P s n body → Caused P (gssapi_row class s n body).next
 unfolding gssapi_row gssapi_token_row gssapi_errtok_row
-gssapi_cause P s n body classes.Gssapi is class no51 no52 no53 no60 c =
+gssapi_cause P s n body classes.Gssapi is class no51 no52 no53 no60 no7 c =
     cond_cause P (n == USERAUTH_GSSAPI_TOKEN) _ _
     (λ token. string_cause P body (λ x. gssapi_step s (gssapi.Token x (mic s.session_id s.user))) (λ broken. c.breaks (let same = same_number n USERAUTH_GSSAPI_TOKEN token in rw (is, class, same) broken)) (λ x. tt))
     (λ no61. cond_cause P (n == USERAUTH_GSSAPI_ERROR) _ _
     (λ error. error_cause P s body (λ broken. c.breaks (let same = same_number n USERAUTH_GSSAPI_ERROR error in rw (is, class, same) broken)))
     (λ no64. cond_cause P (n == USERAUTH_GSSAPI_ERRTOK) _ _
     (λ errtok. string_cause P body (λ x. gssapi_step s (gssapi.ErrorToken x)) (λ broken. c.breaks (let same = same_number n USERAUTH_GSSAPI_ERRTOK errtok in rw (is, class, same) broken)) (λ x. tt))
-    (λ no65. by_error P errors.Inconsistent (c.unexpected (rw (is, class) (inl (rw (no51, no52, no53, no60, no61, no64, no65) refl)))))))
-gssapi_cause P s n body classes.Plain is class no51 no52 no53 no60 c = by_error P errors.Inconsistent (c.unexpected (rw (is, class) (inl (rw (no51, no52, no53, no60) refl))))
-gssapi_cause P s n body classes.Key is class no51 no52 no53 no60 c = by_error P errors.Inconsistent (c.unexpected (rw (is, class) (inl (rw (no51, no52, no53, no60) refl))))
-gssapi_cause P s n body classes.Prompts is class no51 no52 no53 no60 c = by_error P errors.Inconsistent (c.unexpected (rw (is, class) (inl (rw (no51, no52, no53, no60) refl))))
+    (λ no65. by_error P errors.Inconsistent (c.unexpected (rw (is, class) (inl (rw (no51, no52, no53, no60, no7, no61, no64, no65) refl)))))))
+gssapi_cause P s n body classes.Plain is class no51 no52 no53 no60 no7 c = by_error P errors.Inconsistent (c.unexpected (rw (is, class) (inl (rw (no51, no52, no53, no60, no7) refl))))
+gssapi_cause P s n body classes.Key is class no51 no52 no53 no60 no7 c = by_error P errors.Inconsistent (c.unexpected (rw (is, class) (inl (rw (no51, no52, no53, no60, no7) refl))))
+gssapi_cause P s n body classes.Prompts is class no51 no52 no53 no60 no7 c = by_error P errors.Inconsistent (c.unexpected (rw (is, class) (inl (rw (no51, no52, no53, no60, no7) refl))))
 
 answer_cause : (P : Why) (s : OpeningState) (n : ℕ) (body : List ℕ) (class : Class) → s.phase ≡ phases.Auth → s.class ≡ class → n ≡ USERAUTH_PK_OK → PacketCauses P s n body → Caused P (answer_row class s body).next
 unfolding answer_row gssapi_response_row
-answer_cause P s n body classes.Prompts is class ok c = prompts_cause P s body (λ broken. c.breaks (rw (is, class, ok) broken)) (λ many. c.unexpected (rw is (inr (class, ok, many))))
+answer_cause P s n body classes.Prompts is class ok c = prompts_cause P s body (λ broken. c.breaks (rw (is, class, ok) broken)) (λ many. c.unexpected (rw is (inr (inl (class, ok, many)))))
 answer_cause P s n body classes.Gssapi is class ok c = string_cause P body (λ x. gssapi_step s (gssapi.Response x (mic s.session_id s.user))) (λ broken. c.breaks (rw (is, class, ok) broken)) (λ x. tt)
 answer_cause P s n body classes.Plain is class ok c = tt
 answer_cause P s n body classes.Key is class ok c = tt
@@ -280,7 +294,9 @@ auth_cause P s n body is c =
     (λ banner. let same = same_number n USERAUTH_BANNER banner in banner_cause P s body (λ broken. c.breaks (rw (is, same) broken)))
     (λ no53. cond_cause P (n == USERAUTH_PK_OK) _ _
     (λ ok. answer_cause P s n body s.class is refl (same_number n USERAUTH_PK_OK ok) c)
-    (λ no60. gssapi_cause P s n body s.class is refl no51 no52 no53 no60 c))))
+    (λ no60. cond_cause P (n == EXT_INFO) _ _
+    (λ info. let same = same_number n EXT_INFO info in ext_info_cause P s body (λ broken. c.breaks (rw (is, same) broken)) (λ third. c.unexpected (rw is (inr (inr (same, third))))))
+    (λ no7. gssapi_cause P s n body s.class is refl no51 no52 no53 no60 no7 c)))))
 
 signed_by_cause : (P : Why) (s : OpeningState) (key : Key) (hash : Option HashAlg) (answer : Answer) → P.refusal errors.SignerFault → Caused P (signed_by_row s key hash answer).next
 signed_by_cause P s key hash None fault = by_error P errors.SignerFault fault
@@ -429,7 +445,7 @@ idle s flags.Ours is early = let clash : true ≡ false = early in absurd cc
 idle s flags.Peer is early = let clash : true ≡ false = early in absurd cc
 
 plain_cause : (s : OpeningState) (event : Event) (told : Told) → is_awaiting s.phase ≡ false → is_early_at s.flag (sort_of event) ≡ false → Caused (why (WasToldNo told) s event) (plain_row s event told).next
-unfolding plain_row peer_kexinit_row exchange_done_row user_token_row user_mic_row user_complete_row rekey_row await_extension_info_row get_server_sig_algs_row user_disconnect_row
+unfolding plain_row user_row unopened_row peer_kexinit_row exchange_done_row user_token_row user_mic_row user_complete_row rekey_row await_extension_info_row get_server_sig_algs_row user_disconnect_row
 plain_cause s events.PeerKexinit told calm early = kexinit_cause (why (WasToldNo told) s events.PeerKexinit) s s.flag
 plain_cause s (events.ExchangeDone x) told calm early = exchange_cause s x told s.phase (in_turn s x s.flag refl early) refl
 plain_cause s events.TransportFailed told calm early = by_error (why (WasToldNo told) s events.TransportFailed) errors.TransportFailed (refl, calm)

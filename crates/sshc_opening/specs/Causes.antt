@@ -9,7 +9,7 @@ use Rattle.sshc_wire.specs.Names.{names_in}
 use Rattle.sshc_wire.specs.Reads.{boolean_at, number_at, string_at, text_at}
 use Rattle.sshc_wire.specs.Reasons.{disconnect_of}
 use Rattle.sshc_wire.specs.declared.error.WireError.{WireError}
-use Rattle.sshc_wire.specs.declared.msg.TheConstants.{DISCONNECT, SERVICE_ACCEPT, USERAUTH_FAILURE, USERAUTH_SUCCESS, USERAUTH_BANNER, USERAUTH_PK_OK, USERAUTH_GSSAPI_TOKEN, USERAUTH_GSSAPI_ERROR, USERAUTH_GSSAPI_ERRTOK}
+use Rattle.sshc_wire.specs.declared.msg.TheConstants.{DISCONNECT, EXT_INFO, SERVICE_ACCEPT, USERAUTH_FAILURE, USERAUTH_SUCCESS, USERAUTH_BANNER, USERAUTH_PK_OK, USERAUTH_GSSAPI_TOKEN, USERAUTH_GSSAPI_ERROR, USERAUTH_GSSAPI_ERRTOK}
 use Rattle.sshc_key.specs.declared.identity.PublicKeyOrCertificate.{PublicKeyOrCertificate}
 use Rattle.sshc_event.specs.HostKey.{host_key}
 use Rattle.sshc_event.specs.declared.event.Event.{Event}
@@ -33,10 +33,12 @@ use Rattle.sshc_opening.specs.declared.step.Step.{Step}
 use Rattle.sshc_opening.specs.declared.step.Step.TheVariants as steps
 use Rattle.sshc_opening.specs.declared.step.Told.{Told}
 use Rattle.sshc_opening.specs.declared.step.Told.TheVariants.{Went}
+use Rattle.sshc_opening.specs.declared.extension.TheConstants.{MOST_EXT_INFOS}
+use Rattle.sshc_opening.specs.Extensions.{extensions_at}
 use Rattle.sshc_opening.specs.OpeningState.{OpeningState, is_awaiting}
 use Rattle.sshc_opening.specs.OpeningTable.AuthPrompts.{prompts_at}
 use Rattle.sshc_opening.specs.Row.{Row, Next, stays, opens, ends as ends_with, refuses}
-use Rattle.sshc_opening.specs.Stepping.{GateAnswers, LentGate}
+use Rattle.sshc_opening.specs.Stepping.{GateAnswers, Lent, LentGate}
 
 -- ---- turns
 
@@ -78,9 +80,18 @@ IsUnaccepted SaysNo phase event = ⊥
 -- the packets that a server sends to an authenticating user; those from 60 on by the class of the request
 abbrev pub is_answer : Class → ℕ → Bool
 is_answer classes.Gssapi number =
-    (number == USERAUTH_FAILURE) || (number == USERAUTH_SUCCESS) || (number == USERAUTH_BANNER) || (number == USERAUTH_PK_OK)
+    (number == USERAUTH_FAILURE) || (number == USERAUTH_SUCCESS) || (number == USERAUTH_BANNER) || (number == USERAUTH_PK_OK) || (number == EXT_INFO)
     || (number == USERAUTH_GSSAPI_TOKEN) || (number == USERAUTH_GSSAPI_ERROR) || (number == USERAUTH_GSSAPI_ERRTOK)
-is_answer class number = (number == USERAUTH_FAILURE) || (number == USERAUTH_SUCCESS) || (number == USERAUTH_BANNER) || (number == USERAUTH_PK_OK)
+is_answer class number =
+    (number == USERAUTH_FAILURE) || (number == USERAUTH_SUCCESS) || (number == USERAUTH_BANNER) || (number == USERAUTH_PK_OK) || (number == EXT_INFO)
+
+-- and to one who asks for the service
+abbrev pub is_service : ℕ → Bool
+is_service number = (number == SERVICE_ACCEPT) || (number == EXT_INFO)
+
+-- a server sends two EXT_INFO at most (RFC 8308, section 2.4)
+abbrev pub IsThird : OpeningState → ℕ → Type 0
+IsThird s number = (number ≡ EXT_INFO) × (MOST_EXT_INFOS ≤ s.ext_infos)
 
 -- a number of prompts that the bytes behind it can't hold, since a prompt has five at least
 abbrev pub AreTooMany : Result (ℕ × List ℕ) WireError → Type 0
@@ -96,8 +107,8 @@ abbrev pub HasTooManyPrompts : List ℕ → Type 0
 HasTooManyPrompts body = AreTooMany (number_at w32 (behind (text_at (behind (text_at (behind (text_at body)))))))
 
 abbrev pub IsUnexpectedIn : Phase → OpeningState → ℕ → List ℕ → Type 0
-IsUnexpectedIn phases.Service s number body = (number ≢ SERVICE_ACCEPT) ⊎ (s.requested ≡ false)
-IsUnexpectedIn phases.Auth s number body = (is_answer s.class number ≡ false) ⊎ ((s.class ≡ classes.Prompts) × (number ≡ USERAUTH_PK_OK) × HasTooManyPrompts body)
+IsUnexpectedIn phases.Service s number body = (is_service number ≡ false) ⊎ (((number ≡ SERVICE_ACCEPT) × (s.requested ≡ false)) ⊎ IsThird s number)
+IsUnexpectedIn phases.Auth s number body = (is_answer s.class number ≡ false) ⊎ (((s.class ≡ classes.Prompts) × (number ≡ USERAUTH_PK_OK) × HasTooManyPrompts body) ⊎ IsThird s number)
 IsUnexpectedIn phase s number body = ⊥
 
 -- a packet from 50 on once the peer has begun an exchange, or one that its phase doesn't have
@@ -112,13 +123,14 @@ IsTooMuch s event = ⊥
 
 -- ---- packets that are broken
 
--- a part of a packet: a number, a boolean, a string, a text, prompts after their number, or its end
+-- a part of a packet: a number, a boolean, a string, a text, prompts or extensions after their number, or its end
 pub data Part : Type 0 where
   number : Part
   boolean : Part
   string : Part
   text : Part
   prompts : Part
+  extensions : Part
   end : Part
 
 abbrev pub rest_of : {A : Type 0} → Result (A × List ℕ) WireError → Option (List ℕ)
@@ -140,6 +152,7 @@ after boolean body = rest_of (boolean_at body)
 after string body = rest_of (string_at body)
 after text body = rest_of (text_at body)
 after prompts body = after_prompts (number_at w32 body)
+after extensions body = rest_of (extensions_at body)
 after end body = after_end body
 
 abbrev pub BreaksBehind : (List ℕ → Type 0) → Option (List ℕ) → Type 0
@@ -164,11 +177,12 @@ auth_parts class n =
     else (if n == USERAUTH_SUCCESS then end ∷ []
     else (if n == USERAUTH_BANNER then text ∷ text ∷ end ∷ []
     else (if n == USERAUTH_PK_OK then answer_parts class
+    else (if n == EXT_INFO then extensions ∷ end ∷ []
     else (if n == USERAUTH_GSSAPI_ERROR then number ∷ number ∷ text ∷ text ∷ end ∷ []
-    else string ∷ end ∷ []))))
+    else string ∷ end ∷ [])))))
 
 abbrev pub parts_in : Phase → Class → ℕ → List Part
-parts_in phases.Service class n = if n == SERVICE_ACCEPT then string ∷ end ∷ [] else []
+parts_in phases.Service class n = if n == SERVICE_ACCEPT then string ∷ end ∷ [] else (if n == EXT_INFO then extensions ∷ end ∷ [] else [])
 parts_in phases.Auth class n = auth_parts class n
 parts_in phase class n = []
 
@@ -285,14 +299,19 @@ AllCaused reason asking = Always (λ (row : Row). Caused reason row.next) asking
 
 -- ---- calls
 
+-- the signer's fault comes only where its count rose in this call
+abbrev pub CountRose : ℕ → ℕ → Error → Type 0
+CountRose before now errors.SignerFault = Rose before now
+CountRose before now e = Unit {0}
+
 -- once it is told what the gate said
 abbrev pub WasToldNo : Told → ExchangeResult → Type 0
 WasToldNo told x = told ≢ Went
 
-abbrev pub HasCause : Told → OpeningState → Event → Step Error → Type 0
-HasCause told s event (steps.Refused e) = IsCause (WasToldNo told) s event e
-HasCause told s event (steps.Ended e) = IsEndCause s event e
-HasCause told s event answer = Unit {0}
+abbrev pub HasCause : Told → Event → Lent → Lent → Step Error → Type 0
+HasCause told event was is (steps.Refused e) = IsCause (WasToldNo told) was.opening event e × CountRose was.refusals is.refusals e
+HasCause told event was is (steps.Ended e) = IsEndCause was.opening event e
+HasCause told event was is answer = Unit {0}
 
 -- there is no host key, or the gate says no to it
 abbrev pub SaysNoTo : {E : Type 0} → (PublicKeyOrCertificate → Result Bool E → Type 0) → Option PublicKeyOrCertificate → Type 0
@@ -306,6 +325,7 @@ GateSaysNo gate x = SaysNoTo gate.judges (host_key x.key)
 -- has its cause
 abbrev pub HasGateCause : {E : Type 0} → GateAnswers E → Event → LentGate → LentGate → Step E → Type 0
 HasGateCause gate event was is (steps.Refused e) =
-    ((why : Error) × (e ≡ gate.told_as why) × IsCause (GateSaysNo gate) was.rest.opening event why) ⊎ Rose was.refusals is.refusals
+    ((why : Error) × (e ≡ gate.told_as why) × IsCause (GateSaysNo gate) was.rest.opening event why × CountRose was.rest.refusals is.rest.refusals why)
+    ⊎ Rose was.refusals is.refusals
 HasGateCause gate event was is (steps.Ended e) = IsEndCause was.rest.opening event e
 HasGateCause gate event was is answer = Unit {0}

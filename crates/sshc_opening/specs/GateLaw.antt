@@ -1,16 +1,17 @@
 -- Until the host key of the first exchange is accepted, no packet of the session is written and the session doesn't go on
 -- (RFC 4253, sections 7 and 8): a law above the table.
-use Rattle.std.proofs.Common.{◌≡◌, ◌≢◌, ℕ, ◌+◌, Bool, true, false, List, [], ◌∷◌, length, Option, Some, None, Result, Ok, Err, refl, sym, ◌∙◌}
+use Rattle.std.proofs.Common.{◌≡◌, ◌≢◌, ◌⊎◌, inl, inr, ℕ, ◌+◌, Bool, true, false, List, [], ◌∷◌, length, Option, Some, None, Result, Ok, Err, refl, sym, ◌∙◌}
 use Rattle.std.specs.Prelude.{◌==◌, if◌then◌else◌}
 use Rattle.std.specs.Int.{w32}
+use Rattle.std.specs.List.{AllByRecursion}
 use Rattle.sshc_wire.specs.Reads.{number_at, text_at}
 use Rattle.sshc_wire.specs.Reasons.{disconnect_of}
-use Rattle.sshc_wire.specs.Records.{IsPayload}
 use Rattle.sshc_wire.specs.declared.disconnect.Disconnect.{Disconnect}
 use Rattle.sshc_wire.specs.declared.error.WireError.{WireError}
 use Rattle.sshc_wire.specs.declared.msg.TheConstants.{DISCONNECT}
 use Rattle.sshc_wire.specs.declared.record.Record.{Record}
 use Rattle.sshc_key.specs.Asking.{Asking, done, Always}
+use Rattle.sshc_key.specs.AskingLaws.{always_also}
 use Rattle.sshc_event.specs.declared.event.Event.{Event}
 use Rattle.sshc_event.specs.declared.event.Event.TheVariants as events
 use Rattle.sshc_transport.specs.declared.exchange.ExchangeFlag.{ExchangeFlag}
@@ -22,25 +23,19 @@ use Rattle.sshc_opening.specs.declared.order.EventSort.TheVariants as sorts
 use Rattle.sshc_opening.specs.declared.step.Told.{Told}
 use Rattle.sshc_opening.specs.declared.step.Told.TheVariants as telling
 use Rattle.sshc_opening.specs.OpeningState.{OpeningState, is_awaiting}
-use Rattle.sshc_opening.specs.OpeningTable.{is_exchanging, numbered_row, payload_row, plain_row, event_row, turn_row, open_row, held_packet_row, phase_packet_row}
-use Rattle.sshc_opening.specs.OpeningTable.Exchange.{peer_kexinit_row, peer_kexinit_row_at, exchange_done_row, exchange_row_in}
+use Rattle.sshc_opening.specs.OpeningTable.{is_exchanging, numbered_row, payload_row, plain_row, user_row, unopened_row, event_row, turn_row, open_row, held_packet_row, phase_packet_row}
+use Rattle.sshc_opening.specs.OpeningTable.Exchange.{peer_kexinit_row, peer_kexinit_row_at, accepted_row, exchange_done_row, exchange_row_in}
 use Rattle.sshc_opening.specs.OpeningTable.Order.{sort_of, is_early, is_early_at, is_out_of_turn, packet_in}
 use Rattle.sshc_opening.specs.OpeningTable.Packets.{disconnect_row, disconnect_reason_row, is_ignored, waits_for_exchange}
 use Rattle.sshc_opening.specs.declared.error.Error.TheVariants.{InactivityTimeout}
 use Rattle.sshc_opening.specs.Row.{Row, Next, stays, opens, ends, refuses, refused, passed_over, with_part, broken_row}
+use Rattle.sshc_opening.specs.SessionWords.{IsFirst, IsNoPacket}
 
 -- ---- what is said
 
 -- none of these is a packet
 abbrev pub NonePayload : List Record → Type 0
-NonePayload [] = Unit {0}
-NonePayload (said ∷ records) = (IsPayload said → ⊥) × NonePayload records
-
--- the first exchange runs
-pub record IsFirst (s : OpeningState) : Type 0 where
-  pub exchanging : s.phase ≡ phases.Exchanging
-  pub runs : s.flag ≢ flags.Idle
-  pub fresh : s.closed ≡ false
+NonePayload records = AllByRecursion IsNoPacket records
 
 -- an exchange whose host key the gate accepts
 abbrev pub IsAccepted : Event → Told → Type 0
@@ -117,7 +112,7 @@ timer_first s true first = (tt, tt)
 timer_first s false first = (tt, (first, tt))
 
 plain_first : (s : OpeningState) (event : Event) (told : Told) → IsFirst s → (IsAccepted event told → ⊥) → is_early_at s.flag (sort_of event) ≡ false → StaysFirst event (plain_row s event told)
-unfolding plain_row peer_kexinit_row exchange_done_row
+unfolding plain_row user_row unopened_row peer_kexinit_row exchange_done_row
 plain_first s events.PeerKexinit told first denied early = kexinit_first s s.flag refl first
 plain_first s (events.ExchangeDone x) told first denied early = exchange_first s x told s.phase refl first denied
 plain_first s events.TransportFailed told first denied early = (tt, tt)
@@ -143,3 +138,59 @@ pub first_law : (s : OpeningState) (event : Event) (told : Told) → IsFirst s �
 unfolding open_row
 first_law s event told first denied =
     cond_first event (is_out_of_turn s event) _ _ (tt, tt) (λ turn. turn_first s event told (is_awaiting s.phase) refl first denied turn)
+
+-- ---- the first exchange, whatever the gate says
+
+-- an exchange is done that was accepted, and its hash is the session id
+abbrev pub TakesFirst : Event → Told → OpeningState → Type 0
+TakesFirst event told t = (x : ExchangeResult) × (event ≡ events.ExchangeDone x) × (told ≡ telling.Went) × (t.session_id ≡ x.session_hash)
+
+abbrev pub FirstOrTaken : Event → Told → Next → Type 0
+FirstOrTaken event told (stays t) = IsFirst t ⊎ TakesFirst event told t
+FirstOrTaken event told (opens t) = TakesFirst event told t
+FirstOrTaken event told (ends e) = Unit {0}
+FirstOrTaken event told (refuses e) = Unit {0}
+
+-- no packet, and the session goes on behind the first exchange only where it is accepted
+abbrev pub FirstRow : Event → Told → Row → Type 0
+FirstRow event told row = NonePayload row.records × FirstOrTaken event told row.next
+
+next_also : (event : Event) (told : Told) (next : Next) → FirstNext event next → FirstOrTaken event told next
+next_also event told (stays t) first = inl first.0
+next_also event told (opens t) never = absurd never
+next_also event told (ends e) first = tt
+next_also event told (refuses e) first = tt
+
+stays_also : (event : Event) (told : Told) (row : Row) → StaysFirst event row → FirstRow event told row
+stays_also event told row first = (first.0, next_also event told row.next first.1)
+
+cond_row : (P : Row → Type 0) (b : Bool) (x y : Asking Row) → Always P x → Always P y → Always P (if b then x else y)
+cond_row P true x y one other = one
+cond_row P false x y one other = other
+
+accepted_first : (s : OpeningState) (x : ExchangeResult) (anonymous : Bool) → FirstRow (events.ExchangeDone x) telling.Went (accepted_row anonymous s x)
+accepted_first s x false = (((λ never. never), tt), inr (x, refl, refl, refl))
+accepted_first s x true = (((λ never. never), ((λ never. never), tt)), (x, refl, refl, refl))
+
+exchange_went : (s : OpeningState) (x : ExchangeResult) (phase : Phase) → phase ≡ phases.Exchanging → FirstRow (events.ExchangeDone x) telling.Went (exchange_row_in phase s x telling.Went)
+exchange_went s x phases.Exchanging is = accepted_first s x s.settings.anonymous
+exchange_went s x phase is = absurd cc
+
+turn_went : (s : OpeningState) (x : ExchangeResult) (awaits : Bool) → is_awaiting s.phase ≡ awaits → IsFirst s → Always (FirstRow (events.ExchangeDone x) telling.Went) (turn_row awaits s (events.ExchangeDone x) telling.Went)
+unfolding plain_row exchange_done_row
+turn_went s x true is first = let clash : true ≡ false = sym is ∙ calm s.phase first.exchanging in absurd cc
+turn_went s x false is first = exchange_went s x s.phase first.exchanging
+
+went_first : (s : OpeningState) (x : ExchangeResult) → IsFirst s → Always (FirstRow (events.ExchangeDone x) telling.Went) (open_row s (events.ExchangeDone x) telling.Went)
+unfolding open_row
+went_first s x first =
+    cond_row (FirstRow (events.ExchangeDone x) telling.Went) (is_out_of_turn s (events.ExchangeDone x)) _ _ (tt, tt) (turn_went s x (is_awaiting s.phase) refl first)
+
+-- while the first exchange runs, no packet is written, and the session goes on only where the exchange is accepted
+pub first_row : (s : OpeningState) (event : Event) (told : Told) → IsFirst s → Always (FirstRow event told) (open_row s event told)
+first_row s (events.ExchangeDone x) telling.Went first = went_first s x first
+first_row s (events.ExchangeDone x) told first =
+    always_also (StaysFirst (events.ExchangeDone x)) (FirstRow (events.ExchangeDone x) told) (open_row s (events.ExchangeDone x) told) (λ row stays_so. stays_also (events.ExchangeDone x) told row stays_so)
+    (first_law s (events.ExchangeDone x) told first (λ went. absurd cc))
+first_row s event told first =
+    always_also (StaysFirst event) (FirstRow event told) (open_row s event told) (λ row stays_so. stays_also event told row stays_so) (first_law s event told first (λ never. never))

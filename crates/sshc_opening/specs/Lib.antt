@@ -2,12 +2,17 @@ pub mod OpeningState
 pub mod StateCode
 pub mod Row
 pub mod Reading
+pub mod SignatureNames
+pub mod Extensions
 pub mod OpeningTable
 pub mod Signing
 pub mod Stepping
 pub mod Causes
 pub mod CauseLaws
 pub mod AskedLaws
+pub mod SessionWords
 pub mod GateLaw
+pub mod KeepLaws
+pub mod SignedRuns
 pub mod AskerLaw
 pub mod Promises

@@ -5,6 +5,7 @@ pub mod Order
 pub mod Exchange
 pub mod Transport
 pub mod Packets
+pub mod ExtInfo
 pub mod Service
 pub mod Auth
 pub mod AuthKey
@@ -14,7 +15,7 @@ pub mod User
 pub mod Awaiting
 use Rattle.std.specs.Prelude.{◌≡◌, ℕ, ◌+◌, Bool, true, false, List, [], ◌∷◌, length, Option, Some, None, ◌==◌, if◌then◌else◌}
 use Rattle.sshc_wire.specs.Reads.{text_at}
-use Rattle.sshc_wire.specs.declared.msg.TheConstants.{DISCONNECT, USERAUTH_FAILURE, USERAUTH_SUCCESS, USERAUTH_BANNER, USERAUTH_PK_OK, USERAUTH_GSSAPI_TOKEN, USERAUTH_GSSAPI_ERROR, USERAUTH_GSSAPI_ERRTOK}
+use Rattle.sshc_wire.specs.declared.msg.TheConstants.{DISCONNECT, EXT_INFO, USERAUTH_FAILURE, USERAUTH_SUCCESS, USERAUTH_BANNER, USERAUTH_PK_OK, USERAUTH_GSSAPI_TOKEN, USERAUTH_GSSAPI_ERROR, USERAUTH_GSSAPI_ERRTOK}
 use Rattle.sshc_wire.specs.declared.resolution.Resolution.TheVariants.{Denied}
 use Rattle.sshc_wire.specs.declared.ticket.Ticket.{Ticket}
 use Rattle.sshc_key.specs.declared.identity.PublicKeyOrCertificate.{PublicKeyOrCertificate}
@@ -41,6 +42,7 @@ use Rattle.sshc_opening.specs.OpeningTable.Order.{is_out_of_turn, packet_in}
 use Rattle.sshc_opening.specs.OpeningTable.Exchange.{peer_kexinit_row, exchange_done_row}
 use Rattle.sshc_opening.specs.OpeningTable.Transport.{transport_failed_row, inactivity_timer_row}
 use Rattle.sshc_opening.specs.OpeningTable.Packets.{disconnect_row, is_ignored, waits_for_exchange, is_too_much, counted_with}
+use Rattle.sshc_opening.specs.OpeningTable.ExtInfo.{ext_info_row}
 use Rattle.sshc_opening.specs.OpeningTable.Service.{service_packet_row, authenticate_first_row}
 use Rattle.sshc_opening.specs.OpeningTable.Auth.{userauth_failure_row, userauth_success_row, userauth_banner_row, authenticate_again_row}
 use Rattle.sshc_opening.specs.OpeningTable.AuthKey.{pk_ok_row, taken}
@@ -72,7 +74,8 @@ auth_row s number body =
     else (if number == USERAUTH_SUCCESS then userauth_success_row s body
     else (if number == USERAUTH_BANNER then userauth_banner_row s body
     else (if number == USERAUTH_PK_OK then answer_row s.class s body
-    else gssapi_row s.class s number body)))
+    else (if number == EXT_INFO then ext_info_row s body
+    else gssapi_row s.class s number body))))
 
 abbrev pub is_pk_ok : Class → ℕ → Bool
 is_pk_ok classes.Key number = number == USERAUTH_PK_OK
@@ -124,33 +127,41 @@ authenticate_row_in phases.Service s ticket user method = authenticate_first_row
 authenticate_row_in phases.Auth s ticket user method = authenticate_again_row s ticket user method
 authenticate_row_in phase s ticket user method = passed_over s
 
+-- what needs an open session: channels are refused, and other questions denied
+unfoldable pub unopened_row : OpeningState → Event → Row
+unopened_row s (events.ChannelOpenSession ticket) = refused NotAuthenticated
+unopened_row s (events.ChannelOpenX11 ticket address port) = refused NotAuthenticated
+unopened_row s (events.ChannelOpenDirectTcpIp ticket host port address own) = refused NotAuthenticated
+unopened_row s (events.ChannelOpenDirectStreamLocal ticket path) = refused NotAuthenticated
+unopened_row s (events.TcpIpForward ticket address port) = answered_row s ticket Denied
+unopened_row s (events.CancelTcpIpForward ticket address port) = answered_row s ticket Denied
+unopened_row s (events.StreamLocalForward ticket path) = answered_row s ticket Denied
+unopened_row s (events.CancelStreamLocalForward ticket path) = answered_row s ticket Denied
+unopened_row s (events.Ping ticket) = answered_row s ticket Denied
+unopened_row s (events.SendGlobalRequest ticket name body) = answered_row s ticket Denied
+unopened_row s (events.HostKeysProve ticket keys) = answered_row s ticket (host_keys_answer keys)
+unopened_row s event = passed_over s
+
+-- the user's events
+unfoldable pub user_row : OpeningState → Event → Row
+user_row s (events.Authenticate ticket user method) = authenticate_row_in s.phase s ticket user method
+user_row s (events.AuthGssapiToken token) = user_token_row s token
+user_row s (events.AuthGssapiMic token code) = user_mic_row s token code
+user_row s (events.AuthGssapiExchangeComplete token) = user_complete_row s token
+user_row s (events.Disconnect reason description language) = user_disconnect_row reason description language
+user_row s events.Rekey = rekey_row s
+user_row s (events.AwaitExtensionInfo ticket name) = await_extension_info_row s ticket name
+user_row s (events.GetServerSigAlgs ticket) = get_server_sig_algs_row s ticket
+user_row s events.Gone = gone_row
+user_row s event = unopened_row s event
+
 -- the row of an event that is no packet, once it may come and no answer is awaited
 unfoldable pub plain_row : OpeningState → Event → Told → Row
 plain_row s events.PeerKexinit told = peer_kexinit_row s
 plain_row s (events.ExchangeDone x) told = exchange_done_row s x told
 plain_row s events.TransportFailed told = transport_failed_row
 plain_row s events.InactivityTimer told = inactivity_timer_row s
-plain_row s (events.Authenticate ticket user method) told = authenticate_row_in s.phase s ticket user method
-plain_row s (events.AuthGssapiToken token) told = user_token_row s token
-plain_row s (events.AuthGssapiMic token code) told = user_mic_row s token code
-plain_row s (events.AuthGssapiExchangeComplete token) told = user_complete_row s token
-plain_row s (events.ChannelOpenSession ticket) told = refused NotAuthenticated
-plain_row s (events.ChannelOpenX11 ticket address port) told = refused NotAuthenticated
-plain_row s (events.ChannelOpenDirectTcpIp ticket host port address own) told = refused NotAuthenticated
-plain_row s (events.ChannelOpenDirectStreamLocal ticket path) told = refused NotAuthenticated
-plain_row s (events.TcpIpForward ticket address port) told = answered_row s ticket Denied
-plain_row s (events.CancelTcpIpForward ticket address port) told = answered_row s ticket Denied
-plain_row s (events.StreamLocalForward ticket path) told = answered_row s ticket Denied
-plain_row s (events.CancelStreamLocalForward ticket path) told = answered_row s ticket Denied
-plain_row s (events.Ping ticket) told = answered_row s ticket Denied
-plain_row s (events.SendGlobalRequest ticket name body) told = answered_row s ticket Denied
-plain_row s (events.HostKeysProve ticket keys) told = answered_row s ticket (host_keys_answer keys)
-plain_row s (events.Disconnect reason description language) told = user_disconnect_row reason description language
-plain_row s events.Rekey told = rekey_row s
-plain_row s (events.AwaitExtensionInfo ticket name) told = await_extension_info_row s ticket name
-plain_row s (events.GetServerSigAlgs ticket) told = get_server_sig_algs_row s ticket
-plain_row s events.Gone told = gone_row
-plain_row s event told = passed_over s
+plain_row s event told = user_row s event
 
 abbrev pub event_row : OpeningState → Event → Told → Option (List ℕ) → Asking Row
 event_row s event told (Some packet) = payload_row s packet

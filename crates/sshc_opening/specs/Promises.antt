@@ -7,6 +7,7 @@ use Rattle.sshc_opening.specs.declared.step.Told.{Told}
 use Rattle.sshc_opening.specs.Causes.{HasCause, HasGateCause}
 use Rattle.sshc_opening.specs.OpeningTable.{open_row}
 use Rattle.sshc_opening.specs.Row.{Steps}
+use Rattle.sshc_opening.specs.SessionWords.{KeepsTo}
 use Rattle.sshc_opening.specs.Stepping.{Lent, LentGate, GateAnswers, span_of, gained, StaysClosed, StepsBy, SignerGrows, GateKeeps}
 
 -- the rest of an event's row, with what the gate said
@@ -14,16 +15,28 @@ pub record Applied (told : Told) (event : Event) (was is : Lent) (result : Step 
   pub closed : StaysClosed was is result
   -- the row of the table
   pub row : was.opening.closed ≡ false → Steps (open_row was.opening event told) (gained was is) (span_of was is) result
-  -- a refusal's cause, by the opening and the event alone
-  pub cause : HasCause told was.opening event result
+  -- a refusal's cause, by the opening and the event alone; the signer's fault only where its count rose
+  pub cause : HasCause told event was is result
   pub signer : SignerGrows was.calls is.calls was.refusals is.refusals
 
--- a step with a gate, whose answers are those that its relations allow
+-- a step with a gate that is the table's; the gate's answers are those that its relations allow
+pub record ByTable {E : Type 0} (gate : GateAnswers E) (event : Event) (was is : LentGate) (result : Step E) : Type 0 where
+  pub closed : StaysClosed was.rest is.rest result
+  -- the row of the table, with what the gate said
+  pub row : was.rest.opening.closed ≡ false → StepsBy gate event was.rest is.rest result
+  -- a refusal's cause, by the opening and the event alone, the signer's fault only where its count rose; or the gate's refusal
+  pub cause : HasGateCause gate event was is result
+  pub signer : SignerGrows was.rest.calls is.rest.calls was.rest.refusals is.rest.refusals
+  pub keeps : GateKeeps was.refusals is.refusals was.setting is.setting
+
+-- the same, and what each step keeps to, apart from the table
 pub record Stepped {E : Type 0} (gate : GateAnswers E) (event : Event) (was is : LentGate) (result : Step E) : Type 0 where
   pub closed : StaysClosed was.rest is.rest result
   -- the row of the table, with what the gate said
   pub row : was.rest.opening.closed ≡ false → StepsBy gate event was.rest is.rest result
-  -- a refusal's cause, by the opening and the event alone, or the gate's refusal
+  -- a refusal's cause, by the opening and the event alone, the signer's fault only where its count rose; or the gate's refusal
   pub cause : HasGateCause gate event was is result
   pub signer : SignerGrows was.rest.calls is.rest.calls was.rest.refusals is.rest.refusals
   pub keeps : GateKeeps was.refusals is.refusals was.setting is.setting
+  -- the first exchange, the session id, what is signed, and whose request is stored
+  pub laws : KeepsTo gate event was.rest is.rest result

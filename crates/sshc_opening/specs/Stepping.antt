@@ -10,7 +10,7 @@ use Rattle.sshc_key.specs.Signers.{SignCall, since}
 use Rattle.sshc_key.specs.declared.identity.PublicKeyOrCertificate.{PublicKeyOrCertificate}
 use Rattle.sshc_key.specs.Asking.{Asking}
 use Rattle.sshc_opening.specs.declared.error.Error.{Error}
-use Rattle.sshc_opening.specs.declared.error.Error.TheVariants.{NoMemory, SignerFault}
+use Rattle.sshc_opening.specs.declared.error.Error.TheVariants.{NoMemory}
 use Rattle.sshc_event.specs.declared.event.Event.{Event}
 use Rattle.sshc_event.specs.declared.event.Event.TheVariants.{ExchangeDone}
 use Rattle.sshc_transport.specs.declared.exchange.ExchangeResult.{ExchangeResult}
@@ -134,19 +134,15 @@ StepsBy {E = E} gate event was is result =
     ⊎ ((told : Result Told E) × (mid : Outgoing) × Answered gate (exchange_in event) was.outbox mid told (asked_of was.opening event)
     × StepsTold gate event (record was { outbox = mid }) is result told)
 
--- a closed opening answers Closed, and nothing changes
+-- a closed opening answers Closed, nothing changes, and the signer isn't asked
 abbrev pub StaysClosed : {E : Type 0} → Lent → Lent → Step E → Type 0
-StaysClosed was is result = (was.opening.closed ≡ true) → (result ≡ steps.Closed) × (is.opening ≡ was.opening) × (is.outbox ≡ was.outbox)
+StaysClosed was is result =
+    (was.opening.closed ≡ true) → (result ≡ steps.Closed) × (is.opening ≡ was.opening) × (is.outbox ≡ was.outbox) × (is.calls ≡ was.calls)
 
 -- the signer's list keeps its calls, and its count of refusals never falls
 pub record SignerGrows (calls calls' : List SignCall) (refusals refusals' : ℕ) : Type 0 where
   pub gained : calls' ≡ calls ++ since calls calls'
   pub later : refusals ≤ refusals'
-
--- the signer's fault comes only where its count rose
-abbrev pub FaultRose : {T : Type 0} → ℕ → ℕ → Result T Error → Type 0
-FaultRose refusals refusals' (Ok x) = Unit {0}
-FaultRose refusals refusals' (Err e) = e ≡ SignerFault → Rose refusals refusals'
 
 -- a gate's count of refusals never falls, and it keeps what it judges by
 pub record GateKeeps (refusals refusals' : ℕ) (setting setting' : List (List ℕ)) : Type 0 where

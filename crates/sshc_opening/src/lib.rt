@@ -3,9 +3,12 @@
 
 mod ended;
 mod error;
+mod extension;
 mod gate;
+mod gssapi;
 mod opening;
 mod order;
+mod signature_names;
 mod step;
 mod stepping;
 mod stored;
@@ -13,7 +16,8 @@ mod stored;
 pub use ended::{Ended, RemoteDisconnectInfo};
 pub use error::Error;
 pub use gate::Gate;
-pub use opening::{Class, Opening, Phase, Settings, Waiter};
+pub use gssapi::{GssapiAuthenticator, GssapiError, GssapiStep};
+pub use opening::{Class, Opening, Phase, Settings, Waiter, resolved};
 pub use order::{EventSort, sort_of};
 pub use sshc_event::{ChannelMsg, Event, Method, TerminalMode, host_key_of};
 pub use sshc_request::{mic_data, to_sign, write_auth_request};

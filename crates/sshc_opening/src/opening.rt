@@ -27,6 +27,7 @@ mod auth_prompts;
 mod awaiting;
 mod dispatch;
 mod exchange;
+mod ext_info;
 mod packets;
 mod service;
 mod user;
@@ -159,6 +160,13 @@ impl Opening {
         }
     }
 
+    /// What it was made with.
+    pub fn settings(&self) -> Settings
+        ensures { result ≡ self.now.settings }
+    {
+        self.settings
+    }
+
     pub fn phase(&self) -> Phase
         ensures { result ≡ self.now.phase }
     {
@@ -236,6 +244,21 @@ impl Opening {
         }
     }
 
+    /// An open session keeps its exchanges here too: one of ours or of the peer's begins, or none runs any more.
+    pub fn set_exchange(&mut self, flag: ExchangeFlag)
+        ensures { self.new ≡ record self.old { flag = flag; counted = 0 } }
+    {
+        self.flag = flag;
+        self.pending.reset();
+    }
+
+    /// The peer answers an exchange of ours.
+    pub fn answer_exchange(&mut self)
+        ensures { self.new ≡ record self.old { flag = ExchangeFlag.Peer } }
+    {
+        self.flag = ExchangeFlag::Peer;
+    }
+
     /// The rest of the event's row, once the gate was asked what `asks` names.
     pub fn apply<S: LocalSigner>(
         &mut self,
@@ -271,7 +294,7 @@ impl Opening {
 }
 
 /// The record that answers a ticket; there is none for ticket 0.
-fn resolved(ticket: Ticket, resolution: Resolution) -> Option<Record>
+pub fn resolved(ticket: Ticket, resolution: Resolution) -> Option<Record>
     ensures { listed result ≡ resolved ticket resolution }
 {
     if ticket.0 == 0 {

@@ -3,7 +3,7 @@
 ghost use Rattle.std.specs.Prelude.{◌≡◌, Result, Bool, false, OnErr, option_copied};
 ghost use Rattle.sshc_wire.specs.Faults.{Rose};
 ghost use Rattle.sshc_opening.specs.OpeningTable.{asked_of};
-ghost use Rattle.sshc_opening.specs.Promises.{Stepped};
+ghost use Rattle.sshc_opening.specs.Promises.{ByTable, Stepped};
 ghost use Rattle.sshc_opening.specs.Stepping.{gate_answers, lent, with_gate, map_step, exchange_in, Answered, Judged, Tells, HasExchange, GateKeeps};
 
 use crate::error::Error;
@@ -134,6 +134,22 @@ impl Opening {
             (with_gate (lent self.new out.new (S.calls signer.new) (S.refusals signer.new)) (G.refusals gate.new) (G.setting gate.new))
             result }
     {
+        self.step_by_table(event, gate, signer, out)
+    }
+
+    /// The row of the table, with what the gate says.
+    fn step_by_table<G: Gate, S: LocalSigner>(
+        &mut self,
+        event: &Event,
+        gate: &mut G,
+        signer: &mut S,
+        out: &mut Outbox,
+    ) -> Step<G::Error>
+        ensures { ByTable (gate_answers G.told_as (G.judges gate.old) G.tells G.tells_banner) event.now
+            (with_gate (lent self.old out.old (S.calls signer.old) (S.refusals signer.old)) (G.refusals gate.old) (G.setting gate.old))
+            (with_gate (lent self.new out.new (S.calls signer.new) (S.refusals signer.new)) (G.refusals gate.new) (G.setting gate.new))
+            result }
+    {
         if self.is_closed() {
             return Step::Closed;
         }
@@ -157,7 +173,7 @@ impl Opening {
     ) -> Step<G::Error>
         requires fresh { self.old.closed ≡ false }
         requires asked { asked_of self.old event.now ≡ asks.now }
-        ensures { Stepped (gate_answers G.told_as (G.judges gate.old) G.tells G.tells_banner) event.now
+        ensures { ByTable (gate_answers G.told_as (G.judges gate.old) G.tells G.tells_banner) event.now
             (with_gate (lent self.old out.old (S.calls signer.old) (S.refusals signer.old)) (G.refusals gate.old) (G.setting gate.old))
             (with_gate (lent self.new out.new (S.calls signer.new) (S.refusals signer.new)) (G.refusals gate.new) (G.setting gate.new))
             result }

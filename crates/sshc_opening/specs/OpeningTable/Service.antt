@@ -1,6 +1,6 @@
 -- Rows of phase Service: the service is asked for, and the user's request is stored (RFC 4253, section 10).
 use Rattle.std.specs.Prelude.{ℕ, Bool, true, not, List, [], ◌∷◌, ◌++◌, Option, Some, None, if◌then◌else◌, ◌==◌, bytes_eq, codes}
-use Rattle.sshc_wire.specs.declared.msg.TheConstants.{SERVICE_ACCEPT}
+use Rattle.sshc_wire.specs.declared.msg.TheConstants.{EXT_INFO, SERVICE_ACCEPT}
 use Rattle.sshc_wire.specs.declared.record.Record.{Record}
 use Rattle.sshc_wire.specs.declared.record.Record.TheVariants.{Payload}
 use Rattle.sshc_wire.specs.declared.resolution.Resolution.TheVariants.{Dropped}
@@ -9,6 +9,7 @@ use Rattle.sshc_opening.specs.declared.error.Error.TheVariants.{Inconsistent}
 use Rattle.sshc_event.specs.declared.method.Method.{Method}
 use Rattle.sshc_opening.specs.declared.opening.Phase.TheVariants.{Auth}
 use Rattle.sshc_opening.specs.OpeningState.{OpeningState, class_of}
+use Rattle.sshc_opening.specs.OpeningTable.ExtInfo.{ext_info_row}
 use Rattle.sshc_request.specs.RequestTexts.{service_request, request}
 use Rattle.sshc_opening.specs.Row.{Row, goes, passed_over, refused, resolved, reads_string, ends_at}
 
@@ -28,7 +29,8 @@ service_accept_row s body =
 unfoldable pub service_packet_row : OpeningState → ℕ → List ℕ → Row
 service_packet_row s number body =
     if number == SERVICE_ACCEPT then service_accept_row s body
-    else refused Inconsistent
+    else (if number == EXT_INFO then ext_info_row s body
+    else refused Inconsistent)
 
 -- the service is asked for once
 abbrev pub asked_for_service : Bool → List Record

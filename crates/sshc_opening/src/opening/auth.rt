@@ -29,6 +29,7 @@ impl Opening {
             msg::USERAUTH_SUCCESS => self.userauth_success(body, out),
             msg::USERAUTH_BANNER => self.userauth_banner(body, out),
             msg::USERAUTH_PK_OK => self.answer(body, out),
+            msg::EXT_INFO => self.ext_info(body, out),
             _ => self.gssapi(number, body, out),
         }
     }

@@ -1,7 +1,7 @@
 //! The order of the table's tests: out of turn; the answers that are awaited; then by kind.
 
 ghost use Rattle.std.specs.Prelude.{◌≡◌};
-ghost use Rattle.sshc_opening.specs.OpeningTable.{open_row, turn_row, event_row, plain_row, authenticate_row_in};
+ghost use Rattle.sshc_opening.specs.OpeningTable.{open_row, turn_row, event_row, plain_row, user_row, unopened_row, authenticate_row_in};
 ghost use Rattle.sshc_opening.specs.OpeningTable.Order.{is_early_at, is_out_of_turn, packet_in};
 ghost use Rattle.sshc_opening.specs.OpeningTable.Transport.{inactivity_timer_row};
 ghost use Rattle.sshc_opening.specs.Row.{Follows, FollowsAsking, signer_at, span};
@@ -75,6 +75,16 @@ impl Opening {
             Event::ExchangeDone(exchange) => self.exchange_done(exchange, told, out),
             Event::TransportFailed => Err(Error::TransportFailed),
             Event::InactivityTimer => self.inactivity_timer(out),
+            _ => self.user(event, out),
+        }
+    }
+
+    /// The user's events.
+    #[tactic(auto, unfolding(crate::specs::OpeningTable::user_row))]
+    fn user(&mut self, event: &Event, out: &mut Outbox) -> Result<Flow, Error>
+        ensures row { Follows (user_row self.old event.now) (span self.old self.new out.old out.new) result }
+    {
+        match event {
             Event::Authenticate {
                 ticket,
                 user,
@@ -83,25 +93,6 @@ impl Opening {
             Event::AuthGssapiToken { token } => self.user_token(token, out),
             Event::AuthGssapiMic { token, mic } => self.user_mic(token, mic, out),
             Event::AuthGssapiExchangeComplete { token } => self.user_complete(token, out),
-            Event::ChannelOpenSession { .. }
-            | Event::ChannelOpenX11 { .. }
-            | Event::ChannelOpenDirectTcpIp { .. }
-            | Event::ChannelOpenDirectStreamLocal { .. } => Err(Error::NotAuthenticated),
-            Event::TcpIpForward { ticket, .. } => self.answered(*ticket, Resolution::Denied, out),
-            Event::CancelTcpIpForward { ticket, .. } => {
-                self.answered(*ticket, Resolution::Denied, out)
-            }
-            Event::StreamLocalForward { ticket, .. } => {
-                self.answered(*ticket, Resolution::Denied, out)
-            }
-            Event::CancelStreamLocalForward { ticket, .. } => {
-                self.answered(*ticket, Resolution::Denied, out)
-            }
-            Event::Ping { ticket } => self.answered(*ticket, Resolution::Denied, out),
-            Event::SendGlobalRequest { ticket, .. } => {
-                self.answered(*ticket, Resolution::Denied, out)
-            }
-            Event::HostKeysProve { ticket, keys } => self.host_keys_prove(*ticket, keys, out),
             Event::Disconnect {
                 reason,
                 description,
@@ -114,6 +105,29 @@ impl Opening {
             } => self.await_extension_info(*ticket, extension_name, out),
             Event::GetServerSigAlgs { ticket } => self.get_server_sig_algs(*ticket, out),
             Event::Gone => Ok(Flow::Ended(Ended::Closed)),
+            _ => self.unopened(event, out),
+        }
+    }
+
+    /// What needs an open session: channels are refused, and other questions denied.
+    #[tactic(auto, unfolding(crate::specs::OpeningTable::unopened_row))]
+    fn unopened(&mut self, event: &Event, out: &mut Outbox) -> Result<Flow, Error>
+        ensures row { Follows (unopened_row self.old event.now) (span self.old self.new out.old out.new) result }
+    {
+        match event {
+            Event::ChannelOpenSession { .. }
+            | Event::ChannelOpenX11 { .. }
+            | Event::ChannelOpenDirectTcpIp { .. }
+            | Event::ChannelOpenDirectStreamLocal { .. } => Err(Error::NotAuthenticated),
+            Event::TcpIpForward { ticket, .. }
+            | Event::CancelTcpIpForward { ticket, .. }
+            | Event::StreamLocalForward { ticket, .. }
+            | Event::CancelStreamLocalForward { ticket, .. }
+            | Event::Ping { ticket }
+            | Event::SendGlobalRequest { ticket, .. } => {
+                self.answered(*ticket, Resolution::Denied, out)
+            }
+            Event::HostKeysProve { ticket, keys } => self.host_keys_prove(*ticket, keys, out),
             _ => Ok(Flow::Went),
         }
     }

@@ -95,7 +95,7 @@ impl Opening {
     }
 
     /// Whether more than twice our window came while an exchange of ours runs, with these bytes.
-    pub(super) fn is_too_much(&self, len: u64) -> bool
+    pub fn is_too_much(&self, len: u64) -> bool
         ensures { result ≡ is_too_much self.now len }
     {
         let mut pending = self.pending.copy();
@@ -133,8 +133,8 @@ impl Opening {
         self.pending.copy()
     }
 
-    /// Counts a packet's bytes.
-    fn count(&mut self, len: u64)
+    /// Counts a packet's bytes. An open session counts those of an exchange of ours here too.
+    pub fn count(&mut self, len: u64)
         ensures { self.new ≡ record self.old { counted = counted_with self.old len } }
     {
         let _ = self.pending.add(len, self.settings.window_size);

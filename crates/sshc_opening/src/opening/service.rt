@@ -26,6 +26,7 @@ impl Opening {
     {
         match number {
             msg::SERVICE_ACCEPT => self.service_accept(body, out),
+            msg::EXT_INFO => self.ext_info(body, out),
             _ => Err(Error::Inconsistent),
         }
     }

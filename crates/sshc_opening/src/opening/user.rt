@@ -13,7 +13,7 @@ use sshc_request::disconnect_packet;
 use sshc_transport::ExchangeFlag;
 use sshc_wire::{Disconnect, List, NoMemory, Outbox, Record, Resolution, Text, Ticket};
 
-fn copied_texts(texts: &List<Text>) -> Result<List<Text>, NoMemory>
+pub(super) fn copied_texts(texts: &List<Text>) -> Result<List<Text>, NoMemory>
     ensures { IfOk result (λ l. l ≡ texts.now) }
 {
     let mut copies = List::new(texts.allocator());
@@ -69,8 +69,8 @@ impl Opening {
         Ok(Flow::Went)
     }
 
-    /// The answer that tells the signature names.
-    fn sig_algs_answer(&self) -> Result<Resolution, NoMemory>
+    /// The answer that tells the signature names, in an open session too.
+    pub fn sig_algs_answer(&self) -> Result<Resolution, NoMemory>
         ensures { IfOk result (λ r. r ≡ sig_algs_answer self.now.sig_algs) }
     {
         match &self.sig_algs {

@@ -1,6 +1,8 @@
 use Rattle.std.proofs.Common.{rules}
 use Rattle.sshc_opening.specs.OpeningTable.{open_row}
 use Rattle.sshc_opening.specs.Row.{signer_at, span}
+use Rattle.sshc_opening.specs.Causes.{WasToldNo}
+use Rattle.sshc_opening.proofs.FaultLemmas.{fault_rose}
 use Rattle.sshc_opening.proofs.StepLemmas.{follows_cause, ended_cause}
 use Rattle.sshc_opening.proofs.Rows.{signer_grows, step_went, step_opened, step_ended, step_refused}
 use Rattle.sshc_opening.proofs.opening.Opening.apply.Goals as goal
@@ -50,9 +52,10 @@ returns-in-Err g c =
     let was = signer_at (g.S.LocalSigner.calls c.args.signer.now) (g.S.LocalSigner.refusals c.args.signer.now) in
     let is = signer_at (g.S.LocalSigner.calls c.row.new.signer) (g.S.LocalSigner.refusals c.row.new.signer) in
     let follows = c.in-Err.ensures.row in
+    let cause = follows_cause c.args.self.now c.args.event.now c.args.told was is (span c.args.self.now c.row.new.self c.args.out.now c.row.new.out) c.in-Err.e follows in
     record {
       closed = search rules;
       row = λ fresh. rw c.shut-in-Err.ensures (step_refused asking was is c.args.self.now c.row.new.self c.args.out.now c.row.new.out c.in-Err.e follows);
-      cause = follows_cause c.args.self.now c.args.event.now c.args.told was is (span c.args.self.now c.row.new.self c.args.out.now c.row.new.out) c.in-Err.e follows;
+      cause = (cause, fault_rose (WasToldNo c.args.told) c.args.self.now c.args.event.now c.args.told was is (span c.args.self.now c.row.new.self c.args.out.now c.row.new.out) c.in-Err.e cause follows);
       signer = signer_grows asking (g.S.LocalSigner.calls c.args.signer.now) (g.S.LocalSigner.calls c.row.new.signer) (g.S.LocalSigner.refusals c.args.signer.now) (g.S.LocalSigner.refusals c.row.new.signer) (span c.args.self.now c.row.new.self c.args.out.now c.row.new.out) _ follows;
     }
