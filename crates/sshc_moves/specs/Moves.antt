@@ -18,9 +18,9 @@ use Rattle.sshc_opening.specs.OpeningState.{OpeningState, no_ticket}
 use Rattle.sshc_opening.specs.OpeningTable.Packets.{counted_with}
 use Rattle.sshc_opening.specs.Row.{resolved}
 use Rattle.sshc_mux.specs.declared.chunk.Stream.{Stream}
-use Rattle.sshc_mux.specs.ChannelState.{ChannelState, TableState, channel_of}
+use Rattle.sshc_mux.specs.ChannelState.{TableState, channel_of}
 use Rattle.sshc_mux.specs.ChannelTable.{Effect, close_sent_in, recipient_in, records_of, unmoved}
-use Rattle.sshc_mux.specs.ChannelTable.Opens.{awaited, is_reserved, next_number}
+use Rattle.sshc_mux.specs.ChannelTable.Opens.{awaited, next_number, unsettled_at}
 use Rattle.sshc_mux.specs.ChannelAccount.{Call, OpenUser, ReserveServer, SettleServer, Confirm, Fail, Bytes, AskEof, AskClose, PeerClose, Grant, FlushAll, Received, called}
 use Rattle.sshc_packets.specs.declared.channel_open.Confirmation.{Confirmation}
 use Rattle.sshc_packets.specs.declared.channel_open.Sender.{Sender}
@@ -125,14 +125,6 @@ or_none (Some ticket) = ticket
 abbrev pub open_answer : Option (Option Ticket) → Resolution → List Record
 open_answer None resolution = []
 open_answer (Some ticket) resolution = resolved (or_none ticket) resolution
-
--- the peer's number of a channel that it opened and that isn't settled yet
-abbrev pub unsettled : Option ChannelState → Option ℕ
-unsettled None = None
-unsettled (Some c) = if is_reserved c then Some c.head.recipient else None
-
-abbrev pub unsettled_at : ℕ → TableState → Option ℕ
-unsettled_at id t = unsettled (channel_of id t.channels)
 
 abbrev pub accept_packet : Option ℕ → Sender → List Record
 accept_packet None side = []

@@ -9,6 +9,7 @@ ghost use Rattle.std.specs.Prelude.{◌≡◌, ◌≤◌, ◌<◌, ◌+◌, ◌-
 ghost use Rattle.sshc_mux.specs.ChannelState.{channel_of, without};
 ghost use Rattle.sshc_mux.specs.ChannelAccount.{no_channels};
 ghost use Rattle.sshc_mux.specs.ChannelTable.{is_established, waits_in, any_waits, window_in, recipient_in, close_sent_in};
+ghost use Rattle.sshc_mux.specs.ChannelTable.Opens.{unsettled_at};
 ghost use Rattle.sshc_mux.specs.Places.{IsPlace, IsIndexed, HasNumbers, Apart, numbers, present};
 
 use crate::channel::Channel;
@@ -111,6 +112,16 @@ impl ChannelTable {
     {
         match self.find(id.0) {
             Some(channel) if channel.is_established() => Some(channel.recipient()),
+            _ => None,
+        }
+    }
+
+    /// The peer's number of a channel that it opened, where nobody has accepted or refused it yet.
+    pub fn unsettled(&self, id: ChannelId) -> Option<u32>
+        ensures { result ≡ unsettled_at id.0 self.now }
+    {
+        match self.find(id.0) {
+            Some(channel) if channel.is_reserved() => Some(channel.recipient()),
             _ => None,
         }
     }

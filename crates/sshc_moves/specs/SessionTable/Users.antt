@@ -14,12 +14,13 @@ use Rattle.sshc_opening.specs.declared.ended.Ended.TheVariants as ended
 use Rattle.sshc_opening.specs.declared.error.Error.TheVariants.{OutOfTurn}
 use Rattle.sshc_opening.specs.OpeningTable.User.{is_seen, sig_algs_answer}
 use Rattle.sshc_mux.specs.declared.chunk.Stream.TheVariants.{Data, Extended}
+use Rattle.sshc_mux.specs.ChannelTable.Opens.{unsettled_at}
 use Rattle.sshc_packets.specs.declared.channel_request.TerminalSize.{TerminalSize}
 use Rattle.sshc_packets.specs.ChannelOpens.{ChannelOpen, DirectStreamLocal, DirectTcpIp, Session, X11 as X11Open}
 use Rattle.sshc_packets.specs.ChannelRequests.{AgentForward, Env, Exec, PtyReq, Shell, Signal, Subsystem, WindowChange, X11}
 use Rattle.sshc_moves.specs.Messages.{Ask, CancelForward, CancelForwardSocket, Forward, ForwardSocket, KeepAlive, NoMore, OwnRequest, Ping, Prove}
 use Rattle.sshc_moves.specs.SessionState.{SessionState, exchanging}
-use Rattle.sshc_moves.specs.Moves.{Accepts, Asks, Begins, Closes, Disconnects, EndsBytes, Grants, Move, Opens, Rejects, RequestsOn, Resolves, Sends, unsettled_at}
+use Rattle.sshc_moves.specs.Moves.{Accepts, Asks, Begins, Closes, Disconnects, EndsBytes, Grants, Move, Opens, Rejects, RequestsOn, Resolves, Sends}
 use Rattle.sshc_moves.specs.SessionRow.{SessionRow, ending, passed_over, plain_row, refused}
 
 -- ticket 0 is none

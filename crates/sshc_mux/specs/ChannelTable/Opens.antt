@@ -1,6 +1,6 @@
 -- Numbers, opens, confirmations and failures (RFC 4254, section 5.1).
 -- A number is the first that no channel has; the code tries one after the other.
-use Rattle.std.specs.Prelude.{ℕ, zero, suc, ◌+◌, ◌^◌, ◌%◌, Bool, true, false, not, ◌&&◌, List, [], ◌∷◌, ◌++◌, length, Option, Some, None, ◌≡◌, ◌<◌, is_some}
+use Rattle.std.specs.Prelude.{ℕ, zero, suc, ◌+◌, ◌^◌, ◌%◌, Bool, true, false, not, ◌&&◌, List, [], ◌∷◌, ◌++◌, length, Option, Some, None, ◌≡◌, ◌<◌, is_some, if◌then◌else◌}
 use Rattle.sshc_wire.specs.declared.ticket.Ticket.{Ticket}
 use Rattle.sshc_mux.specs.declared.channel.Opener.{Opener}
 use Rattle.sshc_mux.specs.declared.channel.Opener.TheVariants.{User, Server}
@@ -99,6 +99,14 @@ is_reserved c = not c.head.established && is_by_server c.head.opener
 abbrev pub reserved_by : Option ChannelState → Bool
 reserved_by None = false
 reserved_by (Some c) = is_reserved c
+
+-- the peer's number of a channel that it opened and that isn't settled yet
+abbrev pub unsettled : Option ChannelState → Option ℕ
+unsettled None = None
+unsettled (Some c) = if is_reserved c then Some c.head.recipient else None
+
+abbrev pub unsettled_at : ℕ → TableState → Option ℕ
+unsettled_at id t = unsettled (channel_of id t.channels)
 
 abbrev pub accepted_head : Head → Head
 accepted_head h = record h { established = true }

@@ -1,0 +1,8 @@
+//! What a session keeps between two events, and each of its moves as one call.
+#![tactic(auto)]
+
+mod ask;
+mod connection;
+
+pub use ask::Ask;
+pub use connection::Connection;
