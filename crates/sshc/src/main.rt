@@ -1,7 +1,7 @@
 //! The program `sshc`: it hands real streams, files, a signer and a verifier to `run_words`.
 #![tactic(auto)]
 
-use sshc_run::{RefusingSigner, RefusingVerifier, run_words};
+use sshc_run::{ToySigner, ToyVerifier, run_words};
 use sshc_wire::{NoMemory, StdFiles, StdSink, StdSource, Text};
 use std::alloc::Global;
 use std::process::ExitCode;
@@ -29,13 +29,13 @@ fn run(rt: &HostRuntime) -> Result<u8, NoMemory> {
     let mut source = StdSource::new(alloc, rt.reader())?;
     let mut sink = StdSink::new(io::writer(rt));
     let mut files = StdFiles::new(rt);
-    let mut signer = RefusingSigner::new(alloc);
+    let mut signer = ToySigner::new(alloc);
     Ok(run_words(
         alloc,
         words.as_slice(),
         &mut files,
         &mut signer,
-        &RefusingVerifier,
+        &ToyVerifier::new(alloc),
         &mut source,
         &mut sink,
     ))

@@ -10,7 +10,8 @@ use Rattle.sshc_event.specs.declared.event.Event.{Event}
 use Rattle.sshc_event.specs.declared.event.Event.TheVariants as events
 use Rattle.sshc_transport.specs.declared.exchange.ExchangeResult.{ExchangeResult}
 use Rattle.sshc_opening.specs.AskedLaws.{AsksFor, asks_for, IsKeyAtMost, first_at_most}
-use Rattle.sshc_opening.specs.GateLaw.{NonePayload, IsFirst, IsAccepted, IsNoExchange, FirstNext, StaysFirst, first_law}
+use Rattle.sshc_opening.specs.SessionWords.{IsFirst}
+use Rattle.sshc_opening.specs.GateLaw.{NonePayload, IsAccepted, IsNoExchange, FirstNext, StaysFirst, first_law}
 use Rattle.sshc_opening.specs.declared.step.Asks.{Asks}
 use Rattle.sshc_opening.specs.declared.step.Asks.TheVariants as wants
 use Rattle.sshc_opening.specs.declared.step.Told.{Told}

@@ -20,7 +20,7 @@ use Rattle.sshc_opening.specs.declared.opening.Phase.TheVariants as phases
 use Rattle.sshc_opening.specs.declared.step.Asks.{Asks}
 use Rattle.sshc_opening.specs.declared.step.Asks.TheVariants as asking
 use Rattle.sshc_opening.specs.OpeningState.{OpeningState, start, shut}
-use Rattle.sshc_opening.specs.OpeningTable.{open_row, plain_row, payload_row, numbered_row, held_packet_row, auth_packet_row, auth_row, asked_of, key_asked}
+use Rattle.sshc_opening.specs.OpeningTable.{open_row, plain_row, user_row, payload_row, numbered_row, held_packet_row, auth_packet_row, auth_row, asked_of, key_asked}
 use Rattle.sshc_opening.specs.OpeningTable.Auth.{answered, authenticate_again_row, userauth_success_row}
 use Rattle.sshc_opening.specs.OpeningTable.Exchange.{peer_kexinit_row, exchange_done_row}
 use Rattle.sshc_opening.specs.OpeningTable.Service.{authenticate_first_row, service_packet_row, service_accept_row}
@@ -78,7 +78,7 @@ abbrev on_from : List Record → OpeningState → Turn
 on_from records s = record { records = records; state = s; next = goes_on }
 
 pub kexinit_turn : (hosts : Hosts) → turn hosts (start default_settings) (frame_of 0 kinds.PeerKexinit []) ≡ done (on_from [] exchanging)
-unfolding turn event_of open_row plain_row payload_row numbered_row held_packet_row peer_kexinit_row exchange_done_row authenticate_first_row authenticate_again_row service_packet_row service_accept_row auth_packet_row auth_row userauth_success_row asked_of
+unfolding turn event_of open_row plain_row user_row payload_row numbered_row held_packet_row peer_kexinit_row exchange_done_row authenticate_first_row authenticate_again_row service_packet_row service_accept_row auth_packet_row auth_row userauth_success_row asked_of
 kexinit_turn hosts = refl
 
 -- the exchange is judged by the verdict on its host key
@@ -95,25 +95,25 @@ judged_is hosts said says =
     ∙ ap (λ (v : Result Bool HandlerError). judged_turn 13 exchanging (events.ExchangeDone login_exchange) v) says
 
 went_is : judged_turn 13 exchanging (events.ExchangeDone login_exchange) (Ok true) ≡ done (on_from (KexDone (codes "curve25519-sha256") ∷ []) in_service)
-unfolding open_row plain_row payload_row numbered_row held_packet_row peer_kexinit_row exchange_done_row authenticate_first_row authenticate_again_row service_packet_row service_accept_row auth_packet_row auth_row userauth_success_row
+unfolding open_row plain_row user_row payload_row numbered_row held_packet_row peer_kexinit_row exchange_done_row authenticate_first_row authenticate_again_row service_packet_row service_accept_row auth_packet_row auth_row userauth_success_row
 went_is = refl
 
 no_is : judged_turn 13 exchanging (events.ExchangeDone login_exchange) (Ok false) ≡ done (record { records = []; state = shut exchanging; next = stopped (refused errors.UnknownKey) })
-unfolding open_row plain_row payload_row numbered_row held_packet_row peer_kexinit_row exchange_done_row authenticate_first_row authenticate_again_row service_packet_row service_accept_row auth_packet_row auth_row userauth_success_row
+unfolding open_row plain_row user_row payload_row numbered_row held_packet_row peer_kexinit_row exchange_done_row authenticate_first_row authenticate_again_row service_packet_row service_accept_row auth_packet_row auth_row userauth_success_row
 no_is = refl
 
 request_turn : (hosts : Hosts) → turn hosts in_service (frame_of 143 kinds.Authenticate asked) ≡ done (on_from (Payload service_request ∷ []) requested)
-unfolding turn open_row plain_row payload_row numbered_row held_packet_row peer_kexinit_row exchange_done_row authenticate_first_row authenticate_again_row service_packet_row service_accept_row auth_packet_row auth_row userauth_success_row asked_of
+unfolding turn open_row plain_row user_row payload_row numbered_row held_packet_row peer_kexinit_row exchange_done_row authenticate_first_row authenticate_again_row service_packet_row service_accept_row auth_packet_row auth_row userauth_success_row asked_of
 request_turn hosts = ap (λ (r : Result Event EventError). event_turn hosts 143 in_service r) request_is
 
 -- the service is there, and the password is written
 service_turn : (hosts : Hosts) → turn hosts requested (frame_of 176 kinds.Payload accepted) ≡ done (on_from (Payload (request (codes "alice") (Password (codes "pw"))) ∷ []) in_auth)
-unfolding turn open_row plain_row payload_row numbered_row held_packet_row peer_kexinit_row exchange_done_row authenticate_first_row authenticate_again_row service_packet_row service_accept_row auth_packet_row auth_row userauth_success_row asked_of string_at number_at string_text u32_text
+unfolding turn open_row plain_row user_row payload_row numbered_row held_packet_row peer_kexinit_row exchange_done_row authenticate_first_row authenticate_again_row service_packet_row service_accept_row auth_packet_row auth_row userauth_success_row asked_of string_at number_at string_text u32_text
 service_turn hosts = ap (λ (r : Result Event EventError). event_turn hosts 176 requested r) accepted_is
 
 success_turn : (hosts : Hosts) → turn hosts in_auth (frame_of 206 kinds.Payload (52 ∷ []))
     ≡ done (record { records = Resolved (record { 0 = 1 }) AuthSuccess ∷ Opened ∷ []; state = shut opened_state; next = opened })
-unfolding turn open_row plain_row payload_row numbered_row held_packet_row peer_kexinit_row exchange_done_row authenticate_first_row authenticate_again_row service_packet_row service_accept_row auth_packet_row auth_row userauth_success_row asked_of
+unfolding turn open_row plain_row user_row payload_row numbered_row held_packet_row peer_kexinit_row exchange_done_row authenticate_first_row authenticate_again_row service_packet_row service_accept_row auth_packet_row auth_row userauth_success_row asked_of
 success_turn hosts = ap (λ (r : Result Event EventError). event_turn hosts 206 in_auth r) success_is
 
 -- ---- the run

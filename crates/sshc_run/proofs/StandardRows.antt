@@ -11,7 +11,7 @@ use Rattle.sshc_hosts.proofs.StandardKey.{localhost_line, line_accepts}
 use Rattle.sshc_opening.specs.declared.ended.Ended.TheVariants.{ScriptEnd}
 use Rattle.sshc_event.specs.declared.event.Event.{Event}
 use Rattle.sshc_opening.specs.OpeningState.{start, shut}
-use Rattle.sshc_opening.specs.OpeningTable.{open_row, plain_row, payload_row, numbered_row, held_packet_row, auth_packet_row, auth_row, asked_of}
+use Rattle.sshc_opening.specs.OpeningTable.{open_row, plain_row, user_row, payload_row, numbered_row, held_packet_row, auth_packet_row, auth_row, asked_of}
 use Rattle.sshc_opening.specs.OpeningTable.Auth.{authenticate_again_row, userauth_success_row}
 use Rattle.sshc_opening.specs.OpeningTable.Exchange.{peer_kexinit_row, exchange_done_row}
 use Rattle.sshc_opening.specs.OpeningTable.Service.{authenticate_first_row, service_packet_row, service_accept_row}
@@ -72,7 +72,7 @@ keyless_stop_is = refl
 
 -- nothing is asked of the known hosts text, and the exchange is refused
 keyless_turn : (hosts : Hosts) → turn hosts exchanging (frame_of 13 kinds.ExchangeDone (exchange 0 [])) ≡ done (record { records = []; state = shut exchanging; next = stopped (refused errors.UnknownKey) })
-unfolding turn open_row plain_row payload_row numbered_row held_packet_row peer_kexinit_row exchange_done_row authenticate_first_row authenticate_again_row service_packet_row service_accept_row auth_packet_row auth_row userauth_success_row asked_of
+unfolding turn open_row plain_row user_row payload_row numbered_row held_packet_row peer_kexinit_row exchange_done_row authenticate_first_row authenticate_again_row service_packet_row service_accept_row auth_packet_row auth_row userauth_success_row asked_of
 keyless_turn hosts = ap (λ (r : Result Event EventError). event_turn hosts 13 exchanging r) keyless_is
 
 keyless_from : (hosts : Hosts) → from hosts (start default_settings) keyless_events whole ≡ refused_run

@@ -1,5 +1,4 @@
 pub mod Handled
-pub mod Refusing
 pub mod KnownHosts
 pub mod Firsts
 pub mod Machine

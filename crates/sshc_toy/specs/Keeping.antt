@@ -1,4 +1,4 @@
--- What contracts see of the signer that refuses: its calls, none with an answer, and how often it refused.
+-- What contracts see of a signer that keeps its calls: the list, and how often it refused.
 use Rattle.std.specs.Prelude.{ℕ, List}
 use Rattle.sshc_key.specs.Signers.{SignCall}
 

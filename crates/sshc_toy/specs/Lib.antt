@@ -1,0 +1,2 @@
+pub mod ToyPair
+pub mod Keeping
