@@ -1,2 +1,4 @@
 mod LiveLemmas
 mod MoveLemmas
+mod OpeningLemmas
+mod UnknownLemmas

@@ -1,3 +1,4 @@
 pub mod Asks
+pub mod OpeningStep
 pub mod Start
 pub mod StateCode

@@ -17,6 +17,7 @@ mod channels;
 mod ending;
 mod exchanges;
 mod messages;
+mod opening;
 mod opens;
 mod telling;
 

@@ -37,25 +37,37 @@ abbrev pub size_of : ℕ → ℕ → ℕ → ℕ → TerminalSize
 size_of columns rows width height =
     record { col_width = columns; row_height = rows; pix_width = width; pix_height = height }
 
--- what is asked of a channel; what is only reported can't be asked
+-- what a program is asked for and told (RFC 4254, sections 6.4 to 6.9); what is only reported can't be asked
+unfoldable pub program_moves : ℕ → ChannelMsg → List Move
+program_moves id (msgs.SetEnv want_reply name value) = RequestsOn id (Env want_reply name value) ∷ []
+program_moves id (msgs.RequestShell want_reply) = RequestsOn id (Shell want_reply) ∷ []
+program_moves id (msgs.Exec want_reply command) = RequestsOn id (Exec want_reply command) ∷ []
+program_moves id (msgs.Signal signal) = RequestsOn id (Signal signal) ∷ []
+program_moves id (msgs.RequestSubsystem want_reply name) = RequestsOn id (Subsystem want_reply name) ∷ []
+program_moves id msg = []
+
+-- what the session is to forward: displays (RFC 4254, section 6.3.1), and the user's agent
+unfoldable pub forwarded_moves : ℕ → ChannelMsg → List Move
+forwarded_moves id (msgs.RequestX11 want_reply single protocol cookie screen) =
+    RequestsOn id (X11 want_reply single protocol cookie screen) ∷ []
+forwarded_moves id (msgs.AgentForward want_reply) = RequestsOn id (AgentForward want_reply) ∷ []
+forwarded_moves id msg = program_moves id msg
+
+-- terminals (RFC 4254, sections 6.2 and 6.7)
+unfoldable pub terminal_moves : ℕ → ChannelMsg → List Move
+terminal_moves id (msgs.RequestPty want_reply term columns rows width height modes) =
+    RequestsOn id (PtyReq want_reply term (size_of columns rows width height) (map mode_of modes)) ∷ []
+terminal_moves id (msgs.WindowChange columns rows width height) =
+    RequestsOn id (WindowChange (size_of columns rows width height)) ∷ []
+terminal_moves id msg = forwarded_moves id msg
+
+-- what is asked of a channel: bytes and ends, or a request
 unfoldable pub channel_moves : ℕ → ChannelMsg → List Move
 channel_moves id (msgs.Data body) = Sends id Data body ∷ []
 channel_moves id (msgs.ExtendedData ext body) = Sends id (Extended ext) body ∷ []
 channel_moves id msgs.Eof = EndsBytes id ∷ []
 channel_moves id msgs.Close = Closes id ∷ []
-channel_moves id (msgs.RequestPty want_reply term columns rows width height modes) =
-    RequestsOn id (PtyReq want_reply term (size_of columns rows width height) (map mode_of modes)) ∷ []
-channel_moves id (msgs.WindowChange columns rows width height) =
-    RequestsOn id (WindowChange (size_of columns rows width height)) ∷ []
-channel_moves id (msgs.RequestX11 want_reply single protocol cookie screen) =
-    RequestsOn id (X11 want_reply single protocol cookie screen) ∷ []
-channel_moves id (msgs.SetEnv want_reply name value) = RequestsOn id (Env want_reply name value) ∷ []
-channel_moves id (msgs.RequestShell want_reply) = RequestsOn id (Shell want_reply) ∷ []
-channel_moves id (msgs.Exec want_reply command) = RequestsOn id (Exec want_reply command) ∷ []
-channel_moves id (msgs.Signal signal) = RequestsOn id (Signal signal) ∷ []
-channel_moves id (msgs.RequestSubsystem want_reply name) = RequestsOn id (Subsystem want_reply name) ∷ []
-channel_moves id (msgs.AgentForward want_reply) = RequestsOn id (AgentForward want_reply) ∷ []
-channel_moves id msg = []
+channel_moves id msg = terminal_moves id msg
 
 -- the user's answer to an open of the peer's that waits
 abbrev pub settled_by : ℕ → Result (Unit {0}) ChannelOpenFailure → List Move
@@ -75,30 +87,42 @@ abbrev pub extension_moves : Bool → Ticket → List Move
 extension_moves true ticket = Resolves ticket ExtInfoSeen ∷ []
 extension_moves false ticket = Resolves ticket Dropped ∷ []
 
--- the rows of requests that go on
+-- global requests (RFC 4254, section 4)
+unfoldable pub global_moves : Event → List Move
+global_moves (events.Keepalive want_reply) = Asks (KeepAlive want_reply) ∷ []
+global_moves (events.Ping ticket) = Asks (Ping ticket) ∷ []
+global_moves (events.NoMoreSessions want_reply) = Asks (NoMore want_reply) ∷ []
+global_moves (events.SendGlobalRequest ticket name body) = Asks (OwnRequest ticket name body) ∷ []
+global_moves event = []
+
+-- forwards (RFC 4254, section 7.1; OpenSSH's PROTOCOL, section 2.4)
+unfoldable pub forward_moves : Event → List Move
+forward_moves (events.TcpIpForward ticket address port) = Asks (Forward ticket address port) ∷ []
+forward_moves (events.CancelTcpIpForward ticket address port) = Asks (CancelForward ticket address port) ∷ []
+forward_moves (events.StreamLocalForward ticket path) = Asks (ForwardSocket ticket path) ∷ []
+forward_moves (events.CancelStreamLocalForward ticket path) = Asks (CancelForwardSocket ticket path) ∷ []
+forward_moves event = global_moves event
+
+-- opens of ours (RFC 4254, sections 5.1, 6.1, 6.3.2 and 7.2)
+unfoldable pub open_moves : Event → List Move
+open_moves (events.ChannelOpenSession ticket) = opens Session ticket
+open_moves (events.ChannelOpenX11 ticket originator port) = opens (X11Open originator port) ticket
+open_moves (events.ChannelOpenDirectTcpIp ticket host port originator originator_port) =
+    opens (DirectTcpIp host port originator originator_port) ticket
+open_moves (events.ChannelOpenDirectStreamLocal ticket path) = opens (DirectStreamLocal path) ticket
+open_moves event = forward_moves event
+
+-- what the user asks and goes on
 unfoldable pub user_moves : SessionState → Event → List Move
 user_moves s (events.Authenticate ticket user method) = Resolves ticket Dropped ∷ []
-user_moves s (events.ChannelOpenSession ticket) = opens Session ticket
-user_moves s (events.ChannelOpenX11 ticket originator port) = opens (X11Open originator port) ticket
-user_moves s (events.ChannelOpenDirectTcpIp ticket host port originator originator_port) =
-    opens (DirectTcpIp host port originator originator_port) ticket
-user_moves s (events.ChannelOpenDirectStreamLocal ticket path) = opens (DirectStreamLocal path) ticket
-user_moves s (events.TcpIpForward ticket address port) = Asks (Forward ticket address port) ∷ []
-user_moves s (events.CancelTcpIpForward ticket address port) = Asks (CancelForward ticket address port) ∷ []
-user_moves s (events.StreamLocalForward ticket path) = Asks (ForwardSocket ticket path) ∷ []
-user_moves s (events.CancelStreamLocalForward ticket path) = Asks (CancelForwardSocket ticket path) ∷ []
 user_moves s (events.Close id) = Closes id.0 ∷ []
 user_moves s (events.Channel id msg) = channel_moves id.0 msg
 user_moves s (events.ServerChannelOpenReply id result) = reply_moves s id.0 result
 user_moves s events.Rekey = Begins ∷ []
 user_moves s (events.AwaitExtensionInfo ticket name) = extension_moves (is_seen s.opening.seen name) ticket
 user_moves s (events.GetServerSigAlgs ticket) = Resolves ticket (sig_algs_answer s.opening.sig_algs) ∷ []
-user_moves s (events.Keepalive want_reply) = Asks (KeepAlive want_reply) ∷ []
-user_moves s (events.Ping ticket) = Asks (Ping ticket) ∷ []
-user_moves s (events.NoMoreSessions want_reply) = Asks (NoMore want_reply) ∷ []
 user_moves s (events.HostKeysProve ticket keys) = prove_moves ticket keys
-user_moves s (events.SendGlobalRequest ticket name body) = Asks (OwnRequest ticket name body) ∷ []
-user_moves s event = []
+user_moves s event = open_moves event
 
 -- the user disconnects, or no user is left; all else goes on
 unfoldable pub asked_row : SessionState → Event → SessionRow

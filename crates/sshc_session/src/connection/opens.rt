@@ -1,7 +1,7 @@
 //! Opens of channels and their answers (RFC 4254, section 5.1). Each is one call of the table with its packet or its
 //! ticket's answer.
 
-ghost use Rattle.std.specs.Prelude.{◌≡◌, ◌≤◌, ◌++◌, IfOk, OnErr, OnOk, Some, is_some, length, true};
+ghost use Rattle.std.specs.Prelude.{◌≡◌, ◌≤◌, ◌++◌, IfOk, OnErr, OnOk, Some, is_some, length, false, true};
 ghost use Rattle.sshc_wire.specs.Records.{record_text};
 ghost use Rattle.sshc_wire.specs.declared.record.Record.TheVariants.{Resolved};
 ghost use Rattle.sshc_wire.specs.declared.resolution.Resolution.TheVariants.{ChannelOpened, ChannelOpenFailed};
@@ -95,11 +95,12 @@ impl Connection {
 
     /// The peer confirms an open of ours that waits, whose ticket is answered. Returns false where none waits under the
     /// number, and nothing changes then.
-    #[tactic(auto, using(crate::proofs::LiveLemmas::live_unmuted, crate::proofs::LiveLemmas::shown_open, crate::proofs::LiveLemmas::nothing_more, crate::proofs::MoveLemmas::after_confirms))]
+    #[tactic(auto, using(crate::proofs::LiveLemmas::live_unmuted, crate::proofs::LiveLemmas::shown_open, crate::proofs::LiveLemmas::nothing_more, crate::proofs::MoveLemmas::after_confirms, crate::proofs::UnknownLemmas::none_confirmed))]
     pub fn confirm(&mut self, c: Confirmation) -> Result<bool, NoMemory>
         requires { is_live self.old ≡ true }
         ensures moved { Moved (Confirms c) self.old self.new result }
         ensures awaited { IfOk result (λ known. known ≡ is_some (awaited c.recipient self.old.table)) }
+        ensures same { IfOk result (λ known. known ≡ false → self.new ≡ self.old) }
     {
         self.outbox.reserve(ANSWER_ROOM)?;
         let confirmed = self.table.confirm(
@@ -120,11 +121,12 @@ impl Connection {
 
     /// The peer refuses an open of ours that waits, whose ticket is answered. Returns false where none waits under the
     /// number, and nothing changes then.
-    #[tactic(auto, using(crate::proofs::LiveLemmas::live_unmuted, crate::proofs::LiveLemmas::shown_open, crate::proofs::LiveLemmas::nothing_more, crate::proofs::MoveLemmas::after_fails))]
+    #[tactic(auto, using(crate::proofs::LiveLemmas::live_unmuted, crate::proofs::LiveLemmas::shown_open, crate::proofs::LiveLemmas::nothing_more, crate::proofs::MoveLemmas::after_fails, crate::proofs::UnknownLemmas::none_failed))]
     pub fn fail(&mut self, id: ChannelId, reason: ChannelOpenFailure) -> Result<bool, NoMemory>
         requires { is_live self.old ≡ true }
         ensures moved { Moved (Fails id.0 reason) self.old self.new result }
         ensures awaited { IfOk result (λ known. known ≡ is_some (awaited id.0 self.old.table)) }
+        ensures same { IfOk result (λ known. known ≡ false → self.new ≡ self.old) }
     {
         self.outbox.reserve(ANSWER_ROOM)?;
         match self.table.fail(Number(id.0)) {

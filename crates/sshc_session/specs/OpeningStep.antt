@@ -1,0 +1,51 @@
+-- A step of the opening before the session is open: over the session's own records, and nothing else of the session
+-- changes but its life.
+use Rattle.std.specs.Prelude.{◌≡◌, ℕ, Bool, true, false, List}
+use Rattle.sshc_wire.specs.Outgoing.{Outgoing}
+use Rattle.sshc_event.specs.declared.event.Event.{Event}
+use Rattle.sshc_key.specs.Signers.{SignCall}
+use Rattle.sshc_opening.specs.declared.step.Step.{Step}
+use Rattle.sshc_opening.specs.declared.step.Step.TheVariants as steps
+use Rattle.sshc_opening.specs.OpeningState.{OpeningState}
+use Rattle.sshc_opening.specs.Promises.{Stepped}
+use Rattle.sshc_opening.specs.Stepping.{GateAnswers, lent, with_gate}
+use Rattle.sshc_moves.specs.declared.life.Life.{Life}
+use Rattle.sshc_moves.specs.declared.life.Life.TheVariants.{Over, Runs}
+use Rattle.sshc_moves.specs.SessionState.{SessionState}
+
+-- what a step is lent besides its session, as it is at one moment: the signer's calls and refusals, and the gate's
+-- refusals with what it judges by
+pub record Lent : Type 0 where
+  pub session : SessionState
+  pub calls : List SignCall
+  pub signer_refusals : ℕ
+  pub gate_refusals : ℕ
+  pub setting : List (List ℕ)
+
+abbrev pub lent_session : SessionState → List SignCall → ℕ → ℕ → List (List ℕ) → Lent
+lent_session session calls signer_refusals gate_refusals setting =
+    record { session = session; calls = calls; signer_refusals = signer_refusals; gate_refusals = gate_refusals; setting = setting }
+
+-- the session goes on behind the opening's step
+abbrev pub goes_on : {E : Type 0} → Step E → Bool
+goes_on steps.Went = true
+goes_on steps.Opened = true
+goes_on step = false
+
+abbrev pub life_if : Bool → Life
+life_if true = Runs
+life_if false = Over
+
+-- the records of a session that drops none
+abbrev pub outgoing : SessionState → ℕ → Outgoing
+outgoing s room = record { records = s.records; room = room; muted = false }
+
+-- the opening's step over the session's records, and nothing else of the session changes
+pub record StepsOpening {E : Type 0} (gate : GateAnswers E) (event : Event) (was is : Lent) (result : Step E) : Type 0 where
+  pub opening : OpeningState
+  pub said : Outgoing
+  pub room : ℕ
+  pub stepped :
+      Stepped gate event (with_gate (lent was.session.opening (outgoing was.session room) was.calls was.signer_refusals) was.gate_refusals was.setting)
+      (with_gate (lent opening said is.calls is.signer_refusals) is.gate_refusals is.setting) result
+  pub rest : is.session ≡ record (was.session) { opening = opening; records = said.records; life = life_if (goes_on result) }

@@ -1,0 +1,43 @@
+//! The opening's steps, before the session is open.
+
+ghost use Rattle.std.specs.Prelude.{◌≡◌, true};
+ghost use Rattle.sshc_opening.specs.Stepping.{gate_answers};
+ghost use Rattle.sshc_moves.specs.SessionState.{opens_later};
+ghost use Rattle.sshc_session.specs.OpeningStep.{StepsOpening, goes_on, lent_session};
+
+use super::Connection;
+use sshc_key::LocalSigner;
+use sshc_moves::Life;
+use sshc_opening::{Event, Gate, Step};
+
+/// Whether the session goes on behind the opening's step.
+fn goes_on<E>(step: &Step<E>) -> bool
+    ensures { result ≡ goes_on step.now }
+{
+    matches!(step, Step::Went | Step::Opened)
+}
+
+impl Connection {
+    /// What an event does before the session is open, with the gate's answers. Where the opening doesn't go on, the
+    /// session is over.
+    #[tactic(auto, using(crate::proofs::LiveLemmas::later_runs, crate::proofs::OpeningLemmas::keeps_muted))]
+    pub fn step_opening<G: Gate, S: LocalSigner>(
+        &mut self,
+        event: &Event,
+        gate: &mut G,
+        signer: &mut S,
+    ) -> Step<G::Error>
+        requires { opens_later self.old ≡ true }
+        ensures { StepsOpening (gate_answers G.told_as (G.judges gate.old) G.tells G.tells_banner) event.now
+            (lent_session self.old (S.calls signer.old) (S.refusals signer.old) (G.refusals gate.old) (G.setting gate.old))
+            (lent_session self.new (S.calls signer.new) (S.refusals signer.new) (G.refusals gate.new) (G.setting gate.new))
+            result }
+    {
+        let step = self.opening.step(event, gate, signer, &mut self.outbox);
+        if !goes_on(&step) {
+            self.outbox.mute();
+            self.life = Life::Over;
+        }
+        step
+    }
+}
