@@ -1,0 +1,45 @@
+-- What a step of a session does, where the handler keeps its default answers but for what its gate says: before the
+-- session is open the opening's step goes on, in an open session the event's row is followed, and one that has ended
+-- answers Closed. The code has the opening in its place all along.
+use Rattle.std.specs.Prelude.{◌≡◌, ◌⊎◌, true}
+use Rattle.sshc_event.specs.declared.event.Event.{Event}
+use Rattle.sshc_opening.specs.declared.ended.Ended.TheVariants.{Disconnected}
+use Rattle.sshc_opening.specs.declared.error.Error.{Error}
+use Rattle.sshc_opening.specs.declared.error.Error.TheVariants.{NoMemory}
+use Rattle.sshc_opening.specs.declared.step.Step.{Step}
+use Rattle.sshc_opening.specs.declared.step.Step.TheVariants as steps
+use Rattle.sshc_opening.specs.Stepping.{GateAnswers}
+use Rattle.sshc_packets.specs.HostKeyProof.{Accepts}
+use Rattle.sshc_moves.specs.declared.life.Life.TheVariants.{Left, Over}
+use Rattle.sshc_moves.specs.SessionState.{SessionState, is_live, opens_later}
+use Rattle.sshc_moves.specs.Moves.{Fronts, Stops, after, done}
+use Rattle.sshc_moves.specs.SessionRow.{SessionRow, ends, goes, refuses}
+use Rattle.sshc_moves.specs.SessionTable.{session_row}
+use Rattle.sshc_session.specs.OpeningStep.{Lent, StepsOpening}
+use Rattle.sshc_client.specs.Follows.{all_moves, default_opinions}
+
+-- ---- in an open session
+
+-- the row was followed; where it doesn't go on, the session is over
+abbrev pub StepsRow : {E : Type 0} → (Error → E) → SessionRow → SessionState → SessionState → Step E → Type 0
+StepsRow told_as row old new steps.Went = (row.next ≡ goes) × (new ≡ done (all_moves row) old)
+StepsRow told_as row old new (steps.Ended e) = (row.next ≡ ends e) × (new ≡ after Stops (done (all_moves row) old))
+StepsRow told_as row old new (steps.Refused x) =
+    (e : Error) × (mid : SessionState) × (x ≡ told_as e) × (new ≡ after Stops mid)
+    × (((e ≡ NoMemory) × Fronts (all_moves row) old mid) ⊎ ((row.next ≡ refuses e) × (mid ≡ done (all_moves row) old)))
+StepsRow told_as row old new steps.Opened = ⊥
+StepsRow told_as row old new steps.Closed = ⊥
+
+-- ---- the step
+
+pub record SessionStepped {E : Type 0} (gate : GateAnswers E) (accepts : Accepts) (event : Event) (was is : Lent) (result : Step E) : Type 0 where
+  -- a session that is over answers Closed, and stays as it is
+  pub closed : was.session.life ≡ Over → (result ≡ steps.Closed) × (is.session ≡ was.session)
+  -- what the user left is over with the next step
+  pub left : was.session.life ≡ Left → (result ≡ steps.Ended Disconnected) × (is.session ≡ after Stops (was.session))
+  -- before the session is open
+  pub opening : opens_later (was.session) ≡ true → StepsOpening gate event was is result
+  -- the row of the table; neither signer nor gate is asked
+  pub row : is_live (was.session) ≡ true →
+      StepsRow gate.told_as (session_row accepts (default_opinions (was.session)) (was.session) event) was.session is.session result
+      × (is.calls ≡ was.calls)

@@ -1,0 +1,80 @@
+//! The session.
+
+ghost use Rattle.std.specs.Prelude.{◌≡◌, []};
+ghost use Rattle.sshc_opening.specs.OpeningState.{is_awaiting};
+ghost use Rattle.sshc_session.specs.Start.{new_session};
+ghost use Rattle.sshc_client.specs.Follows.{wants_user_events};
+
+use sshc_moves::{Life, SessionSettings};
+use sshc_opening::Settings;
+use sshc_session::Connection;
+use sshc_wire::Outbox;
+use std::alloc::Global;
+use std::marker::Model;
+
+mod asked_of_channel;
+mod exchanges;
+mod opens;
+mod packets;
+mod replies;
+mod requests;
+mod stepping;
+mod streams;
+mod timers;
+mod users;
+
+/// A session, which contracts see as plain data.
+#[derive(Debug, Drop)]
+pub struct Session {
+    connection: Connection,
+    alloc: Global,
+}
+
+impl Model for Session {
+    ghost use Rattle.sshc_moves.specs.SessionState.{SessionState};
+    ghost use Rattle.sshc_session.specs.StateCode.{session_code};
+
+    ghost Value = { SessionState };
+
+    ghost coded = { session_code };
+
+    ghost view = { λ s. s.connection };
+}
+
+impl Session {
+    /// The session at the start of its connection.
+    pub fn new(alloc: Global, settings: SessionSettings, opening: Settings) -> Session
+        ensures { result ≡ new_session settings opening }
+    {
+        Session {
+            connection: Connection::new(alloc, settings, opening),
+            alloc,
+        }
+    }
+
+    /// What was said since the records were last taken.
+    pub fn take_records(&mut self) -> Outbox
+        ensures taken { result.records ≡ self.old.records }
+        ensures rest { self.new ≡ record self.old { records = [] } }
+    {
+        self.connection.take_records()
+    }
+
+    /// Whether an answer of the user is awaited.
+    pub fn awaits_answer(&self) -> bool
+        ensures { result ≡ is_awaiting self.now.opening.phase }
+    {
+        self.connection.opening().is_awaiting()
+    }
+
+    /// Whether the user may be asked for an event: where an answer is awaited, or where no exchange runs, nothing waits
+    /// on a channel and the session hasn't ended.
+    pub fn wants_user_events(&self) -> bool
+        ensures { result ≡ wants_user_events self.now }
+    {
+        self.awaits_answer()
+            || (!self.connection.is_exchanging()
+                && !self.connection.table().has_any_pending_data()
+                && self.connection.life() == Life::Runs)
+    }
+}
