@@ -1,4 +1,4 @@
--- What a call answers, and what reading on lists gives. Want of memory says nothing.
+-- What a call answers, and what reading on lists gives. Running out of memory says nothing.
 use Rattle.std.specs.Prelude.{◌≡◌, ℕ, List, Result, Ok, Err}
 use Rattle.sshc_key.specs.declared.error.Error.{Error}
 use Rattle.sshc_key.specs.declared.error.Error.TheVariants.{CouldNotReadKey, NoHomeDir, KeyChanged, AgentProtocolError, AgentFailure, Decode, SshKey, SshEncoding, EnvVar, BadAuthSock, Utf8, ReadFault, WriteFault, UnexpectedEnd, NoMemory}

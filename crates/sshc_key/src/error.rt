@@ -52,7 +52,7 @@ pub enum Error {
     /// The agent's answer ended too soon.
     #[error("UnexpectedEnd")]
     UnexpectedEnd,
-    /// Want of memory.
+    /// Out of memory.
     #[error("NoMemory")]
     NoMemory,
 }

@@ -58,7 +58,7 @@ abbrev pub IsCut : RunStop → Type 0
 IsCut stop = (stop ≡ ended ScriptEnd) ⊎ ((place : ℕ) × (stop ≡ refused (errors.BadEvent place)))
 
 -- the answer is the table's over the bytes that were given and the signer's answers, and no byte that is left and no answer more
--- would change it; all records are written. No byte was taken past what decided: on each shorter front of the bytes the run goes
+-- would change it; all records are written. No byte was taken beyond the event that ended the run: on each shorter front of the bytes the run goes
 -- to its end. At the script's end nothing is left.
 pub record IsExact (table : List Answer → List ℕ → Run) (given : List ℕ) (gained : List SignCall) (before now : Streams) (answer : Result Ended RunError) : Type 0 where
   pub all : now.held ≡ append before.held (lines (table (answers_of gained) given).records)

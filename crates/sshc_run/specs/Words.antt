@@ -1,4 +1,4 @@
--- The program's words, the line that tells how a run was answered, and the status.
+-- The command-line arguments, the line that tells how a run was answered, and the status.
 use Rattle.std.specs.Prelude.{◌≡◌, ◌⊎◌, ℕ, ◌≤◌, Bool, true, false, List, [], ◌∷◌, ◌++◌, Option, Result, Ok, Err, codes}
 use Rattle.std.specs.Fmt.{decimal}
 use Rattle.sshc_wire.specs.Contents.{IsFound}

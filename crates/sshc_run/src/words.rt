@@ -1,4 +1,4 @@
-//! The program's words, and what it tells of a run.
+//! The command-line arguments, and what is told of a run.
 
 ghost use Rattle.std.specs.Prelude.{◌≡◌, ◌≤◌, ℕ, List, Err, IfOk, IfSome, IsNone, string_bytes, codes, ◌++◌, ◌∷◌, []};
 ghost use Rattle.sshc_wire.specs.Faults.{Rose};

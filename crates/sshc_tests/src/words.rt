@@ -1,4 +1,4 @@
-//! The program's words over files, a source and a sink in memory: what is written, and the status.
+//! The command-line arguments over files, a source and a sink in memory: what is written, and the status.
 
 use crate::login::KEYLESS;
 use crate::scripts::{
