@@ -1,1 +1,2 @@
+mod MethodLemmas
 mod RowLemmas

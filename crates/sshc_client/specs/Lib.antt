@@ -1,2 +1,4 @@
+pub mod Configured
 pub mod Follows
+pub mod Methods
 pub mod Stepping

@@ -12,8 +12,13 @@ use sshc_wire::Outbox;
 use std::alloc::Global;
 use std::marker::Model;
 
+mod acting;
 mod asked_of_channel;
+mod bytes;
+mod channel_opens;
+mod channel_requests;
 mod exchanges;
+mod global_requests;
 mod opens;
 mod packets;
 mod replies;

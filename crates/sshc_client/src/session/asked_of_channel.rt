@@ -34,7 +34,7 @@ fn modes_of(alloc: Global, modes: &[TerminalMode]) -> Result<Vec<(Pty, u32)>, No
 }
 
 impl Session {
-    fn request(&mut self, id: ChannelId, request: &ChannelRequest<'_>) -> Result<(), NoMemory>
+    fn ask_on(&mut self, id: ChannelId, request: &ChannelRequest<'_>) -> Result<(), NoMemory>
         ensures { Does (RequestsOn id.0 (channel_request request.now) ∷ []) self.old self.new result }
     {
         self.connection.request_on(id, request)
@@ -73,7 +73,7 @@ impl Session {
                 terminal_modes,
             } => {
                 let size = size_of(*col_width, *row_height, *pix_width, *pix_height);
-                self.request_pty(
+                self.ask_for_pty(
                     id,
                     *want_reply,
                     term.as_str(),
@@ -88,13 +88,13 @@ impl Session {
                 pix_height,
             } => {
                 let size = size_of(*col_width, *row_height, *pix_width, *pix_height);
-                self.request(id, &ChannelRequest::WindowChange { size })
+                self.ask_on(id, &ChannelRequest::WindowChange { size })
             }
             _ => self.forwarded_moves(id, msg),
         }
     }
 
-    fn request_pty(
+    fn ask_for_pty(
         &mut self,
         id: ChannelId,
         want_reply: bool,
@@ -106,7 +106,7 @@ impl Session {
     {
         let modes = modes_of(self.alloc, modes)?;
         let modes = modes.as_slice();
-        self.request(
+        self.ask_on(
             id,
             &ChannelRequest::PtyReq {
                 want_reply,
@@ -129,7 +129,7 @@ impl Session {
                 x11_authentication_protocol,
                 x11_authentication_cookie,
                 x11_screen_number,
-            } => self.request(
+            } => self.ask_on(
                 id,
                 &ChannelRequest::X11 {
                     want_reply: *want_reply,
@@ -141,7 +141,7 @@ impl Session {
             ),
             ChannelMsg::AgentForward { want_reply } => {
                 let want_reply = *want_reply;
-                self.request(id, &ChannelRequest::AgentForward { want_reply })
+                self.ask_on(id, &ChannelRequest::AgentForward { want_reply })
             }
             _ => self.program_moves(id, msg),
         }
@@ -157,17 +157,17 @@ impl Session {
                 want_reply,
                 variable_name,
                 variable_value,
-            } => self.set_env(id, *want_reply, variable_name, variable_value),
+            } => self.ask_for_env(id, *want_reply, variable_name, variable_value),
             ChannelMsg::RequestShell { want_reply } => {
                 let want_reply = *want_reply;
-                self.request(id, &ChannelRequest::Shell { want_reply })
+                self.ask_on(id, &ChannelRequest::Shell { want_reply })
             }
             ChannelMsg::Exec {
                 want_reply,
                 command,
             } => {
                 let (want_reply, command) = (*want_reply, command.as_slice());
-                self.request(
+                self.ask_on(
                     id,
                     &ChannelRequest::Exec {
                         want_reply,
@@ -175,18 +175,16 @@ impl Session {
                     },
                 )
             }
-            ChannelMsg::Signal { signal } => {
-                self.request(id, &ChannelRequest::Signal { signal })
-            }
+            ChannelMsg::Signal { signal } => { self.ask_on(id, &ChannelRequest::Signal { signal }) }
             ChannelMsg::RequestSubsystem { want_reply, name } => {
                 let (want_reply, name) = (*want_reply, name.as_str());
-                self.request(id, &ChannelRequest::Subsystem { want_reply, name })
+                self.ask_on(id, &ChannelRequest::Subsystem { want_reply, name })
             }
             _ => Ok(()),
         }
     }
 
-    fn set_env(
+    fn ask_for_env(
         &mut self,
         id: ChannelId,
         want_reply: bool,
@@ -195,7 +193,7 @@ impl Session {
     ) -> Result<(), NoMemory>
         ensures { Does (RequestsOn id.0 (Env want_reply name.now value.now) ∷ []) self.old self.new result }
     {
-        self.request(
+        self.ask_on(
             id,
             &ChannelRequest::Env {
                 want_reply,

@@ -34,7 +34,7 @@ impl Session {
     {
         match packet.as_slice() {
             [] => Ok(Flow::Went),
-            [msg::DISCONNECT, body @ ..] => self.disconnect(body),
+            [msg::DISCONNECT, body @ ..] => self.disconnected(body),
             [msg::GLOBAL_REQUEST, body @ ..] => {
                 self.packet(
                     packet.as_slice().len() as u64,
@@ -143,7 +143,7 @@ impl Session {
 
     /// DISCONNECT (RFC 4253, section 11.1).
     #[tactic(auto, unfolding(sshc_moves::specs::SessionTable::disconnect_row))]
-    fn disconnect(&mut self, body: &[u8]) -> Result<Flow, Error>
+    fn disconnected(&mut self, body: &[u8]) -> Result<Flow, Error>
         ensures row { Follows (disconnect_row body.now) self.old self.new result }
     {
         let mut packet = Cursor::new(body);

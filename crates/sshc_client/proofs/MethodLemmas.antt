@@ -1,0 +1,33 @@
+-- A method of one move leaves a session grown.
+use Rattle.std.proofs.Common.{◌≡◌, List, [], ◌∷◌, None, Result, Ok, Err, refl, sym, subst}
+use Rattle.sshc_wire.specs.declared.disconnect.Disconnect.{Disconnect}
+use Rattle.sshc_wire.specs.declared.error.NoMemory.{NoMemory as RanOut}
+use Rattle.sshc_packets.specs.ChannelOpens.{ChannelOpen}
+use Rattle.sshc_moves.specs.SessionState.{SessionState}
+use Rattle.sshc_moves.specs.Moves.{Disconnects, Leaves, Move, Moved, Opens, after, done}
+use Rattle.sshc_moves.specs.Grown.{Grown, May}
+use Rattle.sshc_client.specs.Methods.{Acts, acted}
+
+grown_same : (s : SessionState) → Grown s s
+grown_same s = record { moves = []; may = tt; is = refl }
+
+grown_by : (m : Move) (s : SessionState) → May m → Grown s (after m s)
+grown_by m s may = record { moves = m ∷ []; may = (may, tt); is = refl }
+
+pub moved_acts : (m : Move) (old new : SessionState) (moved : Result (Unit {0}) RanOut) → Moved m old new moved → Acts (m ∷ []) old new (acted moved)
+moved_acts m old new (Ok u) is = is
+moved_acts m old new (Err e) same = (refl, same)
+
+pub moved_grown : (m : Move) (old new : SessionState) (moved : Result (Unit {0}) RanOut) → May m → Moved m old new moved → Grown old new
+moved_grown m old new (Ok u) may is = subst (Grown old) (sym is) (grown_by m old may)
+moved_grown m old new (Err e) may same = subst (Grown old) (sym same) (grown_same old)
+
+pub same_grown : (old new : SessionState) → new ≡ old → Grown old new
+same_grown old new same = subst (Grown old) (sym same) (grown_same old)
+
+pub grown_by_open : (asked : ChannelOpen) (old new : SessionState) → new ≡ after (Opens asked None) old → Grown old new
+grown_by_open asked old new is = subst (Grown old) (sym is) (grown_by (Opens asked None) old tt)
+
+-- the user disconnects: the packet, and then the session is left
+pub left_grown : (reason : Disconnect) (description language : List _) (old mid new : SessionState) → mid ≡ after (Disconnects reason description language) old → new ≡ after Leaves mid → Grown old new
+left_grown reason description language old mid new first second = record { moves = Disconnects reason description language ∷ Leaves ∷ []; may = (tt, (tt, tt)); is = rw (second, first) refl }

@@ -1,0 +1,28 @@
+//! What a method of a session answers.
+
+ghost use Rattle.std.specs.Prelude.{◌≡◌};
+ghost use Rattle.sshc_moves.specs.Moves.{or_none};
+ghost use Rattle.sshc_client.specs.Methods.{acted};
+
+use sshc_opening::Error;
+use sshc_wire::{NoMemory, Ticket};
+
+/// A method did its move.
+pub(super) fn acted(moved: Result<(), NoMemory>) -> Result<(), Error>
+    ensures { result ≡ acted moved }
+{
+    match moved {
+        Ok(()) => Ok(()),
+        Err(NoMemory) => Err(Error::NoMemory),
+    }
+}
+
+/// Ticket 0 is none.
+pub(super) fn ticket_or_none(ticket: Option<Ticket>) -> Ticket
+    ensures { result ≡ or_none ticket }
+{
+    match ticket {
+        Some(ticket) => ticket,
+        None => Ticket(0),
+    }
+}
