@@ -1,0 +1,5 @@
+pub mod OpeningStays
+pub mod KeptByMoves
+pub mod OpenCauses
+pub mod OpenCauseLaws
+pub mod RowLaws
