@@ -1,22 +1,18 @@
--- Each turn that stops the run has its cause in the script's own words.
-use Rattle.std.proofs.Common.{◌≡◌, ◌≢◌, ◌⊎◌, inl, inr, ℕ, Bool, true, false, List, Option, Some, None, Result, Ok, Err, IfErr, refl, ap, sym, ◌∙◌, subst}
-use Rattle.std.specs.Prelude.{if◌then◌else◌}
+-- Each turn of the opening that stops the run has its cause in the script's own words.
+use Rattle.std.proofs.Common.{◌≡◌, ℕ, Bool, true, false, Option, Some, None, Result, Ok, Err, IfErr, refl, ap, sym, ◌∙◌, subst}
 use Rattle.sshc_key.specs.declared.error.Error.{Error as KeyError}
 use Rattle.sshc_key.specs.declared.error.Error.TheVariants as key_errors
 use Rattle.sshc_key.specs.declared.identity.PublicKeyOrCertificate.{PublicKeyOrCertificate}
 use Rattle.sshc_key.specs.declared.identity.PublicKeyOrCertificate.TheVariants as identities
-use Rattle.sshc_key.specs.Asking.{Asking, done, asked_on, Always}
-use Rattle.sshc_key.specs.AskingLaws.{always_also, always_on}
+use Rattle.sshc_key.specs.Asking.{Asking, asked_on, Always}
+use Rattle.sshc_key.specs.AskingLaws.{always_on}
 use Rattle.sshc_hosts.specs.Judgement.{judged, IsRefusal}
 use Rattle.sshc_hosts.specs.SaidRefusals.{judged-refuses}
 use Rattle.sshc_event.specs.HostKey.{host_key}
 use Rattle.sshc_event.specs.declared.event.Event.{Event}
-use Rattle.sshc_event.specs.declared.event.Event.TheVariants as events
-use Rattle.sshc_transport.specs.declared.exchange.ExchangeResult.{ExchangeResult}
 use Rattle.sshc_opening.specs.AskedLaws.{first_asks, AsksFor, asks_for}
 use Rattle.sshc_opening.specs.CauseLaws.{SaysAlso, open_cause, caused_also}
-use Rattle.sshc_opening.specs.Causes.{IsCause, IsEndCause, WasToldNo, Why, why, Caused}
-use Rattle.sshc_opening.specs.declared.ended.Ended.{Ended}
+use Rattle.sshc_opening.specs.Causes.{WasToldNo, why, Caused}
 use Rattle.sshc_opening.specs.declared.ended.Ended.TheVariants as ends
 use Rattle.sshc_opening.specs.declared.error.Error.{Error}
 use Rattle.sshc_opening.specs.declared.error.Error.TheVariants as auths
@@ -27,24 +23,22 @@ use Rattle.sshc_opening.specs.declared.step.Told.TheVariants as telling
 use Rattle.sshc_opening.specs.OpeningState.{OpeningState}
 use Rattle.sshc_opening.specs.OpeningTable.{open_row, asked_of, key_asked}
 use Rattle.sshc_opening.specs.Row.{Row, Next, stays, opens, ends as ends_with, refuses}
-use Rattle.sshc_script.specs.declared.error.EventError.{EventError}
-use Rattle.sshc_script.specs.declared.error.EventError.TheVariants as reads
+use Rattle.sshc_moves.specs.SessionState.{SessionState, is_open}
+use Rattle.sshc_session_laws.specs.OpenCauses.{IsCauseIn, IsSessionCause}
 use Rattle.sshc_script.specs.EventReading.{event_of}
 use Rattle.sshc_script.specs.Script.{Frame}
 use Rattle.sshc_run.specs.declared.known_hosts_handler.HandlerError.{HandlerError}
 use Rattle.sshc_run.specs.declared.known_hosts_handler.HandlerError.TheVariants.{Key}
 use Rattle.sshc_run.specs.Causes.{IsEventCause, IsStopCause, SaysNo}
 use Rattle.sshc_run.specs.Comes.{StopsFor}
-use Rattle.sshc_run.specs.Headline.{said_of_key, said_by}
+use Rattle.sshc_run.specs.Headline.{said_of_key}
 use Rattle.sshc_run.specs.KnownHosts.{Hosts, verdict, as_handler}
-use Rattle.sshc_run.specs.Machine.{Onward, goes_on, opened, stopped, ended, refused, unanswered_stop, IsNoEnd, NeverAtEnd}
-use Rattle.sshc_run.specs.SessionPart.{is_session_kind}
-use Rattle.sshc_run.specs.Turn.{Turn, error_of, handler_error_of, turn, next_turn, row_turn, judged_turn, asked_turn, event_turn, built_turn}
-use Rattle.sshc_run.specs.Unbuilt.{is_built}
+use Rattle.sshc_run.specs.Machine.{stopped, ended, IsNoEnd}
+use Rattle.sshc_run.specs.Turn.{Turn, error_of, handler_error_of, next_turn, row_turn, judged_turn, asked_turn}
 
 -- a turn that stops the run has its cause
-abbrev pub TurnShows : Hosts → OpeningState → Frame → Asking Turn → Type 0
-TurnShows hosts s frame asking = Always (λ (t : Turn). StopsFor (IsStopCause hosts s frame) t.next) asking
+abbrev pub TurnShows : Hosts → SessionState → Frame → Asking Turn → Type 0
+TurnShows hosts w frame asking = Always (λ (t : Turn). StopsFor (IsStopCause hosts w frame) t.next) asking
 
 -- ---- a refusal of the known hosts text
 
@@ -58,35 +52,47 @@ unfolding verdict
 verdict_refuses hosts (identities.PublicKey key hash) e is = is_key_error e (judged hosts.known hosts.host key.0) is (judged-refuses hosts.known hosts.host key.0)
 verdict_refuses hosts (identities.Certificate key) e is = absurd cc
 
-module _ (hosts : Hosts) (s : OpeningState) (frame : Frame) (event : Event) (read : event_of frame.kind frame.fields ≡ Ok event) where
+-- ---- errors of a session
+
+module _ (hosts : Hosts) (w : SessionState) (frame : Frame) (event : Event) (read : event_of frame.kind frame.fields ≡ Ok event) where
+  seen_so : (b : Bool) (e : Error) → is_open w.opening.phase ≡ b → IsCauseIn b (SaysNo hosts) w event e → IsSessionCause (SaysNo hosts) w event e
+  seen_so b e is cause = subst (λ (x : Bool). IsCauseIn x (SaysNo hosts) w event e) (sym is) cause
+
+  -- a refusal's cause in the session, by whether it is open
+  pub refusal_shows : (b : Bool) (e : Error) → is_open w.opening.phase ≡ b → IsCauseIn b (SaysNo hosts) w event e → IsEventCause hosts w frame (error_of frame.place e)
+  refusal_shows b auths.NoMemory is cause = tt
+  refusal_shows b auths.SignerFault is cause = (event, read, seen_so b auths.SignerFault is cause)
+  refusal_shows b auths.OutOfTurn is cause = (refl, (event, read, seen_so b auths.OutOfTurn is cause))
+  refusal_shows b auths.TransportFailed is cause = (event, read, seen_so b auths.TransportFailed is cause)
+  refusal_shows b auths.UnknownKey is cause = (event, read, seen_so b auths.UnknownKey is cause)
+  refusal_shows b auths.Inconsistent is cause = (event, read, seen_so b auths.Inconsistent is cause)
+  refusal_shows b auths.Pending is cause = (event, read, seen_so b auths.Pending is cause)
+  refusal_shows b auths.NoAuthMethod is cause = (event, read, seen_so b auths.NoAuthMethod is cause)
+  refusal_shows b auths.NotAuthenticated is cause = (event, read, seen_so b auths.NotAuthenticated is cause)
+  refusal_shows b auths.SshEncoding is cause = (event, read, seen_so b auths.SshEncoding is cause)
+  refusal_shows b auths.InvalidDisconnect is cause = (event, read, seen_so b auths.InvalidDisconnect is cause)
+  refusal_shows b auths.RecvError is cause = (event, read, seen_so b auths.RecvError is cause)
+  refusal_shows b auths.KeepaliveTimeout is cause = (event, read, seen_so b auths.KeepaliveTimeout is cause)
+  refusal_shows b auths.InactivityTimeout is cause = (event, read, seen_so b auths.InactivityTimeout is cause)
+  refusal_shows true e is cause = absurd cause
+  refusal_shows false e is cause = absurd cause
+
+module _ (hosts : Hosts) (w : SessionState) (frame : Frame) (event : Event) (read : event_of frame.kind frame.fields ≡ Ok event) (unopened : is_open w.opening.phase ≡ false) where
+  abbrev s : OpeningState
+  s = w.opening
+
   -- ---- rows
 
-  refusal_shows : (e : Error) → IsCause (SaysNo hosts) s event e → IsEventCause hosts s frame (error_of frame.place e)
-  refusal_shows auths.NoMemory cause = tt
-  refusal_shows auths.SignerFault cause = (event, read, cause)
-  refusal_shows auths.OutOfTurn cause = (refl, (event, read, cause))
-  refusal_shows auths.TransportFailed cause = (event, read, cause)
-  refusal_shows auths.UnknownKey cause = (event, read, cause)
-  refusal_shows auths.Inconsistent cause = (event, read, cause)
-  refusal_shows auths.Pending cause = (event, read, cause)
-  refusal_shows auths.NoAuthMethod cause = (event, read, cause)
-  refusal_shows auths.NotAuthenticated cause = (event, read, cause)
-  refusal_shows auths.SshEncoding cause = (event, read, cause)
-  refusal_shows auths.InvalidDisconnect cause = (event, read, cause)
-  refusal_shows auths.RecvError cause = (event, read, cause)
-  refusal_shows auths.InactivityTimeout cause = (event, read, cause)
-  refusal_shows e cause = absurd cause
-
-  next_shows : (row : Row) (next : Next) → Caused (why (SaysNo hosts) s event) next → StopsFor (IsStopCause hosts s frame) (next_turn frame.place s row next).next
+  next_shows : (row : Row) (next : Next) → Caused (why (SaysNo hosts) s event) next → StopsFor (IsStopCause hosts w frame) (next_turn frame.place s row next).next
   next_shows row (stays to) cause = tt
   next_shows row (opens to) cause = tt
   next_shows row (ends_with e) cause = (event, read, cause)
-  next_shows row (refuses e) cause = refusal_shows e cause
+  next_shows row (refuses e) cause = refusal_shows hosts w frame event read false e unopened cause
 
   -- the rest of a row, where what was told that isn't yes is what the known hosts text says
-  told_shows : (told : Told) → SaysAlso (WasToldNo told) (SaysNo hosts) s event → TurnShows hosts s frame (asked_on (row_turn frame.place s) (open_row s event told))
+  told_shows : (told : Told) → SaysAlso (WasToldNo told) (SaysNo hosts) s event → TurnShows hosts w frame (asked_on (row_turn frame.place s) (open_row s event told))
   told_shows told also =
-      always_on (λ (row : Row). Caused (why (WasToldNo told) s event) row.next) (λ (t : Turn). StopsFor (IsStopCause hosts s frame) t.next) (row_turn frame.place s) (open_row s event told)
+      always_on (λ (row : Row). Caused (why (WasToldNo told) s event) row.next) (λ (t : Turn). StopsFor (IsStopCause hosts w frame) t.next) (row_turn frame.place s) (open_row s event told)
       (λ row cause. next_shows row row.next (caused_also (WasToldNo told) (SaysNo hosts) s event row.next also cause)) (open_cause s event told)
 
   went_also : SaysAlso (WasToldNo telling.Went) (SaysNo hosts) s event
@@ -113,63 +119,58 @@ module _ (hosts : Hosts) (s : OpeningState) (frame : Frame) (event : Event) (rea
 
   -- ---- the known hosts text refuses
 
-  key_shows : (key : PublicKeyOrCertificate) (k : KeyError) → AsksFor s event key → verdict hosts key ≡ Err (Key k) → IsRefusal k → IsEventCause hosts s frame (handler_error_of frame.place (Key k))
+  key_shows : (key : PublicKeyOrCertificate) (k : KeyError) → AsksFor s event key → verdict hosts key ≡ Err (Key k) → IsRefusal k → IsEventCause hosts w frame (handler_error_of frame.place (Key k))
   key_shows key (key_errors.KeyChanged line) for said refusal = (for.first, (event, read, rw (for.is) (ap Some (ap (said_of_key hosts) for.has ∙ said))))
   key_shows key key_errors.Decode for said refusal = (for.first, (event, read, rw (for.is) (ap Some (ap (said_of_key hosts) for.has ∙ said))))
   key_shows key key_errors.SshKey for said refusal = (for.first, (event, read, rw (for.is) (ap Some (ap (said_of_key hosts) for.has ∙ said))))
   key_shows key key_errors.NoMemory for said refusal = tt
   key_shows key k for said refusal = absurd refusal
 
-  refused_key_shows : (key : PublicKeyOrCertificate) (e : HandlerError) → AsksFor s event key → verdict hosts key ≡ Err e → (k : KeyError) × (e ≡ Key k) × IsRefusal k → IsEventCause hosts s frame (handler_error_of frame.place e)
+  refused_key_shows : (key : PublicKeyOrCertificate) (e : HandlerError) → AsksFor s event key → verdict hosts key ≡ Err e → (k : KeyError) × (e ≡ Key k) × IsRefusal k → IsEventCause hosts w frame (handler_error_of frame.place e)
   refused_key_shows key e for said (k, is, refusal) =
-      subst (λ (x : HandlerError). IsEventCause hosts s frame (handler_error_of frame.place x)) (sym is) (key_shows key k for (said ∙ ap Err is) refusal)
+      subst (λ (x : HandlerError). IsEventCause hosts w frame (handler_error_of frame.place x)) (sym is) (key_shows key k for (said ∙ ap Err is) refusal)
 
-  judged_shows : (key : PublicKeyOrCertificate) (said : Result Bool HandlerError) → s.closed ≡ false → asked_of s event ≡ wants.HostKey key → verdict hosts key ≡ said → TurnShows hosts s frame (judged_turn frame.place s event said)
+  judged_shows : (key : PublicKeyOrCertificate) (said : Result Bool HandlerError) → s.closed ≡ false → asked_of s event ≡ wants.HostKey key → verdict hosts key ≡ said → TurnShows hosts w frame (judged_turn frame.place s event said)
   judged_shows key (Ok true) fresh asked is = told_shows telling.Went went_also
   judged_shows key (Ok false) fresh asked is = told_shows telling.No (denied_also key fresh asked is)
   judged_shows key (Err e) fresh asked is = refused_key_shows key e (asks_for s event key asked) is (verdict_refuses hosts key e is)
 
-  asked_shows : (asks : Asks) → s.closed ≡ false → asked_of s event ≡ asks → TurnShows hosts s frame (asked_turn hosts frame.place s event asks)
+  asked_shows : (asks : Asks) → s.closed ≡ false → asked_of s event ≡ asks → TurnShows hosts w frame (asked_turn hosts frame.place s event asks)
   asked_shows wants.Nothing fresh asked = told_shows telling.NotAsked (unasked_also fresh asked)
   asked_shows (wants.HostKey key) fresh asked = judged_shows key (verdict hosts key) fresh asked refl
   asked_shows wants.Exchange fresh asked = told_shows telling.Went went_also
   asked_shows (wants.Banner text) fresh asked = told_shows telling.Went went_also
 
--- ---- every turn
+-- ---- every turn of the opening
 
-read_shows : (hosts : Hosts) (s : OpeningState) (frame : Frame) (read : Result Event EventError) → s.closed ≡ false → event_of frame.kind frame.fields ≡ read → TurnShows hosts s frame (event_turn hosts frame.place s read)
-read_shows hosts s frame (Ok event) fresh is = asked_shows hosts s frame event is (asked_of s event) fresh refl
-read_shows hosts s frame (Err reads.Bad) fresh is = (refl, is)
-read_shows hosts s frame (Err reads.NoMemory) fresh is = tt
-
--- an event is unbuilt once the session is open, or where it is an agent's
-unbuilt_for : (closed mine : Bool) → (if closed then false else mine) ≡ false → (closed ≡ true) ⊎ (mine ≡ false)
-unbuilt_for true mine is = inl refl
-unbuilt_for false mine is = inr is
-
-built_fresh : (closed mine : Bool) → (if closed then false else mine) ≡ true → closed ≡ false
-built_fresh true mine is = absurd cc
-built_fresh false mine is = refl
-
-built_shows : (hosts : Hosts) (s : OpeningState) (frame : Frame) (built : Bool) → is_built frame.kind s ≡ built → TurnShows hosts s frame (built_turn built hosts s frame)
-built_shows hosts s frame true is = read_shows hosts s frame (event_of frame.kind frame.fields) (built_fresh s.closed (is_session_kind frame.kind) is) refl
-built_shows hosts s frame false is = (refl, unbuilt_for s.closed (is_session_kind frame.kind) is)
-
--- every turn of the opening
-pub turn_shows : (hosts : Hosts) (s : OpeningState) (frame : Frame) → TurnShows hosts s frame (turn hosts s frame)
-unfolding turn
-turn_shows hosts s frame = built_shows hosts s frame (is_built frame.kind s) refl
+-- an event that is read
+pub event_shows : (hosts : Hosts) (w : SessionState) (frame : Frame) (event : Event) → event_of frame.kind frame.fields ≡ Ok event → is_open w.opening.phase ≡ false → w.opening.closed ≡ false →
+    TurnShows hosts w frame (asked_turn hosts frame.place w.opening event (asked_of w.opening event))
+event_shows hosts w frame event is unopened fresh = asked_shows hosts w frame event is unopened (asked_of w.opening event) fresh refl
 
 -- ---- no turn says that the script is at its end
 
-no_end : (hosts : Hosts) (s : OpeningState) (frame : Frame) (next : Onward) → StopsFor (IsStopCause hosts s frame) next → next ≡ stopped (ended ends.ScriptEnd) → ⊥
-no_end hosts s frame goes_on shows is = cc
-no_end hosts s frame opened shows is = cc
-no_end hosts s frame (stopped (refused x)) shows is = cc
-no_end hosts s frame (stopped unanswered_stop) shows is = cc
-no_end hosts s frame (stopped (ended ends.ScriptEnd)) (event, read, never) is = never
-no_end hosts s frame (stopped (ended x)) shows is = cc
+abbrev NoEnd : Asking Turn → Type 0
+NoEnd asking = Always IsNoEnd asking
 
-pub never_at_end : (hosts : Hosts) → NeverAtEnd (turn hosts)
-never_at_end hosts = λ s frame.
-    always_also (λ (t : Turn). StopsFor (IsStopCause hosts s frame) t.next) IsNoEnd (turn hosts s frame) (λ t shows. no_end hosts s frame t.next shows) (turn_shows hosts s frame)
+next_never : (s : OpeningState) (event : Event) (told : Told) (place : ℕ) (row : Row) (next : Next) → Caused (why (WasToldNo told) s event) next → (next_turn place s row next).next ≡ stopped (ended ends.ScriptEnd) → ⊥
+next_never s event told place row (stays to) cause is = cc
+next_never s event told place row (opens to) cause is = cc
+next_never s event told place row (ends_with ends.ScriptEnd) never is = never
+next_never s event told place row (ends_with e) cause is = cc
+next_never s event told place row (refuses e) cause is = cc
+
+told_never : (s : OpeningState) (event : Event) (told : Told) (place : ℕ) → NoEnd (asked_on (row_turn place s) (open_row s event told))
+told_never s event told place =
+    always_on (λ (row : Row). Caused (why (WasToldNo told) s event) row.next) IsNoEnd (row_turn place s) (open_row s event told) (λ row cause. next_never s event told place row row.next cause) (open_cause s event told)
+
+judged_never : (s : OpeningState) (event : Event) (place : ℕ) (said : Result Bool HandlerError) → NoEnd (judged_turn place s event said)
+judged_never s event place (Ok true) = told_never s event telling.Went place
+judged_never s event place (Ok false) = told_never s event telling.No place
+judged_never s event place (Err e) = λ is. cc
+
+pub asked_never : (hosts : Hosts) (place : ℕ) (s : OpeningState) (event : Event) (asks : Asks) → Always IsNoEnd (asked_turn hosts place s event asks)
+asked_never hosts place s event wants.Nothing = told_never s event telling.NotAsked place
+asked_never hosts place s event (wants.HostKey key) = judged_never s event place (verdict hosts key)
+asked_never hosts place s event wants.Exchange = told_never s event telling.Went place
+asked_never hosts place s event (wants.Banner text) = told_never s event telling.Went place

@@ -2,7 +2,7 @@
 use Rattle.std.proofs.Common.{◌≡◌, List, [], ◌∷◌, ◌++◌, refl, ap, sym, ◌∙◌, append_assoc}
 use Rattle.sshc_wire.specs.declared.record.Record.{Record}
 use Rattle.sshc_key.specs.Signers.{SignCall}
-use Rattle.sshc_key.specs.Asking.{Answer, Asking, done, asks, call_of, asked_on}
+use Rattle.sshc_key.specs.Asking.{Always, Answer, Asking, done, asks, call_of, asked_on}
 use Rattle.sshc_run.specs.Firsts.{IsFront}
 use Rattle.sshc_run.specs.Machine.{RunStop, unanswered_stop, Onward, goes_on, opened, stopped, TurnOf, Turns}
 use Rattle.sshc_run.specs.OpeningRun.{OpeningRun, OpeningStop, opens_before, stops_with, through, opening, by_turn, Continues, Prefixed}
@@ -25,7 +25,7 @@ prefixed_after st records calls o (opens_before s frames left) r (said, asked, e
 prefixed_after st records calls o (stops_with stop) r is = ap (λ (y : Run). after records calls y) is
 prefixed_after st records calls o through r is = ap (λ (y : Run). after records calls y) is
 
-module _ {A : Type 0} {B : Type 0} (short : Turns A) (long : Turns B) (as_kept : A → B) (continues : Continues short long as_kept) (st : ScriptStop) where
+module _ {A : Type 0} {B : Type 0} (short : Turns A) (long : Turns B) (as_kept : A → B) (Before : A → Type 0) (continues : Continues short long as_kept Before) (st : ScriptStop) where
   opened_turn : (t : TurnOf A) (t' : TurnOf B) (frames : List Frame) (left : List Answer) → IsFront t.records t'.records → t'.next ≡ opened →
       Prefixed st (stopped_with t.records (opens_before t.state frames left)) (opens_before t.state frames left) (run_on t' t'.next (events_run long t'.state frames st left))
   unfolding events_run
@@ -40,28 +40,29 @@ module _ {A : Type 0} {B : Type 0} (short : Turns A) (long : Turns B) (as_kept :
   stopped_turn : (t : TurnOf A) (t' : TurnOf B) (stop : RunStop) (r : Run) → t'.records ≡ t.records → t'.next ≡ stopped stop → run_on t' t'.next r ≡ stopped_with t.records stop
   stopped_turn t t' stop r records next = rw next (ap (λ (rs : List Record). stopped_with rs stop) records)
 
-  turn_prefixed : (t : TurnOf A) (next : Onward) (frames : List Frame) (left : List Answer) (o : OpeningRun A) → t.next ≡ next → Prefixed st o o.stop (events_run long (as_kept t.state) frames st left) →
-      Prefixed st (by_turn t next frames left o) (by_turn t next frames left o).stop (run_on (continues.turn_of t) (continues.turn_of t).next (events_run long (continues.turn_of t).state frames st left))
-  turn_prefixed t goes_on frames left o is later = rw (continues.on t is) (prefixed_after st t.records [] o o.stop (events_run long (as_kept t.state) frames st left) later)
-  turn_prefixed t opened frames left o is later = let opens = continues.opens t is in opened_turn t (continues.turn_of t) frames left opens.0 opens.1
-  turn_prefixed t (stopped stop) frames left o is later =
+  turn_prefixed : (t : TurnOf A) (next : Onward) (frames : List Frame) (left : List Answer) (o : OpeningRun A) → t.next ≡ next → (t.next ≡ goes_on → Before t.state) →
+      (Before t.state → Prefixed st o o.stop (events_run long (as_kept t.state) frames st left)) → Prefixed st (by_turn t next frames left o) (by_turn t next frames left o).stop (run_on (continues.turn_of t) (continues.turn_of t).next (events_run long (continues.turn_of t).state frames st left))
+  turn_prefixed t goes_on frames left o is stays later = rw (continues.on t is) (prefixed_after st t.records [] o o.stop (events_run long (as_kept t.state) frames st left) (later (stays is)))
+  turn_prefixed t opened frames left o is stays later = let opens = continues.opens t is in opened_turn t (continues.turn_of t) frames left opens.0 opens.1
+  turn_prefixed t (stopped stop) frames left o is stays later =
       let stops = continues.stops t stop is in stopped_turn t (continues.turn_of t) stop (events_run long (continues.turn_of t).state frames st left) stops.0 stops.1
 
   asked_prefixed : (asking : Asking (TurnOf A)) (answers : List Answer) (first : TurnOf A → List Answer → OpeningRun A) (whole : TurnOf A → List Answer → Run) →
-      ((t : TurnOf A) (left : List Answer) → Prefixed st (first t left) (first t left).stop (whole t left)) →
+      Always (λ (t : TurnOf A). t.next ≡ goes_on → Before t.state) asking →
+      ((t : TurnOf A) (left : List Answer) → (t.next ≡ goes_on → Before t.state) → Prefixed st (first t left) (first t left).stop (whole t left)) →
       Prefixed st (asked_run (stops_with unanswered_stop) asking answers first) (asked_run (stops_with unanswered_stop) asking answers first).stop (asked_run unanswered_stop asking answers whole)
-  asked_prefixed (done t) answers first whole each = each t answers
-  asked_prefixed (asks asked on) [] first whole each = refl
-  asked_prefixed (asks asked on) (answer ∷ answers) first whole each =
+  asked_prefixed (done t) answers first whole stays each = each t answers stays
+  asked_prefixed (asks asked on) [] first whole stays each = refl
+  asked_prefixed (asks asked on) (answer ∷ answers) first whole stays each =
       prefixed_after st [] (call_of asked answer ∷ []) (asked_run (stops_with unanswered_stop) (on answer) answers first) (asked_run (stops_with unanswered_stop) (on answer) answers first).stop
-      (asked_run unanswered_stop (on answer) answers whole) (asked_prefixed (on answer) answers first whole each)
+      (asked_run unanswered_stop (on answer) answers whole) (asked_prefixed (on answer) answers first whole (stays answer) each)
 
   -- the records and calls are the opening run's or, once it opens the session, all of them followed by more
-  pub prefixed : (frames : List Frame) (s : A) (answers : List Answer) → Prefixed st (opening short s frames answers) (opening short s frames answers).stop (events_run long (as_kept s) frames st answers)
+  pub prefixed : (frames : List Frame) (s : A) (answers : List Answer) → Before s → Prefixed st (opening short s frames answers) (opening short s frames answers).stop (events_run long (as_kept s) frames st answers)
   unfolding opening events_run
-  prefixed [] s answers = refl
-  prefixed (frame ∷ frames) s answers =
-      rw (continues.same s frame, asked_mapped unanswered_stop continues.turn_of (short s frame) answers (λ t left. run_on t t.next (events_run long t.state frames st left)))
+  prefixed [] s answers before = refl
+  prefixed (frame ∷ frames) s answers before =
+      rw (continues.same s frame before, asked_mapped unanswered_stop continues.turn_of (short s frame) answers (λ t left. run_on t t.next (events_run long t.state frames st left)))
       (asked_prefixed (short s frame) answers (λ t left. by_turn t t.next frames left (opening short t.state frames left))
       (λ t left. run_on (continues.turn_of t) (continues.turn_of t).next (events_run long (continues.turn_of t).state frames st left))
-      (λ t left. turn_prefixed t t.next frames left (opening short t.state frames left) refl (prefixed frames t.state left)))
+      (continues.stays s frame before) (λ t left stays. turn_prefixed t t.next frames left (opening short t.state frames left) refl stays (λ later. prefixed frames t.state left later)))

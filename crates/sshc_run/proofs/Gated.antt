@@ -1,9 +1,8 @@
 -- No payload before an accepted exchange.
-use Rattle.std.proofs.Common.{◌≡◌, ℕ, Bool, true, false, List, [], ◌∷◌, ◌++◌, Option, Some, None, Result, Ok, Err, refl, ap, sym, ◌∙◌, subst}
-use Rattle.std.specs.Prelude.{if◌then◌else◌}
+use Rattle.std.proofs.Common.{◌≡◌, Bool, true, false, List, [], ◌∷◌, ◌++◌, Option, Some, Result, Ok, Err, refl, ap, sym, ◌∙◌, subst}
 use Rattle.sshc_wire.specs.declared.record.Record.{Record}
 use Rattle.sshc_key.specs.declared.identity.PublicKeyOrCertificate.{PublicKeyOrCertificate}
-use Rattle.sshc_key.specs.Asking.{Answer, Asking, done, asked_on, Always}
+use Rattle.sshc_key.specs.Asking.{Answer, Asking, asked_on, Always}
 use Rattle.sshc_key.specs.AskingLaws.{always_on}
 use Rattle.sshc_event.specs.HostKey.{host_key}
 use Rattle.sshc_event.specs.declared.event.Event.{Event}
@@ -19,6 +18,8 @@ use Rattle.sshc_opening.specs.declared.step.Told.TheVariants as telling
 use Rattle.sshc_opening.specs.OpeningState.{OpeningState}
 use Rattle.sshc_opening.specs.OpeningTable.{open_row, asked_of}
 use Rattle.sshc_opening.specs.Row.{Row, Next, stays, opens, ends as ends_with, refuses}
+use Rattle.sshc_packets.specs.HostKeyProof.{Accepts}
+use Rattle.sshc_moves.specs.SessionState.{SessionState, is_open}
 use Rattle.sshc_script.specs.declared.error.EventError.{EventError}
 use Rattle.sshc_script.specs.declared.error.EventError.TheVariants as reads
 use Rattle.sshc_script.specs.declared.event_kind.EventKind.{EventKind}
@@ -31,10 +32,11 @@ use Rattle.sshc_run.specs.declared.known_hosts_handler.HandlerError.{HandlerErro
 use Rattle.sshc_run.specs.Headline.{said_of_key, said_by, said_at, said_of_first, is_yes, is_accepted}
 use Rattle.sshc_run.specs.KnownHosts.{Hosts, verdict}
 use Rattle.sshc_run.specs.Comes.{GoesOnIn}
-use Rattle.sshc_run.specs.Machine.{goes_on, opened, stopped}
+use Rattle.sshc_run.specs.Machine.{Onward, goes_on, opened, stopped}
 use Rattle.sshc_run.specs.ScriptRun.{events_run}
-use Rattle.sshc_run.specs.Turn.{Turn, turn, next_turn, row_turn, judged_turn, asked_turn, event_turn, built_turn}
-use Rattle.sshc_run.specs.Unbuilt.{is_built}
+use Rattle.sshc_run.specs.SessionPart.{is_session_kind}
+use Rattle.sshc_run.specs.SessionTurn.{SessionTurn, in_session, step_turn, read_turn, session_turn, built_turn, run_turn}
+use Rattle.sshc_run.specs.Turn.{Turn, next_turn, row_turn, judged_turn, asked_turn}
 use Rattle.sshc_run.proofs.OverRuns.{records_hold}
 
 none_append : (a b : List Record) → NonePayload a → NonePayload b → NonePayload (a ++ b)
@@ -114,25 +116,49 @@ module _ (hosts : Hosts) (s : OpeningState) (frame : Frame) (frames : List Frame
 -- ---- every turn
 
 -- before the first exchange, where none of the events holds one whose host key is accepted first
-abbrev pub IsBefore : Hosts → OpeningState → List Frame → Type 0
-IsBefore hosts s frames = IsFirst s × (is_accepted hosts frames ≡ false)
+abbrev pub IsBefore : Hosts → SessionState → List Frame → Type 0
+IsBefore hosts w frames = IsFirst w.opening × (is_accepted hosts frames ≡ false)
 
-read_out : (hosts : Hosts) (s : OpeningState) (frame : Frame) (frames : List Frame) (read : Result Event EventError) → event_of frame.kind frame.fields ≡ read → IsBefore hosts s (frame ∷ frames) →
-    StaysOut (λ (to : OpeningState). IsBefore hosts to frames) (event_turn hosts frame.place s read)
-read_out hosts s frame frames (Ok event) is (first, none) = asked_out hosts s frame frames first event is none (asked_of s event) refl (first_at_most s event first.exchanging)
-read_out hosts s frame frames (Err reads.Bad) is before = (tt, tt)
-read_out hosts s frame frames (Err reads.NoMemory) is before = (tt, tt)
+-- the same of a turn of the session
+abbrev StaysOutSo : Hosts → List Frame → Asking SessionTurn → Type 0
+StaysOutSo hosts frames asking = Always (λ (t : SessionTurn). NonePayload t.records × GoesOnIn (λ (to : SessionState). IsBefore hosts to frames) t.state t.next) asking
 
-built_out : (hosts : Hosts) (s : OpeningState) (frame : Frame) (frames : List Frame) (built : Bool) → IsBefore hosts s (frame ∷ frames) → StaysOut (λ (to : OpeningState). IsBefore hosts to frames) (built_turn built hosts s frame)
-built_out hosts s frame frames true before = read_out hosts s frame frames (event_of frame.kind frame.fields) refl before
-built_out hosts s frame frames false before = (tt, tt)
+in_session_out : (hosts : Hosts) (frames : List Frame) (w : SessionState) (t : Turn) (next : Onward) → GoesOnIn (λ (to : OpeningState). IsFirst to × (is_accepted hosts frames ≡ false)) t.state next →
+    GoesOnIn (λ (to : SessionState). IsBefore hosts to frames) (in_session w t).state next
+in_session_out hosts frames w t goes_on on = on
+in_session_out hosts frames w t opened on = on
+in_session_out hosts frames w t (stopped stop) on = tt
 
-turn_out : (hosts : Hosts) (s : OpeningState) (frame : Frame) (frames : List Frame) → IsBefore hosts s (frame ∷ frames) → StaysOut (λ (to : OpeningState). IsBefore hosts to frames) (turn hosts s frame)
-unfolding turn
-turn_out hosts s frame frames before = built_out hosts s frame frames (is_built frame.kind s) before
+-- while the first exchange runs the session isn't open
+first_unopened : (w : SessionState) → IsFirst w.opening → is_open w.opening.phase ≡ false
+first_unopened w first = rw (first.exchanging) refl
+
+step_out : (hosts : Hosts) (accepts : Accepts) (w : SessionState) (frame : Frame) (frames : List Frame) (event : Event) (b : Bool) → is_open w.opening.phase ≡ b → event_of frame.kind frame.fields ≡ Ok event → IsBefore hosts w (frame ∷ frames) →
+    StaysOutSo hosts frames (step_turn b hosts accepts frame.place w event)
+step_out hosts accepts w frame frames event true is read (first, none) = let clash : true ≡ false = sym is ∙ first_unopened w first in absurd cc
+step_out hosts accepts w frame frames event false is read (first, none) =
+    always_on (λ (t : Turn). NonePayload t.records × GoesOnIn (λ (to : OpeningState). IsFirst to × (is_accepted hosts frames ≡ false)) t.state t.next)
+    (λ (t : SessionTurn). NonePayload t.records × GoesOnIn (λ (to : SessionState). IsBefore hosts to frames) t.state t.next) (in_session w)
+    (asked_turn hosts frame.place w.opening event (asked_of w.opening event)) (λ t out. (out.0, in_session_out hosts frames w t t.next out.1))
+    (asked_out hosts w.opening frame frames first event read none (asked_of w.opening event) refl (first_at_most w.opening event first.exchanging))
+
+read_out : (hosts : Hosts) (accepts : Accepts) (w : SessionState) (frame : Frame) (frames : List Frame) (read : Result Event EventError) → event_of frame.kind frame.fields ≡ read → IsBefore hosts w (frame ∷ frames) →
+    StaysOutSo hosts frames (read_turn hosts accepts frame.place w read)
+read_out hosts accepts w frame frames (Ok event) is before = step_out hosts accepts w frame frames event (is_open w.opening.phase) refl is before
+read_out hosts accepts w frame frames (Err reads.Bad) is before = (tt, tt)
+read_out hosts accepts w frame frames (Err reads.NoMemory) is before = (tt, tt)
+
+built_out : (hosts : Hosts) (accepts : Accepts) (w : SessionState) (frame : Frame) (frames : List Frame) (mine : Bool) → IsBefore hosts w (frame ∷ frames) → StaysOutSo hosts frames (built_turn mine hosts accepts w frame)
+unfolding session_turn
+built_out hosts accepts w frame frames true before = read_out hosts accepts w frame frames (event_of frame.kind frame.fields) refl before
+built_out hosts accepts w frame frames false before = (tt, tt)
+
+turn_out : (hosts : Hosts) (accepts : Accepts) (w : SessionState) (frame : Frame) (frames : List Frame) → IsBefore hosts w (frame ∷ frames) → StaysOutSo hosts frames (run_turn hosts accepts w frame)
+unfolding run_turn
+turn_out hosts accepts w frame frames before = built_out hosts accepts w frame frames (is_session_kind frame.kind) before
 
 -- where the events hold no exchange whose host key is accepted first, no payload is written
-pub gated : (hosts : Hosts) (frames : List Frame) (s : OpeningState) (st : ScriptStop) (answers : List Answer) → IsFirst s → is_accepted hosts frames ≡ false →
-    NonePayload (events_run (turn hosts) s frames st answers).records
-gated hosts frames s st answers first none =
-    records_hold (turn hosts) (IsBefore hosts) NonePayload tt none_append (λ x frame rest is. turn_out hosts x frame rest is) frames s st answers (first, none)
+pub gated : (hosts : Hosts) (accepts : Accepts) (frames : List Frame) (w : SessionState) (st : ScriptStop) (answers : List Answer) → IsFirst w.opening → is_accepted hosts frames ≡ false →
+    NonePayload (events_run (run_turn hosts accepts) w frames st answers).records
+gated hosts accepts frames w st answers first none =
+    records_hold (run_turn hosts accepts) (IsBefore hosts) NonePayload tt none_append (λ x frame rest is. turn_out hosts accepts x frame rest is) frames w st answers (first, none)

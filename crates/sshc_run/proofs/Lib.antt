@@ -4,6 +4,13 @@ pub mod Answered
 pub mod Taken
 pub mod Turns
 pub mod Caused
+pub mod Unopened
+pub mod SessionSteps
+pub mod SettingsKept
+pub mod SessionCaused
+pub mod RunReplies
+pub mod RunChannels
+pub mod RunOpens
 pub mod Going
 pub mod Coming
 pub mod Joined
@@ -16,6 +23,7 @@ pub mod ProductTurns
 pub mod OpeningFirsts
 pub mod SessionAsks
 pub mod SessionPart
+pub mod EventTurns
 pub mod Through
 pub mod AskersLaws
 pub mod Gated

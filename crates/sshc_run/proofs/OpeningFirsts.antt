@@ -182,7 +182,7 @@ whole_where_ended own Cause frames r part e none stop (inr (inr by)) = absurd (n
 
 -- ---- the promises
 
-module _ {O : Type 0} {L : Type 0} {P : Type 0} (short : Machine O) (long : Turns L) (as_kept : O → L) (continues : Continues short.turn long as_kept)
+module _ {O : Type 0} {L : Type 0} {P : Type 0} (short : Machine O) (long : Turns L) (as_kept : O → L) (Before : O → Type 0) (continues : Continues short.turn long as_kept Before) (unopened : Before short.first)
     (m : Machine P) (see : P → L) (own : Own) (has : HasPart m.turn long see own) (Cause : Frame → RunStop → Type 0) (stops : StopsOthers m.turn own Cause)
     (begin : see m.first ≡ as_kept short.first) (max : ℕ) where
   -- the run of the part over the script's session events
@@ -195,7 +195,7 @@ module _ {O : Type 0} {L : Type 0} {P : Type 0} (short : Machine O) (long : Turn
       (parted m.turn long see own has (stop_of max bytes) Cause stops (taken max bytes) m.first answers)
 
   prefixed_so : (bytes : List ℕ) (calls : List SignCall) → Prefixed (stop_of max bytes) (opening_of short own max calls bytes) (opening_of short own max calls bytes).stop (part_run bytes (own_answers own calls))
-  prefixed_so bytes calls = prefixed short.turn long as_kept continues (stop_of max bytes) (own_events own (taken max bytes)) short.first (own_answers own calls)
+  prefixed_so bytes calls = prefixed short.turn long as_kept Before continues (stop_of max bytes) (own_events own (taken max bytes)) short.first (own_answers own calls) unopened
 
   first_says : (answers : List Answer) (bytes : List ℕ) (calls : List SignCall) → (script_run m max answers bytes).calls ≡ calls →
       BeginsAs (opening_of short own max calls bytes).records (opening_of short own max calls bytes).stop (own_records own (script_run m max answers bytes).records)

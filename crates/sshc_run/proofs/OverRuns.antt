@@ -52,7 +52,11 @@ came_to (done x) wanting answers later = inr ([], x, answers, refl, refl, refl)
 came_to (asks asked on) wanting [] later = inl refl
 came_to (asks asked on) wanting (answer ∷ answers) later = came_more asked on answer wanting answers later (asked_run wanting (on answer) answers later) (came_to (on answer) wanting answers later)
 
-module _ {S : Type 0} (turn : Turns S) (Cause : S → Frame → RunStop → Type 0) where
+module _ {S : Type 0} (turn : Turns S) (Cause : S → Frame → RunStop → Type 0) (Holds : S → Type 0) where
+  -- a turn that stops has its cause, and what holds goes on to hold
+  abbrev pub Shows : S → Frame → Type 0
+  Shows s frame = Always (λ (t : TurnOf S). StopsFor (Cause s frame) t.next × GoesOnIn Holds t.state t.next) (turn s frame)
+
   -- no answer was left, or the stop has its cause
   abbrev Told : S → List Frame → ScriptStop → List Answer → RunStop → Type 0
   Told s frames st answers stop = (stop ≡ unanswered_stop) ⊎ CausedBy turn s Cause frames st answers stop
@@ -65,24 +69,26 @@ module _ {S : Type 0} (turn : Turns S) (Cause : S → Frame → RunStop → Type
     cause_behind stop t gained left makes same on (inr (inl end)) = inr (inl end)
     cause_behind stop t gained left makes same on (inr (inr (s', frame', comes, cause))) = inr (inr (s', frame', inr (t, gained, left, makes, same, on, comes), cause))
 
-    turn_cause : (t : TurnOf S) (gained : List SignCall) (left : List Answer) (next : Onward) (r : Run) → Makes (turn s frame) gained t → answers ≡ answers_of gained ++ left → t.next ≡ next → StopsFor (Cause s frame) next →
-        Told t.state frames st left r.stop → Told s (frame ∷ frames) st answers (run_on t next r).stop
-    turn_cause t gained left goes_on r makes same is shows later = cause_behind r.stop t gained left makes same (ap stop_next is) later
-    turn_cause t gained left opened r makes same is shows later = cause_behind r.stop t gained left makes same (ap stop_next is) later
-    turn_cause t gained left (stopped stop) r makes same is shows later = inr (inr (s, frame, inl (refl, refl), shows))
+    turn_cause : (t : TurnOf S) (gained : List SignCall) (left : List Answer) (next : Onward) (r : Run) → Makes (turn s frame) gained t → answers ≡ answers_of gained ++ left → t.next ≡ next → StopsFor (Cause s frame) next → GoesOnIn Holds t.state next →
+        (Holds t.state → Told t.state frames st left r.stop) → Told s (frame ∷ frames) st answers (run_on t next r).stop
+    turn_cause t gained left goes_on r makes same is shows holds later = cause_behind r.stop t gained left makes same (ap stop_next is) (later holds)
+    turn_cause t gained left opened r makes same is shows holds later = cause_behind r.stop t gained left makes same (ap stop_next is) (later holds)
+    turn_cause t gained left (stopped stop) r makes same is shows holds later = inr (inr (s, frame, inl (refl, refl), shows))
 
-    frame_cause : (r : Run) → Always (λ (t : TurnOf S). StopsFor (Cause s frame) t.next) (turn s frame) → ((t : TurnOf S) (left : List Answer) → Told t.state frames st left (events_run turn t.state frames st left).stop) →
+    frame_cause : (r : Run) → Shows s frame → ((t : TurnOf S) (left : List Answer) → Holds t.state → Told t.state frames st left (events_run turn t.state frames st left).stop) →
         CameTo (turn s frame) unanswered_stop answers (λ t left. run_on t t.next (events_run turn t.state frames st left)) r → Told s (frame ∷ frames) st answers r.stop
     frame_cause r shows later (inl none) = inl none
     frame_cause r shows later (inr (gained, t, left, makes, same, is)) =
+        let so = always_makes (λ (x : TurnOf S). StopsFor (Cause s frame) x.next × GoesOnIn Holds x.state x.next) (turn s frame) gained t shows makes in
         subst (λ (stop : RunStop). Told s (frame ∷ frames) st answers stop) (sym is)
-        (turn_cause t gained left t.next (events_run turn t.state frames st left) makes same refl (always_makes (λ (x : TurnOf S). StopsFor (Cause s frame) x.next) (turn s frame) gained t shows makes) (later t left))
+        (turn_cause t gained left t.next (events_run turn t.state frames st left) makes same refl so.0 so.1 (later t left))
 
-  -- where each turn that stops has its cause, each run has: it comes to a state and an event of which the cause holds
-  pub stops_caused : ((s : S) (frame : Frame) → Always (λ (t : TurnOf S). StopsFor (Cause s frame) t.next) (turn s frame)) →
-      (frames : List Frame) (s : S) (st : ScriptStop) (answers : List Answer) → (((events_run turn s frames st answers).stop ≡ unanswered_stop) ⊎ CausedBy turn s Cause frames st answers (events_run turn s frames st answers).stop)
+  -- where each turn that stops has its cause, as long as what holds at first does, each run has: it comes to a state and an event of which
+  -- the cause holds
+  pub stops_caused : ((s : S) (frame : Frame) → Holds s → Shows s frame) →
+      (frames : List Frame) (s : S) (st : ScriptStop) (answers : List Answer) → Holds s → (((events_run turn s frames st answers).stop ≡ unanswered_stop) ⊎ CausedBy turn s Cause frames st answers (events_run turn s frames st answers).stop)
   unfolding events_run
-  stops_caused each [] s st answers = inr (inl refl)
-  stops_caused each (frame ∷ frames) s st answers =
-      frame_cause s frame frames st answers (asked_run unanswered_stop (turn s frame) answers (λ t left. run_on t t.next (events_run turn t.state frames st left))) (each s frame) (λ t left. stops_caused each frames t.state st left)
+  stops_caused each [] s st answers holds = inr (inl refl)
+  stops_caused each (frame ∷ frames) s st answers holds =
+      frame_cause s frame frames st answers (asked_run unanswered_stop (turn s frame) answers (λ t left. run_on t t.next (events_run turn t.state frames st left))) (each s frame holds) (λ t left later. stops_caused each frames t.state st left later)
       (came_to (turn s frame) unanswered_stop answers (λ t left. run_on t t.next (events_run turn t.state frames st left)))

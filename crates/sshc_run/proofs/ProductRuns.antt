@@ -30,23 +30,24 @@ use Rattle.sshc_run.proofs.Products.{one_part, other_stops}
 
 -- ---- the headline's sentence
 
-module _ {O : Type 0} {A : Type 0} {B : Type 0} (short : Machine O) (one : Machine A) (other : Machine B) (as_kept : O → A) (continues : Continues short.turn one.turn as_kept)
+module _ {O : Type 0} {A : Type 0} {B : Type 0} (short : Machine O) (one : Machine A) (other : Machine B) (as_kept : O → A) (Before : O → Type 0)
+    (continues : Continues short.turn one.turn as_kept Before) (unopened : Before short.first)
     (own : Own) (apart : Apart own one.turn other.turn) (Cause : Frame → RunStop → Type 0)
     (stops : (s : B) (frame : Frame) → own.event frame ≡ false → Always (λ (t : TurnOf B). StopsFor (Cause frame) t.next) (other.turn s frame))
     (begin : one.first ≡ as_kept short.first) (max : ℕ) (before now : Streams) (a : Result Ended RunError) (ends : Ends max 0 0 (script_run (both_machine own one other) max) before now a) where
   -- the one's records and calls are a front of the opening's or, once it opens the session, all of them followed by more
   pub both_first : IsOpeningFirst short own max (since before.calls now.calls) before.left before.held now.held
   both_first =
-      opening_first_of short one.turn as_kept continues (both_machine own one other) (λ s. s.one) own (one_part own one.turn other.turn apart) Cause (other_stops own one.turn other.turn apart Cause stops) begin max before now a ends
+      opening_first_of short one.turn as_kept Before continues unopened (both_machine own one other) (λ s. s.one) own (one_part own one.turn other.turn apart) Cause (other_stops own one.turn other.turn apart Cause stops) begin max before now a ends
 
   pub both_done : EndsNone Cause → IsOpeningDone short own max (since before.calls now.calls) before.left before.held now.held a
   both_done none =
-      opening_done_of short one.turn as_kept continues (both_machine own one other) (λ s. s.one) own (one_part own one.turn other.turn apart) Cause (other_stops own one.turn other.turn apart Cause stops) begin max before now a none ends
+      opening_done_of short one.turn as_kept Before continues unopened (both_machine own one other) (λ s. s.one) own (one_part own one.turn other.turn apart) Cause (other_stops own one.turn other.turn apart Cause stops) begin max before now a none ends
 
   pub both_complete : (reads reads' writes writes' : ℕ) → (a ≡ Err errors.ReadFault → Rose reads reads') → (a ≡ Err errors.WriteFault → Rose writes writes') →
       IsOpeningComplete short own Cause max (since before.calls now.calls) before.left reads reads' writes writes' a
   both_complete reads reads' writes writes' r w =
-      opening_complete_of short one.turn as_kept continues (both_machine own one other) (λ s. s.one) own (one_part own one.turn other.turn apart) Cause (other_stops own one.turn other.turn apart Cause stops) begin max before now a
+      opening_complete_of short one.turn as_kept Before continues unopened (both_machine own one other) (λ s. s.one) own (one_part own one.turn other.turn apart) Cause (other_stops own one.turn other.turn apart Cause stops) begin max before now a
       reads reads' writes writes' ends r w
 
 -- ---- what holds of the part's records holds of the run's

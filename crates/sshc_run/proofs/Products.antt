@@ -11,7 +11,7 @@ use Rattle.sshc_run.specs.Product.{Both, in_one, in_other, both_turn, Apart, oth
 use Rattle.sshc_script.specs.Script.{Frame}
 use Rattle.sshc_run.proofs.Parted.{stops_also}
 
-asks_on : {A : Type 0} {B : Type 0} (test : Asker → Bool) (is : Bool) (f : A → B) (asking : Asking A) → AsksBy test is asking → AsksBy test is (asked_on f asking)
+pub asks_on : {A : Type 0} {B : Type 0} (test : Asker → Bool) (is : Bool) (f : A → B) (asking : Asking A) → AsksBy test is asking → AsksBy test is (asked_on f asking)
 asks_on test is f (done x) by = tt
 asks_on test is f (asks asked on) (here, by) = (here, λ answer. asks_on test is f (on answer) (by answer))
 

@@ -8,8 +8,8 @@ use Rattle.sshc_wire.specs.Faults.{Rose}
 use Rattle.sshc_key.specs.Signers.{SignCall, since}
 use Rattle.sshc_key.specs.Asking.{Answer}
 use Rattle.sshc_opening.specs.declared.ended.Ended.{Ended}
-use Rattle.sshc_opening.specs.declared.opening.Settings.{Settings}
-use Rattle.sshc_opening.specs.OpeningState.{start}
+use Rattle.sshc_packets.specs.HostKeyProof.{Accepts}
+use Rattle.sshc_session.specs.Start.{new_session}
 use Rattle.sshc_run.specs.declared.error.RunError.{RunError}
 use Rattle.sshc_run.specs.declared.error.RunError.TheVariants as errors
 use Rattle.sshc_run.specs.Headline.{IsGated, IsPrefix, IsDone, KeptBy, IsKept, IsComplete}
@@ -19,7 +19,8 @@ use Rattle.sshc_run.specs.Outcome.{Streams, Ending, told, cut, unread, ending_of
 use Rattle.sshc_run.specs.RecordLines.{lines}
 use Rattle.sshc_script.specs.Script.{taken, stop_of}
 use Rattle.sshc_run.specs.ScriptRun.{Run, at_first, run, script_run, answers_of, answers_since}
-use Rattle.sshc_run.specs.Turn.{opening_machine}
+use Rattle.sshc_run.specs.Configured.{RunSettings}
+use Rattle.sshc_run.specs.SessionTurn.{run_machine}
 use Rattle.sshc_run.proofs.Gated.{gated}
 use Rattle.sshc_run.proofs.Going.{run_nothing, nothing_held}
 use Rattle.sshc_run.proofs.Joined.{joined}
@@ -87,14 +88,14 @@ module _ {S : Type 0} (m : Machine S) (max : ℕ) where
   prefix_of before now a ends =
       subst (λ (answers : List Answer). IsPrefix (script_run m max answers) before.left before.held now.held) (append-nil (answers_since before.calls now.calls)) (prefix_later before now a ends [])
 
-pub gate_of : (hosts : Hosts) (settings : Settings) (max : ℕ) (before now : Streams) (a : Result Ended RunError) → Ends max 0 0 (script_run (opening_machine hosts settings) max) before now a → IsGated hosts max before.left now.left before.held now.held
-gate_of hosts settings max before now a (given, gained, end) = (
+pub gate_of : (hosts : Hosts) (accepts : Accepts) (settings : RunSettings) (max : ℕ) (before now : Streams) (a : Result Ended RunError) → Ends max 0 0 (script_run (run_machine hosts accepts settings) max) before now a → IsGated hosts max before.left now.left before.held now.held
+gate_of hosts accepts settings max before now a (given, gained, end) = (
   given,
   end.read,
   λ no. (
-    (script_run (opening_machine hosts settings) max (answers_of gained) given).records,
-    gated hosts (taken max given) (start settings) (stop_of max given) (answers_of gained) (record { exchanging = refl; runs = λ same. absurd cc; fresh = refl }) no,
-    wrote_some (ending_of a) (script_run (opening_machine hosts settings) max) given gained before now a end.by,
+    (script_run (run_machine hosts accepts settings) max (answers_of gained) given).records,
+    gated hosts accepts (taken max given) (new_session settings.session settings.opening) (stop_of max given) (answers_of gained) (record { exchanging = refl; runs = λ same. absurd cc; fresh = refl }) no,
+    wrote_some (ending_of a) (script_run (run_machine hosts accepts settings) max) given gained before now a end.by,
   ),
 )
 

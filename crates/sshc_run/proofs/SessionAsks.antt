@@ -1,6 +1,6 @@
--- Whatever a turn of the opening asks the signer, it asks as the session.
-use Rattle.std.proofs.Common.{◌≡◌, ℕ, Bool, true, false, Result, Ok, Err, ap}
-use Rattle.sshc_key.specs.Asking.{Answer, Asking, done, asks, asked_on}
+-- Whatever a turn of the session asks the signer, it asks as the session.
+use Rattle.std.proofs.Common.{ℕ, Bool, true, false, Result, Ok, Err, ap}
+use Rattle.sshc_key.specs.Asking.{Asking, done, asks, asked_on}
 use Rattle.sshc_event.specs.declared.event.Event.{Event}
 use Rattle.sshc_opening.specs.AskerLaw.{AsksAsSession, asks_as_session}
 use Rattle.sshc_opening.specs.declared.step.Asks.{Asks}
@@ -9,6 +9,8 @@ use Rattle.sshc_opening.specs.declared.step.Told.{Told}
 use Rattle.sshc_opening.specs.declared.step.Told.TheVariants as telling
 use Rattle.sshc_opening.specs.OpeningState.{OpeningState}
 use Rattle.sshc_opening.specs.OpeningTable.{open_row, asked_of}
+use Rattle.sshc_packets.specs.HostKeyProof.{Accepts}
+use Rattle.sshc_moves.specs.SessionState.{SessionState, is_open}
 use Rattle.sshc_script.specs.declared.error.EventError.{EventError}
 use Rattle.sshc_script.specs.declared.error.EventError.TheVariants as reads
 use Rattle.sshc_script.specs.EventReading.{event_of}
@@ -17,8 +19,9 @@ use Rattle.sshc_run.specs.declared.known_hosts_handler.HandlerError.{HandlerErro
 use Rattle.sshc_run.specs.KnownHosts.{Hosts, verdict}
 use Rattle.sshc_run.specs.Part.{AsksBy}
 use Rattle.sshc_run.specs.SessionPart.{is_session_asker}
-use Rattle.sshc_run.specs.Turn.{turn, row_turn, judged_turn, asked_turn, event_turn, built_turn}
-use Rattle.sshc_run.specs.Unbuilt.{is_built}
+use Rattle.sshc_run.specs.SessionTurn.{in_session, step_turn, read_turn, session_turn}
+use Rattle.sshc_run.specs.Turn.{row_turn, judged_turn, asked_turn}
+use Rattle.sshc_run.proofs.Products.{asks_on as asks_mapped}
 
 asks_on : {A : Type 0} {B : Type 0} (f : A → B) (asking : Asking A) → AsksAsSession asking → AsksBy is_session_asker true (asked_on f asking)
 asks_on f (done x) so = tt
@@ -38,16 +41,17 @@ asked_asks hosts place s event (wants.HostKey key) = judged_asks place s event (
 asked_asks hosts place s event wants.Exchange = told_asks place s event telling.Went
 asked_asks hosts place s event (wants.Banner text) = told_asks place s event telling.Went
 
-read_asks : (hosts : Hosts) (place : ℕ) (s : OpeningState) (read : Result Event EventError) → AsksBy is_session_asker true (event_turn hosts place s read)
-read_asks hosts place s (Ok event) = asked_asks hosts place s event (asked_of s event)
-read_asks hosts place s (Err reads.Bad) = tt
-read_asks hosts place s (Err reads.NoMemory) = tt
+step_asks : (b : Bool) (hosts : Hosts) (accepts : Accepts) (place : ℕ) (w : SessionState) (event : Event) → AsksBy is_session_asker true (step_turn b hosts accepts place w event)
+step_asks true hosts accepts place w event = tt
+step_asks false hosts accepts place w event =
+    asks_mapped is_session_asker true (in_session w) (asked_turn hosts place w.opening event (asked_of w.opening event)) (asked_asks hosts place w.opening event (asked_of w.opening event))
 
-built_asks : (hosts : Hosts) (s : OpeningState) (frame : Frame) (built : Bool) → AsksBy is_session_asker true (built_turn built hosts s frame)
-built_asks hosts s frame true = read_asks hosts frame.place s (event_of frame.kind frame.fields)
-built_asks hosts s frame false = tt
+session_read_asks : (hosts : Hosts) (accepts : Accepts) (place : ℕ) (w : SessionState) (read : Result Event EventError) → AsksBy is_session_asker true (read_turn hosts accepts place w read)
+session_read_asks hosts accepts place w (Ok event) = step_asks (is_open w.opening.phase) hosts accepts place w event
+session_read_asks hosts accepts place w (Err reads.Bad) = tt
+session_read_asks hosts accepts place w (Err reads.NoMemory) = tt
 
--- every turn of the opening
-pub turn_asks : (hosts : Hosts) (s : OpeningState) (frame : Frame) → AsksBy is_session_asker true (turn hosts s frame)
-unfolding turn
-turn_asks hosts s frame = built_asks hosts s frame (is_built frame.kind s)
+-- every turn of the session
+pub session_asks : (hosts : Hosts) (accepts : Accepts) (w : SessionState) (frame : Frame) → AsksBy is_session_asker true (session_turn hosts accepts w frame)
+unfolding session_turn
+session_asks hosts accepts w frame = session_read_asks hosts accepts frame.place w (event_of frame.kind frame.fields)

@@ -16,6 +16,7 @@ use Rattle.sshc_hosts.specs.HostText.{host_text}
 use Rattle.sshc_hosts.specs.Judgement.{known_keys, judged}
 use Rattle.sshc_hosts.specs.Learning.{Lacks, IsLearnable, IsLearnableKey, Learns, once_learned, learned}
 use Rattle.sshc_hosts.proofs.LearningLaws.{learns}
+use Rattle.sshc_packets.specs.HostKeyProof.{Accepts}
 use Rattle.sshc_opening.specs.declared.ended.Ended.TheVariants.{ScriptEnd}
 use Rattle.sshc_run.specs.Headline.{IsValidScript}
 use Rattle.sshc_run.specs.KnownHosts.{Hosts, as_handler, verdict}
@@ -95,17 +96,17 @@ pub learned_alone_accepts : verdict (hosts_by (learned [] localhost (login_key, 
 learned_alone_accepts = learned_accepts [] false empty_knows_none
 
 -- so the login is a valid script by that text
-pub learned_login_is_valid : IsValidScript (run_of (hosts_by (learned [] localhost (login_key, []))) 8192) login ScriptEnd
-learned_login_is_valid = login_is_valid (hosts_by (learned [] localhost (login_key, []))) learned_alone_accepts
+pub learned_login_is_valid : (accepts : Accepts) → IsValidScript (run_of (hosts_by (learned [] localhost (login_key, []))) accepts 8192) login ScriptEnd
+learned_login_is_valid accepts = login_is_valid (hosts_by (learned [] localhost (login_key, []))) accepts learned_alone_accepts
 
 -- the same of a run by words
-pub words_login_is_valid : IsValidScript (words_table (codes "localhost") 13265 (learned [] localhost (login_key, [])) []) login ScriptEnd
-words_login_is_valid = learned_login_is_valid
+pub words_login_is_valid : (accepts : Accepts) → IsValidScript (words_table accepts (codes "localhost") 13265 (learned [] localhost (login_key, [])) []) login ScriptEnd
+words_login_is_valid accepts = learned_login_is_valid accepts
 
 -- by an empty text the login is refused at its exchange
 empty_refuses_key : verdict (hosts_by []) (PublicKey (login_key, []) None) ≡ Ok false
 unfolding verdict
 empty_refuses_key = ap as_handler empty_knows_none
 
-pub stranger_by_empty_text : run_of (hosts_by []) 8192 login ≡ refused_run
-stranger_by_empty_text = stranger (hosts_by []) empty_refuses_key
+pub stranger_by_empty_text : (accepts : Accepts) → run_of (hosts_by []) accepts 8192 login ≡ refused_run
+stranger_by_empty_text accepts = stranger (hosts_by []) accepts empty_refuses_key

@@ -9,7 +9,9 @@ use Rattle.sshc_wire.specs.declared.record.Record.TheVariants.{KexDone, Payload,
 use Rattle.sshc_wire.specs.declared.resolution.Resolution.TheVariants.{AuthSuccess}
 use Rattle.sshc_key.specs.KeyGrammar.{Key}
 use Rattle.sshc_key.specs.declared.identity.PublicKeyOrCertificate.TheVariants.{PublicKey}
-use Rattle.sshc_key.specs.Asking.{Asking, done}
+use Rattle.sshc_key.specs.Asking.{Asking, asked_on, done}
+use Rattle.sshc_packets.specs.HostKeyProof.{Accepts}
+use Rattle.sshc_moves.specs.SessionState.{SessionState, is_open}
 use Rattle.sshc_event.specs.HostKey.{bare, plain_identity}
 use Rattle.sshc_opening.specs.declared.ended.Ended.TheVariants.{ScriptEnd}
 use Rattle.sshc_event.specs.declared.event.Event.{Event}
@@ -36,8 +38,11 @@ use Rattle.sshc_run.specs.KnownHosts.{Hosts, verdict}
 use Rattle.sshc_run.specs.Machine.{goes_on, opened, stopped, ended, refused, unanswered_stop}
 use Rattle.sshc_script.specs.Script.{Frame, ScriptStop, whole, taken, stop_of, events as events_at, front, sized_front, head_at}
 use Rattle.sshc_run.specs.ScriptRun.{Run, after, stopped_with, asked_run, run_on, at_end, events_run, script_run}
-use Rattle.sshc_run.specs.Turn.{Turn, judged_turn, asked_turn, event_turn, turn, opening_machine}
-use Rattle.sshc_run.specs.Words.{default_settings}
+use Rattle.sshc_run.specs.SessionPart.{is_session_kind}
+use Rattle.sshc_run.specs.SessionTurn.{SessionTurn, in_session, run_machine, run_turn}
+use Rattle.sshc_run.specs.Turn.{Turn, judged_turn, asked_turn, event_turn, opening_turn}
+use Rattle.sshc_run.specs.Words.{default_run, default_settings}
+use Rattle.sshc_run.proofs.SessionPart.{kept_in, mine_turn, same_turn}
 use Rattle.sshc_run.proofs.StandardEvents.{login_key, whole_is, login_exchange, exchange_is, request_is, accepted_is, success_is}
 use Rattle.sshc_run.proofs.StandardFacts.{key, exchange, asked, accepted, login, stop_is}
 
@@ -77,8 +82,8 @@ opened_state = record (answered in_auth) { phase = phases.Open }
 abbrev on_from : List Record → OpeningState → Turn
 on_from records s = record { records = records; state = s; next = goes_on }
 
-pub kexinit_turn : (hosts : Hosts) → turn hosts (start default_settings) (frame_of 0 kinds.PeerKexinit []) ≡ done (on_from [] exchanging)
-unfolding turn event_of open_row plain_row user_row payload_row numbered_row held_packet_row peer_kexinit_row exchange_done_row authenticate_first_row authenticate_again_row service_packet_row service_accept_row auth_packet_row auth_row userauth_success_row asked_of
+pub kexinit_turn : (hosts : Hosts) → opening_turn hosts (start default_settings) (frame_of 0 kinds.PeerKexinit []) ≡ done (on_from [] exchanging)
+unfolding opening_turn event_of open_row plain_row user_row payload_row numbered_row held_packet_row peer_kexinit_row exchange_done_row authenticate_first_row authenticate_again_row service_packet_row service_accept_row auth_packet_row auth_row userauth_success_row asked_of
 kexinit_turn hosts = refl
 
 -- the exchange is judged by the verdict on its host key
@@ -87,8 +92,8 @@ unfolding asked_of
 asks_is = ap (λ (o : Option Key). key_asked (plain_identity (bare o))) whole_is
 
 judged_is : (hosts : Hosts) (said : Result Bool HandlerError) → verdict hosts (PublicKey (login_key, []) None) ≡ said
-    → turn hosts exchanging (frame_of 13 kinds.ExchangeDone (exchange 1 key)) ≡ judged_turn 13 exchanging (events.ExchangeDone login_exchange) said
-unfolding turn
+    → opening_turn hosts exchanging (frame_of 13 kinds.ExchangeDone (exchange 1 key)) ≡ judged_turn 13 exchanging (events.ExchangeDone login_exchange) said
+unfolding opening_turn
 judged_is hosts said says =
     ap (λ (r : Result Event EventError). event_turn hosts 13 exchanging r) exchange_is
     ∙ ap (λ (asks : Asks). asked_turn hosts 13 exchanging (events.ExchangeDone login_exchange) asks) asks_is
@@ -102,41 +107,60 @@ no_is : judged_turn 13 exchanging (events.ExchangeDone login_exchange) (Ok false
 unfolding open_row plain_row user_row payload_row numbered_row held_packet_row peer_kexinit_row exchange_done_row authenticate_first_row authenticate_again_row service_packet_row service_accept_row auth_packet_row auth_row userauth_success_row
 no_is = refl
 
-request_turn : (hosts : Hosts) → turn hosts in_service (frame_of 143 kinds.Authenticate asked) ≡ done (on_from (Payload service_request ∷ []) requested)
-unfolding turn open_row plain_row user_row payload_row numbered_row held_packet_row peer_kexinit_row exchange_done_row authenticate_first_row authenticate_again_row service_packet_row service_accept_row auth_packet_row auth_row userauth_success_row asked_of
+request_turn : (hosts : Hosts) → opening_turn hosts in_service (frame_of 143 kinds.Authenticate asked) ≡ done (on_from (Payload service_request ∷ []) requested)
+unfolding opening_turn open_row plain_row user_row payload_row numbered_row held_packet_row peer_kexinit_row exchange_done_row authenticate_first_row authenticate_again_row service_packet_row service_accept_row auth_packet_row auth_row userauth_success_row asked_of
 request_turn hosts = ap (λ (r : Result Event EventError). event_turn hosts 143 in_service r) request_is
 
 -- the service is there, and the password is written
-service_turn : (hosts : Hosts) → turn hosts requested (frame_of 176 kinds.Payload accepted) ≡ done (on_from (Payload (request (codes "alice") (Password (codes "pw"))) ∷ []) in_auth)
-unfolding turn open_row plain_row user_row payload_row numbered_row held_packet_row peer_kexinit_row exchange_done_row authenticate_first_row authenticate_again_row service_packet_row service_accept_row auth_packet_row auth_row userauth_success_row asked_of string_at number_at string_text u32_text
+service_turn : (hosts : Hosts) → opening_turn hosts requested (frame_of 176 kinds.Payload accepted) ≡ done (on_from (Payload (request (codes "alice") (Password (codes "pw"))) ∷ []) in_auth)
+unfolding opening_turn open_row plain_row user_row payload_row numbered_row held_packet_row peer_kexinit_row exchange_done_row authenticate_first_row authenticate_again_row service_packet_row service_accept_row auth_packet_row auth_row userauth_success_row asked_of string_at number_at string_text u32_text
 service_turn hosts = ap (λ (r : Result Event EventError). event_turn hosts 176 requested r) accepted_is
 
-success_turn : (hosts : Hosts) → turn hosts in_auth (frame_of 206 kinds.Payload (52 ∷ []))
+success_turn : (hosts : Hosts) → opening_turn hosts in_auth (frame_of 206 kinds.Payload (52 ∷ []))
     ≡ done (record { records = Resolved (record { 0 = 1 }) AuthSuccess ∷ Opened ∷ []; state = shut opened_state; next = opened })
-unfolding turn open_row plain_row user_row payload_row numbered_row held_packet_row peer_kexinit_row exchange_done_row authenticate_first_row authenticate_again_row service_packet_row service_accept_row auth_packet_row auth_row userauth_success_row asked_of
+unfolding opening_turn open_row plain_row user_row payload_row numbered_row held_packet_row peer_kexinit_row exchange_done_row authenticate_first_row authenticate_again_row service_packet_row service_accept_row auth_packet_row auth_row userauth_success_row asked_of
 success_turn hosts = ap (λ (r : Result Event EventError). event_turn hosts 206 in_auth r) success_is
 
 -- ---- the run
 
--- the run of these events from a state, with no answers of the signer
-abbrev pub from : Hosts → OpeningState → List Frame → ScriptStop → Run
-from hosts s frames st = events_run (turn hosts) s frames st []
+-- the session in which the opening is so
+abbrev pub kept : OpeningState → SessionState
+kept o = kept_in default_run o
+
+-- the run of these events from a state of the opening, with no answers of the signer
+abbrev pub from : Hosts → Accepts → OpeningState → List Frame → ScriptStop → Run
+from hosts accepts s frames st = events_run (run_turn hosts accepts) (kept s) frames st []
+
+-- an event of the session that is taken while the session isn't open
+pub record IsOpeningsOwn (s : OpeningState) (frame : Frame) : Type 0 where
+  pub mine : is_session_kind frame.kind ≡ true
+  pub unopened : is_open s.phase ≡ false
+
+-- the run's turn is the opening's, seen in the session
+session_turn_is : (hosts : Hosts) (accepts : Accepts) (s : OpeningState) (frame : Frame) (t : Turn) → IsOpeningsOwn s frame → opening_turn hosts s frame ≡ done t → run_turn hosts accepts (kept s) frame ≡ done (in_session (kept s) t)
+session_turn_is hosts accepts s frame t own is =
+    mine_turn hosts accepts (kept s) frame own.mine ∙ same_turn hosts accepts default_run s frame own.unopened ∙ ap (asked_on (in_session (kept s))) is
 
 -- the run by its first turn
-pub by_first : (hosts : Hosts) (s : OpeningState) (frame : Frame) (frames : List Frame) (st : ScriptStop) (t : Turn) → turn hosts s frame ≡ done t
-    → from hosts s (frame ∷ frames) st ≡ run_on t t.next (from hosts t.state frames st)
+pub by_first : (hosts : Hosts) (accepts : Accepts) (s : OpeningState) (frame : Frame) (frames : List Frame) (st : ScriptStop) (t : Turn) → IsOpeningsOwn s frame → opening_turn hosts s frame ≡ done t
+    → from hosts accepts s (frame ∷ frames) st ≡ run_on (in_session (kept s) t) t.next (from hosts accepts t.state frames st)
 unfolding events_run
-by_first hosts s frame frames st t is = ap (λ (asked : Asking Turn). asked_run unanswered_stop asked [] (λ t left. run_on t t.next (events_run (turn hosts) t.state frames st left))) is
+by_first hosts accepts s frame frames st t own is =
+    ap (λ (asked : Asking SessionTurn). asked_run unanswered_stop asked [] (λ t left. run_on t t.next (events_run (run_turn hosts accepts) t.state frames st left))) (session_turn_is hosts accepts s frame t own is)
 
 -- the run by a first turn from which it goes on
-pub step_by : (hosts : Hosts) (s s' : OpeningState) (frame : Frame) (frames : List Frame) (st : ScriptStop) (records : List Record) (later : Run) → turn hosts s frame ≡ done (on_from records s')
-    → from hosts s' frames st ≡ later → from hosts s (frame ∷ frames) st ≡ after records [] later
-step_by hosts s s' frame frames st records later is rest = by_first hosts s frame frames st (on_from records s') is ∙ ap (λ (r : Run). after records [] r) rest
+pub step_by : (hosts : Hosts) (accepts : Accepts) (s s' : OpeningState) (frame : Frame) (frames : List Frame) (st : ScriptStop) (records : List Record) (later : Run) → IsOpeningsOwn s frame → opening_turn hosts s frame ≡ done (on_from records s')
+    → from hosts accepts s' frames st ≡ later → from hosts accepts s (frame ∷ frames) st ≡ after records [] later
+step_by hosts accepts s s' frame frames st records later own is rest = by_first hosts accepts s frame frames st (on_from records s') own is ∙ ap (λ (r : Run). after records [] r) rest
+
+-- each event of the login is the session's, and comes before the session is open
+abbrev pub own_event : {s : OpeningState} {frame : Frame} → is_session_kind frame.kind ≡ true → is_open s.phase ≡ false → IsOpeningsOwn s frame
+own_event mine unopened = record { mine = mine; unopened = unopened }
 
 -- behind the last event
-pub at_last : (hosts : Hosts) (s : OpeningState) (st : ScriptStop) → from hosts s [] st ≡ stopped_with [] (at_end st)
+pub at_last : (hosts : Hosts) (accepts : Accepts) (s : OpeningState) (st : ScriptStop) → from hosts accepts s [] st ≡ stopped_with [] (at_end st)
 unfolding events_run
-at_last hosts s st = refl
+at_last hosts accepts s st = refl
 
 -- the run of the last events
 abbrev events_behind : ℕ → List Frame
@@ -149,63 +173,63 @@ abbrev last_records : List Record
 last_records = Resolved (record { 0 = 1 }) AuthSuccess ∷ Opened ∷ []
 
 -- once the host key is accepted, a request and the acceptance of its service are followed by the run from the phase Auth
-pub requested_from : (hosts : Hosts) (frames : List Frame) (st : ScriptStop) (later : Run) → from hosts in_auth frames st ≡ later
-    → from hosts in_service (frame_of 143 kinds.Authenticate asked ∷ frame_of 176 kinds.Payload accepted ∷ frames) st ≡ after (Payload service_request ∷ password_record ∷ []) [] later
-requested_from hosts frames st later rest =
-    step_by hosts in_service requested (frame_of 143 kinds.Authenticate asked) (frame_of 176 kinds.Payload accepted ∷ frames) st (Payload service_request ∷ []) (after (password_record ∷ []) [] later) (request_turn hosts)
-    (step_by hosts requested in_auth (frame_of 176 kinds.Payload accepted) frames st (password_record ∷ []) later (service_turn hosts) rest)
+pub requested_from : (hosts : Hosts) (accepts : Accepts) (frames : List Frame) (st : ScriptStop) (later : Run) → from hosts accepts in_auth frames st ≡ later
+    → from hosts accepts in_service (frame_of 143 kinds.Authenticate asked ∷ frame_of 176 kinds.Payload accepted ∷ frames) st ≡ after (Payload service_request ∷ password_record ∷ []) [] later
+requested_from hosts accepts frames st later rest =
+    step_by hosts accepts in_service requested (frame_of 143 kinds.Authenticate asked) (frame_of 176 kinds.Payload accepted ∷ frames) st (Payload service_request ∷ []) (after (password_record ∷ []) [] later) (own_event refl refl) (request_turn hosts)
+    (step_by hosts accepts requested in_auth (frame_of 176 kinds.Payload accepted) frames st (password_record ∷ []) later (own_event refl refl) (service_turn hosts) rest)
 
 -- the success opens the session, and the script ends
-success_from : (hosts : Hosts) → from hosts in_auth (events_behind 4) whole ≡ stopped_with last_records (ended ScriptEnd)
-success_from hosts = by_first hosts in_auth (frame_of 206 kinds.Payload (52 ∷ [])) [] whole _ (success_turn hosts) ∙ ap (λ (r : Run). after last_records [] r) (at_last hosts (shut opened_state) whole)
+success_from : (hosts : Hosts) (accepts : Accepts) → from hosts accepts in_auth (events_behind 4) whole ≡ stopped_with last_records (ended ScriptEnd)
+success_from hosts accepts = by_first hosts accepts in_auth (frame_of 206 kinds.Payload (52 ∷ [])) [] whole _ (own_event refl refl) (success_turn hosts) ∙ ap (λ (r : Run). after last_records [] r) (at_last hosts accepts (shut opened_state) whole)
 
 -- the records of the login
 abbrev pub login_records : List Record
 login_records = KexDone (codes "curve25519-sha256") ∷ Payload service_request ∷ Payload (request (codes "alice") (Password (codes "pw"))) ∷ Resolved (record { 0 = 1 }) AuthSuccess ∷ Opened ∷ []
 
 -- where the verdict accepts the host key, the exchange is followed by the run from the phase Service
-pub accepted_from : (hosts : Hosts) (frames : List Frame) (st : ScriptStop) (later : Run) → verdict hosts (PublicKey (login_key, []) None) ≡ Ok true → from hosts in_service frames st ≡ later
-    → from hosts (start default_settings) (frame_of 0 kinds.PeerKexinit [] ∷ frame_of 13 kinds.ExchangeDone (exchange 1 key) ∷ frames) st ≡ after (KexDone (codes "curve25519-sha256") ∷ []) [] later
-accepted_from hosts frames st later accepts rest =
-    step_by hosts (start default_settings) exchanging (frame_of 0 kinds.PeerKexinit []) (frame_of 13 kinds.ExchangeDone (exchange 1 key) ∷ frames) st []
-    (after (KexDone (codes "curve25519-sha256") ∷ []) [] later) (kexinit_turn hosts)
-    (step_by hosts exchanging in_service (frame_of 13 kinds.ExchangeDone (exchange 1 key)) frames st (KexDone (codes "curve25519-sha256") ∷ []) later (judged_is hosts (Ok true) accepts ∙ went_is) rest)
+pub accepted_from : (hosts : Hosts) (accepts : Accepts) (frames : List Frame) (st : ScriptStop) (later : Run) → verdict hosts (PublicKey (login_key, []) None) ≡ Ok true → from hosts accepts in_service frames st ≡ later
+    → from hosts accepts (start default_settings) (frame_of 0 kinds.PeerKexinit [] ∷ frame_of 13 kinds.ExchangeDone (exchange 1 key) ∷ frames) st ≡ after (KexDone (codes "curve25519-sha256") ∷ []) [] later
+accepted_from hosts accepts frames st later known rest =
+    step_by hosts accepts (start default_settings) exchanging (frame_of 0 kinds.PeerKexinit []) (frame_of 13 kinds.ExchangeDone (exchange 1 key) ∷ frames) st []
+    (after (KexDone (codes "curve25519-sha256") ∷ []) [] later) (own_event refl refl) (kexinit_turn hosts)
+    (step_by hosts accepts exchanging in_service (frame_of 13 kinds.ExchangeDone (exchange 1 key)) frames st (KexDone (codes "curve25519-sha256") ∷ []) later (own_event refl refl) (judged_is hosts (Ok true) known ∙ went_is) rest)
 
-login_from : (hosts : Hosts) → verdict hosts (PublicKey (login_key, []) None) ≡ Ok true → from hosts (start default_settings) login_events whole ≡ stopped_with login_records (ended ScriptEnd)
-login_from hosts accepts =
-    accepted_from hosts (events_behind 2) whole (stopped_with (Payload service_request ∷ password_record ∷ last_records) (ended ScriptEnd)) accepts
-    (requested_from hosts (events_behind 4) whole (stopped_with last_records (ended ScriptEnd)) (success_from hosts))
+login_from : (hosts : Hosts) (accepts : Accepts) → verdict hosts (PublicKey (login_key, []) None) ≡ Ok true → from hosts accepts (start default_settings) login_events whole ≡ stopped_with login_records (ended ScriptEnd)
+login_from hosts accepts known =
+    accepted_from hosts accepts (events_behind 2) whole (stopped_with (Payload service_request ∷ password_record ∷ last_records) (ended ScriptEnd)) known
+    (requested_from hosts accepts (events_behind 4) whole (stopped_with last_records (ended ScriptEnd)) (success_from hosts accepts))
 
 -- where the verdict refuses the host key, the run ends with its exchange
 abbrev pub refused_run : Run
 refused_run = stopped_with [] (refused errors.UnknownKey)
 
-stranger_from : (hosts : Hosts) → verdict hosts (PublicKey (login_key, []) None) ≡ Ok false → from hosts (start default_settings) login_events whole ≡ refused_run
-stranger_from hosts refuses =
-    step_by hosts (start default_settings) exchanging (frame_of 0 kinds.PeerKexinit []) (events_behind 1) whole [] refused_run (kexinit_turn hosts)
-    (by_first hosts exchanging (frame_of 13 kinds.ExchangeDone (exchange 1 key)) (events_behind 2) whole _ (judged_is hosts (Ok false) refuses ∙ no_is))
+stranger_from : (hosts : Hosts) (accepts : Accepts) → verdict hosts (PublicKey (login_key, []) None) ≡ Ok false → from hosts accepts (start default_settings) login_events whole ≡ refused_run
+stranger_from hosts accepts refuses =
+    step_by hosts accepts (start default_settings) exchanging (frame_of 0 kinds.PeerKexinit []) (events_behind 1) whole [] refused_run (own_event refl refl) (kexinit_turn hosts)
+    (by_first hosts accepts exchanging (frame_of 13 kinds.ExchangeDone (exchange 1 key)) (events_behind 2) whole _ (own_event refl refl) (judged_is hosts (Ok false) refuses ∙ no_is))
 
 -- the run of a script by the default settings, with no answers of the signer
-abbrev pub run_of : Hosts → ℕ → List ℕ → Run
-run_of hosts max script = script_run (opening_machine hosts default_settings) max [] script
+abbrev pub run_of : Hosts → Accepts → ℕ → List ℕ → Run
+run_of hosts accepts max script = script_run (run_machine hosts accepts default_run) max [] script
 
 -- a script's run by its events and what stands behind them
-pub run_by : (hosts : Hosts) (max : ℕ) (script : List ℕ) (frames : List Frame) (r : Run) (st : ScriptStop) → taken max script ≡ frames → stop_of max script ≡ st
-    → from hosts (start default_settings) frames st ≡ r → run_of hosts max script ≡ r
-run_by hosts max script frames r st frames_are stop_is is =
-    ap (λ (fs : List Frame). from hosts (start default_settings) fs (stop_of max script)) frames_are
-    ∙ ap (λ (st : ScriptStop). from hosts (start default_settings) frames st) stop_is ∙ is
+pub run_by : (hosts : Hosts) (accepts : Accepts) (max : ℕ) (script : List ℕ) (frames : List Frame) (r : Run) (st : ScriptStop) → taken max script ≡ frames → stop_of max script ≡ st
+    → from hosts accepts (start default_settings) frames st ≡ r → run_of hosts accepts max script ≡ r
+run_by hosts accepts max script frames r st frames_are stop_is is =
+    ap (λ (fs : List Frame). from hosts accepts (start default_settings) fs (stop_of max script)) frames_are
+    ∙ ap (λ (st : ScriptStop). from hosts accepts (start default_settings) frames st) stop_is ∙ is
 
 -- ---- the theorems
 
 -- where the known hosts text accepts the host key, the login gives its five records and ends at the script's end
-pub login_run : (hosts : Hosts) → verdict hosts (PublicKey (login_key, []) None) ≡ Ok true → run_of hosts 8192 login ≡ stopped_with login_records (ended ScriptEnd)
-login_run hosts accepts = run_by hosts 8192 login login_events (stopped_with login_records (ended ScriptEnd)) whole taken_is stop_is (login_from hosts accepts)
+pub login_run : (hosts : Hosts) (accepts : Accepts) → verdict hosts (PublicKey (login_key, []) None) ≡ Ok true → run_of hosts accepts 8192 login ≡ stopped_with login_records (ended ScriptEnd)
+login_run hosts accepts known = run_by hosts accepts 8192 login login_events (stopped_with login_records (ended ScriptEnd)) whole taken_is stop_is (login_from hosts accepts known)
 
 -- and so it is a valid script
-pub login_is_valid : (hosts : Hosts) → verdict hosts (PublicKey (login_key, []) None) ≡ Ok true → IsValidScript (run_of hosts 8192) login ScriptEnd
-login_is_valid hosts accepts = ap (λ (r : Run). r.stop) (login_run hosts accepts)
+pub login_is_valid : (hosts : Hosts) (accepts : Accepts) → verdict hosts (PublicKey (login_key, []) None) ≡ Ok true → IsValidScript (run_of hosts accepts 8192) login ScriptEnd
+login_is_valid hosts accepts known = ap (λ (r : Run). r.stop) (login_run hosts accepts known)
 
 -- where the text doesn't know the host key, nothing is said, not even a payload
-pub stranger : (hosts : Hosts) → verdict hosts (PublicKey (login_key, []) None) ≡ Ok false → run_of hosts 8192 login ≡ refused_run
-stranger hosts refuses = run_by hosts 8192 login login_events refused_run whole taken_is stop_is (stranger_from hosts refuses)
+pub stranger : (hosts : Hosts) (accepts : Accepts) → verdict hosts (PublicKey (login_key, []) None) ≡ Ok false → run_of hosts accepts 8192 login ≡ refused_run
+stranger hosts accepts refuses = run_by hosts accepts 8192 login login_events refused_run whole taken_is stop_is (stranger_from hosts accepts refuses)

@@ -24,12 +24,13 @@ use Rattle.sshc_run.specs.KnownHosts.{Hosts, as_handler, verdict}
 use Rattle.sshc_run.specs.Machine.{stopped, ended, refused}
 use Rattle.sshc_script.specs.Script.{Frame, whole, bad, more, taken, stop_of, stop, events as events_at, front, sized_front, head_at}
 use Rattle.sshc_run.specs.ScriptRun.{Run, stopped_with}
-use Rattle.sshc_run.specs.Turn.{event_turn, turn}
+use Rattle.sshc_run.specs.Turn.{event_turn, opening_turn}
+use Rattle.sshc_packets.specs.HostKeyProof.{Accepts}
 use Rattle.sshc_run.specs.Words.{default_settings, words_table}
 use Rattle.sshc_run.proofs.StandardEvents.{login_key, keyless_is}
 use Rattle.sshc_run.proofs.StandardFacts.{event, exchange, asked, accepted, script_with, login, cut_is, more_is}
 use Rattle.sshc_run.proofs.StandardLearned.{localhost, hosts_by, blob_is_read}
-use Rattle.sshc_run.proofs.StandardLogin.{frame_of, login_events, exchanging, in_service, in_auth, kexinit_turn, from, by_first, step_by, at_last, requested_from, accepted_from, refused_run, login_records, run_of, run_by, login_run}
+use Rattle.sshc_run.proofs.StandardLogin.{own_event, frame_of, login_events, exchanging, in_service, in_auth, kexinit_turn, from, by_first, step_by, at_last, requested_from, accepted_from, refused_run, login_records, run_of, run_by, login_run}
 
 -- ---- by the known hosts text of one line
 
@@ -43,12 +44,12 @@ unfolding verdict
 line_accepts_key = ap as_handler line_is_judged
 
 -- by this text the login gives its five records and ends at the script's end
-pub line_run : words_table (codes "localhost") 13265 localhost_line [] login ≡ stopped_with login_records (ended ScriptEnd)
-line_run = login_run (hosts_by localhost_line) line_accepts_key
+pub line_run : (accepts : Accepts) → words_table accepts (codes "localhost") 13265 localhost_line [] login ≡ stopped_with login_records (ended ScriptEnd)
+line_run accepts = login_run (hosts_by localhost_line) accepts line_accepts_key
 
 -- and so it is a valid script
-pub line_is_valid : IsValidScript (words_table (codes "localhost") 13265 localhost_line []) login ScriptEnd
-line_is_valid = ap (λ r. r.stop) line_run
+pub line_is_valid : (accepts : Accepts) → IsValidScript (words_table accepts (codes "localhost") 13265 localhost_line []) login ScriptEnd
+line_is_valid accepts = ap (λ r. r.stop) (line_run accepts)
 
 -- ---- an exchange without a host key
 
@@ -71,18 +72,18 @@ unfolding u32_text u64_text string_text stop front sized_front head_at number_at
 keyless_stop_is = refl
 
 -- nothing is asked of the known hosts text, and the exchange is refused
-keyless_turn : (hosts : Hosts) → turn hosts exchanging (frame_of 13 kinds.ExchangeDone (exchange 0 [])) ≡ done (record { records = []; state = shut exchanging; next = stopped (refused errors.UnknownKey) })
-unfolding turn open_row plain_row user_row payload_row numbered_row held_packet_row peer_kexinit_row exchange_done_row authenticate_first_row authenticate_again_row service_packet_row service_accept_row auth_packet_row auth_row userauth_success_row asked_of
+keyless_turn : (hosts : Hosts) → opening_turn hosts exchanging (frame_of 13 kinds.ExchangeDone (exchange 0 [])) ≡ done (record { records = []; state = shut exchanging; next = stopped (refused errors.UnknownKey) })
+unfolding opening_turn open_row plain_row user_row payload_row numbered_row held_packet_row peer_kexinit_row exchange_done_row authenticate_first_row authenticate_again_row service_packet_row service_accept_row auth_packet_row auth_row userauth_success_row asked_of
 keyless_turn hosts = ap (λ (r : Result Event EventError). event_turn hosts 13 exchanging r) keyless_is
 
-keyless_from : (hosts : Hosts) → from hosts (start default_settings) keyless_events whole ≡ refused_run
-keyless_from hosts =
-    step_by hosts (start default_settings) exchanging (frame_of 0 kinds.PeerKexinit []) (frame_of 13 kinds.ExchangeDone (exchange 0 []) ∷ keyless_rest) whole [] refused_run (kexinit_turn hosts)
-    (by_first hosts exchanging (frame_of 13 kinds.ExchangeDone (exchange 0 [])) keyless_rest whole _ (keyless_turn hosts))
+keyless_from : (hosts : Hosts) (accepts : Accepts) → from hosts accepts (start default_settings) keyless_events whole ≡ refused_run
+keyless_from hosts accepts =
+    step_by hosts accepts (start default_settings) exchanging (frame_of 0 kinds.PeerKexinit []) (frame_of 13 kinds.ExchangeDone (exchange 0 []) ∷ keyless_rest) whole [] refused_run (own_event refl refl) (kexinit_turn hosts)
+    (by_first hosts accepts exchanging (frame_of 13 kinds.ExchangeDone (exchange 0 [])) keyless_rest whole _ (own_event refl refl) (keyless_turn hosts))
 
 -- whatever the known hosts text, an exchange without a host key ends the run, and nothing is said
-pub keyless_run : (hosts : Hosts) → run_of hosts 8192 keyless ≡ refused_run
-keyless_run hosts = run_by hosts 8192 keyless keyless_events refused_run whole keyless_taken_is keyless_stop_is (keyless_from hosts)
+pub keyless_run : (hosts : Hosts) (accepts : Accepts) → run_of hosts accepts 8192 keyless ≡ refused_run
+keyless_run hosts accepts = run_by hosts accepts 8192 keyless keyless_events refused_run whole keyless_taken_is keyless_stop_is (keyless_from hosts accepts)
 
 -- ---- the login without its last byte
 
@@ -91,10 +92,10 @@ unfolding u32_text u64_text string_text events_at front sized_front head_at numb
 cut_taken_is = refl
 
 -- the first three records are told, and then the place of the event that is cut
-pub cut_run : (hosts : Hosts) → verdict hosts (PublicKey (login_key, []) None) ≡ Ok true → run_of hosts 8192 (take 219 login) ≡ stopped_with (take 3 login_records) (refused (errors.BadEvent 206))
-cut_run hosts accepts =
-    run_by hosts 8192 (take 219 login) (take 4 login_events) (stopped_with (take 3 login_records) (refused (errors.BadEvent 206))) (bad 206) cut_taken_is cut_is
-    (accepted_from hosts _ (bad 206) _ accepts (requested_from hosts [] (bad 206) (stopped_with [] (refused (errors.BadEvent 206))) (at_last hosts in_auth (bad 206))))
+pub cut_run : (hosts : Hosts) (accepts : Accepts) → verdict hosts (PublicKey (login_key, []) None) ≡ Ok true → run_of hosts accepts 8192 (take 219 login) ≡ stopped_with (take 3 login_records) (refused (errors.BadEvent 206))
+cut_run hosts accepts known =
+    run_by hosts accepts 8192 (take 219 login) (take 4 login_events) (stopped_with (take 3 login_records) (refused (errors.BadEvent 206))) (bad 206) cut_taken_is cut_is
+    (accepted_from hosts accepts _ (bad 206) _ known (requested_from hosts accepts [] (bad 206) (stopped_with [] (refused (errors.BadEvent 206))) (at_last hosts accepts in_auth (bad 206))))
 
 -- ---- the login where two events are allowed
 
@@ -103,10 +104,10 @@ unfolding u32_text u64_text string_text events_at front sized_front head_at numb
 more_taken_is = refl
 
 -- the first record is told, and then that the script is too long
-pub more_run : (hosts : Hosts) → verdict hosts (PublicKey (login_key, []) None) ≡ Ok true → run_of hosts 2 login ≡ stopped_with (take 1 login_records) (refused errors.ScriptTooLong)
-more_run hosts accepts =
-    run_by hosts 2 login (take 2 login_events) (stopped_with (take 1 login_records) (refused errors.ScriptTooLong)) more more_taken_is more_is
-    (accepted_from hosts [] more (stopped_with [] (refused errors.ScriptTooLong)) accepts (at_last hosts in_service more))
+pub more_run : (hosts : Hosts) (accepts : Accepts) → verdict hosts (PublicKey (login_key, []) None) ≡ Ok true → run_of hosts accepts 2 login ≡ stopped_with (take 1 login_records) (refused errors.ScriptTooLong)
+more_run hosts accepts known =
+    run_by hosts accepts 2 login (take 2 login_events) (stopped_with (take 1 login_records) (refused errors.ScriptTooLong)) more more_taken_is more_is
+    (accepted_from hosts accepts [] more (stopped_with [] (refused errors.ScriptTooLong)) known (at_last hosts accepts in_service more))
 
 -- ---- a second KEXINIT
 
@@ -124,18 +125,18 @@ twice_stop_is : stop_of 8192 twice ≡ whole
 unfolding u32_text u64_text stop front sized_front head_at number_at byte_at
 twice_stop_is = refl
 
-second_turn : (hosts : Hosts) → turn hosts exchanging (frame_of 13 kinds.PeerKexinit []) ≡ done (record { records = []; state = shut exchanging; next = stopped (refused (errors.OutOfTurn 13)) })
-unfolding turn event_of open_row asked_of
+second_turn : (hosts : Hosts) → opening_turn hosts exchanging (frame_of 13 kinds.PeerKexinit []) ≡ done (record { records = []; state = shut exchanging; next = stopped (refused (errors.OutOfTurn 13)) })
+unfolding opening_turn event_of open_row asked_of
 second_turn hosts = refl
 
 abbrev untimely_run : Run
 untimely_run = stopped_with [] (refused (errors.OutOfTurn 13))
 
-twice_from : (hosts : Hosts) → from hosts (start default_settings) twice_events whole ≡ untimely_run
-twice_from hosts =
-    step_by hosts (start default_settings) exchanging (frame_of 0 kinds.PeerKexinit []) (frame_of 13 kinds.PeerKexinit [] ∷ []) whole [] untimely_run (kexinit_turn hosts)
-    (by_first hosts exchanging (frame_of 13 kinds.PeerKexinit []) [] whole _ (second_turn hosts))
+twice_from : (hosts : Hosts) (accepts : Accepts) → from hosts accepts (start default_settings) twice_events whole ≡ untimely_run
+twice_from hosts accepts =
+    step_by hosts accepts (start default_settings) exchanging (frame_of 0 kinds.PeerKexinit []) (frame_of 13 kinds.PeerKexinit [] ∷ []) whole [] untimely_run (own_event refl refl) (kexinit_turn hosts)
+    (by_first hosts accepts exchanging (frame_of 13 kinds.PeerKexinit []) [] whole _ (own_event refl refl) (second_turn hosts))
 
 -- whatever the known hosts text, a second KEXINIT is out of turn
-pub twice_run : (hosts : Hosts) → run_of hosts 8192 twice ≡ untimely_run
-twice_run hosts = run_by hosts 8192 twice twice_events untimely_run whole twice_taken_is twice_stop_is (twice_from hosts)
+pub twice_run : (hosts : Hosts) (accepts : Accepts) → run_of hosts accepts 8192 twice ≡ untimely_run
+twice_run hosts accepts = run_by hosts accepts 8192 twice twice_events untimely_run whole twice_taken_is twice_stop_is (twice_from hosts accepts)

@@ -17,8 +17,9 @@ use Rattle.sshc_run.specs.declared.known_hosts_handler.HandlerError.{HandlerErro
 use Rattle.sshc_run.specs.Machine.{TurnOf, stop_next}
 use Rattle.sshc_run.specs.Outcome.{Ending, told, cut, unread, ending_of, stop_as}
 use Rattle.sshc_run.specs.RecordLines.{lines}
-use Rattle.sshc_run.specs.Turning.{step_answer, Took, CutBy, TakeAs, TakeGives}
+use Rattle.sshc_run.specs.Turning.{step_answer, Came, CutBy, TakeAs, TakeGives}
 use Rattle.sshc_run.proofs.Lines.{wrote_all}
+use Rattle.sshc_run.proofs.Longer.{wrote_longer}
 
 front_none : (part rest : List ℕ) → [] ≡ part ++ rest → part ≡ []
 front_none [] rest h = refl
@@ -30,30 +31,33 @@ module _ {S : Type 0} (asking : Asking (TurnOf S)) (gained : List SignCall) wher
   take_as cut t held now answer makes stop all = inr (t, makes, wrote_all held now (lines t.records) all)
   take_as unread t held now answer makes stop all = (t, makes, stop, all)
 
-  done_by : (t : TurnOf S) (s : S) (held now : Option (List ℕ)) (o : Option (Result Ended RunError)) → Makes asking gained t → stop_next t.next ≡ option_map stop_as o → now ≡ append held (lines t.records) → s ≡ t.state → TakeGives asking gained s held now o
-  done_by t s held now None makes stop all state = (t, makes, stop, all, state)
+  done_by : (t : TurnOf S) (s : S) (held now : Option (List ℕ)) (o : Option (Result Ended RunError)) → Makes asking gained t → stop_next t.next ≡ option_map stop_as o → now ≡ append held (lines t.records) → (stop_next t.next ≡ None → s ≡ t.state) → TakeGives asking gained s held now o
+  done_by t s held now None makes stop all state = (t, makes, stop, all, state stop)
   done_by t s held now (Some answer) makes stop all state = take_as (ending_of answer) t held now answer makes stop all
 
   -- all records are written, and the run goes on or stops as the table says
   pub written_turn : (place : ℕ) (step : Step HandlerError) (s : S) (records : List Record) (held now : Option (List ℕ)) →
-      Took asking gained place step s records → now ≡ append held (lines records) → TakeGives asking gained s held now (step_answer place step)
-  written_turn place step s records held now (inl (none, want, first)) all =
+      Came asking gained place step s records → now ≡ append held (lines records) → TakeGives asking gained s held now (step_answer place step)
+  written_turn place step s records held now (inl (want, inl (first, none))) all =
       rw want (inl (first, all ∙ ap (λ rs. append held (lines rs)) none ∙ append-nothing held))
-  written_turn place step s records held now (inr (t, makes, same, state, stop)) all =
+  written_turn place step s records held now (inl (want, inr (t, makes, front))) all =
+      rw want (inr (t, makes, wrote_longer held now records t.records front (wrote_all held now (lines records) all)))
+  written_turn place step s records held now (inr (t, makes, same, stop, state)) all =
       done_by t s held now (step_answer place step) makes stop (all ∙ ap (λ rs. append held (lines rs)) same) state
 
   front_of : (place : ℕ) (step : Step HandlerError) (s : S) (records : List Record) (held now : Option (List ℕ)) →
-      Took asking gained place step s records → WroteFront held now (lines records) → CutBy asking gained held now
-  front_of place step s records held now (inl (none, want, first)) (part, rest, whole, wrote) =
+      Came asking gained place step s records → WroteFront held now (lines records) → CutBy asking gained held now
+  front_of place step s records held now (inl (want, inl (first, none))) (part, rest, whole, wrote) =
       let empty : [] ≡ part ++ rest = ap lines (sym none) ∙ whole in
       inl (first, wrote ∙ ap (append held) (front_none part rest empty) ∙ append-nothing held)
-  front_of place step s records held now (inr (t, makes, same, state, stop)) part = inr (t, makes, subst (λ (rs : List Record). WroteFront held now (lines rs)) same part)
+  front_of place step s records held now (inl (want, inr (t, makes, front))) part = inr (t, makes, wrote_longer held now records t.records front part)
+  front_of place step s records held now (inr (t, makes, same, stop, state)) part = inr (t, makes, subst (λ (rs : List Record). WroteFront held now (lines rs)) same part)
 
   -- a front of the records' lines is written
   pub cut_turn : (place : ℕ) (step : Step HandlerError) (s : S) (records : List Record) (held now : Option (List ℕ)) (failed : Failed) (e : RunError) →
-      Took asking gained place step s records → WroteFront held now (lines records) → e ≡ (elim failed [ failures.Fault ↦ errors.WriteFault | failures.NoMemory ↦ errors.NoMemory ]) → TakeGives asking gained s held now (Some (Err e))
-  cut_turn place step s records held now failures.Fault e took part is = rw is (front_of place step s records held now took part)
-  cut_turn place step s records held now failures.NoMemory e took part is = rw is (front_of place step s records held now took part)
+      Came asking gained place step s records → WroteFront held now (lines records) → e ≡ (elim failed [ failures.Fault ↦ errors.WriteFault | failures.NoMemory ↦ errors.NoMemory ]) → TakeGives asking gained s held now (Some (Err e))
+  cut_turn place step s records held now failures.Fault e came part is = rw is (front_of place step s records held now came part)
+  cut_turn place step s records held now failures.NoMemory e came part is = rw is (front_of place step s records held now came part)
 
 -- where the signer's list gained nothing
 pub unasked : {S : Type 0} (asking : Asking (TurnOf S)) (calls : List SignCall) (s : S) (held now : Option (List ℕ)) (o : Option (Result Ended RunError)) → TakeGives asking [] s held now o → TakeGives asking (since calls calls) s held now o

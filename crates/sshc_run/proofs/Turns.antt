@@ -18,24 +18,17 @@ use Rattle.sshc_opening.specs.declared.step.Step.{Step}
 use Rattle.sshc_opening.specs.declared.step.Step.TheVariants as steps
 use Rattle.sshc_opening.specs.declared.step.Told.{Told}
 use Rattle.sshc_opening.specs.declared.step.Told.TheVariants as telling
-use Rattle.sshc_opening.specs.OpeningState.{OpeningState, shut}
+use Rattle.sshc_opening.specs.OpeningState.{shut}
 use Rattle.sshc_opening.specs.OpeningTable.{open_row, asked_of}
 use Rattle.sshc_opening.specs.Row.{Row, Span, Adds, Steps}
 use Rattle.sshc_opening.specs.Stepping.{Lent, span_of, gained, GateAnswers, gate_answers, Adds as GateAdds, exchange_in, told_of, Tells, Judged, Answered, map_step, GateRefused, StepsTold, StepsBy}
-use Rattle.sshc_script.specs.declared.error.EventError.{EventError}
-use Rattle.sshc_script.specs.declared.error.EventError.TheVariants as reads
-use Rattle.sshc_script.specs.EventReading.{event_of}
-use Rattle.sshc_script.specs.Gives.{Fails}
-use Rattle.sshc_script.specs.Script.{Frame}
 use Rattle.sshc_run.specs.declared.error.RunError.{RunError}
 use Rattle.sshc_run.specs.declared.error.RunError.TheVariants as errors
 use Rattle.sshc_run.specs.declared.known_hosts_handler.HandlerError.{HandlerError}
 use Rattle.sshc_run.specs.declared.known_hosts_handler.HandlerError.TheVariants.{Client, Key}
 use Rattle.sshc_run.specs.KnownHosts.{Hosts, verdict, Judges, AddsNothing}
-use Rattle.sshc_run.specs.Turn.{Turn, row_turn, judged_turn, asked_turn, event_turn, turn, stops, handler_error_of}
-use Rattle.sshc_run.specs.Turning.{Took, TakeGives}
-use Rattle.sshc_run.specs.Unbuilt.{is_built}
-use Rattle.sshc_run.proofs.Taken.{unasked as none_taken, stops_turn}
+use Rattle.sshc_run.specs.Turn.{Turn, row_turn, judged_turn, asked_turn, stops, handler_error_of}
+use Rattle.sshc_run.specs.Turning.{Took}
 
 -- ---- a step
 
@@ -161,28 +154,3 @@ module _ (hosts : Hosts) (place : ℕ) (event : Event) (was is : Lent) (result :
   pub step_took : StepsBy (hosts_gate hosts) event was is result → Took (asked_turn hosts place was.opening event (asked_of was.opening event)) (gained was is) place result is.opening is.outbox.records
   step_took (inl refused) = memory_took (asked_turn hosts place was.opening event (asked_of was.opening event)) (Client auths.NoMemory) was.outbox none refl refused
   step_took (inr (told, mid, answered, does)) = asked_took (asked_of was.opening event) told mid answered does
-
--- ---- before a step
-
-pub unbuilt_turn : (hosts : Hosts) (s : OpeningState) (frame : Frame) (calls : List SignCall) (held : Option (List ℕ)) → is_built frame.kind s ≡ false → TakeGives (turn hosts s frame) (since calls calls) s held held (Some (Err (errors.Unbuilt frame.place)))
-unfolding turn
-unbuilt_turn hosts s frame calls held unbuilt = rw unbuilt (stops_turn (stops s (errors.Unbuilt frame.place)) s calls held (errors.Unbuilt frame.place) refl refl)
-
-turn_of : (hosts : Hosts) (s : OpeningState) (frame : Frame) → is_built frame.kind s ≡ true → turn hosts s frame ≡ event_turn hosts frame.place s (event_of frame.kind frame.fields)
-unfolding turn
-turn_of hosts s frame built = rw built refl
-
-pub event_taken : (hosts : Hosts) (s : OpeningState) (frame : Frame) (event : Event) → is_built frame.kind s ≡ true → event_of frame.kind frame.fields ≡ Ok event →
-    turn hosts s frame ≡ asked_turn hosts frame.place s event (asked_of s event)
-event_taken hosts s frame event built is = turn_of hosts s frame built ∙ ap (event_turn hosts frame.place s) is
-
-read_failed : (hosts : Hosts) (place : ℕ) (s : OpeningState) (read : Result Event EventError) (calls : List SignCall) (held : Option (List ℕ)) (x : EventError) (e : RunError) → Fails x read →
-    e ≡ (elim x [ reads.NoMemory ↦ errors.NoMemory | reads.Bad ↦ errors.BadEvent place ]) → TakeGives (event_turn hosts place s read) (since calls calls) s held held (Some (Err e))
-read_failed hosts place s read calls held reads.NoMemory e fails is = rw is (none_taken (event_turn hosts place s read) calls s held held (Some (Err errors.NoMemory)) (inl (none_first (event_turn hosts place s read), refl)))
-read_failed hosts place s read calls held reads.Bad e fails is = rw (is, fails) (stops_turn (stops s (errors.BadEvent place)) s calls held (errors.BadEvent place) refl refl)
-
-pub unread_turn : (hosts : Hosts) (s : OpeningState) (frame : Frame) (calls : List SignCall) (held : Option (List ℕ)) (x : EventError) (e : RunError) → is_built frame.kind s ≡ true →
-    Fails x (event_of frame.kind frame.fields) → e ≡ (elim x [ reads.NoMemory ↦ errors.NoMemory | reads.Bad ↦ errors.BadEvent frame.place ]) →
-    TakeGives (turn hosts s frame) (since calls calls) s held held (Some (Err e))
-unread_turn hosts s frame calls held x e built fails is =
-    rw (turn_of hosts s frame built) (read_failed hosts frame.place s (event_of frame.kind frame.fields) calls held x e fails is)

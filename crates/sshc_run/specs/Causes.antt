@@ -1,19 +1,21 @@
 -- Why a run ends: by the state that its table comes to, the event there, and what the known hosts text says.
--- No row of the opening table is named here, so that an error made in the table and in the code shows; why the opening refuses or ends
--- is said by its state and the event (sshc_opening, Causes).
-use Rattle.std.specs.Prelude.{◌≡◌, ◌⊎◌, ℕ, true, false, List, Option, Some, Result, Ok, Err, Bool}
+-- No row of the tables is named here, so that an error made in a table and in the code shows; why a session refuses or ends is said by its
+-- state and the event (sshc_opening, Causes; sshc_session_laws, OpenCauses).
+use Rattle.std.specs.Prelude.{◌≡◌, ℕ, false, List, Option, Some, Result, Ok, Err, Bool}
 use Rattle.sshc_key.specs.declared.error.Error.TheVariants as key_errors
 use Rattle.sshc_key.specs.Asking.{Answer}
 use Rattle.sshc_event.specs.HostKey.{host_key}
 use Rattle.sshc_event.specs.declared.event.Event.{Event}
 use Rattle.sshc_transport.specs.declared.exchange.ExchangeResult.{ExchangeResult}
-use Rattle.sshc_opening.specs.Causes.{IsCause, IsEndCause}
+use Rattle.sshc_opening.specs.Causes.{IsEndCause}
 use Rattle.sshc_opening.specs.declared.ended.Ended.{Ended}
 use Rattle.sshc_opening.specs.declared.error.Error.{Error}
 use Rattle.sshc_opening.specs.declared.error.Error.TheVariants as auths
 use Rattle.sshc_opening.specs.declared.opening.Phase.TheVariants as phases
-use Rattle.sshc_opening.specs.declared.opening.Settings.{Settings}
-use Rattle.sshc_opening.specs.OpeningState.{OpeningState, start}
+use Rattle.sshc_packets.specs.HostKeyProof.{Accepts}
+use Rattle.sshc_moves.specs.SessionState.{SessionState}
+use Rattle.sshc_session.specs.Start.{new_session}
+use Rattle.sshc_session_laws.specs.OpenCauses.{IsSessionCause}
 use Rattle.sshc_script.specs.declared.error.EventError.TheVariants as reads
 use Rattle.sshc_run.specs.declared.error.RunError.{RunError}
 use Rattle.sshc_run.specs.declared.error.RunError.TheVariants as errors
@@ -25,7 +27,8 @@ use Rattle.sshc_run.specs.KnownHosts.{Hosts}
 use Rattle.sshc_run.specs.Machine.{RunStop, ended, refused, unanswered_stop}
 use Rattle.sshc_run.specs.Outcome.{stop_as}
 use Rattle.sshc_script.specs.EventReading.{event_of}
-use Rattle.sshc_run.specs.Turn.{turn}
+use Rattle.sshc_run.specs.Configured.{RunSettings}
+use Rattle.sshc_run.specs.SessionTurn.{run_turn}
 use Rattle.sshc_run.specs.Unbuilt.{IsUnbuiltAt}
 use Rattle.sshc_script.specs.Script.{Frame, taken, stop_of}
 
@@ -40,24 +43,24 @@ abbrev pub OnRead : Frame → (Event → Type 0) → Type 0
 OnRead frame Holds = (event : Event) × (event_of frame.kind frame.fields ≡ Ok event) × Holds event
 
 -- what the known hosts text says of the host key of the first exchange, which this event is
-abbrev pub IsSaid : Hosts → OpeningState → Frame → Result Bool HandlerError → Type 0
-IsSaid hosts s frame said = (s.phase ≡ phases.Exchanging) × OnRead frame (λ event. said_by hosts (Ok event) ≡ Some said)
+abbrev pub IsSaid : Hosts → SessionState → Frame → Result Bool HandlerError → Type 0
+IsSaid hosts s frame said = (s.opening.phase ≡ phases.Exchanging) × OnRead frame (λ event. said_by hosts (Ok event) ≡ Some said)
 
 -- an exchange has no host key, or the known hosts text says no to it
 abbrev pub SaysNo : Hosts → ExchangeResult → Type 0
 SaysNo hosts x = said_of_key hosts (host_key x.key) ≡ Ok false
 
--- the opening refuses the event with this error, for its cause
-abbrev pub IsRefusedBy : Hosts → OpeningState → Frame → Error → Type 0
-IsRefusedBy hosts s frame e = OnRead frame (λ event. IsCause (SaysNo hosts) s event e)
+-- the session refuses the event with this error, for its cause
+abbrev pub IsRefusedBy : Hosts → SessionState → Frame → Error → Type 0
+IsRefusedBy hosts s frame e = OnRead frame (λ event. IsSessionCause (SaysNo hosts) s event e)
 
 -- ---- causes
 
 -- why one event is refused; memory may run out at any time
-abbrev pub IsEventCause : Hosts → OpeningState → Frame → RunError → Type 0
+abbrev pub IsEventCause : Hosts → SessionState → Frame → RunError → Type 0
 IsEventCause hosts s frame errors.NoMemory = Unit {0}
 IsEventCause hosts s frame (errors.BadEvent at) = IsBadAt at frame
-IsEventCause hosts s frame (errors.Unbuilt at) = IsUnbuiltAt at s frame
+IsEventCause hosts s frame (errors.Unbuilt at) = IsUnbuiltAt at frame
 IsEventCause hosts s frame (errors.OutOfTurn at) = (frame.place ≡ at) × IsRefusedBy hosts s frame auths.OutOfTurn
 IsEventCause hosts s frame (errors.KeyChanged line) = IsSaid hosts s frame (Err (Key (key_errors.KeyChanged line)))
 IsEventCause hosts s frame errors.Decode = IsSaid hosts s frame (Err (Key key_errors.Decode))
@@ -72,23 +75,24 @@ IsEventCause hosts s frame errors.NotAuthenticated = IsRefusedBy hosts s frame a
 IsEventCause hosts s frame errors.SshEncoding = IsRefusedBy hosts s frame auths.SshEncoding
 IsEventCause hosts s frame errors.InvalidDisconnect = IsRefusedBy hosts s frame auths.InvalidDisconnect
 IsEventCause hosts s frame errors.RecvError = IsRefusedBy hosts s frame auths.RecvError
+IsEventCause hosts s frame errors.KeepaliveTimeout = IsRefusedBy hosts s frame auths.KeepaliveTimeout
 IsEventCause hosts s frame errors.InactivityTimeout = IsRefusedBy hosts s frame auths.InactivityTimeout
 IsEventCause hosts s frame e = ⊥
 
 -- why a run stops with an event: it is refused, or it ends the session
-abbrev pub IsStopCause : Hosts → OpeningState → Frame → RunStop → Type 0
+abbrev pub IsStopCause : Hosts → SessionState → Frame → RunStop → Type 0
 IsStopCause hosts s frame (refused e) = IsEventCause hosts s frame e
-IsStopCause hosts s frame (ended e) = OnRead frame (λ event. IsEndCause s event e)
+IsStopCause hosts s frame (ended e) = OnRead frame (λ event. IsEndCause s.opening event e)
 IsStopCause hosts s frame unanswered_stop = ⊥
 
 -- an answer's cause, by the script's first events, what stands behind them and the signer's answers; memory may run out at any time, and faults of reading
 -- and writing have their own clauses
-abbrev pub HasCauseIn : Hosts → Settings → ℕ → List Answer → List ℕ → Result Ended RunError → Type 0
-HasCauseIn hosts settings max answers script (Err errors.NoMemory) = Unit {0}
-HasCauseIn hosts settings max answers script (Err errors.ReadFault) = Unit {0}
-HasCauseIn hosts settings max answers script (Err errors.WriteFault) = Unit {0}
-HasCauseIn hosts settings max answers script answer = CausedBy (turn hosts) (start settings) (IsStopCause hosts) (taken max script) (stop_of max script) answers (stop_as answer)
+abbrev pub HasCauseIn : Hosts → Accepts → RunSettings → ℕ → List Answer → List ℕ → Result Ended RunError → Type 0
+HasCauseIn hosts accepts settings max answers script (Err errors.NoMemory) = Unit {0}
+HasCauseIn hosts accepts settings max answers script (Err errors.ReadFault) = Unit {0}
+HasCauseIn hosts accepts settings max answers script (Err errors.WriteFault) = Unit {0}
+HasCauseIn hosts accepts settings max answers script answer = CausedBy (run_turn hosts accepts) (new_session settings.session settings.opening) (IsStopCause hosts) (taken max script) (stop_of max script) answers (stop_as answer)
 
 -- each answer has its cause in the whole script
-abbrev pub IsCaused : Hosts → Settings → ℕ → List Answer → Option (List ℕ) → Result Ended RunError → Type 0
-IsCaused hosts settings max answers script answer = (bytes : List ℕ) → script ≡ Some bytes → HasCauseIn hosts settings max answers bytes answer
+abbrev pub IsCaused : Hosts → Accepts → RunSettings → ℕ → List Answer → Option (List ℕ) → Result Ended RunError → Type 0
+IsCaused hosts accepts settings max answers script answer = (bytes : List ℕ) → script ≡ Some bytes → HasCauseIn hosts accepts settings max answers bytes answer

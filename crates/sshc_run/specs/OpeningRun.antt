@@ -1,7 +1,7 @@
 -- The opening run: a table folded over the events of a script until it opens the session.
 -- A fold over a whole list; the code takes one event at a time.
 use Rattle.std.specs.Prelude.{◌≡◌, List, [], ◌∷◌}
-use Rattle.sshc_key.specs.Asking.{Answer, asked_on}
+use Rattle.sshc_key.specs.Asking.{Always, Answer, asked_on}
 use Rattle.sshc_run.specs.Firsts.{IsFront}
 use Rattle.sshc_run.specs.Machine.{RunStop, unanswered_stop, Onward, goes_on, opened, stopped, TurnOf, Turns}
 use Rattle.sshc_script.specs.Script.{Frame, ScriptStop}
@@ -39,11 +39,12 @@ Concluded turn st o through r = r ≡ record { records = o.records; calls = o.ca
 
 -- ---- a larger machine that begins as the opening
 
--- until the table opens the session, the machine's turns are the table's, with what is kept seen so; where it opens the session, the
--- table's records come first, and the machine goes on from a state of its own
-pub record Continues {A : Type 0} {B : Type 0} (short : Turns A) (long : Turns B) (as_kept : A → B) : Type 0 where
+-- Until the table opens the session, which holds of each state that it goes on from, the machine's turns are the table's, with what is kept
+-- seen so. Where the table opens the session, its records come first, and the machine goes on from a state of its own.
+pub record Continues {A : Type 0} {B : Type 0} (short : Turns A) (long : Turns B) (as_kept : A → B) (Before : A → Type 0) : Type 0 where
   pub turn_of : TurnOf A → TurnOf B
-  pub same : (s : A) (frame : Frame) → long (as_kept s) frame ≡ asked_on turn_of (short s frame)
+  pub same : (s : A) (frame : Frame) → Before s → long (as_kept s) frame ≡ asked_on turn_of (short s frame)
+  pub stays : (s : A) (frame : Frame) → Before s → Always (λ (t : TurnOf A). t.next ≡ goes_on → Before t.state) (short s frame)
   pub on : (t : TurnOf A) → t.next ≡ goes_on → turn_of t ≡ record { records = t.records; state = as_kept t.state; next = goes_on }
   pub opens : (t : TurnOf A) → t.next ≡ opened → IsFront t.records (turn_of t).records × ((turn_of t).next ≡ opened)
   pub stops : (t : TurnOf A) (stop : RunStop) → t.next ≡ stopped stop → ((turn_of t).records ≡ t.records) × ((turn_of t).next ≡ stopped stop)

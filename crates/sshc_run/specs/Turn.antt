@@ -1,6 +1,6 @@
--- What one event of a script gives: its records, what is kept then, and whether the run goes on.
+-- What one event of a script gives before the session is open: its records, what is kept then, and whether the run goes on.
 -- A table by cases over the opening's rows; the code asks the gate and applies the row.
-use Rattle.std.specs.Prelude.{ℕ, Bool, true, false, [], Result, Ok, Err, if◌then◌else◌}
+use Rattle.std.specs.Prelude.{ℕ, Bool, true, false, [], Result, Ok, Err}
 use Rattle.sshc_key.specs.declared.error.Error.{Error as KeyError}
 use Rattle.sshc_key.specs.declared.error.Error.TheVariants as key_errors
 use Rattle.sshc_key.specs.Asking.{Asking, done, asked_on}
@@ -21,10 +21,8 @@ use Rattle.sshc_run.specs.declared.error.RunError.TheVariants as errors
 use Rattle.sshc_run.specs.declared.known_hosts_handler.HandlerError.{HandlerError}
 use Rattle.sshc_run.specs.declared.known_hosts_handler.HandlerError.TheVariants.{Client, Key}
 use Rattle.sshc_run.specs.KnownHosts.{Hosts, verdict}
-use Rattle.sshc_run.specs.Unbuilt.{is_built}
 use Rattle.sshc_run.specs.Machine.{goes_on, opened, stopped, ended, refused, TurnOf, Turns, Machine}
 use Rattle.sshc_script.specs.EventReading.{event_of}
-use Rattle.sshc_script.specs.Script.{Frame}
 
 -- ---- errors, as the run tells them
 
@@ -64,7 +62,7 @@ abbrev pub Turn : Type 0
 Turn = TurnOf OpeningState
 
 -- the run stops with nothing said
-abbrev pub stops : OpeningState → RunError → Turn
+abbrev pub stops : {S : Type 0} → S → RunError → TurnOf S
 stops s e = record { records = []; state = s; next = stopped (refused e) }
 
 -- the turn of a row, by what becomes of the opening
@@ -96,15 +94,10 @@ event_turn hosts place s (Ok event) = asked_turn hosts place s event (asked_of s
 event_turn hosts place s (Err reads.Bad) = done (stops s (errors.BadEvent place))
 event_turn hosts place s (Err reads.NoMemory) = done (stops s errors.NoMemory)
 
--- an event that is built, by its fields
-abbrev pub built_turn : Bool → Hosts → OpeningState → Frame → Asking Turn
-built_turn true hosts s frame = event_turn hosts frame.place s (event_of frame.kind frame.fields)
-built_turn false hosts s frame = done (stops s (errors.Unbuilt frame.place))
-
--- the turn of an event
-unfoldable pub turn : Hosts → Turns OpeningState
-turn hosts s frame = built_turn (is_built frame.kind s) hosts s frame
+-- the turn of an event, by its fields
+unfoldable pub opening_turn : Hosts → Turns OpeningState
+opening_turn hosts s frame = event_turn hosts frame.place s (event_of frame.kind frame.fields)
 
 -- the opening with its settings, as a machine
 abbrev pub opening_machine : Hosts → Settings → Machine OpeningState
-opening_machine hosts settings = record { first = start settings; turn = turn hosts }
+opening_machine hosts settings = record { first = start settings; turn = opening_turn hosts }

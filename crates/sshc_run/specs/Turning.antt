@@ -12,6 +12,7 @@ use Rattle.sshc_opening.specs.declared.step.Step.TheVariants as steps
 use Rattle.sshc_run.specs.declared.error.RunError.{RunError}
 use Rattle.sshc_run.specs.declared.error.RunError.TheVariants as errors
 use Rattle.sshc_run.specs.declared.known_hosts_handler.HandlerError.{HandlerError}
+use Rattle.sshc_run.specs.Firsts.{IsFront}
 use Rattle.sshc_run.specs.Handled.{Handled}
 use Rattle.sshc_run.specs.KnownHosts.{Hosts}
 use Rattle.sshc_run.specs.Machine.{TurnOf, stop_next}
@@ -33,7 +34,18 @@ step_answer place (steps.Ended e) = Some (Ok e)
 step_answer place (steps.Refused e) = Some (Err (handler_error_of place e))
 step_answer place steps.Closed = Some (Err errors.Inconsistent)
 
--- a step is the turn, by the calls that the signer's list gained, or memory ran out and it said nothing
+-- memory ran out: not all calls were made and nothing was said, or all were and some of what the turn says was said
+abbrev pub RanOut : {S : Type 0} → Asking (TurnOf S) → List SignCall → List Record → Type 0
+RanOut {S = S} asking gained records =
+    (MakesFirst asking gained × (records ≡ [])) ⊎ ((t : TurnOf S) × Makes asking gained t × IsFront records t.records)
+
+-- a step came to the turn, by the calls that the signer's list gained, and where the run goes on to its state; or memory ran out
+abbrev pub Came : {S : Type 0} → Asking (TurnOf S) → List SignCall → ℕ → Step HandlerError → S → List Record → Type 0
+Came {S = S} asking gained place step s records =
+    ((step_answer place step ≡ Some (Err errors.NoMemory)) × RanOut asking gained records)
+    ⊎ ((t : TurnOf S) × Makes asking gained t × (records ≡ t.records) × (stop_next t.next ≡ option_map stop_as (step_answer place step)) × (stop_next t.next ≡ None → s ≡ t.state))
+
+-- a step of the opening is the turn, by the calls that the signer's list gained, or memory ran out and it said nothing
 abbrev pub Took : {S : Type 0} → Asking (TurnOf S) → List SignCall → ℕ → Step HandlerError → S → List Record → Type 0
 Took {S = S} asking gained place step s records =
     ((records ≡ []) × (step_answer place step ≡ Some (Err errors.NoMemory)) × MakesFirst asking gained)

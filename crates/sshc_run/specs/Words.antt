@@ -1,5 +1,5 @@
 -- The command-line arguments, the line that tells how a run was answered, and the status.
-use Rattle.std.specs.Prelude.{◌≡◌, ◌⊎◌, ℕ, ◌≤◌, Bool, true, false, List, [], ◌∷◌, ◌++◌, Option, Result, Ok, Err, codes}
+use Rattle.std.specs.Prelude.{◌≡◌, ◌⊎◌, ℕ, Bool, true, false, List, [], ◌∷◌, ◌++◌, Option, None, Result, Ok, Err, codes}
 use Rattle.std.specs.Fmt.{decimal}
 use Rattle.sshc_wire.specs.Contents.{IsFound}
 use Rattle.sshc_wire.specs.Faults.{Rose}
@@ -9,14 +9,16 @@ use Rattle.sshc_hosts.specs.HostText.{host_text}
 use Rattle.sshc_opening.specs.declared.ended.Ended.{Ended}
 use Rattle.sshc_opening.specs.declared.ended.Ended.TheVariants as ends
 use Rattle.sshc_opening.specs.declared.opening.Settings.{Settings}
+use Rattle.sshc_packets.specs.HostKeyProof.{Accepts}
 use Rattle.sshc_run.specs.declared.error.RunError.{RunError}
 use Rattle.sshc_run.specs.declared.error.RunError.TheVariants as errors
 use Rattle.sshc_words.specs.Adding.{Adds}
 use Rattle.sshc_words.specs.Port.{IsPort}
+use Rattle.sshc_run.specs.Configured.{RunSettings}
 use Rattle.sshc_run.specs.Outcome.{Streams, Ends}
 use Rattle.sshc_run.specs.RunFaults.{FaultCounts, FaultsAnswered}
 use Rattle.sshc_run.specs.ScriptRun.{Run, script_run}
-use Rattle.sshc_run.specs.Turn.{opening_machine}
+use Rattle.sshc_run.specs.SessionTurn.{run_machine}
 
 -- ---- the words
 
@@ -117,6 +119,9 @@ IsKnownText files path known = IsFound files path (found.Text known) ⊎ (IsFoun
 abbrev pub default_settings : Settings
 default_settings = record { window_size = 2097152; anonymous = false; inactivity = false }
 
+abbrev pub default_run : RunSettings
+default_run = record { opening = default_settings; session = record { max_packet_size = 32768; keepalive_interval = None; keepalive_max = 3 } }
+
 abbrev pub default_events : ℕ
 default_events = 8192
 
@@ -128,12 +133,12 @@ RunsBy table before now was is status =
     × Tells answer mid now.held between is.writes status
 
 -- the table of a run by words
-abbrev pub words_table : List ℕ → ℕ → List ℕ → List Answer → List ℕ → Run
-words_table host port known = script_run (opening_machine (record { host = host_text host port; known = known }) default_settings) default_events
+abbrev pub words_table : Accepts → List ℕ → ℕ → List ℕ → List Answer → List ℕ → Run
+words_table accepts host port known = script_run (run_machine (record { host = host_text host port; known = known }) accepts default_run) default_events
 
 -- what the words `script HOST PORT KNOWN` give: the run over the known hosts text, or a line that tells why there is none
-abbrev pub ScriptGives : List ℕ → ℕ → List ℕ → Option (List (List ℕ × List ℕ)) → Streams → Streams → FaultCounts → FaultCounts → ℕ → ℕ → ℕ → Type 0
-ScriptGives host port path files before now was is fails fails' status =
-    ((known : List ℕ) × IsKnownText files path known × RunsBy (words_table host port known) before now was is status)
+abbrev pub ScriptGives : Accepts → List ℕ → ℕ → List ℕ → Option (List (List ℕ × List ℕ)) → Streams → Streams → FaultCounts → FaultCounts → ℕ → ℕ → ℕ → Type 0
+ScriptGives accepts host port path files before now was is fails fails' status =
+    ((known : List ℕ) × IsKnownText files path known × RunsBy (words_table accepts host port known) before now was is status)
     ⊎ ((IsFound files path found.NotText ⊎ Rose fails fails') × (now.left ≡ before.left) × (is.reads ≡ was.reads) × Adds (codes "error known-file" ++ 10 ∷ []) 3 before.held now.held was.writes is.writes status)
     ⊎ ((now.left ≡ before.left) × (is.reads ≡ was.reads) × Adds (answer_line (Err errors.NoMemory)) 20 before.held now.held was.writes is.writes status)

@@ -4,9 +4,12 @@
 mod config;
 mod error;
 mod known_hosts_handler;
+mod point;
 mod record_lines;
 mod run;
+mod stepping;
 mod turn;
+mod unasked;
 mod unbuilt;
 mod words;
 

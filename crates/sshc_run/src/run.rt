@@ -6,36 +6,46 @@ ghost use Rattle.sshc_wire.specs.Faults.{Rose};
 ghost use Rattle.sshc_hosts.specs.HostText.{host_text};
 ghost use Rattle.sshc_key.specs.Signers.{since};
 ghost use Rattle.sshc_run.specs.Causes.{IsCaused};
-ghost use Rattle.sshc_run.specs.Configured.{settings_of};
+ghost use Rattle.sshc_run.specs.ChannelRuns.{AreAccounted};
+ghost use Rattle.sshc_run.specs.Configured.{run_settings_of, settings_of};
 ghost use Rattle.sshc_run.specs.Headline.{IsGated, IsPrefix, IsDone, IsKept, IsComplete};
+ghost use Rattle.sshc_run.specs.OpenAnswers.{OpensAreAnswered};
 ghost use Rattle.sshc_run.specs.OpeningFirst.{IsOpeningFirst, IsOpeningDone, IsOpeningComplete};
 ghost use Rattle.sshc_run.specs.Outcome.{streams, Ends};
 ghost use Rattle.sshc_run.specs.ScriptRun.{script_run, answers_since, run, spot};
 ghost use Rattle.sshc_run.specs.SessionPart.{session_own, IsAgentCause};
-ghost use Rattle.sshc_run.specs.Turn.{opening_machine, turn};
+ghost use Rattle.sshc_run.specs.Ready.{IsReady};
+ghost use Rattle.sshc_run.specs.ReplyOrder.{AreInOrder};
+ghost use Rattle.sshc_run.specs.SessionTurn.{run_machine, run_turn};
+ghost use Rattle.sshc_run.specs.Turn.{opening_machine};
 ghost use Rattle.sshc_run.specs.Turning.{hosts_of};
 
 use crate::config::Config;
 use crate::error::RunError;
 use crate::known_hosts_handler::KnownHostsHandler;
-use crate::turn::{Point, at_limit, let_go, one_turn};
+use crate::point::Point;
+use crate::turn::{at_limit, let_go, one_turn};
 use sshc_key::{LocalSigner, Verifier};
+use sshc_moves::session_laws;
+use sshc_mux::account;
 use sshc_opening::Ended;
 use sshc_wire::{NoMemory, Sink, Source};
 use std::alloc::Global;
 
 /// Takes events from where a run stands, at most so many.
-fn take_turns<S: Source, G: LocalSigner, K: Sink>(
+fn take_turns<S: Source, G: LocalSigner, V: Verifier, K: Sink>(
     alloc: Global,
     max_events: u32,
     at: &mut Point,
     gate: &mut KnownHostsHandler,
     source: &mut S,
     signer: &mut G,
+    verifier: &V,
     sink: &mut K,
 ) -> Result<Ended, RunError>
     requires room { at.old.place ≡ 0 }
-    ensures run { Ends max_events at.old.place at.old.last (run (turn (hosts_of gate.old)) max_events (spot at.old.place at.old.last at.old.opening))
+    requires ready { IsReady at.old.opened at.old.session }
+    ensures run { Ends max_events at.old.place at.old.last (run (run_turn (hosts_of gate.old) (V.accepts verifier.now)) max_events (spot at.old.place at.old.last at.old.session))
         (streams (S.left source.old) (K.contents sink.old) (S.reads source.old) (G.calls signer.old))
         (streams (S.left source.new) (K.contents sink.new) (S.reads source.new) (G.calls signer.new)) result }
     ensures read_later { S.faults source.old ≤ S.faults source.new }
@@ -49,7 +59,7 @@ fn take_turns<S: Source, G: LocalSigner, K: Sink>(
     ensures write_told { (result ≡ Err RunError.WriteFault → ⊥) → K.faults sink.new ≡ K.faults sink.old }
 {
     for turn in 0..max_events {
-        if let Some(answer) = one_turn(alloc, at, gate, source, signer, sink) {
+        if let Some(answer) = one_turn(alloc, at, gate, source, signer, verifier, sink) {
             return answer;
         }
     }
@@ -57,15 +67,16 @@ fn take_turns<S: Source, G: LocalSigner, K: Sink>(
 }
 
 /// Takes the events of a script, at most so many.
-fn run_events<S: Source, G: LocalSigner, K: Sink>(
+fn run_events<S: Source, G: LocalSigner, V: Verifier, K: Sink>(
     alloc: Global,
     config: &Config,
     gate: &mut KnownHostsHandler,
     source: &mut S,
     signer: &mut G,
+    verifier: &V,
     sink: &mut K,
 ) -> Result<Ended, RunError>
-    ensures run { Ends config.now.max_events 0 0 (script_run (opening_machine (hosts_of gate.old) (settings_of config.now)) config.now.max_events)
+    ensures run { Ends config.now.max_events 0 0 (script_run (run_machine (hosts_of gate.old) (V.accepts verifier.now) (run_settings_of config.now)) config.now.max_events)
         (streams (S.left source.old) (K.contents sink.old) (S.reads source.old) (G.calls signer.old))
         (streams (S.left source.new) (K.contents sink.new) (S.reads source.new) (G.calls signer.new)) result }
     ensures read_later { S.faults source.old ≤ S.faults source.new }
@@ -86,6 +97,7 @@ fn run_events<S: Source, G: LocalSigner, K: Sink>(
         gate,
         source,
         signer,
+        verifier,
         sink,
     );
     let_go(at);
@@ -101,32 +113,42 @@ pub fn run_script<S: Source, K: Sink, G: LocalSigner, V: Verifier>(
     port: u16,
     known: &str,
     signer: &mut G,
-    _verifier: &V,
+    verifier: &V,
     source: &mut S,
     sink: &mut K,
 ) -> Result<Ended, RunError>
-    // What was given, what was written, what the signer was asked and what is answered, by the opening table over the script's events.
-    ensures run { Ends config.now.max_events 0 0 (script_run (opening_machine (record { host = host_text host.now port; known = known.now }) (settings_of config.now)) config.now.max_events)
+    // What was given, what was written, what the signer was asked and what is answered, by the tables over the script's events.
+    ensures run { Ends config.now.max_events 0 0 (script_run (run_machine (record { host = host_text host.now port; known = known.now }) (V.accepts verifier.now) (run_settings_of config.now)) config.now.max_events)
         (streams (S.left source.old) (K.contents sink.old) (S.reads source.old) (G.calls signer.old))
         (streams (S.left source.new) (K.contents sink.new) (S.reads source.new) (G.calls signer.new)) result }
     // No payload is written, not even in part, unless the known hosts text accepts the host key of the first exchange.
     ensures gate { IsGated (record { host = host_text host.now port; known = known.now }) config.now.max_events
         (S.left source.old) (S.left source.new) (K.contents sink.old) (K.contents sink.new) }
     // What is written is a front of the lines of the whole script's records, however the run ends.
-    ensures prefix { IsPrefix (script_run (opening_machine (record { host = host_text host.now port; known = known.now }) (settings_of config.now)) config.now.max_events (answers_since (G.calls signer.old) (G.calls signer.new)))
+    ensures prefix { IsPrefix (script_run (run_machine (record { host = host_text host.now port; known = known.now }) (V.accepts verifier.now) (run_settings_of config.now)) config.now.max_events (answers_since (G.calls signer.old) (G.calls signer.new)))
         (S.left source.old) (K.contents sink.old) (K.contents sink.new) }
     // Ok is the end of the whole script by the table, and all its records are written.
-    ensures done { IsDone (script_run (opening_machine (record { host = host_text host.now port; known = known.now }) (settings_of config.now)) config.now.max_events (answers_since (G.calls signer.old) (G.calls signer.new)))
+    ensures done { IsDone (script_run (run_machine (record { host = host_text host.now port; known = known.now }) (V.accepts verifier.now) (run_settings_of config.now)) config.now.max_events (answers_since (G.calls signer.old) (G.calls signer.new)))
         (S.left source.old) (S.left source.new) (K.contents sink.old) (K.contents sink.new) result }
     // Every error but WriteFault and NoMemory has all records of the events before it, and those of its own row.
-    ensures kept { IsKept (script_run (opening_machine (record { host = host_text host.now port; known = known.now }) (settings_of config.now)) config.now.max_events (answers_since (G.calls signer.old) (G.calls signer.new)))
+    ensures kept { IsKept (script_run (run_machine (record { host = host_text host.now port; known = known.now }) (V.accepts verifier.now) (run_settings_of config.now)) config.now.max_events (answers_since (G.calls signer.old) (G.calls signer.new)))
         (S.left source.old) (S.left source.new) (K.contents sink.old) (K.contents sink.new) result }
     // A script that the table refuses no event of is answered so, or with out of memory, where nothing fails.
-    ensures complete { IsComplete (script_run (opening_machine (record { host = host_text host.now port; known = known.now }) (settings_of config.now)) config.now.max_events (answers_since (G.calls signer.old) (G.calls signer.new)))
+    ensures complete { IsComplete (script_run (run_machine (record { host = host_text host.now port; known = known.now }) (V.accepts verifier.now) (run_settings_of config.now)) config.now.max_events (answers_since (G.calls signer.old) (G.calls signer.new)))
         (S.left source.old) (S.faults source.old) (S.faults source.new) (K.faults sink.old) (K.faults sink.new) result }
     // Each end and each error comes by its cause: a state that the table comes to and the event there, or what stands behind the events.
-    ensures causes { IsCaused (record { host = host_text host.now port; known = known.now }) (settings_of config.now) config.now.max_events
+    ensures causes { IsCaused (record { host = host_text host.now port; known = known.now }) (V.accepts verifier.now) (run_settings_of config.now) config.now.max_events
         (answers_since (G.calls signer.old) (G.calls signer.new)) (S.left source.old) result }
+    // At each state that the run comes to, our global requests that were answered are the first of those written, in order.
+    ensures replies { AreInOrder (record { host = host_text host.now port; known = known.now }) (V.accepts verifier.now) (run_settings_of config.now) config.now.max_events
+        (answers_since (G.calls signer.old) (G.calls signer.new)) (S.left source.old) }
+    // At each state that the run comes to, each channel has its account: the channels are where the calls of the rows lead, and the packets of
+    // channels that the open session says are those of these calls.
+    ensures channels { AreAccounted (record { host = host_text host.now port; known = known.now }) (V.accepts verifier.now) (run_settings_of config.now) config.now.max_events
+        (answers_since (G.calls signer.old) (G.calls signer.new)) (S.left source.old) }
+    // An open of ours is answered where it waits, with its own ticket, and waits no more.
+    ensures opens { OpensAreAnswered (record { host = host_text host.now port; known = known.now }) (V.accepts verifier.now) (run_settings_of config.now) config.now.max_events
+        (answers_since (G.calls signer.old) (G.calls signer.new)) (S.left source.old) }
     // The session records that are written are a front of the opening table's outputs or, once that table opens the session, all of them
     // followed by more, whatever events of agents stand in between.
     ensures opening { IsOpeningFirst (opening_machine (record { host = host_text host.now port; known = known.now }) (settings_of config.now)) session_own config.now.max_events (since (G.calls signer.old) (G.calls signer.new))
@@ -150,8 +172,10 @@ pub fn run_script<S: Source, K: Sink, G: LocalSigner, V: Verifier>(
     ensures write_fault { result ≡ Err RunError.WriteFault → Rose (K.faults sink.old) (K.faults sink.new) }
     ensures write_told { (result ≡ Err RunError.WriteFault → ⊥) → K.faults sink.new ≡ K.faults sink.old }
 {
+    session_laws();
+    account();
     match KnownHostsHandler::new(alloc, host, port, known) {
-        Ok(mut gate) => run_events(alloc, config, &mut gate, source, signer, sink),
+        Ok(mut gate) => run_events(alloc, config, &mut gate, source, signer, verifier, sink),
         Err(NoMemory) => Err(RunError::NoMemory),
     }
 }

@@ -4,57 +4,26 @@ ghost use Rattle.std.specs.Prelude.{◌≡◌, ◌≢◌, ◌+◌, ◌++◌, ◌
 ghost use Rattle.sshc_wire.specs.Contents.{WritesMove, WritesFor};
 ghost use Rattle.sshc_wire.specs.Faults.{Rose};
 ghost use Rattle.sshc_key.specs.Signers.{since};
-ghost use Rattle.sshc_opening.specs.OpeningTable.{asked_of};
-ghost use Rattle.sshc_opening.specs.OpeningState.{start};
-ghost use Rattle.sshc_run.specs.Configured.{settings_of};
 ghost use Rattle.sshc_run.specs.Outcome.{streams};
+ghost use Rattle.sshc_run.specs.Ready.{IsReady};
 ghost use Rattle.sshc_script.specs.Script.{frame_at, size_of};
 ghost use Rattle.sshc_run.specs.ScriptRun.{run, spot};
-ghost use Rattle.sshc_run.specs.Turn.{error_of, key_error_of, handler_error_of, asked_turn, event_turn, turn};
+ghost use Rattle.sshc_run.specs.SessionTurn.{run_turn, step_turn};
+ghost use Rattle.sshc_run.specs.Turn.{error_of, handler_error_of};
 ghost use Rattle.sshc_run.specs.Turning.{hosts_of, step_answer, TakeGives, TurnGives, LimitGives};
 
-use crate::config::Config;
 use crate::error::RunError;
 use crate::known_hosts_handler::{HandlerError, KnownHostsHandler};
+use crate::point::Point;
 use crate::record_lines::write_lines;
-use crate::unbuilt::is_built;
+use crate::stepping::step_session;
+use crate::unbuilt::is_session_kind;
 use sshc_event::Event;
-use sshc_key::LocalSigner;
-use sshc_opening::{Ended, Error, Opening, Step};
+use sshc_key::{LocalSigner, Verifier};
+use sshc_opening::{Ended, Error, Step};
 use sshc_script::{EventError, NextError, RawEvent, next_event, read_event};
-use sshc_wire::{Failed, Outbox, Sink, Source, read_up_to};
+use sshc_wire::{Failed, Sink, Source, read_up_to};
 use std::alloc::Global;
-
-/// Where a run stands: the opening, the place of the next event and the last moment. Its outbox keeps its room from turn
-/// to turn.
-#[derive(Debug, Drop)]
-pub struct Point {
-    pub opening: Opening,
-    pub place: u64,
-    pub last: u64,
-    pub out: Outbox,
-}
-
-impl Point {
-    /// Where a run begins.
-    pub fn at_start(alloc: Global, config: &Config) -> Point
-        ensures opening { result.opening ≡ start (settings_of config.now) }
-        ensures place { result.place ≡ 0 }
-        ensures last { result.last ≡ 0 }
-    {
-        Point {
-            opening: Opening::new(
-                alloc,
-                config.window_size,
-                config.anonymous,
-                config.inactivity_timeout.is_some(),
-            ),
-            place: 0,
-            last: 0,
-            out: Outbox::new(alloc),
-        }
-    }
-}
 
 fn error_at(place: u64, e: Error) -> RunError
     ensures { result ≡ error_of place e }
@@ -144,19 +113,21 @@ fn stop_at(place: u64, step: Step<HandlerError>) -> Option<Result<Ended, RunErro
     }
 }
 
-/// Steps the opening, and writes the records.
-fn step_event<G: LocalSigner, K: Sink>(
+/// Steps the session, and writes the records.
+fn step_event<G: LocalSigner, V: Verifier, K: Sink>(
     alloc: Global,
     at: &mut Point,
     event: &Event,
     gate: &mut KnownHostsHandler,
     signer: &mut G,
+    verifier: &V,
     sink: &mut K,
 ) -> Option<Result<Ended, RunError>>
-    requires fresh { at.old.opening.closed ≡ false }
-    ensures gives { TakeGives (asked_turn (hosts_of gate.old) at.old.place at.old.opening event.now (asked_of at.old.opening event.now))
-        (since (G.calls signer.old) (G.calls signer.new)) at.new.opening (K.contents sink.old) (K.contents sink.new) result }
+    requires ready { IsReady at.old.opened at.old.session }
+    ensures gives { TakeGives (step_turn at.old.opened (hosts_of gate.old) (V.accepts verifier.now) at.old.place at.old.session event.now)
+        (since (G.calls signer.old) (G.calls signer.new)) at.new.session (K.contents sink.old) (K.contents sink.new) result }
     ensures moved { (at.new.place ≡ at.old.place) × (at.new.last ≡ at.old.last) }
+    ensures ready { IfNone result (IsReady at.new.opened at.new.session) }
     ensures same { hosts_of gate.new ≡ hosts_of gate.old }
     ensures gained { G.calls signer.new ≡ G.calls signer.old ++ since (G.calls signer.old) (G.calls signer.new) }
     ensures moving_writes { IfNone result (K.empty_writes sink.new ≡ K.empty_writes sink.old) }
@@ -168,9 +139,9 @@ fn step_event<G: LocalSigner, K: Sink>(
     ensures write_told { (result ≡ Some (Err RunError.WriteFault) → ⊥) → K.faults sink.new ≡ K.faults sink.old }
     ensures no_read { result ≢ Some (Err RunError.ReadFault) }
 {
-    at.out.clear();
-    let step = at.opening.step(event, gate, signer, &mut at.out);
-    match write_lines(alloc, sink, &at.out) {
+    let step = step_session(at, event, gate, signer, verifier);
+    let said = at.session.take_records();
+    match write_lines(alloc, sink, &said) {
         Ok(()) => stop_at(at.place, step),
         Err(failed) => Some(Err(write_failed(failed))),
     }
@@ -180,17 +151,20 @@ fn step_event<G: LocalSigner, K: Sink>(
 pub(crate) fn let_go<T: Drop>(_value: T) {}
 
 /// Takes an event, and writes its records.
-fn take_event<G: LocalSigner, K: Sink>(
+fn take_event<G: LocalSigner, V: Verifier, K: Sink>(
     alloc: Global,
     at: &mut Point,
     event: &RawEvent,
     gate: &mut KnownHostsHandler,
     signer: &mut G,
+    verifier: &V,
     sink: &mut K,
 ) -> Option<Result<Ended, RunError>>
-    ensures gives { TakeGives (turn (hosts_of gate.old) at.old.opening (frame_at at.old.place event.now))
-        (since (G.calls signer.old) (G.calls signer.new)) at.new.opening (K.contents sink.old) (K.contents sink.new) result }
+    requires ready { IsReady at.old.opened at.old.session }
+    ensures gives { TakeGives (run_turn (hosts_of gate.old) (V.accepts verifier.now) at.old.session (frame_at at.old.place event.now))
+        (since (G.calls signer.old) (G.calls signer.new)) at.new.session (K.contents sink.old) (K.contents sink.new) result }
     ensures moved { (at.new.place ≡ at.old.place) × (at.new.last ≡ at.old.last) }
+    ensures ready { IfNone result (IsReady at.new.opened at.new.session) }
     ensures same { hosts_of gate.new ≡ hosts_of gate.old }
     ensures gained { G.calls signer.new ≡ G.calls signer.old ++ since (G.calls signer.old) (G.calls signer.new) }
     ensures moving_writes { IfNone result (K.empty_writes sink.new ≡ K.empty_writes sink.old) }
@@ -203,12 +177,12 @@ fn take_event<G: LocalSigner, K: Sink>(
     ensures no_read { result ≢ Some (Err RunError.ReadFault) }
 {
     let place = at.place;
-    if !is_built(event.kind(), &at.opening) {
+    if !is_session_kind(event.kind()) {
         return Some(Err(RunError::Unbuilt { at: place }));
     }
     match read_event(alloc, event.kind(), event.fields()) {
         Ok(event) => {
-            let answer = step_event(alloc, at, &event, gate, signer, sink);
+            let answer = step_event(alloc, at, &event, gate, signer, verifier, sink);
             let_go(event);
             answer
         }
@@ -217,18 +191,21 @@ fn take_event<G: LocalSigner, K: Sink>(
 }
 
 /// Reads and takes one event.
-pub fn one_turn<S: Source, G: LocalSigner, K: Sink>(
+pub fn one_turn<S: Source, G: LocalSigner, V: Verifier, K: Sink>(
     alloc: Global,
     at: &mut Point,
     gate: &mut KnownHostsHandler,
     source: &mut S,
     signer: &mut G,
+    verifier: &V,
     sink: &mut K,
 ) -> Option<Result<Ended, RunError>>
-    requires { at.old.place + 262148 < 2 ^ 64 }
-    ensures gives { TurnGives (run (turn (hosts_of gate.old))) (spot at.old.place at.old.last at.old.opening) (spot at.new.place at.new.last at.new.opening)
+    requires room { at.old.place + 262148 < 2 ^ 64 }
+    requires ready { IsReady at.old.opened at.old.session }
+    ensures gives { TurnGives (run (run_turn (hosts_of gate.old) (V.accepts verifier.now))) (spot at.old.place at.old.last at.old.session) (spot at.new.place at.new.last at.new.session)
         (streams (S.left source.old) (K.contents sink.old) (S.reads source.old) (G.calls signer.old))
         (streams (S.left source.new) (K.contents sink.new) (S.reads source.new) (G.calls signer.new)) result }
+    ensures ready { IfNone result (IsReady at.new.opened at.new.session) }
     ensures same { hosts_of gate.new ≡ hosts_of gate.old }
     ensures read_later { S.faults source.old ≤ S.faults source.new }
     ensures moving_writes { IfNone result (K.empty_writes sink.new ≡ K.empty_writes sink.old) }
@@ -248,7 +225,7 @@ pub fn one_turn<S: Source, G: LocalSigner, K: Sink>(
         Ok(None) => return Some(Ok(Ended::ScriptEnd)),
         Err(e) => return Some(Err(next_error_at(at.place, e))),
     };
-    if let Some(answer) = take_event(alloc, at, &event, gate, signer, sink) {
+    if let Some(answer) = take_event(alloc, at, &event, gate, signer, verifier, sink) {
         return Some(answer);
     }
     at.place += event.size();

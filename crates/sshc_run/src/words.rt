@@ -176,7 +176,7 @@ fn run_default<S: Source, K: Sink, G: LocalSigner, V: Verifier>(
     source: &mut S,
     sink: &mut K,
 ) -> Result<Ended, RunError>
-    ensures run { Ends default_events 0 0 (words_table asked.now.host.now asked.now.port known.now)
+    ensures run { Ends default_events 0 0 (words_table (V.accepts verifier.now) asked.now.host.now asked.now.port known.now)
         (streams (S.left source.old) (K.contents sink.old) (S.reads source.old) (G.calls signer.old))
         (streams (S.left source.new) (K.contents sink.new) (S.reads source.new) (G.calls signer.new)) result }
     ensures faults { FaultsAnswered (fault_counts (S.faults source.old) (K.faults sink.old)) (fault_counts (S.faults source.new) (K.faults sink.new)) result }
@@ -199,7 +199,7 @@ fn run_told<S: Source, K: Sink, G: LocalSigner, V: Verifier>(
     source: &mut S,
     sink: &mut K,
 ) -> u8
-    ensures runs { RunsBy (words_table asked.now.host.now asked.now.port known.now)
+    ensures runs { RunsBy (words_table (V.accepts verifier.now) asked.now.host.now asked.now.port known.now)
         (streams (S.left source.old) (K.contents sink.old) (S.reads source.old) (G.calls signer.old))
         (streams (S.left source.new) (K.contents sink.new) (S.reads source.new) (G.calls signer.new))
         (fault_counts (S.faults source.old) (K.faults sink.old)) (fault_counts (S.faults source.new) (K.faults sink.new)) result }
@@ -219,7 +219,7 @@ fn run_script_words<F: Files, S: Source, K: Sink, G: LocalSigner, V: Verifier>(
     source: &mut S,
     sink: &mut K,
 ) -> u8
-    ensures gives { ScriptGives asked.now.host.now asked.now.port asked.now.path.now (F.contents files.old)
+    ensures gives { ScriptGives (V.accepts verifier.now) asked.now.host.now asked.now.port asked.now.path.now (F.contents files.old)
         (streams (S.left source.old) (K.contents sink.old) (S.reads source.old) (G.calls signer.old))
         (streams (S.left source.new) (K.contents sink.new) (S.reads source.new) (G.calls signer.new))
         (fault_counts (S.faults source.old) (K.faults sink.old)) (fault_counts (S.faults source.new) (K.faults sink.new))
@@ -279,7 +279,7 @@ pub fn run_words<F: Files, S: Source, K: Sink, G: LocalSigner, V: Verifier>(
 ) -> u8
     // `script HOST PORT KNOWN`: the run, and the line that tells its answer.
     ensures script { (host : List ℕ) (port : ℕ) (path : List ℕ) → IsScriptWords words.now host port path →
-        ScriptGives host port path (F.contents files.old)
+        ScriptGives (V.accepts verifier.now) host port path (F.contents files.old)
         (streams (S.left source.old) (K.contents sink.old) (S.reads source.old) (G.calls signer.old))
         (streams (S.left source.new) (K.contents sink.new) (S.reads source.new) (G.calls signer.new))
         (fault_counts (S.faults source.old) (K.faults sink.old)) (fault_counts (S.faults source.new) (K.faults sink.new))

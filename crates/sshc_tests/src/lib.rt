@@ -10,6 +10,8 @@ mod faults;
 #[cfg(test)]
 mod login;
 #[cfg(test)]
+mod opened;
+#[cfg(test)]
 mod outside;
 #[cfg(test)]
 mod scripts;

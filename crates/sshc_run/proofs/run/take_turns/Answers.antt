@@ -1,9 +1,9 @@
 use Rattle.std.proofs.Common.{arith, refl, subst, ap, ◌∙◌, ◌≡◌, ◌-◌, ℕ, Some}
 use Rattle.sshc_wire.specs.Contents.{no_writes, writes_on, writes_end, moved_for}
-use Rattle.sshc_opening.specs.OpeningState.{OpeningState}
+use Rattle.sshc_moves.specs.SessionState.{SessionState}
 use Rattle.sshc_run.specs.Outcome.{Streams, streams, Ends}
 use Rattle.sshc_run.specs.ScriptRun.{Spot, spot, run}
-use Rattle.sshc_run.specs.Turn.{turn}
+use Rattle.sshc_run.specs.SessionTurn.{run_turn}
 use Rattle.sshc_run.specs.Turning.{hosts_of}
 use Rattle.sshc_run.proofs.Coming.{along_none, along_more, along_ends, turn_ends}
 use Rattle.sshc_run.proofs.Going.{limit_ends}
@@ -12,10 +12,11 @@ use Rattle.sshc_run.proofs.run.take_turns.Goals as goal
 pub loop-turn-init : goal.loop-turn-init
 loop-turn-init g c =
     record {
-      along = along_none (run (turn (hosts_of c.args.gate.now))) (spot c.args.at.now.place c.args.at.now.last c.args.at.now.opening) c.args.max_events _ _ refl;
+      along = along_none (run (run_turn (hosts_of c.args.gate.now) (g.V.Verifier.accepts c.args.verifier.now))) (spot c.args.at.now.place c.args.at.now.last c.args.at.now.session) c.args.max_events _ _ refl;
       turns = omega arith;
       same = refl;
-      place = omega (arith, c.requires);
+      ready = c.requires.ready;
+      place = omega (arith, c.requires.room);
       moving = refl;
       moving_writes = refl;
       reads = refl;
@@ -23,15 +24,19 @@ loop-turn-init g c =
       writes = refl;
     }
 
-pub one_turn-requires : goal.one_turn-requires
-one_turn-requires g c = omega (arith, c.loop-turn.invariant.place)
+pub one_turn-requires-clause-room : goal.one_turn-requires-clause-room
+one_turn-requires-clause-room g c = omega (arith, c.loop-turn.invariant.place)
+
+pub one_turn-requires-clause-ready : goal.one_turn-requires-clause-ready
+one_turn-requires-clause-ready g c = c.loop-turn.invariant.ready
 
 pub loop-turn-preserved : goal.loop-turn-preserved
 loop-turn-preserved g c =
     let gives = rw c.loop-turn.invariant.same at c.in_default.ensures.gives in
     record {
-      along = along_more (run (turn (hosts_of c.args.gate.now))) (spot c.args.at.now.place c.args.at.now.last c.args.at.now.opening) c.args.max_events _ _ _ _ _ _ c.loop-turn-test.true c.loop-turn.invariant.along gives;
+      along = along_more (run (run_turn (hosts_of c.args.gate.now) (g.V.Verifier.accepts c.args.verifier.now))) (spot c.args.at.now.place c.args.at.now.last c.args.at.now.session) c.args.max_events _ _ _ _ _ _ c.loop-turn-test.true c.loop-turn.invariant.along gives;
       turns = omega (arith, c.loop-turn-test.true);
+      ready = c.in_default.ensures.ready;
       same = c.one_turn.ensures.same ∙ c.loop-turn.invariant.same;
       place = omega (arith, c.loop-turn.invariant.place, gives.4.within);
       moving = c.in_default.ensures.moving ∙ c.loop-turn.invariant.moving;
@@ -44,7 +49,7 @@ loop-turn-preserved g c =
 pub returns-in-Some-clause-run : goal.returns-in-Some-clause-run
 returns-in-Some-clause-run g c =
     let gives = rw c.loop-turn.invariant.same at c.in-Some.ensures.gives in
-    (turn_ends (run (turn (hosts_of c.args.gate.now))) (spot c.args.at.now.place c.args.at.now.last c.args.at.now.opening) c.args.max_events _ _ _ _ _ c.in-Some.answer c.loop-turn-test.true c.loop-turn.invariant.along gives)
+    (turn_ends (run (run_turn (hosts_of c.args.gate.now) (g.V.Verifier.accepts c.args.verifier.now))) (spot c.args.at.now.place c.args.at.now.last c.args.at.now.session) c.args.max_events _ _ _ _ _ c.in-Some.answer c.loop-turn-test.true c.loop-turn.invariant.along gives)
 
 pub returns-in-Some-clause-read_fault : goal.returns-in-Some-clause-read_fault
 returns-in-Some-clause-read_fault g c = λ e. let rose = c.in-Some.ensures.read_fault (ap Some e) in omega (arith, rose, c.loop-turn.invariant.reads)
@@ -55,11 +60,11 @@ returns-in-Some-clause-write_fault g c = λ e. let rose = c.in-Some.ensures.writ
 pub returns-clause-run : goal.returns-clause-run
 returns-clause-run g c =
     let none : 0 ≡ c.args.max_events - c.loop-turn.turn = omega (arith, c.loop-turn-test.false) in
-    let at : Spot OpeningState = spot c.loop-turn.at.place c.loop-turn.at.last c.loop-turn.at.opening in
+    let at : Spot SessionState = spot c.loop-turn.at.place c.loop-turn.at.last c.loop-turn.at.session in
     let now : Streams = streams (g.S.Source.left c.loop-turn.source) (g.K.Sink.contents c.loop-turn.sink) (g.S.Source.reads c.loop-turn.source) (g.G.LocalSigner.calls c.loop-turn.signer) in
-    let ends = limit_ends (turn (hosts_of c.args.gate.now)) at now (g.S.Source.left c.at_limit.new.source) (g.S.Source.reads c.at_limit.new.source) c.at_limit.result c.at_limit.ensures.gives c.at_limit.ensures.count in
-    (along_ends (run (turn (hosts_of c.args.gate.now))) (spot c.args.at.now.place c.args.at.now.last c.args.at.now.opening) c.args.max_events c.loop-turn.turn at _ now _ c.at_limit.result (omega (arith, c.loop-turn.invariant.turns)) c.loop-turn.invariant.along
-    (subst (λ (n : ℕ). Ends n at.place at.last (run (turn (hosts_of c.args.gate.now)) n at) now (record now { left = g.S.Source.left c.at_limit.new.source; reads = g.S.Source.reads c.at_limit.new.source }) c.at_limit.result) none ends))
+    let ends = limit_ends (run_turn (hosts_of c.args.gate.now) (g.V.Verifier.accepts c.args.verifier.now)) at now (g.S.Source.left c.at_limit.new.source) (g.S.Source.reads c.at_limit.new.source) c.at_limit.result c.at_limit.ensures.gives c.at_limit.ensures.count in
+    (along_ends (run (run_turn (hosts_of c.args.gate.now) (g.V.Verifier.accepts c.args.verifier.now))) (spot c.args.at.now.place c.args.at.now.last c.args.at.now.session) c.args.max_events c.loop-turn.turn at _ now _ c.at_limit.result (omega (arith, c.loop-turn.invariant.turns)) c.loop-turn.invariant.along
+    (subst (λ (n : ℕ). Ends n at.place at.last (run (run_turn (hosts_of c.args.gate.now) (g.V.Verifier.accepts c.args.verifier.now)) n at) now (record now { left = g.S.Source.left c.at_limit.new.source; reads = g.S.Source.reads c.at_limit.new.source }) c.at_limit.result) none ends))
 
 pub returns-in-Some-clause-writes : goal.returns-in-Some-clause-writes
 returns-in-Some-clause-writes g c = writes_end _ _ _ _ _ _ c.loop-turn.invariant.moved c.one_turn.ensures.writes

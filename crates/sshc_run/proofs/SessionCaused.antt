@@ -1,0 +1,138 @@
+-- Each turn of a run that stops it has its cause in the script's own words, and no turn says that the script is at its end.
+use Rattle.std.proofs.Common.{◌≡◌, ℕ, Bool, true, false, Result, Ok, Err, refl, ap, sym, ◌∙◌}
+use Rattle.sshc_key.specs.Asking.{Asking, done, asks, Always}
+use Rattle.sshc_key.specs.AskingLaws.{always_on}
+use Rattle.sshc_event.specs.declared.event.Event.{Event}
+use Rattle.sshc_opening.specs.declared.ended.Ended.TheVariants.{ScriptEnd}
+use Rattle.sshc_opening.specs.OpeningTable.{asked_of}
+use Rattle.sshc_packets.specs.HostKeyProof.{Accepts}
+use Rattle.sshc_moves.specs.declared.open_answer.OpenAnswer.TheVariants.{Accept}
+use Rattle.sshc_moves.specs.SessionRow.{Next, SessionRow, ends, goes, refuses}
+use Rattle.sshc_moves.specs.SessionState.{SessionState, is_open}
+use Rattle.sshc_moves.specs.SessionTable.{session_row}
+use Rattle.sshc_client.specs.Follows.{all_moves, default_opinions}
+use Rattle.sshc_session_laws.specs.KeptByMoves.{moves_keep}
+use Rattle.sshc_session_laws.specs.OpenCauseLaws.{NextCaused, RowHolds, all_keep, open_why, session_holds}
+use Rattle.sshc_script.specs.declared.error.EventError.{EventError}
+use Rattle.sshc_script.specs.declared.error.EventError.TheVariants as reads
+use Rattle.sshc_script.specs.EventReading.{event_of}
+use Rattle.sshc_script.specs.Script.{Frame}
+use Rattle.sshc_run.specs.Causes.{IsStopCause}
+use Rattle.sshc_run.specs.Comes.{StopsFor, GoesOnIn}
+use Rattle.sshc_run.specs.KnownHosts.{Hosts}
+use Rattle.sshc_run.specs.Machine.{Onward, goes_on, opened, stopped, ended, IsNoEnd, NeverAtEnd}
+use Rattle.sshc_run.specs.SessionPart.{is_session_kind}
+use Rattle.sshc_run.specs.SessionTurn.{SessionTurn, in_session, onward, row_turn, step_turn, read_turn, session_turn, built_turn, run_turn}
+use Rattle.sshc_run.specs.Turn.{Turn, asked_turn}
+use Rattle.sshc_run.proofs.Caused.{refusal_shows, event_shows, asked_never}
+use Rattle.sshc_run.proofs.OverRuns.{Shows}
+use Rattle.sshc_run.proofs.Unopened.{Leaves, TurnLeaves, asked_leaves}
+
+always_two : {A : Type 0} (P Q : A → Type 0) (asking : Asking A) → Always P asking → Always Q asking → Always (λ (x : A). P x × Q x) asking
+always_two P Q (done x) one other = (one, other)
+always_two P Q (asks asked on) one other = λ answer. always_two P Q (on answer) (one answer) (other answer)
+
+-- before the session is open its opening isn't closed
+abbrev pub IsUnclosed : SessionState → Type 0
+IsUnclosed s = is_open s.opening.phase ≡ false → s.opening.closed ≡ false
+
+-- ---- rows of an open session
+
+-- an open session is unclosed
+open_unclosed : (s : SessionState) → is_open s.opening.phase ≡ true → IsUnclosed s
+open_unclosed s is = λ un. let clash : true ≡ false = sym is ∙ un in absurd cc
+
+module _ (hosts : Hosts) (accepts : Accepts) (w : SessionState) (frame : Frame) (event : Event) (read : event_of frame.kind frame.fields ≡ Ok event) where
+  next_shows : (next : Next) → is_open w.opening.phase ≡ true → NextCaused (open_why w event) next → StopsFor (IsStopCause hosts w frame) (onward frame.place next)
+  next_shows goes is caused = tt
+  next_shows (ends e) is caused = (event, read, caused)
+  next_shows (refuses e) is caused = refusal_shows hosts w frame event read true e is caused
+
+  goes_by : (s : SessionState) (next : Next) → IsUnclosed s → GoesOnIn IsUnclosed s (onward frame.place next)
+  goes_by s goes un = un
+  goes_by s (ends e) un = tt
+  goes_by s (refuses e) un = tt
+
+  -- the phase is as it was behind the row's moves
+  row_unclosed : (row : SessionRow) → is_open w.opening.phase ≡ true → RowHolds (open_why w event) row → IsUnclosed (row_turn frame.place w row).state
+  row_unclosed row is holds =
+      let kept = moves_keep (all_moves row) w (all_keep (open_why w event) row Accept holds) in
+      open_unclosed (row_turn frame.place w row).state (ap is_open kept.phase ∙ is)
+
+  abbrev ShowsSo : SessionTurn → Type 0
+  ShowsSo t = StopsFor (IsStopCause hosts w frame) t.next × GoesOnIn IsUnclosed t.state t.next
+
+  row_shows : is_open w.opening.phase ≡ true → ShowsSo (row_turn frame.place w (session_row accepts (default_opinions w) w event))
+  row_shows is =
+      let row : SessionRow = session_row accepts (default_opinions w) w event in
+      let holds = session_holds accepts (default_opinions w) w event is in
+      (next_shows row.next is holds.caused, goes_by (row_turn frame.place w row).state row.next (row_unclosed row is holds))
+
+  -- ---- before that
+
+  leaves_unclosed : (t : Turn) (next : Onward) → w.opening.closed ≡ false → Leaves w.opening.closed next t.state → GoesOnIn IsUnclosed (in_session w t).state next
+  leaves_unclosed t goes_on fresh so = λ un. so.0 ∙ fresh
+  leaves_unclosed t opened fresh so = open_unclosed (in_session w t).state so
+  leaves_unclosed t (stopped stop) fresh so = tt
+
+  unopened_shows : is_open w.opening.phase ≡ false → w.opening.closed ≡ false → Always ShowsSo (step_turn false hosts accepts frame.place w event)
+  unopened_shows un fresh =
+      let asking : Asking Turn = asked_turn hosts frame.place w.opening event (asked_of w.opening event) in
+      always_on (λ (t : Turn). StopsFor (IsStopCause hosts w frame) t.next × TurnLeaves w.opening.closed t) ShowsSo (in_session w) asking
+      (λ t both. (both.0, leaves_unclosed t t.next fresh both.1))
+      (always_two (λ (t : Turn). StopsFor (IsStopCause hosts w frame) t.next) (TurnLeaves w.opening.closed) asking (event_shows hosts w frame event read un fresh)
+      (asked_leaves hosts frame.place w.opening un event (asked_of w.opening event)))
+
+  step_shows : (b : Bool) → is_open w.opening.phase ≡ b → IsUnclosed w → Always ShowsSo (step_turn b hosts accepts frame.place w event)
+  step_shows true is un = row_shows is
+  step_shows false is un = unopened_shows is (un is)
+
+-- ---- every turn
+
+module _ (hosts : Hosts) (accepts : Accepts) where
+  read_shows : (w : SessionState) (frame : Frame) (read : Result Event EventError) → event_of frame.kind frame.fields ≡ read → IsUnclosed w →
+      Always (λ (t : SessionTurn). StopsFor (IsStopCause hosts w frame) t.next × GoesOnIn IsUnclosed t.state t.next) (read_turn hosts accepts frame.place w read)
+  read_shows w frame (Ok event) is un = step_shows hosts accepts w frame event is (is_open w.opening.phase) refl un
+  read_shows w frame (Err reads.Bad) is un = ((refl, is), tt)
+  read_shows w frame (Err reads.NoMemory) is un = (tt, tt)
+
+  built_shows : (w : SessionState) (frame : Frame) (mine : Bool) → is_session_kind frame.kind ≡ mine → IsUnclosed w →
+      Always (λ (t : SessionTurn). StopsFor (IsStopCause hosts w frame) t.next × GoesOnIn IsUnclosed t.state t.next) (built_turn mine hosts accepts w frame)
+  unfolding session_turn
+  built_shows w frame true is un = read_shows w frame (event_of frame.kind frame.fields) refl un
+  built_shows w frame false is un = ((refl, is), tt)
+
+  -- every turn of a run
+  pub run_shows : (w : SessionState) (frame : Frame) → IsUnclosed w → Shows (run_turn hosts accepts) (IsStopCause hosts) IsUnclosed w frame
+  unfolding run_turn
+  run_shows w frame un = built_shows w frame (is_session_kind frame.kind) refl un
+
+  -- ---- no turn says that the script is at its end
+
+  onward_never : (w : SessionState) (event : Event) (place : ℕ) (next : Next) → NextCaused (open_why w event) next → onward place next ≡ stopped (ended ScriptEnd) → ⊥
+  onward_never w event place goes caused is = cc
+  onward_never w event place (ends ScriptEnd) never is = never
+  onward_never w event place (ends e) caused is = cc
+  onward_never w event place (refuses e) caused is = cc
+
+  step_never : (b : Bool) (w : SessionState) (place : ℕ) (event : Event) → is_open w.opening.phase ≡ b → Always IsNoEnd (step_turn b hosts accepts place w event)
+  step_never true w place event is =
+      let row : SessionRow = session_row accepts (default_opinions w) w event in
+      onward_never w event place row.next (session_holds accepts (default_opinions w) w event is).caused
+  step_never false w place event is =
+      always_on IsNoEnd IsNoEnd (in_session w) (asked_turn hosts place w.opening event (asked_of w.opening event)) (λ t never. never)
+      (asked_never hosts place w.opening event (asked_of w.opening event))
+
+  read_never : (w : SessionState) (place : ℕ) (read : Result Event EventError) → Always IsNoEnd (read_turn hosts accepts place w read)
+  read_never w place (Ok event) = step_never (is_open w.opening.phase) w place event refl
+  read_never w place (Err reads.Bad) = λ is. cc
+  read_never w place (Err reads.NoMemory) = λ is. cc
+
+  built_never : (w : SessionState) (frame : Frame) (mine : Bool) → Always IsNoEnd (built_turn mine hosts accepts w frame)
+  unfolding session_turn
+  built_never w frame true = read_never w frame.place (event_of frame.kind frame.fields)
+  built_never w frame false = λ is. cc
+
+  pub never_at_end : NeverAtEnd (run_turn hosts accepts)
+  unfolding run_turn
+  never_at_end = λ w frame. built_never w frame (is_session_kind frame.kind)

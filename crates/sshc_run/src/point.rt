@@ -1,0 +1,47 @@
+//! Where a run stands.
+
+ghost use Rattle.std.specs.Prelude.{◌≡◌, false};
+ghost use Rattle.sshc_session.specs.Start.{new_session};
+ghost use Rattle.sshc_run.specs.Configured.{run_settings_of};
+
+use crate::config::Config;
+use sshc_client::Session;
+use sshc_moves::SessionSettings;
+use sshc_opening::Settings;
+use std::alloc::Global;
+
+/// Where a run stands: the session, whether it is open, the place of the next event and the last moment.
+#[derive(Debug, Drop)]
+pub struct Point {
+    pub session: Session,
+    pub opened: bool,
+    pub place: u64,
+    pub last: u64,
+}
+
+impl Point {
+    /// Where a run begins.
+    pub fn at_start(alloc: Global, config: &Config) -> Point
+        ensures session { result.session ≡ new_session (run_settings_of config.now).session (run_settings_of config.now).opening }
+        ensures opened { result.opened ≡ false }
+        ensures place { result.place ≡ 0 }
+        ensures last { result.last ≡ 0 }
+    {
+        let settings = SessionSettings {
+            max_packet_size: config.maximum_packet_size,
+            keepalive_interval: config.keepalive_interval,
+            keepalive_max: config.keepalive_max,
+        };
+        let opening = Settings {
+            window_size: config.window_size,
+            anonymous: config.anonymous,
+            inactivity: config.inactivity_timeout.is_some(),
+        };
+        Point {
+            session: Session::new(alloc, settings, opening),
+            opened: false,
+            place: 0,
+            last: 0,
+        }
+    }
+}
