@@ -1,0 +1,3 @@
+mod Talking
+mod Quiet
+mod Reading

@@ -1,0 +1,227 @@
+-- What the calls of one connection are: which inputs they take from the bytes that were read, how questions are answered, what is
+-- written, and why they end (draft-miller-ssh-agent, section 3).
+-- Said of whole lists of calls and bytes; the code keeps a buffer and one open question.
+use Rattle.std.specs.Prelude.{◌≡◌, ◌≤◌, ◌⊎◌, ℕ, Bool, true, false, List, [], ◌∷◌, ◌++◌, Option, Some, None, Result, Ok, Err}
+use Rattle.sshc_wire.specs.declared.error.NoMemory.{NoMemory}
+use Rattle.sshc_wire.specs.declared.message_type.MessageType.{MessageType}
+use Rattle.sshc_wire.specs.Contents.{IsAtEnd, append, prepend}
+use Rattle.sshc_wire.specs.Faults.{Rose}
+use Rattle.sshc_agent.specs.declared.input.AgentInput.{AgentInput}
+use Rattle.sshc_agent.specs.declared.input.AgentInput.TheVariants as inputs
+use Rattle.sshc_agent.specs.declared.input.AgentOutput.{AgentOutput}
+use Rattle.sshc_agent.specs.declared.input.AgentOutput.TheVariants as outputs
+use Rattle.sshc_agent.specs.AgentFrames.{FrameBytes, Gives, next_in, no_bytes, pushed}
+use Rattle.sshc_shared.specs.declared.call.Call.{Call}
+use Rattle.sshc_shared.specs.Kept.{SeatState}
+use Rattle.sshc_serve.specs.declared.turn.Next.{Next}
+use Rattle.sshc_serve.specs.declared.turn.Next.TheVariants as steps
+
+-- ---- questions
+
+pub data Question : Type 0 where
+  -- whether a request of this kind is allowed
+  request : MessageType → Question
+  -- whether the key of this blob may sign
+  key : List ℕ → Question
+
+abbrev pub question : AgentOutput → Option Question
+question (outputs.AskRequest message) = Some (request message)
+question (outputs.AskKey blob) = Some (key blob)
+question output = None
+
+-- what may be answered to the one question, and to the other
+abbrev pub Allows : Type 1
+Allows = MessageType → Bool → Type 0
+
+abbrev pub Confirms : Type 1
+Confirms = List ℕ → Bool → Type 0
+
+-- an answer is given just to the question that is open, and is one that may be given
+abbrev pub FitsQuestion : Allows → Confirms → Option Question → AgentInput → Type 0
+FitsQuestion allows confirms None (inputs.RequestAnswer told) = ⊥
+FitsQuestion allows confirms None (inputs.KeyAnswer told) = ⊥
+FitsQuestion allows confirms None input = Unit {0}
+FitsQuestion allows confirms (Some (request message)) (inputs.RequestAnswer told) = allows message told
+FitsQuestion allows confirms (Some (key blob)) (inputs.KeyAnswer told) = confirms blob told
+FitsQuestion allows confirms (Some asked) input = ⊥
+
+-- each answer is the call right after its question, and each question but the last call's has one; `after` is left open
+abbrev pub Follows : Allows → Confirms → Option Question → List Call → Option Question → Type 0
+Follows allows confirms asked [] after = after ≡ asked
+Follows allows confirms asked (call ∷ calls) after = FitsQuestion allows confirms asked call.input × Follows allows confirms (question call.output) calls after
+
+-- ---- inputs and answers
+
+-- an input that frames give
+abbrev pub framed : AgentInput → List AgentInput
+framed (inputs.Frame whole) = inputs.Frame whole ∷ []
+framed (inputs.Oversize length) = inputs.Oversize length ∷ []
+framed input = []
+
+abbrev pub framed_in : List Call → List AgentInput
+framed_in [] = []
+framed_in (call ∷ calls) = framed call.input ++ framed_in calls
+
+-- an answer that is written
+abbrev pub reply : AgentOutput → List ℕ
+reply (outputs.Answer frame) = frame
+reply output = []
+
+abbrev pub replies_of : List Call → List ℕ
+replies_of [] = []
+replies_of (call ∷ calls) = reply call.output ++ replies_of calls
+
+abbrev pub IsClose : AgentInput → Type 0
+IsClose inputs.Close = Unit {0}
+IsClose input = ⊥
+
+-- the connection isn't closed by one of these calls
+abbrev pub NoneCloses : List Call → Type 0
+NoneCloses [] = Unit {0}
+NoneCloses (call ∷ calls) = (IsClose call.input → ⊥) × NoneCloses calls
+
+-- only the last call may close it
+abbrev pub ClosesLast : List Call → Type 0
+ClosesLast [] = Unit {0}
+ClosesLast (call ∷ []) = Unit {0}
+ClosesLast (call ∷ next ∷ calls) = (IsClose call.input → ⊥) × ClosesLast (next ∷ calls)
+
+-- the agent closed the connection
+abbrev pub IsClosed : AgentOutput → Type 0
+IsClosed (outputs.Closed cause) = Unit {0}
+IsClosed output = ⊥
+
+-- ---- a connection
+
+-- what is seen of a stream: the bytes left and held, where it tells them, and its counts of faults
+pub record StreamSeen : Type 0 where
+  pub left : Option (List ℕ)
+  pub held : Option (List ℕ)
+  pub read_faults : ℕ
+  pub write_faults : ℕ
+
+abbrev pub seen : Option (List ℕ) → Option (List ℕ) → ℕ → ℕ → StreamSeen
+seen left held read_faults write_faults = record { left = left; held = held; read_faults = read_faults; write_faults = write_faults }
+
+abbrev pub RanOut : Result (Unit {0}) NoMemory → Type 0
+RanOut (Ok done) = ⊥
+RanOut (Err e) = Unit {0}
+
+-- why a connection's calls end
+pub data Ending (before after : StreamSeen) (seat seat' : SeatState) (added : List Call) (rest : FrameBytes) (result : Result (Unit {0}) NoMemory) : Type 0 where
+  starved : RanOut result → Ending before after seat seat' added rest result
+  read_failed : Rose before.read_faults after.read_faults → Ending before after seat seat' added rest result
+  write_failed : Rose before.write_faults after.write_faults → Ending before after seat seat' added rest result
+  -- a call was refused
+  refused : Rose seat.refused seat'.refused → Ending before after seat seat' added rest result
+  -- the agent closed the connection by the last answer
+  closed : (calls : List Call) (last : Call) → added ≡ calls ++ last ∷ [] → IsClosed last.output → Ending before after seat seat' added rest result
+  -- the source was read to its end, and all that its bytes give was taken
+  whole : next_in rest ≡ None → IsAtEnd after.left → Ending before after seat seat' added rest result
+
+-- what the calls of a connection are
+pub record Serves (allows : Allows) (confirms : Confirms) (before after : StreamSeen) (seat seat' : SeatState) (result : Result (Unit {0}) NoMemory) : Type 0 where
+  pub added : List Call
+  pub calls : seat'.calls ≡ seat.calls ++ added
+  pub conn : seat'.conn ≡ seat.conn
+  -- these bytes were read, and the calls take in order what their frames are, up to some place
+  pub given : List ℕ
+  pub read : before.left ≡ prepend given after.left
+  pub rest : FrameBytes
+  pub inputs : Gives (pushed no_bytes given) (framed_in added) rest
+  -- each question is answered by the next call, as the agent answered it; but the last where a call was refused or memory ran out
+  pub asked : Option Question
+  pub questions : Follows allows confirms None added asked
+  pub unanswered : (asked ≡ None) ⊎ (Rose seat.refused seat'.refused ⊎ RanOut result)
+  pub closes : ClosesLast added
+  -- what is written is the answers in order; or a front of them where a write failed or memory ran out
+  pub written : List ℕ
+  pub unwritten : List ℕ
+  pub held : after.held ≡ append before.held written
+  pub output : replies_of added ≡ written ++ unwritten
+  pub cut : (unwritten ≡ []) ⊎ (Rose before.write_faults after.write_faults ⊎ RanOut result)
+  pub ending : Ending before after seat seat' added rest result
+
+-- ---- on the way
+
+-- an open question has an answer that may be given
+abbrev pub Opens : Allows → Confirms → Option Question → Option AgentInput → Type 0
+Opens allows confirms None None = Unit {0}
+Opens allows confirms (Some asked) (Some answer) = FitsQuestion allows confirms (Some asked) answer
+Opens allows confirms asked answer = ⊥
+
+-- the calls so far, with what the frames still hold and the answer to the open question
+pub record Serving (allows : Allows) (confirms : Confirms) (before now : StreamSeen) (seat seat' : SeatState) (frames : FrameBytes) (answer : Option AgentInput) : Type 0 where
+  pub added : List Call
+  pub calls : seat'.calls ≡ seat.calls ++ added
+  pub conn : seat'.conn ≡ seat.conn
+  pub given : List ℕ
+  pub read : before.left ≡ prepend given now.left
+  pub inputs : Gives (pushed no_bytes given) (framed_in added) frames
+  pub asked : Option Question
+  pub questions : Follows allows confirms None added asked
+  pub opens : Opens allows confirms asked answer
+  pub none_closes : NoneCloses added
+  pub held : now.held ≡ append before.held (replies_of added)
+  pub read_later : before.read_faults ≤ now.read_faults
+  pub write_later : before.write_faults ≤ now.write_faults
+  pub unrefused : seat'.refused ≡ seat.refused
+
+-- what reading more comes to: bytes that are pushed, or none where the source ended or failed
+abbrev pub ReadsMore : FrameBytes → FrameBytes → StreamSeen → StreamSeen → Result Bool NoMemory → Type 0
+ReadsMore frames frames' before after (Ok true) = (piece : List ℕ) × (before.left ≡ prepend piece after.left) × (frames' ≡ pushed frames piece)
+ReadsMore frames frames' before after (Ok false) = (before.left ≡ after.left) × (frames' ≡ frames) × (Rose before.read_faults after.read_faults ⊎ IsAtEnd after.left)
+ReadsMore frames frames' before after (Err e) = (piece : List ℕ) × (before.left ≡ prepend piece after.left)
+
+-- the bytes that were read so far, all of which were pushed
+pub record ReadSoFar (frames frames' : FrameBytes) (before after : StreamSeen) : Type 0 where
+  pub given : List ℕ
+  pub read : before.left ≡ prepend given after.left
+  pub kept : frames' ≡ pushed frames given
+
+-- the next input from the stream; none where the source ended or failed, and then no frame is left
+abbrev pub Fetches : FrameBytes → FrameBytes → StreamSeen → StreamSeen → Result (Option AgentInput) NoMemory → Type 0
+Fetches frames frames' before after (Ok (Some input)) = (given : List ℕ) × (before.left ≡ prepend given after.left) × (framed input ≡ input ∷ []) × (next_in (pushed frames given) ≡ Some (input, frames'))
+Fetches frames frames' before after (Ok None) = (given : List ℕ) × (before.left ≡ prepend given after.left) × (frames' ≡ pushed frames given) × (next_in frames' ≡ None) × (Rose before.read_faults after.read_faults ⊎ IsAtEnd after.left)
+Fetches frames frames' before after (Err e) = (given : List ℕ) × (before.left ≡ prepend given after.left)
+
+-- a call of this input was answered, and the seat has it
+pub record IsCall (seat seat' : SeatState) (input : AgentInput) (call : Call) : Type 0 where
+  pub given : call.input ≡ input
+  pub calls : seat'.calls ≡ seat.calls ++ call ∷ []
+  pub conn : seat'.conn ≡ seat.conn
+  pub unrefused : seat'.refused ≡ seat.refused
+
+-- a refused call leaves all but the count
+pub record IsRefused (seat seat' : SeatState) : Type 0 where
+  pub calls : seat'.calls ≡ seat.calls
+  pub conn : seat'.conn ≡ seat.conn
+  pub counted : Rose seat.refused seat'.refused
+
+-- a front of the piece was written
+abbrev pub WroteFront : StreamSeen → StreamSeen → List ℕ → Type 0
+WroteFront before after piece = (written rest : List ℕ) × (piece ≡ written ++ rest) × (after.held ≡ append before.held written)
+
+-- what follows an answer
+abbrev pub Answered : Allows → Confirms → StreamSeen → StreamSeen → AgentOutput → Next → Type 0
+Answered allows confirms before after output steps.Goes = (question output ≡ None) × (after.held ≡ append before.held (reply output))
+Answered allows confirms before after output (steps.Asks answer) =
+    (asked : Question) × (question output ≡ Some asked) × FitsQuestion allows confirms (Some asked) answer × (reply output ≡ []) × (after.held ≡ before.held)
+Answered allows confirms before after output steps.Refused = ⊥
+Answered allows confirms before after output steps.Closed = IsClosed output × (after.held ≡ before.held)
+Answered allows confirms before after output steps.WriteFailed = (question output ≡ None) × WroteFront before after (reply output) × Rose before.write_faults after.write_faults
+Answered allows confirms before after output steps.Starved = (question output ≡ None) × WroteFront before after (reply output)
+
+-- what one call comes to, by what follows it
+abbrev pub Turned : Allows → Confirms → AgentInput → StreamSeen → StreamSeen → SeatState → SeatState → Next → Type 0
+Turned allows confirms input before after seat seat' steps.Refused = IsRefused seat seat' × (after.held ≡ before.held)
+Turned allows confirms input before after seat seat' next = (call : Call) × IsCall seat seat' input call × Answered allows confirms before after call.output next
+
+-- the call of Close, for which nothing is asked or written; or it was refused
+abbrev pub Closes : SeatState → SeatState → Type 0
+Closes seat seat' = ((call : Call) × IsCall seat seat' inputs.Close call × (question call.output ≡ None) × (reply call.output ≡ [])) ⊎ IsRefused seat seat'
+
+-- what is called next: the answer to the open question, or the stream's next input
+abbrev pub Fetched : Option AgentInput → FrameBytes → FrameBytes → StreamSeen → StreamSeen → Result (Option AgentInput) NoMemory → Type 0
+Fetched (Some answer) frames frames' before after result = (result ≡ Ok (Some answer)) × (frames' ≡ frames) × (after ≡ before)
+Fetched None frames frames' before after result = Fetches frames frames' before after result

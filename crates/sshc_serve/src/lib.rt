@@ -1,0 +1,10 @@
+//! Serves a connection of a shared agent, over any stream.
+#![tactic(auto)]
+
+mod fetching;
+mod outside;
+mod serving;
+mod turn;
+
+pub use outside::{Agent, Clock, Listener, Pause};
+pub use serving::serve_one;

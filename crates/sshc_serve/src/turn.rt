@@ -1,0 +1,142 @@
+//! One call of a connection, and what follows its answer.
+
+ghost use Rattle.std.specs.Prelude.{◌≡◌, ◌≤◌, IfOk, OnErr, OnOk};
+ghost use Rattle.sshc_wire.specs.Contents.{WroteFront, append};
+ghost use Rattle.sshc_wire.specs.Faults.{HasCause};
+ghost use Rattle.sshc_shared.specs.declared.call.Call.{Call as Kept};
+ghost use Rattle.sshc_serve.specs.Talk.{Answered, Closes, IsCall, IsRefused, Turned, seen};
+
+use crate::outside::{Agent, Clock, Pause};
+use sshc_agent::{AgentInput, AgentOutput};
+use sshc_key::LocalSigner;
+use sshc_shared::{AgentShared, CallRefused, Seat};
+use sshc_wire::{AgentStream, Failed, write_whole};
+use std::sync::Wait;
+use std::sync::ledger::Ledger;
+
+/// What follows a call.
+#[derive(Debug, Drop)]
+pub(crate) enum Next {
+    /// The stream's next input.
+    Goes,
+    /// The answer to a question.
+    Asks(AgentInput),
+    /// Nothing: the call was refused.
+    Refused,
+    /// Nothing: the agent closed the connection.
+    Closed,
+    /// Nothing: the answer was written in part.
+    WriteFailed,
+    /// Nothing: memory ran out while the answer was written.
+    Starved,
+}
+
+/// Writes the answer, which leaves what is to be read.
+fn write_answer<S: AgentStream>(stream: &mut S, frame: &[u8]) -> Result<(), Failed>
+    ensures whole { OnOk result (S.contents stream.new ≡ append (S.contents stream.old) frame.now) }
+    ensures cut { OnErr result (WroteFront (S.contents stream.old) (S.contents stream.new) frame.now) }
+    ensures cause { HasCause (S.Sink.faults stream.old) (S.Sink.faults stream.new) result }
+    ensures unread { (S.left stream.new ≡ S.left stream.old) × (S.Source.faults stream.new ≡ S.Source.faults stream.old) }
+{
+    write_whole(stream, frame)
+}
+
+/// Writes an answer or asks the agent's user, outside the agent's lock.
+#[tactic(auto, using(crate::proofs::Talking::nothing_written))]
+fn follow<S: AgentStream, A: Agent>(output: AgentOutput, stream: &mut S, agent: &A) -> Next
+    ensures answered { Answered (A.allows agent.now) (A.confirms agent.now) (seen (S.left stream.old) (S.contents stream.old) (S.Source.faults stream.old) (S.Sink.faults stream.old))
+        (seen (S.left stream.new) (S.contents stream.new) (S.Source.faults stream.new) (S.Sink.faults stream.new)) output result }
+    ensures unread { (S.left stream.new ≡ S.left stream.old) × (S.Source.faults stream.new ≡ S.Source.faults stream.old) }
+    ensures later { S.Sink.faults stream.old ≤ S.Sink.faults stream.new }
+{
+    match output {
+        AgentOutput::Answer(frame) => match write_answer(stream, frame.as_slice()) {
+            Ok(()) => Next::Goes,
+            Err(Failed::Fault) => Next::WriteFailed,
+            Err(Failed::NoMemory) => Next::Starved,
+        },
+        AgentOutput::AskRequest(message) => {
+            Next::Asks(AgentInput::RequestAnswer(agent.confirm_request(message)))
+        }
+        AgentOutput::AskKey(blob) => {
+            Next::Asks(AgentInput::KeyAnswer(agent.confirm(blob.as_slice())))
+        }
+        AgentOutput::Nothing => Next::Goes,
+        AgentOutput::Closed(_) => Next::Closed,
+    }
+}
+
+/// The number of the seat's next call.
+fn next_number<L: Ledger>(seat: &Seat<L>) -> u32 {
+    u32::try_from(seat.calls().len()).unwrap_or(u32::MAX)
+}
+
+/// A call of the agent at the clock's moment.
+fn called<L: Ledger, G: LocalSigner, P: Pause, C: Clock, R: Wait>(
+    rt: &R,
+    shared: &AgentShared<L>,
+    seat: Seat<L>,
+    input: AgentInput,
+    signer: &mut G,
+    pause: &P,
+    clock: &mut C,
+) -> (Seat<L>, Result<AgentOutput, CallRefused>)
+    ensures call { IfOk result.1 (λ out. (call : Kept) × IsCall seat result.0 input call × (call.output ≡ out)) }
+    ensures refused { OnErr result.1 (IsRefused seat result.0) }
+{
+    pause.before(seat.conn(), next_number(&seat));
+    let now = clock.now();
+    shared.call(rt, seat, now, input, signer)
+}
+
+/// A call of the agent, and what follows its answer.
+pub(crate) fn turn<
+    L: Ledger,
+    S: AgentStream,
+    A: Agent,
+    G: LocalSigner,
+    P: Pause,
+    C: Clock,
+    R: Wait,
+>(
+    rt: &R,
+    shared: &AgentShared<L>,
+    seat: Seat<L>,
+    input: AgentInput,
+    stream: &mut S,
+    agent: &A,
+    signer: &mut G,
+    pause: &P,
+    clock: &mut C,
+) -> (Seat<L>, Next)
+    ensures turned { Turned (A.allows agent.now) (A.confirms agent.now) input (seen (S.left stream.old) (S.contents stream.old) (S.Source.faults stream.old) (S.Sink.faults stream.old))
+        (seen (S.left stream.new) (S.contents stream.new) (S.Source.faults stream.new) (S.Sink.faults stream.new)) seat result.0 result.1 }
+    ensures unread { (S.left stream.new ≡ S.left stream.old) × (S.Source.faults stream.new ≡ S.Source.faults stream.old) }
+    ensures later { S.Sink.faults stream.old ≤ S.Sink.faults stream.new }
+{
+    let (seat, answer) = called(rt, shared, seat, input, signer, pause, clock);
+    match answer {
+        Err(_) => (seat, Next::Refused),
+        Ok(output) => {
+            let next = follow(output, stream, agent);
+            (seat, next)
+        }
+    }
+}
+
+/// The last call of a connection, whose client went away.
+pub(crate) fn close<L: Ledger, G: LocalSigner, P: Pause, C: Clock, R: Wait>(
+    rt: &R,
+    shared: &AgentShared<L>,
+    seat: Seat<L>,
+    signer: &mut G,
+    pause: &P,
+    clock: &mut C,
+) -> Seat<L>
+    ensures { Closes seat result }
+{
+    pause.before(seat.conn(), next_number(&seat));
+    let now = clock.now();
+    let (seat, _answer) = shared.call(rt, seat, now, AgentInput::Close, signer);
+    seat
+}

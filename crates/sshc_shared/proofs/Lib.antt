@@ -1,0 +1,5 @@
+mod Histories
+mod SignatureLemmas
+mod Keeping
+mod Parting
+mod LockLemmas

@@ -1,0 +1,5 @@
+pub mod Calls
+pub mod Counting
+pub mod Kept
+pub mod Closing
+pub mod LockLaw

@@ -1,0 +1,92 @@
+//! The agent that threads share.
+
+ghost use Rattle.std.specs.Prelude.{◌≡◌, [], IfErr, IfOk, OnErr};
+ghost use Rattle.sshc_shared.specs.Kept.{refused_once};
+ghost use Rattle.sshc_shared.specs.Closing.{Accounts, CloseCause, RefusalSeen, Tells};
+ghost use Rattle.sshc_shared.specs.LockLaw.{LocksHold};
+
+use crate::error::{CallRefused, CloseError};
+use crate::seat::Seat;
+use crate::state::AgentState;
+use sshc_agent::{AgentInput, AgentOutput, Entry};
+use sshc_key::LocalSigner;
+use sshc_wire::NoMemory;
+use std::alloc::Global;
+use std::sync::ledger::{Blank, Ledger};
+use std::sync::{Mutex, Wait};
+
+/// One agent for all connections, under one lock.
+#[derive(Drop)]
+pub struct AgentShared<L: Ledger> {
+    state: Mutex<AgentState<L>>,
+}
+
+impl<L: Ledger> AgentShared<L> {
+    /// An agent that nothing was called of yet. Where it asks, the user is asked about each request. Its journal weighs at most
+    /// so much: 64 for each seat and entry, and the bytes of an entry's frame. The ledger has 2^26 parts.
+    pub fn new(
+        alloc: Global,
+        blank: Blank,
+        asks: bool,
+        journal_limit: u32,
+    ) -> Result<AgentShared<L>, NoMemory>
+        requires parts { blank.parts ≡ 67108864 }
+        requires ledger { (blank.name ≡ L.name) × (blank.parts ≡ L.parts) }
+    {
+        Ok(AgentShared {
+            state: Mutex::new(AgentState::new(alloc, blank, asks, journal_limit)),
+        })
+    }
+
+    /// Takes the lock, and makes the seat of the next connection.
+    pub fn connect<R: Wait>(&self, rt: &R) -> Result<Seat<L>, CallRefused>
+        ensures fresh { IfOk result (λ s. (s.calls ≡ []) × (s.refused ≡ 0)) }
+        ensures full { IfErr result (λ e. e ≡ CallRefused.JournalFull) }
+    {
+        self.state.lock(rt).seat()
+    }
+
+    /// Takes the lock, and takes the input of the seat's connection at a moment in milliseconds.
+    pub fn call<G: LocalSigner, R: Wait>(
+        &self,
+        rt: &R,
+        seat: Seat<L>,
+        now: u64,
+        input: AgentInput,
+        signer: &mut G,
+    ) -> (Seat<L>, Result<AgentOutput, CallRefused>)
+        ensures tells { IfOk result.1 (λ out. Tells seat result.0 now input out) }
+        ensures refused { OnErr result.1 (result.0 ≡ refused_once seat) }
+        ensures seen { IfErr result.1 (λ e. RefusalSeen seat e) }
+    {
+        let mut state = self.state.lock(rt);
+        let (seat, result) = state.call(rt, seat, now, input, signer);
+        state.is_legal();
+        (seat, result)
+    }
+
+    /// The history of all calls, where all seats are back and their calls stand in it, in their order and with the answers
+    /// that they got. Else all is handed back with what is wrong.
+    pub fn close(
+        self,
+        seats: Vec<Seat<L>>,
+    ) -> Result<Vec<Entry>, (AgentShared<L>, Vec<Seat<L>>, CloseError)>
+        ensures accounts { IfOk result (λ h. Accounts h.items seats.items) }
+        // From each acknowledged lock to the unlock with its passphrase nothing is signed, listed or acknowledged.
+        ensures locks { IfOk result (λ h. LocksHold h.items) }
+        ensures same { IfErr result (λ r. r.1.items ≡ seats.items) }
+        ensures cause { IfErr result (λ r. CloseCause seats.items r.2) }
+    {
+        let AgentShared { state } = self;
+        match state.into_inner().close(seats) {
+            Ok(history) => Ok(history),
+            Err((state, seats, why)) => Err((
+                AgentShared {
+                    state: Mutex::new(state),
+                },
+                seats,
+                why,
+            )),
+        }
+    }
+}

@@ -1,0 +1,188 @@
+//! What lies under the lock: the agent, the journal of all calls, a count for each connection, and the ledger.
+
+ghost use Rattle.std.specs.Prelude.{◌≡◌, ◌≤◌, ◌+◌, ◌<◌, [], IfErr, IfOk, MatchOption, OnErr};
+ghost use Rattle.sshc_agent.specs.AgentList.{empty_list};
+ghost use Rattle.sshc_key.specs.Signers.{since};
+ghost use Rattle.sshc_shared.specs.Kept.{Adds, IsHistoryOf, due, new_seat, refused_once, weight_of};
+
+use crate::call::frame_length;
+use crate::counts::Counts;
+use crate::error::CallRefused;
+use crate::room::Room;
+use crate::seat::Seat;
+use sshc_agent::{AgentCore, AgentInput, AgentOutput, Entry};
+use sshc_key::LocalSigner;
+use sshc_wire::NoMemory;
+use std::alloc::Global;
+use std::marker::{Model, PhantomData};
+use std::sync::Wait;
+use std::sync::ledger::{Blank, Book, Ledger, Share};
+
+/// What a seat weighs in the journal, and what an entry weighs beside its frame.
+const ENTRY_WEIGHT: u64 = 64;
+
+/// That the ledger has this many parts in all.
+#[derive(Drop)]
+pub(crate) struct Whole<L: Ledger> {
+    pub(crate) of: PhantomData<L>,
+    ghost whole: { L.parts ≡ 67108864 },
+}
+
+/// An agent with the history of all its calls. What lies under the lock of a shared agent.
+#[derive(Drop)]
+pub struct AgentState<L: Ledger> {
+    pub(crate) alloc: Global,
+    pub(crate) asks: bool,
+    pub(crate) agent: AgentCore,
+    pub(crate) journal: Vec<Entry>,
+    pub(crate) counts: Counts,
+    pub(crate) made: u32,
+    pub(crate) weight: u64,
+    pub(crate) limit: u32,
+    pub(crate) book: Book<L>,
+    pub(crate) spare: Share<L>,
+    pub(crate) whole: Whole<L>,
+}
+
+impl<L: Ledger> Model for AgentState<L> {
+    ghost use Rattle.std.specs.Coded.{codes};
+    ghost use Rattle.sshc_key.specs.PairCode.{key_pair_code};
+    ghost use Rattle.sshc_shared.specs.Kept.{IsKept, SharedState};
+
+    ghost Value = { SharedState };
+
+    ghost coded = { Prim.hlevel (codes, key_pair_code) };
+
+    ghost view = { λ s. record { asks = s.asks; list = s.agent; journal = s.journal.items; made = s.made; limit = s.limit } };
+
+    ghost invariant = { λ s. IsKept s.asks s.agent s.journal.items s.counts s.book.total s.spare.amount s.spare.parts s.made s.weight s.limit };
+}
+
+impl<L: Ledger> AgentState<L> {
+    /// Nothing was called yet. Where it asks, the user is asked about each request. The ledger has 2^26 parts.
+    pub fn new(alloc: Global, blank: Blank, asks: bool, journal_limit: u32) -> AgentState<L>
+        requires parts { blank.parts ≡ 67108864 }
+        requires ledger { (blank.name ≡ L.name) × (blank.parts ≡ L.parts) }
+        ensures { result ≡ record { asks = asks; list = empty_list asks; journal = []; made = 0; limit = journal_limit } }
+    {
+        let (book, spare) = blank.open::<L>();
+        AgentState {
+            alloc,
+            asks,
+            agent: AgentCore::new(alloc, asks),
+            journal: Vec::new(alloc),
+            counts: Counts::new(alloc),
+            made: 0,
+            weight: 0,
+            limit: journal_limit,
+            book,
+            spare,
+            whole: Whole { of: PhantomData },
+        }
+    }
+
+    /// The journal is a history that leads to the agent's keys, lock and connections.
+    pub fn is_legal(&self)
+        ensures { IsHistoryOf self.now.asks self.now.journal self.now.list }
+    {
+        let _journal = &self.journal;
+    }
+
+    /// Makes the seat of the next connection. Connections are numbered from 1.
+    pub fn seat(&mut self) -> Result<Seat<L>, CallRefused>
+        ensures seat { IfOk result (λ s. s ≡ new_seat (self.old.made + 1)) }
+        ensures made { IfOk result (λ s. self.new ≡ record self.old { made = self.old.made + 1 }) }
+        ensures room { IfOk result (λ s. weight_of self.old + 64 ≤ self.old.limit) }
+        // Where it is refused, the journal would weigh more than its limit, and nothing changes.
+        ensures full { IfErr result (λ e. (e ≡ CallRefused.JournalFull) × (self.old.limit < weight_of self.old + 64)) }
+        ensures same { OnErr result (self.new ≡ self.old) }
+    {
+        if self.weight + ENTRY_WEIGHT > self.limit as u64 {
+            return Err(CallRefused::JournalFull);
+        }
+        let part = self.spare.split_off(1, 0);
+        self.made += 1;
+        self.weight += ENTRY_WEIGHT;
+        Ok(Seat {
+            conn: self.made,
+            calls: Vec::new(self.alloc),
+            refused: 0,
+            part,
+        })
+    }
+
+    /// One step of the agent, with its entry in the journal and its call in the seat.
+    fn try_call<G: LocalSigner, R: Wait>(
+        &mut self,
+        rt: &R,
+        seat: &mut Seat<L>,
+        now: u64,
+        input: AgentInput,
+        signer: &mut G,
+    ) -> Result<AgentOutput, CallRefused>
+        ensures ok { IfOk result (λ out. Adds self.old self.new seat.old seat.new now input (since (G.calls signer.old) (G.calls signer.new)) out) }
+        ensures err { OnErr result ((self.new ≡ self.old) × (seat.new ≡ seat.old)) }
+        ensures due { MatchOption (due self.old seat.old input) (IfErr result (λ e. e ≡ CallRefused.NoMemory)) (λ e. result ≡ Err e) }
+        ensures unasked { OnErr result (G.calls signer.new ≡ G.calls signer.old) }
+    {
+        let conn = seat.conn;
+        let kept = self.counts.at(conn);
+        self.book.audit(&mut seat.part);
+        let own = seat.calls.len();
+        if own != kept as usize {
+            return Err(CallRefused::Miscounted {
+                seat: own as u32,
+                kept,
+            });
+        }
+        let left = self.limit as u64 - self.weight;
+        let heavy = frame_length(&input) as u64;
+        if left < heavy || left - heavy < ENTRY_WEIGHT {
+            return Err(CallRefused::JournalFull);
+        }
+        let Ok(room) = Room::new(
+            self.alloc,
+            &input,
+            conn,
+            &mut self.journal,
+            &mut seat.calls,
+            &mut self.counts,
+        ) else {
+            return Err(CallRefused::NoMemory);
+        };
+        let output = self.agent.step(now, conn, &input, signer);
+        let (entry, call) = room.entries(rt, conn, kept, now, input, &output);
+        self.journal.push_reserved(entry);
+        seat.calls.push_reserved(call);
+        self.counts.raise(conn);
+        self.weight += heavy + ENTRY_WEIGHT;
+        self.book.add(&mut seat.part, 1);
+        Ok(output)
+    }
+
+    /// Takes an input of the seat's connection at a moment in milliseconds: one step of the agent, with its entry in the
+    /// journal and its call in the seat. A refused call changes nothing but the seat's count of such calls.
+    pub fn call<G: LocalSigner, R: Wait>(
+        &mut self,
+        rt: &R,
+        seat: Seat<L>,
+        now: u64,
+        input: AgentInput,
+        signer: &mut G,
+    ) -> (Seat<L>, Result<AgentOutput, CallRefused>)
+        ensures adds { IfOk result.1 (λ out. Adds self.old self.new seat result.0 now input (since (G.calls signer.old) (G.calls signer.new)) out) }
+        ensures same { OnErr result.1 ((self.new ≡ self.old) × (result.0 ≡ refused_once seat)) }
+        // Miscounted and JournalFull come just where they are due; else only out of memory refuses.
+        ensures due { MatchOption (due self.old seat input) (IfErr result.1 (λ e. e ≡ CallRefused.NoMemory)) (λ e. result.1 ≡ Err e) }
+        ensures unasked { OnErr result.1 (G.calls signer.new ≡ G.calls signer.old) }
+    {
+        let mut seat = seat;
+        match self.try_call(rt, &mut seat, now, input, signer) {
+            Ok(output) => (seat, Ok(output)),
+            Err(refused) => {
+                seat.refuse();
+                (seat, Err(refused))
+            }
+        }
+    }
+}
