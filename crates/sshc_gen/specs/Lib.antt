@@ -1,0 +1,4 @@
+pub mod Blocks
+pub mod Draws
+pub mod Events
+pub mod Login
