@@ -1,0 +1,101 @@
+-- The tickets that are open, and the records that are held until someone asks for them.
+use Rattle.std.specs.Prelude.{◌≡◌, ℕ, zero, suc, ◌+◌, ◌-◌, ◌<◌, ◌^◌, Bool, true, false, nat_eq, if◌then◌else◌, not, ◌&&◌, ◌||◌, List, [], ◌∷◌, ◌++◌, Option, Some, None, filter}
+use Rattle.std.specs.List.{list_any}
+use Rattle.sshc_wire.specs.declared.record.Record.{Record}
+use Rattle.sshc_wire.specs.declared.record.Record.TheVariants.{Auth, Channel, Resolved, ServerOpened}
+use Rattle.sshc_wire.specs.declared.channel_id.ChannelId.{ChannelId}
+use Rattle.sshc_wire.specs.declared.channel_record.ChannelRecord.TheVariants.{Close, Open}
+use Rattle.sshc_wire.specs.declared.resolution.Resolution.TheVariants.{Dropped}
+use Rattle.sshc_wire.specs.declared.ticket.Ticket.{Ticket}
+
+pub record TicketState : Type 0 where
+  -- the tickets whose answer is due, the oldest first
+  pub due : List Ticket
+  -- the records that nobody has taken yet, the oldest first
+  pub held : List Record
+  -- the channels whose close was taken, until one of their number opens again
+  pub closed : List ChannelId
+  -- the number of the ticket that was given last
+  pub last : ℕ
+
+-- ---- which records are a ticket's
+
+-- the number of the ticket that a record names
+abbrev pub ticket_of : Record → Option ℕ
+ticket_of (Resolved ticket resolution) = Some ticket.0
+ticket_of (Auth ticket asked) = Some ticket.0
+ticket_of said = None
+
+abbrev pub is_number : ℕ → Option ℕ → Bool
+is_number number None = false
+is_number number (Some named) = nat_eq named number
+
+abbrev pub is_of : ℕ → Record → Bool
+is_of number said = is_number number (ticket_of said)
+
+-- the number of the channel on which something happened
+abbrev pub channel_of : Record → Option ℕ
+channel_of (Channel id happened) = Some id.0
+channel_of said = None
+
+abbrev pub is_on : ℕ → Record → Bool
+is_on number said = is_number number (channel_of said)
+
+abbrev pub is_ticket : ℕ → Ticket → Bool
+is_ticket number ticket = nat_eq ticket.0 number
+
+abbrev pub is_channel : ℕ → ChannelId → Bool
+is_channel number id = nat_eq id.0 number
+
+-- ---- the next ticket
+
+-- open, or named by a record that is held
+abbrev pub is_taken : TicketState → ℕ → Bool
+is_taken s number = list_any (is_ticket number) s.due || list_any (is_of number) s.held
+
+-- the number behind this one; 1 behind the last
+abbrev pub number_after : ℕ → ℕ
+number_after number = if nat_eq number (2 ^ 32 - 1) then 1 else number + 1
+
+-- the first number behind this one that isn't taken, if there is one among so many
+unfoldable pub free_within : ℕ → TicketState → ℕ → Option ℕ
+free_within zero s number = None
+free_within (suc tries) s number = if is_taken s (number_after number) then free_within tries s (number_after number) else Some (number_after number)
+
+-- ---- what is taken
+
+-- the first that passes, if there is one
+unfoldable pub first_of : {A : Type 0} → (A → Bool) → List A → Option A
+first_of test [] = None
+first_of test (x ∷ xs) = if test x then Some x else first_of test xs
+
+-- all but the first that passes
+unfoldable pub without_first : {A : Type 0} → (A → Bool) → List A → List A
+without_first test [] = []
+without_first test (x ∷ xs) = if test x then xs else x ∷ without_first test xs
+
+-- ---- what is told
+
+-- the tickets whose answer is due behind a record: an answer settles its own
+abbrev pub due_behind : Record → List Ticket → List Ticket
+due_behind (Resolved ticket resolution) due = without_first (is_ticket ticket.0) due
+due_behind said due = due
+
+-- the number of the channel that a record opens
+abbrev pub opened_by : Record → Option ℕ
+opened_by (Channel id (Open max_packet_size window_size)) = Some id.0
+opened_by (ServerOpened id kind) = Some id.0
+opened_by said = None
+
+-- the channels that stay closed where one opens
+abbrev pub closed_behind : Option ℕ → List ChannelId → List ChannelId
+closed_behind None closed = closed
+closed_behind (Some number) closed = filter (λ (id : ChannelId). not (is_channel number id)) closed
+
+-- the channel is closed with the record of its close
+abbrev pub closed_with : Option Record → List ChannelId → List ChannelId
+closed_with (Some (Channel id Close)) closed = closed ++ id ∷ []
+closed_with said closed = closed
+
+abbrev pub dropped : Ticket → Record
+dropped ticket = Resolved ticket Dropped

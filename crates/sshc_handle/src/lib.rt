@@ -1,0 +1,12 @@
+//! A session for programs with threads: what is submitted, what is told, and how an answer is read.
+#![tactic(auto)]
+
+mod answers;
+mod auth_answers;
+mod tickets;
+
+pub use answers::{
+    algs_answer, auth_answer, done_answer, open_answer, port_answer, prompt_answer, reply_answer,
+};
+pub use auth_answers::{AuthResult, KeyboardInteractiveAuthResponse};
+pub use tickets::Tickets;
