@@ -1,0 +1,4 @@
+pub mod AgentEvents
+pub mod AgentTurns
+pub mod InputLaws
+pub mod TurnLaws

@@ -1,0 +1,8 @@
+//! An agent in a script: the events of its connections, and what each gives.
+#![tactic(auto)]
+
+mod event;
+mod step;
+
+pub use event::{AgentEvent, read_agent_event};
+pub use step::step_input;
