@@ -1,4 +1,5 @@
 pub mod Messages
+pub mod SignerLists
 pub mod KeyList
 pub mod Connections
 pub mod AgentList
@@ -8,5 +9,9 @@ pub mod AgentFrames
 pub mod FrameLaws
 pub mod AgentHistory
 pub mod LockLaws
+pub mod LockLaw
+pub mod LocksHold
+pub mod AskerLaw
 pub mod RefusalLaws
 pub mod SignLaws
+pub mod SignedEntries

@@ -2,4 +2,3 @@ mod Histories
 mod SignatureLemmas
 mod Keeping
 mod Parting
-mod LockLemmas

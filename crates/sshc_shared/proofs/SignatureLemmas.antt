@@ -30,16 +30,13 @@ use Rattle.sshc_agent.specs.AgentTable.Add.{add_turn, added_turn, commented_turn
 use Rattle.sshc_agent.specs.AgentTable.Lock.{is_passphrase, lock_in, lock_turn, unlock_in, unlock_turn}
 use Rattle.sshc_agent.specs.AgentTable.Remove.{remove_in, remove_turn}
 use Rattle.sshc_agent.specs.AgentTable.Sign.{bytes_row, confirmed_in, confirmed_turn, flags_row, held_still, held_turn, sign_request_in, sign_request_turn, sign_row, signed_at, signed_row}
+use Rattle.sshc_agent.specs.LocksHold.{behind_length}
 use Rattle.sshc_agent.specs.KeyList.{has_room, held}
 use Rattle.sshc_agent.specs.Messages.{message_of}
 use Rattle.sshc_agent.specs.Turn.{Outcome, Turn, frame, says, signs}
 use Rattle.sshc_shared.specs.Calls.{entry_of, signature_at, signature_of}
 
 -- ---- frames
-
-pub behind_length : (body : List ℕ) → drop 4 (string_text body) ≡ body
-unfolding string_text u32_text
-behind_length body = refl
 
 of_frame : (body : List ℕ) → signature_of (frame body) ≡ signature_at body
 of_frame body = ap signature_at (behind_length body)

@@ -2,4 +2,3 @@ pub mod Calls
 pub mod Counting
 pub mod Kept
 pub mod Closing
-pub mod LockLaw

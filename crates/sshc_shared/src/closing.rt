@@ -4,7 +4,7 @@ ghost use Rattle.std.specs.Prelude.{◌≡◌, All, IfErr, IfOk, MatchOption, le
 ghost use Rattle.sshc_agent.specs.AgentHistory.{IsLegal};
 ghost use Rattle.sshc_shared.specs.Calls.{calls_of};
 ghost use Rattle.sshc_shared.specs.Closing.{Accounts, LockedCause};
-ghost use Rattle.sshc_shared.specs.LockLaw.{LocksHold};
+ghost use Rattle.sshc_agent.specs.LockLaw.{LocksHold};
 
 use crate::error::CloseError;
 use crate::seat::Seat;

@@ -3,7 +3,7 @@
 ghost use Rattle.std.specs.Prelude.{◌≡◌, [], IfErr, IfOk, OnErr};
 ghost use Rattle.sshc_shared.specs.Kept.{refused_once};
 ghost use Rattle.sshc_shared.specs.Closing.{Accounts, CloseCause, RefusalSeen, Tells};
-ghost use Rattle.sshc_shared.specs.LockLaw.{LocksHold};
+ghost use Rattle.sshc_agent.specs.LockLaw.{LocksHold};
 
 use crate::error::{CallRefused, CloseError};
 use crate::seat::Seat;

@@ -8,6 +8,7 @@ ghost use Rattle.sshc_key.specs.View.{view};
 ghost use Rattle.sshc_agent.specs.AgentList.{standing};
 ghost use Rattle.sshc_agent.specs.AgentTable.Sign.{confirmed_in, confirmed_turn, flagged_hash, hash_of, held_turn, sign_request_turn, signed_at, signer_row};
 ghost use Rattle.sshc_agent.specs.Connections.{standing_of};
+ghost use Rattle.sshc_agent.specs.SignerLists.{Grew};
 ghost use Rattle.sshc_agent.specs.Turn.{Follows, FollowsBy};
 ghost use Rattle.sshc_agent.specs.declared.connections.Standing.TheVariants.{Closed};
 
@@ -108,7 +109,7 @@ impl AgentCore {
     }
 
     /// Asks the signer for a signature of the key at the place; `rest` is what follows its blob in the request.
-    #[tactic(auto, unfolding(crate::specs::AgentTable::Sign::signed_at), using(crate::proofs::Asked::quiet, crate::proofs::Asked::quiet_out))]
+    #[tactic(auto, unfolding(crate::specs::AgentTable::Sign::signed_at), using(crate::proofs::Asked::quiet, crate::proofs::Asked::quiet_out, crate::specs::SignerLists::grew_none))]
     pub(super) fn sign<G: LocalSigner>(
         &mut self,
         conn: u32,
@@ -119,6 +120,7 @@ impl AgentCore {
         requires held { at < length self.old.keys }
         requires seen { IsSome (standing_of self.old.conns conn) }
         ensures row { FollowsBy (signed_at conn self.old (slice_get self.old.keys at) rest.now) self.old self.new (since (G.calls signer.old) (G.calls signer.new)) result }
+        ensures grew { Grew (G.calls signer.old) (G.calls signer.new) }
     {
         let mut c = Cursor::new(rest);
         let Ok(bytes) = c.bytes() else {
@@ -140,7 +142,7 @@ impl AgentCore {
         AgentOutput::Closed(Cause::Unreadable)
     }
 
-    #[tactic(auto, using(crate::proofs::Asked::signed, crate::proofs::Asked::signed_out, crate::proofs::Asked::quiet_out))]
+    #[tactic(auto, using(crate::proofs::Asked::signed, crate::proofs::Asked::signed_out, crate::proofs::Asked::quiet_out, crate::specs::SignerLists::grew_one, crate::specs::SignerLists::grew_same))]
     fn ask_signer<G: LocalSigner>(
         &mut self,
         conn: u32,
@@ -152,6 +154,7 @@ impl AgentCore {
         requires held { at < length self.old.keys }
         requires seen { IsSome (standing_of self.old.conns conn) }
         ensures row { FollowsBy (signer_row conn self.old (slice_get self.old.keys at) bytes.now flags) self.old self.new (since (G.calls signer.old) (G.calls signer.new)) result }
+        ensures grew { Grew (G.calls signer.old) (G.calls signer.new) }
     {
         let key = self.keys.key(at);
         let hash = hash_of(&key.pair.public.key, flags);

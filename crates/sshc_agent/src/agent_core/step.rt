@@ -1,11 +1,12 @@
 //! One step of the agent.
 
-ghost use Rattle.std.specs.Prelude.{◌≡◌, ◌∷◌, List, ℕ, IfOk, IsSome, None, OnErr, OnOk, Some, false, if◌then◌else◌};
+ghost use Rattle.std.specs.Prelude.{◌≡◌, ◌∷◌, ◌++◌, List, ℕ, IfOk, IsSome, None, OnErr, OnOk, Some, false, if◌then◌else◌};
 ghost use Rattle.sshc_key.specs.Signers.{SignCall, since};
 ghost use Rattle.sshc_agent.specs.AgentHistory.{IsPermitted, KeepsLock, KeepsRefused};
 ghost use Rattle.sshc_agent.specs.AgentList.{aged, seen, standing};
 ghost use Rattle.sshc_agent.specs.AgentTable.{Finishes, Steps, frame_turn, is_shut, key_answer_turn, request_answer_turn, seen_row, standing_row, turned};
 ghost use Rattle.sshc_agent.specs.Connections.{is_new, standing_of, without};
+ghost use Rattle.sshc_agent.specs.SignerLists.{Grew};
 ghost use Rattle.sshc_agent.specs.Turn.{FollowsBy, IsTakeable};
 ghost use Rattle.sshc_agent.specs.declared.connections.Standing.TheVariants.{Closed, Open};
 
@@ -19,7 +20,7 @@ use sshc_wire::{NoMemory, Octets};
 impl AgentCore {
     /// Takes an input of a connection at a moment in milliseconds. A frame has at most 262144 bytes, and an Oversize names
     /// a greater length.
-    #[tactic(auto, using(crate::specs::RefusalLaws::step_keeps))]
+    #[tactic(auto, using(crate::specs::RefusalLaws::step_keeps, crate::specs::SignerLists::grew_by))]
     pub fn step<G: LocalSigner>(
         &mut self,
         now: u64,
@@ -28,6 +29,8 @@ impl AgentCore {
         signer: &mut G,
     ) -> AgentOutput
         ensures row { Steps now conn input.now self.old self.new (since (G.calls signer.old) (G.calls signer.new)) result }
+        // The signer's list only grows.
+        ensures gained { G.calls signer.new ≡ G.calls signer.old ++ since (G.calls signer.old) (G.calls signer.new) }
         // Only an acknowledged request changes keys or passphrase, but that time lets keys go.
         ensures refused { KeepsRefused now self.old self.new result }
         // A locked agent signs nothing and stays as it is, but for an unlock with its passphrase.
@@ -39,7 +42,7 @@ impl AgentCore {
     }
 
     /// The row of the input, or no memory was found.
-    #[tactic(auto, using(crate::proofs::Stepped::goes, crate::proofs::Stepped::starves, crate::proofs::Stepped::starves_new))]
+    #[tactic(auto, using(crate::proofs::Stepped::goes, crate::proofs::Stepped::starves, crate::proofs::Stepped::starves_new, crate::specs::SignerLists::grew_none))]
     fn row<G: LocalSigner>(
         &mut self,
         now: u64,
@@ -48,6 +51,7 @@ impl AgentCore {
         signer: &mut G,
     ) -> AgentOutput
         ensures row { Steps now conn input.now self.old self.new (since (G.calls signer.old) (G.calls signer.new)) result }
+        ensures grew { Grew (G.calls signer.old) (G.calls signer.new) }
     {
         match self.begin(now, conn) {
             Ok(is_new) => match self.take(conn, input, signer) {
@@ -74,7 +78,7 @@ impl AgentCore {
     }
 
     /// An input of a connection that was seen.
-    #[tactic(auto, unfolding(crate::specs::AgentTable::seen_row), using(crate::proofs::Asked::quiet, crate::proofs::Asked::none_asked))]
+    #[tactic(auto, unfolding(crate::specs::AgentTable::seen_row), using(crate::proofs::Asked::quiet, crate::proofs::Asked::none_asked, crate::specs::SignerLists::grew_none))]
     fn take<G: LocalSigner>(
         &mut self,
         conn: u32,
@@ -83,6 +87,7 @@ impl AgentCore {
     ) -> Result<AgentOutput, NoMemory>
         requires { IsSome (standing_of self.old.conns conn) }
         ensures row { FollowsBy (seen_row conn input.now self.old) self.old self.new (since (G.calls signer.old) (G.calls signer.new)) result }
+        ensures grew { Grew (G.calls signer.old) (G.calls signer.new) }
         ensures open { OnErr result (is_shut (standing_of self.old.conns conn) ≡ false) }
     {
         match self.conns.standing(conn) {
@@ -120,7 +125,7 @@ impl AgentCore {
     }
 
     /// An input of a connection on which no question is open.
-    #[tactic(auto, using(crate::proofs::Asked::quiet, crate::proofs::Asked::none_asked, crate::proofs::Asked::takeable, crate::proofs::Asked::finished))]
+    #[tactic(auto, using(crate::proofs::Asked::quiet, crate::proofs::Asked::none_asked, crate::proofs::Asked::takeable, crate::proofs::Asked::finished, crate::specs::SignerLists::grew_none))]
     fn take_open<G: LocalSigner>(
         &mut self,
         conn: u32,
@@ -129,6 +134,7 @@ impl AgentCore {
     ) -> Result<AgentOutput, NoMemory>
         requires { IsSome (standing_of self.old.conns conn) }
         ensures row { FollowsBy (standing_row (Some Open) conn input.now self.old) self.old self.new (since (G.calls signer.old) (G.calls signer.new)) result }
+        ensures grew { Grew (G.calls signer.old) (G.calls signer.new) }
     {
         match input {
             AgentInput::Frame(whole) => {
@@ -144,7 +150,7 @@ impl AgentCore {
     }
 
     /// The user's answer to the question whether the request is allowed.
-    #[tactic(auto, using(crate::proofs::Asked::none_asked, crate::proofs::Asked::takeable, crate::proofs::Asked::finished))]
+    #[tactic(auto, using(crate::proofs::Asked::none_asked, crate::proofs::Asked::takeable, crate::proofs::Asked::finished, crate::specs::SignerLists::grew_none))]
     fn take_request_answer<G: LocalSigner>(
         &mut self,
         conn: u32,
@@ -154,6 +160,7 @@ impl AgentCore {
     ) -> Result<AgentOutput, NoMemory>
         requires { IsSome (standing_of self.old.conns conn) }
         ensures row { FollowsBy (turned conn (request_answer_turn is_allowed whole.now self.old)) self.old self.new (since (G.calls signer.old) (G.calls signer.new)) result }
+        ensures grew { Grew (G.calls signer.old) (G.calls signer.new) }
     {
         match self.request_answer(is_allowed, whole.as_slice()) {
             Ok(turn) => self.finish(conn, turn, signer),
@@ -162,7 +169,7 @@ impl AgentCore {
     }
 
     /// The user's answer to the question whether the key may sign.
-    #[tactic(auto, using(crate::proofs::Asked::none_asked, crate::proofs::Asked::takeable, crate::proofs::Asked::finished))]
+    #[tactic(auto, using(crate::proofs::Asked::none_asked, crate::proofs::Asked::takeable, crate::proofs::Asked::finished, crate::specs::SignerLists::grew_none))]
     fn take_key_answer<G: LocalSigner>(
         &mut self,
         conn: u32,
@@ -172,6 +179,7 @@ impl AgentCore {
     ) -> Result<AgentOutput, NoMemory>
         requires { IsSome (standing_of self.old.conns conn) }
         ensures row { FollowsBy (turned conn (key_answer_turn is_confirmed whole.now self.old)) self.old self.new (since (G.calls signer.old) (G.calls signer.new)) result }
+        ensures grew { Grew (G.calls signer.old) (G.calls signer.new) }
     {
         match self.key_answer(is_confirmed, whole.as_slice()) {
             Ok(turn) => self.finish(conn, turn, signer),
@@ -180,7 +188,7 @@ impl AgentCore {
     }
 
     /// What is left of a row: its connection stands as it says, or the key signs.
-    #[tactic(auto, using(crate::proofs::Asked::none_since))]
+    #[tactic(auto, using(crate::proofs::Asked::none_since, crate::specs::SignerLists::grew_none))]
     fn finish<G: LocalSigner>(
         &mut self,
         conn: u32,
@@ -190,6 +198,7 @@ impl AgentCore {
         requires seen { IsSome (standing_of self.old.conns conn) }
         requires held { IsTakeable turn self.old }
         ensures row { Finishes conn turn.entry self.old self.new (since (G.calls signer.old) (G.calls signer.new)) result }
+        ensures grew { Grew (G.calls signer.old) (G.calls signer.new) }
     {
         match turn {
             Turn::Says(standing, output) => {

@@ -1,4 +1,4 @@
-use Rattle.sshc_shared.proofs.LockLemmas.{locks_hold}
+use Rattle.sshc_agent.specs.LocksHold.{locks_hold}
 use Rattle.sshc_shared.proofs.state.AgentState.close.Goals as goal
 
 pub returns-in-Ok-None-clause-locks : goal.returns-in-Ok-None-clause-locks

@@ -1,11 +1,11 @@
--- A lock that is acknowledged is set: by cases on how its connection stands.
-use Rattle.std.proofs.Common.{◌≡◌, ℕ, Bool, true, false, cond, List, [], ◌∷◌, drop, Option, Some, None, Result, Ok, Err, sym, ap, subst, ◌∙◌, inl, inr}
+-- In every history of an agent its locks hold (LockLaw): a lock that is acknowledged is set, by cases on how its connection stands.
+use Rattle.std.proofs.Common.{◌≡◌, ℕ, Bool, true, false, cond, List, [], ◌∷◌, drop, Option, Some, None, Result, Ok, Err, refl, sym, ap, subst, ◌∙◌, inl, inr}
 use Rattle.std.specs.Int.{w32}
 use Rattle.std.specs.Option.{is_some}
 use Rattle.sshc_wire.specs.declared.error.WireError.{WireError}
 use Rattle.sshc_wire.specs.declared.message_type.MessageType.TheVariants as messages
 use Rattle.sshc_wire.specs.Reads.{number_at, string_at}
-use Rattle.sshc_wire.specs.Wire.{string_text}
+use Rattle.sshc_wire.specs.Wire.{string_text, u32_text}
 use Rattle.sshc_key.specs.Signers.{SignCall}
 use Rattle.sshc_key.specs.Asking.{Answer, Asking, Makes, asks, done}
 use Rattle.sshc_agent.specs.declared.connections.Standing.{Standing}
@@ -26,8 +26,14 @@ use Rattle.sshc_agent.specs.KeyList.{held}
 use Rattle.sshc_agent.specs.LockLaws.{lock_holds}
 use Rattle.sshc_agent.specs.Messages.{message_of}
 use Rattle.sshc_agent.specs.Turn.{Outcome, Turn, says, signs}
-use Rattle.sshc_shared.specs.LockLaw.{IsLock, IsLockRequest, Locks, LocksHold}
-use Rattle.sshc_shared.proofs.SignatureLemmas.{behind_length}
+use Rattle.sshc_agent.specs.LockLaw.{IsLock, IsLockRequest, Locks, LocksHold}
+
+-- ---- frames
+
+-- what stands behind a frame's length
+pub behind_length : (body : List ℕ) → drop 4 (string_text body) ≡ body
+unfolding string_text u32_text
+behind_length body = refl
 
 -- ---- answers that acknowledge nothing
 
