@@ -1,6 +1,6 @@
 -- What an event of an agent's connection gives: its records, and what the agent and the bytes of its connections are then.
 -- The inputs of an event are a list, and each is its row of the agent table, in order; the code takes one at a time.
-use Rattle.std.specs.Prelude.{ℕ, zero, suc, ◌+◌, Bool, List, [], ◌∷◌, ◌++◌, length, Option, Some, None, unwrap_or, if◌then◌else◌}
+use Rattle.std.specs.Prelude.{◌≡◌, ℕ, zero, suc, ◌+◌, Bool, List, [], ◌∷◌, ◌++◌, length, Option, Some, None, unwrap_or, if◌then◌else◌}
 use Rattle.std.specs.Ordering.{nat_cmp}
 use Rattle.std.specs.BTreeMap.{insert_entry, is_at}
 use Rattle.std.specs.Map.{lookup, remove_entry}
@@ -8,7 +8,8 @@ use Rattle.sshc_wire.specs.declared.record.Record.{Record}
 use Rattle.sshc_wire.specs.declared.record.Record.TheVariants.{Agent}
 use Rattle.sshc_wire.specs.declared.agent_record.AgentFault.TheVariants as faults
 use Rattle.sshc_wire.specs.declared.agent_record.AgentRecord.TheVariants as agent
-use Rattle.sshc_key.specs.Asking.{Asking, done, asked_on, then_asks}
+use Rattle.sshc_key.specs.Signers.{SignCall}
+use Rattle.sshc_key.specs.Asking.{Asking, Makes, done, asked_on, then_asks}
 use Rattle.sshc_agent.specs.declared.input.AgentInput.{AgentInput}
 use Rattle.sshc_agent.specs.declared.input.AgentOutput.{AgentOutput}
 use Rattle.sshc_agent.specs.declared.input.AgentOutput.TheVariants as outputs
@@ -99,6 +100,10 @@ said_on conn o = record { records = records_of conn o.output; list = o.next }
 -- the input's row, reported
 abbrev pub input_turn : ℕ → ℕ → AgentInput → AgentList → Asking Said
 input_turn now conn input l = asked_on (said_on conn) (agent_row now conn input l)
+
+-- an input's turn, with these calls, leaves this list, and its record stands behind those before it
+abbrev pub SaysInput : ℕ → ℕ → AgentInput → AgentList → List SignCall → AgentList → List Record → List Record → Type 0
+SaysInput now conn input before gained after held held' = (said : List Record) × (held' ≡ held ++ said) × Makes (input_turn now conn input before) gained (record { records = said; list = after })
 
 -- these records, and then those
 abbrev pub behind : List Record → Said → Said

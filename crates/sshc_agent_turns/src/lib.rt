@@ -2,7 +2,9 @@
 #![tactic(auto)]
 
 mod event;
+mod served;
 mod step;
 
 pub use event::{AgentEvent, read_agent_event};
+pub use served::ServedAgent;
 pub use step::step_input;

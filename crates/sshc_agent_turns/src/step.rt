@@ -1,6 +1,6 @@
 //! One step of the agent, reported.
 
-ghost use Rattle.std.specs.Prelude.{◌≡◌, IfOk, OnErr, OnOk};
+ghost use Rattle.std.specs.Prelude.{◌≡◌, ◌++◌, IfOk, OnErr, OnOk};
 ghost use Rattle.sshc_key.specs.Asking.{Makes, MakesFirst};
 ghost use Rattle.sshc_key.specs.Signers.{since};
 ghost use Rattle.sshc_wire.specs.Outgoing.{listed};
@@ -39,6 +39,8 @@ pub fn step_input<G: LocalSigner>(
 ) -> Result<Option<Record>, NoMemory>
     // The step is the input's turn, by the calls that the signer's list gained.
     ensures turn { IfOk result (λ said. Makes (input_turn now conn input.now core.old) (since (G.calls signer.old) (G.calls signer.new)) (record { records = listed said; list = core.new })) }
+    // The signer's list only grows.
+    ensures gained { G.calls signer.new ≡ G.calls signer.old ++ since (G.calls signer.old) (G.calls signer.new) }
     // Out of memory, these are the first of the calls that it makes.
     ensures memory { OnErr result (MakesFirst (input_turn now conn input.now core.old) (since (G.calls signer.old) (G.calls signer.new))) }
 {

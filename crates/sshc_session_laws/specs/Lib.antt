@@ -1,3 +1,4 @@
+pub mod SessionRecords
 pub mod OpeningStays
 pub mod KeptByMoves
 pub mod OpenCauses

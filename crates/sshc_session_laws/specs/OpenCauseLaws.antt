@@ -1,5 +1,5 @@
--- Each row of an open session that refuses or ends has its cause, and no row leaves or stops the session by a move: a law above the table,
--- for whoever runs it.
+-- Each row of an open session that refuses or ends has its cause, and no row leaves or stops the session by a move, or tells anything of an
+-- agent: a law above the table, for whoever runs it.
 use Rattle.std.proofs.Common.{◌≡◌, ◌≢◌, ◌<◌, ◌≤◌, ◌+◌, ◌-◌, ◌*◌, ◌^◌, inl, inr, ℕ, zero, suc, Bool, true, false, List, [], ◌∷◌, ◌++◌, length, Option, Some, None, Result, Ok, Err, refl, ap, sym, ◌∙◌, subst, arith}
 use Rattle.std.specs.Prelude.{min, not, ◌==◌, ◌&&◌, nat_lt, is_some, if◌then◌else◌}
 use Rattle.std.specs.Int.{w32}
@@ -65,7 +65,7 @@ use Rattle.sshc_moves.specs.SessionTable.Requests.{asked_row as global_row, chan
 use Rattle.sshc_moves.specs.SessionTable.Streams.{channel_close_row, channel_data_row, channel_extended_data_row, channel_report_row, received_row, retargets, window_adjust_row}
 use Rattle.sshc_moves.specs.SessionTable.Timers.{are_too_many, inactivity_timer_row, keepalive_row, keepalive_timer_row}
 use Rattle.sshc_moves.specs.SessionTable.Users.{asked_row, channel_moves, extension_moves, forward_moves, forwarded_moves, global_moves, open_moves, program_moves, prove_moves, reply_moves, settled_by, terminal_moves, user_moves, user_row}
-use Rattle.sshc_session_laws.specs.KeptByMoves.{KeepsLife}
+use Rattle.sshc_session_laws.specs.KeptByMoves.{KeepsSession}
 use Rattle.sshc_session_laws.specs.OpenCauses.{Fails, FirstIsBare, IsBare, IsBroken, IsOpenCause, OpenFails, RequestFails, adjustment, bytes, confirmation, disconnection, extended_bytes, failure, global, number_alone, opening, refusal, request, success}
 
 -- ---- what is said
@@ -80,9 +80,9 @@ NextCaused P (ends e) = P.end e
 NextCaused P (refuses e) = P.refusal e
 
 abbrev pub AllKeep : List Move → Type 0
-AllKeep moves = AllByRecursion KeepsLife moves
+AllKeep moves = AllByRecursion KeepsSession moves
 
--- it goes on, or has its cause, and none of its moves leaves or stops the session, whatever a handler answers
+-- it goes on, or has its cause, and none of its moves leaves or stops the session or tells anything of an agent, whatever a handler answers
 pub record RowHolds (P : Why) (row : SessionRow) : Type 0 where
   pub caused : NextCaused P row.next
   pub front : AllKeep row.front
@@ -120,7 +120,7 @@ moves_by : (b : Bool) (x y : List Move) → AllKeep x → AllKeep y → AllKeep 
 moves_by true x y one other = one
 moves_by false x y one other = other
 
-wanted_keep : (b : Bool) (m : Move) → KeepsLife m → AllKeep (if_wanted b m)
+wanted_keep : (b : Bool) (m : Move) → KeepsSession m → AllKeep (if_wanted b m)
 wanted_keep true m keeps = (keeps, tt)
 wanted_keep false m keeps = tt
 

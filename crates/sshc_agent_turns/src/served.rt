@@ -1,0 +1,192 @@
+//! An agent with the bytes of its connections, and what each of its events gives.
+
+ghost use Rattle.std.specs.Prelude.{◌≡◌, ◌++◌, [], IfOk, OnErr, OnOk, false};
+ghost use Rattle.sshc_key.specs.Asking.{Makes, MakesFirst};
+ghost use Rattle.sshc_key.specs.Signers.{since};
+ghost use Rattle.sshc_wire.specs.Outgoing.{listed};
+ghost use Rattle.sshc_agent_turns.specs.AgentTurns.{SaysInput, agent_turn, bytes_at, each_turn, idle, input_turn, inputs_of, rest_of, without};
+
+use crate::event::AgentEvent;
+use crate::step::step_input;
+use sshc_agent::{AgentCore, AgentInput, Frames};
+use sshc_key::LocalSigner;
+use sshc_wire::{NoMemory, Octets, Outbox, Record};
+use std::alloc::Global;
+use std::collections::BTreeMap;
+use std::marker::Model;
+
+/// An agent, and of each connection the bytes that are in no whole frame yet.
+#[derive(Debug, Drop)]
+pub struct ServedAgent {
+    alloc: Global,
+    core: AgentCore,
+    frames: BTreeMap<u32, Frames>,
+}
+
+impl Model for ServedAgent {
+    ghost use Rattle.std.specs.Coded.{codes};
+    ghost use Rattle.sshc_key.specs.PairCode.{key_pair_code};
+    ghost use Rattle.sshc_agent_turns.specs.AgentTurns.{Served};
+
+    ghost Value = { Served };
+
+    ghost coded = { Prim.hlevel (codes, key_pair_code) };
+
+    ghost view = { λ a. record { list = a.core; bytes = a.frames.entries } };
+}
+
+/// Adds the record, if there is one.
+fn add(out: &mut Outbox, said: Option<Record>) -> Result<(), NoMemory>
+    requires open { out.old.muted ≡ false }
+    ensures ok { OnOk result (out.new.records ≡ out.old.records ++ listed said) }
+    ensures open { out.new.muted ≡ false }
+{
+    match said {
+        Some(said) => out.push(said),
+        None => Ok(()),
+    }
+}
+
+/// Takes one input, and adds its record.
+#[tactic(auto, using(crate::proofs::ServedSteps::said_of, crate::proofs::ServedSteps::cut_of))]
+fn take_one<G: LocalSigner>(
+    core: &mut AgentCore,
+    now: u64,
+    conn: u32,
+    input: &AgentInput,
+    signer: &mut G,
+    out: &mut Outbox,
+) -> Result<(), NoMemory>
+    requires open { out.old.muted ≡ false }
+    ensures ok { OnOk result (SaysInput now conn input.now core.old (since (G.calls signer.old) (G.calls signer.new)) core.new out.old.records out.new.records) }
+    ensures err { OnErr result (MakesFirst (input_turn now conn input.now core.old) (since (G.calls signer.old) (G.calls signer.new))) }
+    ensures gained { G.calls signer.new ≡ G.calls signer.old ++ since (G.calls signer.old) (G.calls signer.new) }
+    ensures open { out.new.muted ≡ false }
+{
+    let said = step_input(core, now, conn, input, signer)?;
+    add(out, said)
+}
+
+/// The same of an input that is let go then.
+fn take_whole<G: LocalSigner>(
+    core: &mut AgentCore,
+    now: u64,
+    conn: u32,
+    input: AgentInput,
+    signer: &mut G,
+    out: &mut Outbox,
+) -> Result<(), NoMemory>
+    requires open { out.old.muted ≡ false }
+    ensures ok { OnOk result (SaysInput now conn input core.old (since (G.calls signer.old) (G.calls signer.new)) core.new out.old.records out.new.records) }
+    ensures err { OnErr result (MakesFirst (input_turn now conn input core.old) (since (G.calls signer.old) (G.calls signer.new))) }
+    ensures gained { G.calls signer.new ≡ G.calls signer.old ++ since (G.calls signer.old) (G.calls signer.new) }
+    ensures open { out.new.muted ≡ false }
+{
+    take_one(core, now, conn, &input, signer, out)
+}
+
+/// All inputs that the bytes give, in order, each with its record.
+fn serve<G: LocalSigner>(
+    alloc: Global,
+    core: &mut AgentCore,
+    now: u64,
+    conn: u32,
+    frames: &mut Frames,
+    signer: &mut G,
+) -> Result<Outbox, NoMemory>
+    ensures ok { IfOk result (λ said. Makes (each_turn now conn (inputs_of frames.old) core.old) (since (G.calls signer.old) (G.calls signer.new)) (record { records = said.records; list = core.new })) }
+    ensures rest { OnOk result (frames.new ≡ rest_of frames.old) }
+    ensures err { OnErr result (MakesFirst (each_turn now conn (inputs_of frames.old) core.old) (since (G.calls signer.old) (G.calls signer.new))) }
+    ensures gained { G.calls signer.new ≡ G.calls signer.old ++ since (G.calls signer.old) (G.calls signer.new) }
+{
+    let mut out = Outbox::new(alloc);
+    'inputs: loop {
+        let Some(input) = frames.next()? else {
+            return Ok(out);
+        };
+        take_whole(core, now, conn, input, signer, &mut out)?;
+    }
+}
+
+impl ServedAgent {
+    /// No keys, no lock, no connection. Where it asks, the user is asked about each request.
+    pub fn new(alloc: Global, asks: bool) -> ServedAgent
+        ensures { result ≡ idle asks }
+    {
+        ServedAgent {
+            alloc,
+            core: AgentCore::new(alloc, asks),
+            frames: BTreeMap::new(alloc),
+        }
+    }
+
+    /// Takes the bytes of the connection out.
+    fn take_frames(&mut self, conn: u32) -> Frames
+        ensures frames { result ≡ bytes_at self.old.bytes conn }
+        ensures list { self.new.list ≡ self.old.list }
+        ensures bytes { self.new.bytes ≡ without self.old.bytes conn }
+    {
+        match self.frames.remove(&conn) {
+            Some(frames) => frames,
+            None => Frames::new(self.alloc),
+        }
+    }
+
+    /// Bytes of a connection.
+    #[tactic(auto, using(crate::proofs::ServedSteps::bytes_event_made, crate::proofs::ServedSteps::bytes_event_first, crate::proofs::ServedSteps::bytes_event_all, crate::proofs::ServedSteps::event_none, crate::proofs::ServedSteps::none_gained))]
+    fn take_bytes<G: LocalSigner>(
+        &mut self,
+        now: u64,
+        conn: u32,
+        piece: &Octets,
+        signer: &mut G,
+    ) -> Result<Outbox, NoMemory>
+        ensures ok { IfOk result (λ said. Makes (agent_turn now (AgentEvent.Bytes conn piece.now) self.old) (since (G.calls signer.old) (G.calls signer.new)) (record { records = said.records; state = self.new })) }
+        ensures err { OnErr result (MakesFirst (agent_turn now (AgentEvent.Bytes conn piece.now) self.old) (since (G.calls signer.old) (G.calls signer.new))) }
+        ensures gained { G.calls signer.new ≡ G.calls signer.old ++ since (G.calls signer.old) (G.calls signer.new) }
+    {
+        let mut frames = self.take_frames(conn);
+        frames.push(piece.as_slice())?;
+        let said = serve(self.alloc, &mut self.core, now, conn, &mut frames, signer)?;
+        self.frames.insert(conn, frames)?;
+        Ok(said)
+    }
+
+    /// One input of a connection.
+    #[tactic(auto, using(crate::proofs::ServedSteps::input_event_made, crate::proofs::ServedSteps::input_event_first))]
+    fn take_input<G: LocalSigner>(
+        &mut self,
+        now: u64,
+        conn: u32,
+        input: &AgentInput,
+        signer: &mut G,
+    ) -> Result<Outbox, NoMemory>
+        ensures ok { IfOk result (λ said. Makes (agent_turn now (AgentEvent.Input conn input.now) self.old) (since (G.calls signer.old) (G.calls signer.new)) (record { records = said.records; state = self.new })) }
+        ensures err { OnErr result (MakesFirst (agent_turn now (AgentEvent.Input conn input.now) self.old) (since (G.calls signer.old) (G.calls signer.new))) }
+        ensures gained { G.calls signer.new ≡ G.calls signer.old ++ since (G.calls signer.old) (G.calls signer.new) }
+    {
+        let mut out = Outbox::new(self.alloc);
+        take_one(&mut self.core, now, conn, input, signer, &mut out)?;
+        Ok(out)
+    }
+
+    /// Takes an event at a moment in milliseconds, and says its records in order. A piece's frames and, where a length is
+    /// above 262144, that length are one step of the agent each. Out of memory nothing is said.
+    pub fn take<G: LocalSigner>(
+        &mut self,
+        now: u64,
+        event: &AgentEvent,
+        signer: &mut G,
+    ) -> Result<Outbox, NoMemory>
+        // The event is its turn, by the calls that the signer's list gained.
+        ensures turn { IfOk result (λ said. Makes (agent_turn now event.now self.old) (since (G.calls signer.old) (G.calls signer.new)) (record { records = said.records; state = self.new })) }
+        // Out of memory, the calls are the first of the turn's.
+        ensures memory { OnErr result (MakesFirst (agent_turn now event.now self.old) (since (G.calls signer.old) (G.calls signer.new))) }
+        ensures gained { G.calls signer.new ≡ G.calls signer.old ++ since (G.calls signer.old) (G.calls signer.new) }
+    {
+        match event {
+            AgentEvent::Bytes { conn, piece } => self.take_bytes(now, *conn, piece, signer),
+            AgentEvent::Input { conn, input } => self.take_input(now, *conn, input, signer),
+        }
+    }
+}
