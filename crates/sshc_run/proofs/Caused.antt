@@ -29,7 +29,7 @@ use Rattle.sshc_script.specs.EventReading.{event_of}
 use Rattle.sshc_script.specs.Script.{Frame}
 use Rattle.sshc_run.specs.declared.known_hosts_handler.HandlerError.{HandlerError}
 use Rattle.sshc_run.specs.declared.known_hosts_handler.HandlerError.TheVariants.{Key}
-use Rattle.sshc_run.specs.Causes.{IsEventCause, IsStopCause, SaysNo}
+use Rattle.sshc_run.specs.Causes.{IsEventCause, IsSessionStop, SaysNo}
 use Rattle.sshc_run.specs.Comes.{StopsFor}
 use Rattle.sshc_run.specs.Headline.{said_of_key}
 use Rattle.sshc_run.specs.KnownHosts.{Hosts, verdict, as_handler}
@@ -38,7 +38,7 @@ use Rattle.sshc_run.specs.Turn.{Turn, error_of, handler_error_of, next_turn, row
 
 -- a turn that stops the run has its cause
 abbrev pub TurnShows : Hosts → SessionState → Frame → Asking Turn → Type 0
-TurnShows hosts w frame asking = Always (λ (t : Turn). StopsFor (IsStopCause hosts w frame) t.next) asking
+TurnShows hosts w frame asking = Always (λ (t : Turn). StopsFor (IsSessionStop hosts w frame) t.next) asking
 
 -- ---- a refusal of the known hosts text
 
@@ -83,7 +83,7 @@ module _ (hosts : Hosts) (w : SessionState) (frame : Frame) (event : Event) (rea
 
   -- ---- rows
 
-  next_shows : (row : Row) (next : Next) → Caused (why (SaysNo hosts) s event) next → StopsFor (IsStopCause hosts w frame) (next_turn frame.place s row next).next
+  next_shows : (row : Row) (next : Next) → Caused (why (SaysNo hosts) s event) next → StopsFor (IsSessionStop hosts w frame) (next_turn frame.place s row next).next
   next_shows row (stays to) cause = tt
   next_shows row (opens to) cause = tt
   next_shows row (ends_with e) cause = (event, read, cause)
@@ -92,7 +92,7 @@ module _ (hosts : Hosts) (w : SessionState) (frame : Frame) (event : Event) (rea
   -- the rest of a row, where what was told that isn't yes is what the known hosts text says
   told_shows : (told : Told) → SaysAlso (WasToldNo told) (SaysNo hosts) s event → TurnShows hosts w frame (asked_on (row_turn frame.place s) (open_row s event told))
   told_shows told also =
-      always_on (λ (row : Row). Caused (why (WasToldNo told) s event) row.next) (λ (t : Turn). StopsFor (IsStopCause hosts w frame) t.next) (row_turn frame.place s) (open_row s event told)
+      always_on (λ (row : Row). Caused (why (WasToldNo told) s event) row.next) (λ (t : Turn). StopsFor (IsSessionStop hosts w frame) t.next) (row_turn frame.place s) (open_row s event told)
       (λ row cause. next_shows row row.next (caused_also (WasToldNo told) (SaysNo hosts) s event row.next also cause)) (open_cause s event told)
 
   went_also : SaysAlso (WasToldNo telling.Went) (SaysNo hosts) s event

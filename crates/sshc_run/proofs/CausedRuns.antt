@@ -5,7 +5,6 @@ use Rattle.sshc_key.specs.Signers.{SignCall}
 use Rattle.sshc_key.specs.Asking.{Answer}
 use Rattle.sshc_opening.specs.declared.ended.Ended.{Ended}
 use Rattle.sshc_packets.specs.HostKeyProof.{Accepts}
-use Rattle.sshc_session.specs.Start.{new_session}
 use Rattle.sshc_run.specs.declared.error.RunError.{RunError}
 use Rattle.sshc_run.specs.declared.error.RunError.TheVariants as errors
 use Rattle.sshc_run.specs.Causes.{IsStopCause, IsCaused}
@@ -16,8 +15,8 @@ use Rattle.sshc_run.specs.Outcome.{Streams, stop_as, IsExact, Ends}
 use Rattle.sshc_script.specs.Script.{taken, stop_of}
 use Rattle.sshc_run.specs.ScriptRun.{Run, script_run, answers_of, answers_since}
 use Rattle.sshc_run.specs.Configured.{RunSettings}
-use Rattle.sshc_run.specs.SessionTurn.{run_turn, run_machine}
-use Rattle.sshc_run.proofs.SessionCaused.{IsUnclosed, run_shows}
+use Rattle.sshc_run.specs.RunTurn.{run_turn, run_machine}
+use Rattle.sshc_run.proofs.SessionCaused.{HasUnclosed, run_shows}
 use Rattle.sshc_run.proofs.OverRuns.{stops_caused}
 use Rattle.sshc_run.proofs.Promises.{same_table, with_answers}
 
@@ -28,7 +27,7 @@ answered (Err e) is = cc
 module _ (hosts : Hosts) (accepts : Accepts) (settings : RunSettings) (max : ℕ) where
   -- a stop of the table that is an answer has its cause
   abbrev Caused : List Answer → List ℕ → RunStop → Type 0
-  Caused answers bytes stop = CausedBy (run_turn hosts accepts) (new_session settings.session settings.opening) (IsStopCause hosts) (taken max bytes) (stop_of max bytes) answers stop
+  Caused answers bytes stop = CausedBy (run_turn hosts accepts) (run_machine hosts accepts settings).first (IsStopCause hosts) (taken max bytes) (stop_of max bytes) answers stop
 
   stop_caused : (answers : List Answer) (bytes : List ℕ) (stop : RunStop) (a : Result Ended RunError) → stop ≡ stop_as a → ((stop ≡ unanswered_stop) ⊎ Caused answers bytes stop) → Caused answers bytes (stop_as a)
   stop_caused answers bytes stop a is (inl none) = absurd (answered a (sym is ∙ none))
@@ -40,7 +39,7 @@ module _ (hosts : Hosts) (accepts : Accepts) (settings : RunSettings) (max : ℕ
       let same = same_table (script_run (run_machine hosts accepts settings) max) given bytes gained before now a read said exact in
       with_answers (λ (answers : List Answer). Caused answers bytes (stop_as a)) before now gained asked
       (stop_caused (answers_of gained) bytes (script_run (run_machine hosts accepts settings) max (answers_of gained) bytes).stop a (ap (λ (r : Run). r.stop) same ∙ exact.stop)
-      (stops_caused (run_turn hosts accepts) (IsStopCause hosts) IsUnclosed (λ s frame un. run_shows hosts accepts s frame un) (taken max bytes) (new_session settings.session settings.opening) (stop_of max bytes) (answers_of gained) (λ un. refl)))
+      (stops_caused (run_turn hosts accepts) (IsStopCause hosts) HasUnclosed (λ s frame un. run_shows hosts accepts s frame un) (taken max bytes) (run_machine hosts accepts settings).first (stop_of max bytes) (answers_of gained) (λ un. refl)))
 
   -- each answer has its cause
   pub caused_of : (before now : Streams) (a : Result Ended RunError) → Ends max 0 0 (script_run (run_machine hosts accepts settings) max) before now a → IsCaused hosts accepts settings max (answers_since before.calls now.calls) before.left a

@@ -1,10 +1,19 @@
--- The run's turn of an event: one that is an agent's, one that can't be read, and one that the session takes.
-use Rattle.std.proofs.Common.{◌≡◌, ℕ, Bool, true, false, List, Option, Some, Result, Ok, Err, inl, refl, ap, sym, ◌∙◌}
+-- What taking an event gives, of the session and of the agent: an event that is read, and one whose fields can't be.
+use Rattle.std.proofs.Common.{◌≡◌, ℕ, Bool, List, Option, Some, None, Result, Ok, Err, inl, inr, refl, ap, sym, ◌∙◌}
+use Rattle.sshc_wire.specs.Contents.{append, WroteFront}
+use Rattle.sshc_wire.specs.declared.record.Record.{Record}
+use Rattle.sshc_wire.specs.declared.source.Failed.{Failed}
+use Rattle.sshc_wire.specs.declared.source.Failed.TheVariants as failures
+use Rattle.sshc_key.specs.Asking.{Makes, MakesFirst}
 use Rattle.sshc_key.specs.Signers.{SignCall, since}
-use Rattle.sshc_key.specs.AskingLaws.{none_first}
+use Rattle.sshc_key.specs.AskingLaws.{first_on, makes_on, none_first}
+use Rattle.sshc_agent_turns.specs.declared.event.AgentEvent.{AgentEvent}
+use Rattle.sshc_agent_turns.specs.AgentEvents.{agent_event_of}
+use Rattle.sshc_agent_turns.specs.AgentTurns.{Served, agent_turn}
 use Rattle.sshc_event.specs.declared.event.Event.{Event}
 use Rattle.sshc_packets.specs.HostKeyProof.{Accepts}
 use Rattle.sshc_moves.specs.SessionState.{SessionState, is_open}
+use Rattle.sshc_opening.specs.declared.step.Step.TheVariants as steps
 use Rattle.sshc_script.specs.declared.error.EventError.{EventError}
 use Rattle.sshc_script.specs.declared.error.EventError.TheVariants as reads
 use Rattle.sshc_script.specs.EventReading.{event_of}
@@ -12,34 +21,72 @@ use Rattle.sshc_script.specs.Gives.{Fails}
 use Rattle.sshc_script.specs.Script.{Frame}
 use Rattle.sshc_run.specs.declared.error.RunError.{RunError}
 use Rattle.sshc_run.specs.declared.error.RunError.TheVariants as errors
+use Rattle.sshc_run.specs.AgentsTurn.{agent_read_turn, agents_turn, going_on, served_turn}
 use Rattle.sshc_run.specs.KnownHosts.{Hosts}
-use Rattle.sshc_run.specs.SessionPart.{is_session_kind}
-use Rattle.sshc_run.specs.SessionTurn.{read_turn, run_turn, session_turn, step_turn}
+use Rattle.sshc_run.specs.RecordLines.{lines}
+use Rattle.sshc_run.specs.SessionTurn.{read_turn, session_turn, step_turn}
 use Rattle.sshc_run.specs.Turn.{stops}
-use Rattle.sshc_run.specs.Turning.{TakeGives}
-use Rattle.sshc_run.proofs.SessionPart.{agent_turn, mine_turn}
-use Rattle.sshc_run.proofs.Taken.{unasked as none_taken, stops_turn}
+use Rattle.sshc_run.specs.Turning.{Came, TakeGives}
+use Rattle.sshc_run.proofs.Taken.{unasked as none_taken, stops_turn, written_turn, cut_turn}
+
+-- how the reader of fields failed, as the run tells it
+abbrev pub error_by : ℕ → EventError → RunError
+error_by place x = elim x [ reads.NoMemory ↦ errors.NoMemory | reads.Bad ↦ errors.BadEvent place ]
+
+-- ---- the session
 
 module _ (hosts : Hosts) (accepts : Accepts) where
-  pub unbuilt_turn : (s : SessionState) (frame : Frame) (calls : List SignCall) (held : Option (List ℕ)) → is_session_kind frame.kind ≡ false → TakeGives (run_turn hosts accepts s frame) (since calls calls) s held held (Some (Err (errors.Unbuilt frame.place)))
-  unbuilt_turn s frame calls held is = rw (agent_turn hosts accepts s frame is) (stops_turn (stops s (errors.Unbuilt frame.place)) s calls held (errors.Unbuilt frame.place) refl refl)
-
-  turn_is : (s : SessionState) (frame : Frame) → is_session_kind frame.kind ≡ true → run_turn hosts accepts s frame ≡ read_turn hosts accepts frame.place s (event_of frame.kind frame.fields)
-  unfolding session_turn
-  turn_is s frame is = mine_turn hosts accepts s frame is
-
   -- an event that is read is taken by a step of the session
-  pub event_taken : (opened : Bool) (s : SessionState) (frame : Frame) (event : Event) → is_session_kind frame.kind ≡ true → event_of frame.kind frame.fields ≡ Ok event → opened ≡ is_open s.opening.phase →
-      run_turn hosts accepts s frame ≡ step_turn opened hosts accepts frame.place s event
-  event_taken opened s frame event mine read is =
-      turn_is s frame mine ∙ ap (read_turn hosts accepts frame.place s) read ∙ ap (λ (b : Bool). step_turn b hosts accepts frame.place s event) (sym is)
+  pub event_taken : (opened : Bool) (s : SessionState) (frame : Frame) (event : Event) → event_of frame.kind frame.fields ≡ Ok event → opened ≡ is_open s.opening.phase →
+      session_turn hosts accepts s frame ≡ step_turn opened hosts accepts frame.place s event
+  unfolding session_turn
+  event_taken opened s frame event read is =
+      ap (read_turn hosts accepts frame.place s) read ∙ ap (λ (b : Bool). step_turn b hosts accepts frame.place s event) (sym is)
 
   read_failed : (place : ℕ) (s : SessionState) (read : Result Event EventError) (calls : List SignCall) (held : Option (List ℕ)) (x : EventError) (e : RunError) → Fails x read →
-      e ≡ (elim x [ reads.NoMemory ↦ errors.NoMemory | reads.Bad ↦ errors.BadEvent place ]) → TakeGives (read_turn hosts accepts place s read) (since calls calls) s held held (Some (Err e))
+      e ≡ error_by place x → TakeGives (read_turn hosts accepts place s read) (since calls calls) s held held (Some (Err e))
   read_failed place s read calls held reads.NoMemory e fails is = rw is (none_taken (read_turn hosts accepts place s read) calls s held held (Some (Err errors.NoMemory)) (inl (none_first (read_turn hosts accepts place s read), refl)))
   read_failed place s read calls held reads.Bad e fails is = rw (is, fails) (stops_turn (stops s (errors.BadEvent place)) s calls held (errors.BadEvent place) refl refl)
 
-  pub unread_turn : (s : SessionState) (frame : Frame) (calls : List SignCall) (held : Option (List ℕ)) (x : EventError) (e : RunError) → is_session_kind frame.kind ≡ true →
-      Fails x (event_of frame.kind frame.fields) → e ≡ (elim x [ reads.NoMemory ↦ errors.NoMemory | reads.Bad ↦ errors.BadEvent frame.place ]) →
-      TakeGives (run_turn hosts accepts s frame) (since calls calls) s held held (Some (Err e))
-  unread_turn s frame calls held x e mine fails is = rw (turn_is s frame mine) (read_failed frame.place s (event_of frame.kind frame.fields) calls held x e fails is)
+  pub unread_turn : (s : SessionState) (frame : Frame) (calls : List SignCall) (held : Option (List ℕ)) (x : EventError) (e : RunError) →
+      Fails x (event_of frame.kind frame.fields) → e ≡ error_by frame.place x → TakeGives (session_turn hosts accepts s frame) (since calls calls) s held held (Some (Err e))
+  unfolding session_turn
+  unread_turn s frame calls held x e fails is = read_failed frame.place s (event_of frame.kind frame.fields) calls held x e fails is
+
+-- ---- the agent
+
+-- an event that is read is taken by the agent
+pub served_taken : (s : Served) (frame : Frame) (event : AgentEvent) → agent_event_of frame.kind frame.fields ≡ Ok event → agents_turn s frame ≡ served_turn frame.moment event s
+unfolding agents_turn
+served_taken s frame event read = ap (agent_read_turn frame.place frame.moment s) read
+
+agent_read_failed : (place moment : ℕ) (s : Served) (read : Result AgentEvent EventError) (calls : List SignCall) (held : Option (List ℕ)) (x : EventError) (e : RunError) → Fails x read →
+    e ≡ error_by place x → TakeGives (agent_read_turn place moment s read) (since calls calls) s held held (Some (Err e))
+agent_read_failed place moment s read calls held reads.NoMemory e fails is =
+    rw is (none_taken (agent_read_turn place moment s read) calls s held held (Some (Err errors.NoMemory)) (inl (none_first (agent_read_turn place moment s read), refl)))
+agent_read_failed place moment s read calls held reads.Bad e fails is = rw (is, fails) (stops_turn (stops s (errors.BadEvent place)) s calls held (errors.BadEvent place) refl refl)
+
+pub agent_unread : (s : Served) (frame : Frame) (calls : List SignCall) (held : Option (List ℕ)) (x : EventError) (e : RunError) →
+    Fails x (agent_event_of frame.kind frame.fields) → e ≡ error_by frame.place x → TakeGives (agents_turn s frame) (since calls calls) s held held (Some (Err e))
+unfolding agents_turn
+agent_unread s frame calls held x e fails is = agent_read_failed frame.place frame.moment s (agent_event_of frame.kind frame.fields) calls held x e fails is
+
+module _ (moment : ℕ) (event : AgentEvent) (s after : Served) (gained : List SignCall) (held now : Option (List ℕ)) where
+  served_came : (records : List Record) → Makes (agent_turn moment event s) gained (record { records = records; state = after }) → Came (served_turn moment event s) gained 0 steps.Went after records
+  served_came records makes =
+      inr (going_on (record { records = records; state = after }), makes_on going_on (agent_turn moment event s) gained (record { records = records; state = after }) makes, refl, refl, λ none. refl)
+
+  -- all records of the event are written
+  pub served_written : (records : List Record) → Makes (agent_turn moment event s) gained (record { records = records; state = after }) → now ≡ append held (lines records) →
+      TakeGives (served_turn moment event s) gained after held now None
+  served_written records makes all = written_turn (served_turn moment event s) gained 0 steps.Went after records held now (served_came records makes) all
+
+  -- a front of their lines is
+  pub served_cut : (records : List Record) (failed : Failed) (e : RunError) → Makes (agent_turn moment event s) gained (record { records = records; state = after }) → WroteFront held now (lines records) →
+      e ≡ (elim failed [ failures.Fault ↦ errors.WriteFault | failures.NoMemory ↦ errors.NoMemory ]) → TakeGives (served_turn moment event s) gained after held now (Some (Err e))
+  served_cut records failed e makes part is = cut_turn (served_turn moment event s) gained 0 steps.Went after records held now failed e (served_came records makes) part is
+
+-- memory ran out in the event, and nothing is written
+pub served_out : (moment : ℕ) (event : AgentEvent) (s after : Served) (gained : List SignCall) (held : Option (List ℕ)) → MakesFirst (agent_turn moment event s) gained →
+    TakeGives (served_turn moment event s) gained after held held (Some (Err errors.NoMemory))
+served_out moment event s after gained held first = inl (first_on going_on (agent_turn moment event s) gained first, refl)

@@ -1,6 +1,9 @@
 -- No payload before an accepted exchange.
 use Rattle.std.proofs.Common.{◌≡◌, Bool, true, false, List, [], ◌∷◌, ◌++◌, Option, Some, Result, Ok, Err, refl, ap, sym, ◌∙◌, subst}
+use Rattle.sshc_wire.specs.Records.{IsPayload}
 use Rattle.sshc_wire.specs.declared.record.Record.{Record}
+use Rattle.sshc_wire.specs.declared.record.Record.TheVariants.{Payload}
+use Rattle.sshc_session_laws.specs.SessionRecords.{is_session_record}
 use Rattle.sshc_key.specs.declared.identity.PublicKeyOrCertificate.{PublicKeyOrCertificate}
 use Rattle.sshc_key.specs.Asking.{Answer, Asking, asked_on, Always}
 use Rattle.sshc_key.specs.AskingLaws.{always_on}
@@ -34,10 +37,14 @@ use Rattle.sshc_run.specs.KnownHosts.{Hosts, verdict}
 use Rattle.sshc_run.specs.Comes.{GoesOnIn}
 use Rattle.sshc_run.specs.Machine.{Onward, goes_on, opened, stopped}
 use Rattle.sshc_run.specs.ScriptRun.{events_run}
-use Rattle.sshc_run.specs.SessionPart.{is_session_kind}
-use Rattle.sshc_run.specs.SessionTurn.{SessionTurn, in_session, step_turn, read_turn, session_turn, built_turn, run_turn}
+use Rattle.sshc_run.specs.Part.{own_events}
+use Rattle.sshc_run.specs.RunTurn.{RunState, run_turn}
+use Rattle.sshc_run.specs.SessionPart.{IsAgentCause, session_own}
+use Rattle.sshc_run.specs.SessionTurn.{SessionTurn, in_session, step_turn, read_turn, session_turn}
 use Rattle.sshc_run.specs.Turn.{Turn, next_turn, row_turn, judged_turn, asked_turn}
 use Rattle.sshc_run.proofs.OverRuns.{records_hold}
+use Rattle.sshc_run.proofs.ProductGate.{gated_whole}
+use Rattle.sshc_run.proofs.SessionPart.{agent_stops, session_part}
 
 none_append : (a b : List Record) → NonePayload a → NonePayload b → NonePayload (a ++ b)
 none_append [] b p q = q
@@ -148,17 +155,27 @@ read_out hosts accepts w frame frames (Ok event) is before = step_out hosts acce
 read_out hosts accepts w frame frames (Err reads.Bad) is before = (tt, tt)
 read_out hosts accepts w frame frames (Err reads.NoMemory) is before = (tt, tt)
 
-built_out : (hosts : Hosts) (accepts : Accepts) (w : SessionState) (frame : Frame) (frames : List Frame) (mine : Bool) → IsBefore hosts w (frame ∷ frames) → StaysOutSo hosts frames (built_turn mine hosts accepts w frame)
+turn_out : (hosts : Hosts) (accepts : Accepts) (w : SessionState) (frame : Frame) (frames : List Frame) → IsBefore hosts w (frame ∷ frames) → StaysOutSo hosts frames (session_turn hosts accepts w frame)
 unfolding session_turn
-built_out hosts accepts w frame frames true before = read_out hosts accepts w frame frames (event_of frame.kind frame.fields) refl before
-built_out hosts accepts w frame frames false before = (tt, tt)
+turn_out hosts accepts w frame frames before = read_out hosts accepts w frame frames (event_of frame.kind frame.fields) refl before
 
-turn_out : (hosts : Hosts) (accepts : Accepts) (w : SessionState) (frame : Frame) (frames : List Frame) → IsBefore hosts w (frame ∷ frames) → StaysOutSo hosts frames (run_turn hosts accepts w frame)
-unfolding run_turn
-turn_out hosts accepts w frame frames before = built_out hosts accepts w frame frames (is_session_kind frame.kind) before
+-- where the session's events hold no exchange whose host key is accepted first, the session writes no payload
+session_gated : (hosts : Hosts) (accepts : Accepts) (frames : List Frame) (w : SessionState) (st : ScriptStop) (answers : List Answer) → IsFirst w.opening → is_accepted hosts frames ≡ false →
+    NonePayload (events_run (session_turn hosts accepts) w frames st answers).records
+session_gated hosts accepts frames w st answers first none =
+    records_hold (session_turn hosts accepts) (IsBefore hosts) NonePayload tt none_append (λ x frame rest is. turn_out hosts accepts x frame rest is) frames w st answers (first, none)
+
+-- an exchange is the session's, and so is a payload
+exchange_own : (frame : Frame) → frame.kind ≡ kinds.ExchangeDone → session_own.event frame ≡ true
+exchange_own frame is = rw is refl
+
+payload_own : (said : Record) → IsPayload said → is_session_record said ≡ true
+payload_own (Payload packet) is = refl
+payload_own said is = absurd is
 
 -- where the events hold no exchange whose host key is accepted first, no payload is written
-pub gated : (hosts : Hosts) (accepts : Accepts) (frames : List Frame) (w : SessionState) (st : ScriptStop) (answers : List Answer) → IsFirst w.opening → is_accepted hosts frames ≡ false →
-    NonePayload (events_run (run_turn hosts accepts) w frames st answers).records
-gated hosts accepts frames w st answers first none =
-    records_hold (run_turn hosts accepts) (IsBefore hosts) NonePayload tt none_append (λ x frame rest is. turn_out hosts accepts x frame rest is) frames w st answers (first, none)
+pub gated : (hosts : Hosts) (accepts : Accepts) (frames : List Frame) (s : RunState) (st : ScriptStop) (answers : List Answer) → IsFirst s.one.opening → is_accepted hosts frames ≡ false →
+    NonePayload (events_run (run_turn hosts accepts) s frames st answers).records
+gated hosts accepts frames s st answers first none =
+    gated_whole session_own hosts exchange_own (run_turn hosts accepts) (session_turn hosts accepts) (λ (x : RunState). x.one) (session_part hosts accepts) IsAgentCause (agent_stops hosts accepts) payload_own st frames s answers
+    (λ own_none replies. session_gated hosts accepts (own_events session_own frames) s.one st replies first own_none) none

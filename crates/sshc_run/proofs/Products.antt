@@ -30,11 +30,11 @@ asks_not test is (done x) by = tt
 asks_not test is (asks asked on) (here, by) = (ap not here, λ answer. asks_not test is (on answer) (by answer))
 
 module _ {A : Type 0} {B : Type 0} (own : Own) (one : Turns A) (other : Turns B) (apart : Apart own one other) where
-  one_takes : (s : Both A B) (frame : Frame) → own.event frame ≡ true → both_turn own one other s frame ≡ asked_on (in_one s) (one s.one frame)
+  pub one_takes : (s : Both A B) (frame : Frame) → own.event frame ≡ true → both_turn own one other s frame ≡ asked_on (in_one s) (one s.one frame)
   unfolding both_turn
   one_takes s frame is = rw is refl
 
-  other_takes : (s : Both A B) (frame : Frame) → own.event frame ≡ false → both_turn own one other s frame ≡ asked_on (in_other s) (other s.other frame)
+  pub other_takes : (s : Both A B) (frame : Frame) → own.event frame ≡ false → both_turn own one other s frame ≡ asked_on (in_other s) (other s.other frame)
   unfolding both_turn
   other_takes s frame is = rw is refl
 

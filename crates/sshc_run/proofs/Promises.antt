@@ -9,7 +9,6 @@ use Rattle.sshc_key.specs.Signers.{SignCall, since}
 use Rattle.sshc_key.specs.Asking.{Answer}
 use Rattle.sshc_opening.specs.declared.ended.Ended.{Ended}
 use Rattle.sshc_packets.specs.HostKeyProof.{Accepts}
-use Rattle.sshc_session.specs.Start.{new_session}
 use Rattle.sshc_run.specs.declared.error.RunError.{RunError}
 use Rattle.sshc_run.specs.declared.error.RunError.TheVariants as errors
 use Rattle.sshc_run.specs.Headline.{IsGated, IsPrefix, IsDone, KeptBy, IsKept, IsComplete}
@@ -20,7 +19,7 @@ use Rattle.sshc_run.specs.RecordLines.{lines}
 use Rattle.sshc_script.specs.Script.{taken, stop_of}
 use Rattle.sshc_run.specs.ScriptRun.{Run, at_first, run, script_run, answers_of, answers_since}
 use Rattle.sshc_run.specs.Configured.{RunSettings}
-use Rattle.sshc_run.specs.SessionTurn.{run_machine}
+use Rattle.sshc_run.specs.RunTurn.{run_machine}
 use Rattle.sshc_run.proofs.Gated.{gated}
 use Rattle.sshc_run.proofs.Going.{run_nothing, nothing_held}
 use Rattle.sshc_run.proofs.Joined.{joined}
@@ -94,7 +93,7 @@ gate_of hosts accepts settings max before now a (given, gained, end) = (
   end.read,
   λ no. (
     (script_run (run_machine hosts accepts settings) max (answers_of gained) given).records,
-    gated hosts accepts (taken max given) (new_session settings.session settings.opening) (stop_of max given) (answers_of gained) (record { exchanging = refl; runs = λ same. absurd cc; fresh = refl }) no,
+    gated hosts accepts (taken max given) (run_machine hosts accepts settings).first (stop_of max given) (answers_of gained) (record { exchanging = refl; runs = λ same. absurd cc; fresh = refl }) no,
     wrote_some (ending_of a) (script_run (run_machine hosts accepts settings) max) given gained before now a end.by,
   ),
 )

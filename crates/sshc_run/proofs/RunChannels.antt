@@ -1,5 +1,5 @@
 -- Over a whole run each channel has its account: the law of each row's moves, joined over the events.
-use Rattle.std.proofs.Common.{◌≡◌, inl, inr, ℕ, Bool, true, false, List, [], ◌∷◌, ◌++◌, Option, None, Result, Ok, Err, refl, ap, sym, ◌∙◌, subst, append_assoc}
+use Rattle.std.proofs.Common.{◌≡◌, inl, inr, ℕ, Bool, true, false, List, [], ◌∷◌, ◌++◌, length, drop, Option, None, Result, Ok, Err, refl, ap, sym, ◌∙◌, subst, append_assoc}
 use Rattle.sshc_wire.specs.declared.record.Record.{Record}
 use Rattle.sshc_key.specs.Asking.{Answer, Always}
 use Rattle.sshc_key.specs.AskingLaws.{always_any, always_makes}
@@ -24,8 +24,9 @@ use Rattle.sshc_run.specs.ChannelRuns.{row_calls, calls_by, calls_at, said_open,
 use Rattle.sshc_run.specs.Configured.{RunSettings}
 use Rattle.sshc_run.specs.KnownHosts.{Hosts}
 use Rattle.sshc_run.specs.Machine.{stop_next}
-use Rattle.sshc_run.specs.SessionPart.{is_session_kind}
-use Rattle.sshc_run.specs.SessionTurn.{SessionTurn, in_session, step_turn, read_turn, session_turn, built_turn, run_turn}
+use Rattle.sshc_run.specs.Part.{own_events}
+use Rattle.sshc_run.specs.SessionPart.{session_own}
+use Rattle.sshc_run.specs.SessionTurn.{SessionTurn, in_session, said_by, step_turn, read_turn, session_turn}
 use Rattle.sshc_run.specs.Turn.{asked_turn}
 
 -- ---- lists of calls one behind the other
@@ -72,8 +73,9 @@ module _ (law : ChannelsAreAccounted) (hosts : Hosts) (accepts : Accepts) where
   abbrev GoesSo : SessionState → Bool → List Call → SessionTurn → Type 0
   GoesSo s opened calls t = stop_next t.next ≡ None → Leads s t.state calls (said_open opened t.records)
 
-  row_leads : (moves : List Move) (s : SessionState) → s.records ≡ [] → channel_packets (when_done moves s).records ≡ said_packets (ran (calls_in moves s) s.table).said
-  row_leads moves s none = (law moves s).packets ∙ ap (λ (rs : List Record). channel_packets rs ++ said_packets (ran (calls_in moves s) s.table).said) none
+  row_leads : (moves : List Move) (s : SessionState) → s.records ≡ [] → channel_packets (said_by moves s) ≡ said_packets (ran (calls_in moves s) s.table).said
+  row_leads moves s none =
+      ap (λ (rs : List Record). channel_packets (drop (length rs) (when_done moves s).records)) none ∙ (law moves s).packets ∙ ap (λ (rs : List Record). channel_packets rs ++ said_packets (ran (calls_in moves s) s.table).said) none
 
   step_leads : (b : Bool) (s : SessionState) (place : ℕ) (event : Event) → s.records ≡ [] → Always (GoesSo s b (row_calls b accepts s event)) (step_turn b hosts accepts place s event)
   step_leads true s place event none = λ goes.
@@ -87,14 +89,9 @@ module _ (law : ChannelsAreAccounted) (hosts : Hosts) (accepts : Accepts) where
   read_leads s place (Err reads.Bad) none = λ goes. absurd cc
   read_leads s place (Err reads.NoMemory) none = λ goes. absurd cc
 
-  built_leads : (s : SessionState) (frame : Frame) (mine : Bool) → s.records ≡ [] → Always (GoesSo s (is_open s.opening.phase) (calls_at accepts s frame)) (built_turn mine hosts accepts s frame)
+  turn_leads : (s : SessionState) (frame : Frame) → s.records ≡ [] → Always (GoesSo s (is_open s.opening.phase) (calls_at accepts s frame)) (session_turn hosts accepts s frame)
   unfolding session_turn
-  built_leads s frame true none = read_leads s frame.place (event_of frame.kind frame.fields) none
-  built_leads s frame false none = λ goes. absurd cc
-
-  turn_leads : (s : SessionState) (frame : Frame) → s.records ≡ [] → Always (GoesSo s (is_open s.opening.phase) (calls_at accepts s frame)) (run_turn hosts accepts s frame)
-  unfolding run_turn
-  turn_leads s frame none = built_leads s frame (is_session_kind frame.kind) none
+  turn_leads s frame none = read_leads s frame.place (event_of frame.kind frame.fields) none
 
   comes_leads : (frames : List Frame) (s : SessionState) (answers : List Answer) (calls : List Call) (said : List Record) (s' : SessionState) (frame' : Frame) → s.records ≡ [] →
       ComesCalling hosts accepts s frames answers calls said s' frame' → Leads s s' calls said
@@ -104,7 +101,7 @@ module _ (law : ChannelsAreAccounted) (hosts : Hosts) (accepts : Accepts) where
       (rw (no_calls, silent) (record { table = refl; packets = refl; none = none }))
   comes_leads (frame ∷ frames) s answers calls said s' frame' none (inr (t, gained, left, later, more, makes, given, goes, all, says, comes)) =
       let here : Leads s t.state (calls_at accepts s frame) (said_open (is_open s.opening.phase) t.records) =
-      always_makes (GoesSo s (is_open s.opening.phase) (calls_at accepts s frame)) (run_turn hosts accepts s frame) gained t (turn_leads s frame none) makes goes in
+      always_makes (GoesSo s (is_open s.opening.phase) (calls_at accepts s frame)) (session_turn hosts accepts s frame) gained t (turn_leads s frame none) makes goes in
       rw (all, says) (leads_two s t.state s' (calls_at accepts s frame) later (said_open (is_open s.opening.phase) t.records) more here (comes_leads frames t.state left later more s' frame' here.none comes))
 
   life_has : (accounts : EachLifeHasItsAccount) (s : SessionState) (calls : List Call) → s.table ≡ (ran calls (no_channels 0)).table → (n : ℕ) (l : Life n) → IsLife calls n l → HasAccount s n l
@@ -115,8 +112,8 @@ module _ (law : ChannelsAreAccounted) (hosts : Hosts) (accepts : Accepts) where
       ran_table l.before (life.opener ∷ l.calls) (no_channels l.last) ∙ ap (λ (t : TableState). (ran l.calls t).table) life.opens in
       record { end = ap (λ (t : TableState). channel_of n t.channels) (from ∙ parts) ∙ l.there; account = accounts n l }
 
-  -- each state that a run comes to
+  -- each state that the session comes to
   pub accounted : EachLifeHasItsAccount → (settings : RunSettings) (max : ℕ) (answers : List Answer) (script : Option (List ℕ)) → AreAccounted hosts accepts settings max answers script
   accounted accounts settings max answers script = λ bytes said_so s frame calls said comes.
-      let leads = comes_leads (taken max bytes) (new_session settings.session settings.opening) answers calls said s frame refl comes in
+      let leads = comes_leads (own_events session_own (taken max bytes)) (new_session settings.session settings.opening) answers calls said s frame refl comes in
       record { table = leads.table; packets = leads.packets; lives = λ n l life. life_has accounts s calls leads.table n l life }

@@ -19,8 +19,9 @@ use Rattle.sshc_run.specs.Configured.{RunSettings}
 use Rattle.sshc_run.specs.KnownHosts.{Hosts}
 use Rattle.sshc_run.specs.Machine.{stop_next}
 use Rattle.sshc_run.specs.ReplyOrder.{requests_in, requests_of, requests_at, ComesAsking, AreInOrder}
-use Rattle.sshc_run.specs.SessionPart.{is_session_kind}
-use Rattle.sshc_run.specs.SessionTurn.{SessionTurn, in_session, step_turn, read_turn, session_turn, built_turn, run_turn}
+use Rattle.sshc_run.specs.Part.{own_events}
+use Rattle.sshc_run.specs.SessionPart.{session_own}
+use Rattle.sshc_run.specs.SessionTurn.{SessionTurn, in_session, step_turn, read_turn, session_turn}
 use Rattle.sshc_run.specs.Turn.{asked_turn}
 
 -- those that were answered, and those that wait then, are those that waited and those that were written
@@ -49,14 +50,9 @@ module _ (law : RepliesAreInOrder) (hosts : Hosts) (accepts : Accepts) where
   read_in_order s place (Err reads.Bad) = λ none. absurd cc
   read_in_order s place (Err reads.NoMemory) = λ none. absurd cc
 
-  built_in_order : (s : SessionState) (frame : Frame) (mine : Bool) → Always (GoesInOrder s (requests_at accepts s frame)) (built_turn mine hosts accepts s frame)
+  turn_in_order : (s : SessionState) (frame : Frame) → Always (GoesInOrder s (requests_at accepts s frame)) (session_turn hosts accepts s frame)
   unfolding session_turn
-  built_in_order s frame true = read_in_order s frame.place (event_of frame.kind frame.fields)
-  built_in_order s frame false = λ none. absurd cc
-
-  turn_in_order : (s : SessionState) (frame : Frame) → Always (GoesInOrder s (requests_at accepts s frame)) (run_turn hosts accepts s frame)
-  unfolding run_turn
-  turn_in_order s frame = built_in_order s frame (is_session_kind frame.kind)
+  turn_in_order s frame = read_in_order s frame.place (event_of frame.kind frame.fields)
 
   comes_in_order : (frames : List Frame) (s : SessionState) (answers : List Answer) (asked : List Awaited) (s' : SessionState) (frame' : Frame) → ComesAsking hosts accepts s frames answers asked s' frame' → InOrder s.replies asked s'.replies
   comes_in_order [] s answers asked s' frame' never = absurd never
@@ -64,11 +60,11 @@ module _ (law : RepliesAreInOrder) (hosts : Hosts) (accepts : Accepts) where
       ([], ap (λ (x : SessionState). x.replies) (sym same) ∙ sym (append-nil s.replies) ∙ ap (λ (l : List Awaited). s.replies ++ l) (sym none))
   comes_in_order (frame ∷ frames) s answers asked s' frame' (inr (t, gained, left, later, makes, given, goes, all, comes)) =
       let here : InOrder s.replies (requests_at accepts s frame) t.state.replies =
-      always_makes (GoesInOrder s (requests_at accepts s frame)) (run_turn hosts accepts s frame) gained t (turn_in_order s frame) makes goes in
+      always_makes (GoesInOrder s (requests_at accepts s frame)) (session_turn hosts accepts s frame) gained t (turn_in_order s frame) makes goes in
       subst (λ (l : List Awaited). InOrder s.replies l s'.replies) (sym all)
       (in_order_two s.replies t.state.replies s'.replies (requests_at accepts s frame) later here (comes_in_order frames t.state left later s' frame' comes))
 
-  -- each state that a run comes to
+  -- each state that the session comes to
   pub replies_in_order : (settings : RunSettings) (max : ℕ) (answers : List Answer) (script : Option (List ℕ)) → AreInOrder hosts accepts settings max answers script
   replies_in_order settings max answers script = λ bytes said s frame asked comes.
-      let order = comes_in_order (taken max bytes) _ answers asked s frame comes in (order.0, sym order.1)
+      let order = comes_in_order (own_events session_own (taken max bytes)) _ answers asked s frame comes in (order.0, sym order.1)

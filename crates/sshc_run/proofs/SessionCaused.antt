@@ -1,5 +1,5 @@
 -- Each turn of a run that stops it has its cause in the script's own words, and no turn says that the script is at its end.
-use Rattle.std.proofs.Common.{◌≡◌, ℕ, Bool, true, false, Result, Ok, Err, refl, ap, sym, ◌∙◌}
+use Rattle.std.proofs.Common.{◌≡◌, inl, inr, ℕ, Bool, true, false, Result, Ok, Err, refl, ap, sym, ◌∙◌}
 use Rattle.sshc_key.specs.Asking.{Asking, done, asks, Always}
 use Rattle.sshc_key.specs.AskingLaws.{always_on}
 use Rattle.sshc_event.specs.declared.event.Event.{Event}
@@ -17,15 +17,22 @@ use Rattle.sshc_script.specs.declared.error.EventError.{EventError}
 use Rattle.sshc_script.specs.declared.error.EventError.TheVariants as reads
 use Rattle.sshc_script.specs.EventReading.{event_of}
 use Rattle.sshc_script.specs.Script.{Frame}
-use Rattle.sshc_run.specs.Causes.{IsStopCause}
+use Rattle.sshc_agent_turns.specs.AgentTurns.{Served}
+use Rattle.sshc_run.specs.AgentsTurn.{agents_turn}
+use Rattle.sshc_run.specs.Causes.{IsSessionStop, IsStopCause}
 use Rattle.sshc_run.specs.Comes.{StopsFor, GoesOnIn}
 use Rattle.sshc_run.specs.KnownHosts.{Hosts}
-use Rattle.sshc_run.specs.Machine.{Onward, goes_on, opened, stopped, ended, IsNoEnd, NeverAtEnd}
-use Rattle.sshc_run.specs.SessionPart.{is_session_kind}
-use Rattle.sshc_run.specs.SessionTurn.{SessionTurn, in_session, onward, row_turn, step_turn, read_turn, session_turn, built_turn, run_turn}
+use Rattle.sshc_run.specs.Machine.{Onward, goes_on, opened, stopped, ended, IsNoEnd, NeverAtEnd, TurnOf}
+use Rattle.sshc_run.specs.Product.{both_turn, in_one, in_other}
+use Rattle.sshc_run.specs.RunTurn.{RunState, run_turn}
+use Rattle.sshc_run.specs.SessionPart.{IsAgentCause, session_own}
+use Rattle.sshc_run.specs.SessionTurn.{SessionTurn, in_session, onward, row_turn, step_turn, read_turn, session_turn}
 use Rattle.sshc_run.specs.Turn.{Turn, asked_turn}
 use Rattle.sshc_run.proofs.Caused.{refusal_shows, event_shows, asked_never}
 use Rattle.sshc_run.proofs.OverRuns.{Shows}
+use Rattle.sshc_run.proofs.AgentsTurns.{agents_never, agents_stop}
+use Rattle.sshc_run.proofs.Products.{both_never}
+use Rattle.sshc_run.proofs.SessionPart.{session_apart}
 use Rattle.sshc_run.proofs.Unopened.{Leaves, TurnLeaves, asked_leaves}
 
 always_two : {A : Type 0} (P Q : A → Type 0) (asking : Asking A) → Always P asking → Always Q asking → Always (λ (x : A). P x × Q x) asking
@@ -36,6 +43,9 @@ always_two P Q (asks asked on) one other = λ answer. always_two P Q (on answer)
 abbrev pub IsUnclosed : SessionState → Type 0
 IsUnclosed s = is_open s.opening.phase ≡ false → s.opening.closed ≡ false
 
+abbrev pub HasUnclosed : RunState → Type 0
+HasUnclosed s = IsUnclosed s.one
+
 -- ---- rows of an open session
 
 -- an open session is unclosed
@@ -43,7 +53,7 @@ open_unclosed : (s : SessionState) → is_open s.opening.phase ≡ true → IsUn
 open_unclosed s is = λ un. let clash : true ≡ false = sym is ∙ un in absurd cc
 
 module _ (hosts : Hosts) (accepts : Accepts) (w : SessionState) (frame : Frame) (event : Event) (read : event_of frame.kind frame.fields ≡ Ok event) where
-  next_shows : (next : Next) → is_open w.opening.phase ≡ true → NextCaused (open_why w event) next → StopsFor (IsStopCause hosts w frame) (onward frame.place next)
+  next_shows : (next : Next) → is_open w.opening.phase ≡ true → NextCaused (open_why w event) next → StopsFor (IsSessionStop hosts w frame) (onward frame.place next)
   next_shows goes is caused = tt
   next_shows (ends e) is caused = (event, read, caused)
   next_shows (refuses e) is caused = refusal_shows hosts w frame event read true e is caused
@@ -60,7 +70,7 @@ module _ (hosts : Hosts) (accepts : Accepts) (w : SessionState) (frame : Frame) 
       open_unclosed (row_turn frame.place w row).state (ap is_open kept.phase ∙ is)
 
   abbrev ShowsSo : SessionTurn → Type 0
-  ShowsSo t = StopsFor (IsStopCause hosts w frame) t.next × GoesOnIn IsUnclosed t.state t.next
+  ShowsSo t = StopsFor (IsSessionStop hosts w frame) t.next × GoesOnIn IsUnclosed t.state t.next
 
   row_shows : is_open w.opening.phase ≡ true → ShowsSo (row_turn frame.place w (session_row accepts (default_opinions w) w event))
   row_shows is =
@@ -78,9 +88,9 @@ module _ (hosts : Hosts) (accepts : Accepts) (w : SessionState) (frame : Frame) 
   unopened_shows : is_open w.opening.phase ≡ false → w.opening.closed ≡ false → Always ShowsSo (step_turn false hosts accepts frame.place w event)
   unopened_shows un fresh =
       let asking : Asking Turn = asked_turn hosts frame.place w.opening event (asked_of w.opening event) in
-      always_on (λ (t : Turn). StopsFor (IsStopCause hosts w frame) t.next × TurnLeaves w.opening.closed t) ShowsSo (in_session w) asking
-      (λ t both. (both.0, leaves_unclosed t t.next fresh both.1))
-      (always_two (λ (t : Turn). StopsFor (IsStopCause hosts w frame) t.next) (TurnLeaves w.opening.closed) asking (event_shows hosts w frame event read un fresh)
+      always_on (λ (t : Turn). StopsFor (IsSessionStop hosts w frame) t.next × TurnLeaves w.opening.closed t) ShowsSo (in_session w) asking
+      (λ t both. (both.0, leaves_unclosed t t.next fresh both.1.0))
+      (always_two (λ (t : Turn). StopsFor (IsSessionStop hosts w frame) t.next) (TurnLeaves w.opening.closed) asking (event_shows hosts w frame event read un fresh)
       (asked_leaves hosts frame.place w.opening un event (asked_of w.opening event)))
 
   step_shows : (b : Bool) → is_open w.opening.phase ≡ b → IsUnclosed w → Always ShowsSo (step_turn b hosts accepts frame.place w event)
@@ -91,21 +101,44 @@ module _ (hosts : Hosts) (accepts : Accepts) (w : SessionState) (frame : Frame) 
 
 module _ (hosts : Hosts) (accepts : Accepts) where
   read_shows : (w : SessionState) (frame : Frame) (read : Result Event EventError) → event_of frame.kind frame.fields ≡ read → IsUnclosed w →
-      Always (λ (t : SessionTurn). StopsFor (IsStopCause hosts w frame) t.next × GoesOnIn IsUnclosed t.state t.next) (read_turn hosts accepts frame.place w read)
+      Always (λ (t : SessionTurn). StopsFor (IsSessionStop hosts w frame) t.next × GoesOnIn IsUnclosed t.state t.next) (read_turn hosts accepts frame.place w read)
   read_shows w frame (Ok event) is un = step_shows hosts accepts w frame event is (is_open w.opening.phase) refl un
   read_shows w frame (Err reads.Bad) is un = ((refl, is), tt)
   read_shows w frame (Err reads.NoMemory) is un = (tt, tt)
 
-  built_shows : (w : SessionState) (frame : Frame) (mine : Bool) → is_session_kind frame.kind ≡ mine → IsUnclosed w →
-      Always (λ (t : SessionTurn). StopsFor (IsStopCause hosts w frame) t.next × GoesOnIn IsUnclosed t.state t.next) (built_turn mine hosts accepts w frame)
+  -- every turn of the session
+  session_shows : (w : SessionState) (frame : Frame) → IsUnclosed w → Shows (session_turn hosts accepts) (IsSessionStop hosts) IsUnclosed w frame
   unfolding session_turn
-  built_shows w frame true is un = read_shows w frame (event_of frame.kind frame.fields) refl un
-  built_shows w frame false is un = ((refl, is), tt)
+  session_shows w frame un = read_shows w frame (event_of frame.kind frame.fields) refl un
+
+  in_one_shows : (s : RunState) (frame : Frame) (t : SessionTurn) (next : Onward) → session_own.event frame ≡ true → StopsFor (IsSessionStop hosts s.one frame) next → GoesOnIn IsUnclosed t.state next →
+      StopsFor (IsStopCause hosts s frame) next × GoesOnIn HasUnclosed (in_one s t).state next
+  in_one_shows s frame t goes_on is stops on = (tt, on)
+  in_one_shows s frame t opened is stops on = (tt, on)
+  in_one_shows s frame t (stopped stop) is stops on = (inl (is, stops), tt)
+
+  in_other_shows : (s : RunState) (frame : Frame) (t : TurnOf Served) (next : Onward) → session_own.event frame ≡ false → StopsFor (IsAgentCause frame) next → HasUnclosed s →
+      StopsFor (IsStopCause hosts s frame) next × GoesOnIn HasUnclosed (in_other s t).state next
+  in_other_shows s frame t goes_on is stops un = (tt, un)
+  in_other_shows s frame t opened is stops un = (tt, un)
+  in_other_shows s frame t (stopped stop) is stops un = (inr (is, stops), tt)
+
+  both_shows : (mine : Bool) (s : RunState) (frame : Frame) → session_own.event frame ≡ mine → HasUnclosed s → Shows (run_turn hosts accepts) (IsStopCause hosts) HasUnclosed s frame
+  unfolding both_turn
+  both_shows true s frame is un =
+      rw is
+      (always_on (λ (t : SessionTurn). StopsFor (IsSessionStop hosts s.one frame) t.next × GoesOnIn IsUnclosed t.state t.next)
+      (λ (t : TurnOf RunState). StopsFor (IsStopCause hosts s frame) t.next × GoesOnIn HasUnclosed t.state t.next) (in_one s) (session_turn hosts accepts s.one frame)
+      (λ t both. in_one_shows s frame t t.next is both.0 both.1) (session_shows s.one frame un))
+  both_shows false s frame is un =
+      rw is
+      (always_on (λ (t : TurnOf Served). StopsFor (IsAgentCause frame) t.next)
+      (λ (t : TurnOf RunState). StopsFor (IsStopCause hosts s frame) t.next × GoesOnIn HasUnclosed t.state t.next) (in_other s) (agents_turn s.other frame)
+      (λ t stops. in_other_shows s frame t t.next is stops un) (agents_stop s.other frame))
 
   -- every turn of a run
-  pub run_shows : (w : SessionState) (frame : Frame) → IsUnclosed w → Shows (run_turn hosts accepts) (IsStopCause hosts) IsUnclosed w frame
-  unfolding run_turn
-  run_shows w frame un = built_shows w frame (is_session_kind frame.kind) refl un
+  pub run_shows : (s : RunState) (frame : Frame) → HasUnclosed s → Shows (run_turn hosts accepts) (IsStopCause hosts) HasUnclosed s frame
+  run_shows s frame un = both_shows (session_own.event frame) s frame refl un
 
   -- ---- no turn says that the script is at its end
 
@@ -128,11 +161,9 @@ module _ (hosts : Hosts) (accepts : Accepts) where
   read_never w place (Err reads.Bad) = λ is. cc
   read_never w place (Err reads.NoMemory) = λ is. cc
 
-  built_never : (w : SessionState) (frame : Frame) (mine : Bool) → Always IsNoEnd (built_turn mine hosts accepts w frame)
+  session_never : NeverAtEnd (session_turn hosts accepts)
   unfolding session_turn
-  built_never w frame true = read_never w frame.place (event_of frame.kind frame.fields)
-  built_never w frame false = λ is. cc
+  session_never = λ w frame. read_never w frame.place (event_of frame.kind frame.fields)
 
   pub never_at_end : NeverAtEnd (run_turn hosts accepts)
-  unfolding run_turn
-  never_at_end = λ w frame. built_never w frame (is_session_kind frame.kind)
+  never_at_end = both_never session_own (session_turn hosts accepts) agents_turn (session_apart hosts accepts) session_never agents_never

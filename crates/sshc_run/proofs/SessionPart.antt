@@ -1,74 +1,92 @@
--- The session is a part of a run: it takes each session event, and an agent's event stops the run. It begins as the opening.
-use Rattle.std.proofs.Common.{◌≡◌, Bool, true, false, List, [], ◌∷◌, Result, Ok, Err, refl, ap, sym, ◌∙◌}
-use Rattle.std.proofs.Math.Path.{fun_ext}
+-- The session is a part of a run: it takes each session event, and says and asks what is its own; an agent takes the others. The session begins as
+-- the opening.
+use Rattle.std.proofs.Common.{◌≡◌, ℕ, Bool, true, false, List, [], ◌∷◌, Result, Ok, Err, refl, ap, sym, ◌∙◌}
 use Rattle.std.proofs.lemmas.List.{append-nil}
 use Rattle.sshc_wire.specs.declared.record.Record.{Record}
-use Rattle.sshc_key.specs.Asking.{Asking, done, asks, asked_on, Always}
-use Rattle.sshc_key.specs.AskingLaws.{always_also}
+use Rattle.sshc_key.specs.Asking.{asked_on, Always}
+use Rattle.sshc_key.specs.AskingLaws.{always_also, always_on}
 use Rattle.sshc_event.specs.declared.event.Event.{Event}
 use Rattle.sshc_opening.specs.OpeningState.{OpeningState}
 use Rattle.sshc_opening.specs.OpeningTable.{asked_of}
 use Rattle.sshc_packets.specs.HostKeyProof.{Accepts}
+use Rattle.sshc_moves.specs.declared.open_answer.OpenAnswer.TheVariants.{Accept}
+use Rattle.sshc_moves.specs.SessionRow.{SessionRow}
 use Rattle.sshc_moves.specs.SessionState.{SessionState, is_open}
+use Rattle.sshc_moves.specs.SessionTable.{session_row}
+use Rattle.sshc_client.specs.Follows.{all_moves, default_opinions}
+use Rattle.sshc_session_laws.specs.KeptByMoves.{said_session}
+use Rattle.sshc_session_laws.specs.OpenCauseLaws.{RowHolds, all_keep, open_why, session_holds}
+use Rattle.sshc_session_laws.specs.SessionRecords.{AreSessions, is_session_record}
 use Rattle.sshc_session.specs.Start.{new_session}
 use Rattle.sshc_script.specs.declared.error.EventError.{EventError}
 use Rattle.sshc_script.specs.declared.error.EventError.TheVariants as reads
 use Rattle.sshc_script.specs.EventReading.{event_of}
-use Rattle.sshc_run.specs.declared.error.RunError.TheVariants as errors
+use Rattle.sshc_run.specs.AgentsTurn.{agents_turn}
 use Rattle.sshc_run.specs.Configured.{RunSettings}
 use Rattle.sshc_run.specs.KnownHosts.{Hosts}
 use Rattle.sshc_run.specs.Machine.{goes_on, Onward}
 use Rattle.sshc_run.specs.OpeningRun.{Continues}
 use Rattle.sshc_run.specs.Part.{SaysBy, HasPart, StopsOthers}
 use Rattle.sshc_script.specs.Script.{Frame}
-use Rattle.sshc_run.specs.SessionPart.{is_session_kind, is_session_record, session_own, IsAgentCause}
-use Rattle.sshc_run.specs.SessionTurn.{SessionTurn, in_session, step_turn, read_turn, session_turn, built_turn, run_turn}
-use Rattle.sshc_run.specs.Turn.{Turn, stops, asked_turn, event_turn, opening_turn}
-use Rattle.sshc_run.proofs.OpeningFirsts.{EndsNone}
+use Rattle.sshc_run.specs.Product.{Apart, in_one}
+use Rattle.sshc_run.specs.RunTurn.{RunState, run_turn}
+use Rattle.sshc_run.specs.SessionPart.{session_own, IsAgentCause}
+use Rattle.sshc_run.specs.SessionTurn.{SessionTurn, in_session, said_by, step_turn, read_turn, session_turn}
+use Rattle.sshc_run.specs.Turn.{Turn, asked_turn, event_turn, opening_turn}
+use Rattle.sshc_run.proofs.AgentsTurns.{agents_ask, agents_say, agents_stop}
+use Rattle.sshc_run.proofs.Products.{one_part, one_takes, other_stops}
 use Rattle.sshc_run.proofs.SessionAsks.{session_asks}
-use Rattle.sshc_run.proofs.Unopened.{Leaves, TurnLeaves, opening_leaves}
+use Rattle.sshc_run.proofs.Unopened.{Leaves, TurnLeaves, asked_leaves, opening_leaves}
 
-asked_same_on : {A : Type 0} (asking : Asking A) → asking ≡ asked_on (λ (x : A). x) asking
-asked_same_on (done x) = refl
-asked_same_on (asks asked on) = ap (asks asked) (fun_ext (λ answer. asked_same_on (on answer)))
+-- ---- what the session says is its own
 
-always_each : {A : Type 0} (P : A → Type 0) (asking : Asking A) → ((x : A) → P x) → Always P asking
-always_each P (done x) each = each x
-always_each P (asks asked on) each = λ answer. always_each P (on answer) each
-
-said_all : (records : List Record) → SaysBy is_session_record true records
-said_all [] = tt
-said_all (said ∷ records) = (refl, said_all records)
-
--- ---- the run's turns
+says_own : (records : List Record) → AreSessions records → SaysBy is_session_record true records
+says_own [] so = tt
+says_own (said ∷ records) (here, so) = (here, says_own records so)
 
 module _ (hosts : Hosts) (accepts : Accepts) where
-  -- a session's event is the session's
-  pub mine_turn : (s : SessionState) (frame : Frame) → is_session_kind frame.kind ≡ true → run_turn hosts accepts s frame ≡ session_turn hosts accepts s frame
-  unfolding run_turn
-  mine_turn s frame is = ap (λ (mine : Bool). built_turn mine hosts accepts s frame) is
+  abbrev SaysOwn : SessionTurn → Type 0
+  SaysOwn t = SaysBy is_session_record true t.records
 
-  -- an agent's event stops the run
-  pub agent_turn : (s : SessionState) (frame : Frame) → is_session_kind frame.kind ≡ false → run_turn hosts accepts s frame ≡ done (stops s (errors.Unbuilt frame.place))
-  unfolding run_turn
-  agent_turn s frame is = ap (λ (mine : Bool). built_turn mine hosts accepts s frame) is
+  step_says : (b : Bool) (place : ℕ) (s : SessionState) (event : Event) → is_open s.opening.phase ≡ b → Always SaysOwn (step_turn b hosts accepts place s event)
+  step_says true place s event is =
+      let row : SessionRow = session_row accepts (default_opinions s) s event in
+      let holds : RowHolds (open_why s event) row = session_holds accepts (default_opinions s) s event is in
+      says_own (said_by (all_moves row) s) (said_session (all_moves row) s (all_keep (open_why s event) row Accept holds))
+  step_says false place s event is =
+      always_on (TurnLeaves s.opening.closed) SaysOwn (in_session s) (asked_turn hosts place s.opening event (asked_of s.opening event)) (λ t so. says_own t.records so.1)
+      (asked_leaves hosts place s.opening is event (asked_of s.opening event))
 
-  pub session_part : HasPart (run_turn hosts accepts) (session_turn hosts accepts) (λ (s : SessionState). s) session_own
-  session_part = record {
-    as_whole = λ s t. t;
-    same = λ s frame is. mine_turn s frame is ∙ asked_same_on (session_turn hosts accepts s frame);
-    seen = λ s t. (refl, refl, refl);
-    says = λ s frame is. always_each (λ (t : SessionTurn). SaysBy is_session_record true t.records) (session_turn hosts accepts s frame) (λ t. said_all t.records);
-    asks_own = λ s frame is. session_asks hosts accepts s frame;
-    still = λ s frame is. rw (agent_turn s frame is) (tt, refl);
-    asks_other = λ s frame is. rw (agent_turn s frame is) tt;
+  session_read_says : (place : ℕ) (s : SessionState) (read : Result Event EventError) → Always SaysOwn (read_turn hosts accepts place s read)
+  session_read_says place s (Ok event) = step_says (is_open s.opening.phase) place s event refl
+  session_read_says place s (Err reads.Bad) = tt
+  session_read_says place s (Err reads.NoMemory) = tt
+
+  -- every turn of the session
+  pub session_says : (s : SessionState) (frame : Frame) → Always SaysOwn (session_turn hosts accepts s frame)
+  unfolding session_turn
+  session_says s frame = session_read_says frame.place s (event_of frame.kind frame.fields)
+
+  -- ---- the run's turns
+
+  -- the session and the agent each say and ask what is their own
+  pub session_apart : Apart session_own (session_turn hosts accepts) agents_turn
+  session_apart = record {
+    one_says = λ s frame is. session_says s frame;
+    one_asks = λ s frame is. session_asks hosts accepts s frame;
+    other_says = λ s frame is. agents_say s frame;
+    other_asks = λ s frame is. agents_ask s frame;
   }
 
-  pub agent_stops : StopsOthers (run_turn hosts accepts) session_own IsAgentCause
-  agent_stops = λ s frame is. rw (agent_turn s frame is) refl
+  pub session_part : HasPart (run_turn hosts accepts) (session_turn hosts accepts) (λ (s : RunState). s.one) session_own
+  session_part = one_part session_own (session_turn hosts accepts) agents_turn session_apart
 
-pub agent_ends_none : EndsNone IsAgentCause
-agent_ends_none frame e is = cc
+  pub agent_stops : StopsOthers (run_turn hosts accepts) session_own IsAgentCause
+  agent_stops = other_stops session_own (session_turn hosts accepts) agents_turn session_apart IsAgentCause (λ s frame is. agents_stop s frame)
+
+  -- a session's event is the session's
+  pub mine_turn : (s : RunState) (frame : Frame) → session_own.event frame ≡ true → run_turn hosts accepts s frame ≡ asked_on (in_one s) (session_turn hosts accepts s.one frame)
+  mine_turn s frame is = one_takes session_own (session_turn hosts accepts) agents_turn session_apart s frame is
 
 -- ---- the session begins as the opening
 
@@ -109,7 +127,7 @@ module _ (hosts : Hosts) (accepts : Accepts) (settings : RunSettings) where
     turn_of = λ t. in_session (kept_in settings t.state) t;
     same = λ o frame un. same_turn o frame un.1;
     stays = λ o frame un.
-        always_also (TurnLeaves o.closed) (λ (t : Turn). t.next ≡ goes_on → IsUnopened t.state) (opening_turn hosts o frame) (λ t so. leaves_unopened o.closed t t.next refl un.0 so) (opening_leaves hosts o frame un.1);
+        always_also (TurnLeaves o.closed) (λ (t : Turn). t.next ≡ goes_on → IsUnopened t.state) (opening_turn hosts o frame) (λ t so. leaves_unopened o.closed t t.next refl un.0 so.0) (opening_leaves hosts o frame un.1);
     on = λ t is. goes_alike t goes_on is;
     opens = λ t is. (([], sym (append-nil t.records)), is);
     stops = λ t stop is. (refl, is);

@@ -1,5 +1,5 @@
 -- A step of the session comes to the run's turn, and leaves the session ready for the next.
-use Rattle.std.proofs.Common.{◌≡◌, inl, inr, ℕ, Bool, true, false, List, [], ◌++◌, Some, None, Result, Ok, Err, refl, ap, sym, ◌∙◌, subst}
+use Rattle.std.proofs.Common.{◌≡◌, inl, inr, ℕ, Bool, true, false, List, [], ◌++◌, length, drop, Some, None, Result, Ok, Err, refl, ap, sym, ◌∙◌, subst}
 use Rattle.std.proofs.Math.Seq.{drop-length}
 use Rattle.std.specs.Option.{option_map}
 use Rattle.sshc_wire.specs.Outgoing.{Outgoing}
@@ -54,10 +54,10 @@ module _ (hosts : Hosts) (event : Event) (was is : OpeningLent) (unopened : is_o
   row_leaves : (told : Told) (s : Span) (calls : List SignCall) (answer : Step Error) → s.before ≡ was.opening → Steps (open_row was.opening event told) calls s answer → LeavesBy answer was.opening.closed s.after
   row_leaves told s calls steps.Went same (row, (makes, adds), next) =
       let so : Stays was.opening.closed row = always_makes (Stays was.opening.closed) (open_row was.opening event told) calls row (open_stays was.opening event told unopened) makes in
-      subst (StaysNext was.opening.closed) next so
+      subst (StaysNext was.opening.closed) next so.0
   row_leaves told s calls steps.Opened same (row, to, (makes, adds), next, shut_so) =
       let so : Stays was.opening.closed row = always_makes (Stays was.opening.closed) (open_row was.opening event told) calls row (open_stays was.opening event told unopened) makes in
-      ap (λ (o : OpeningState). is_open o.phase) shut_so ∙ subst (StaysNext was.opening.closed) next so
+      ap (λ (o : OpeningState). is_open o.phase) shut_so ∙ subst (StaysNext was.opening.closed) next so.0
   row_leaves told s calls (steps.Ended e) same does = tt
   row_leaves told s calls (steps.Refused e) same does = tt
   row_leaves told s calls steps.Closed same does = tt
@@ -153,9 +153,13 @@ module _ (hosts : Hosts) (accepts : Accepts) (place : ℕ) (event : Event) (was 
 
 -- ---- in an open session
 
-module _ (place : ℕ) (row : SessionRow) (s new : SessionState) where
+module _ (place : ℕ) (row : SessionRow) (s new : SessionState) (taken : s.records ≡ []) where
   abbrev t : SessionTurn
   t = row_turn place s row
+
+  -- where nothing was said before, the row's moves said all that is said
+  all_said : t.records ≡ (when_done (all_moves row) s).records
+  all_said = ap (λ (rs : List Record). drop (length rs) (when_done (all_moves row) s).records) taken
 
   -- the run doesn't go on behind a row that ends or refuses
   abbrev IsStop : Next → Type 0
@@ -171,17 +175,17 @@ module _ (place : ℕ) (row : SessionRow) (s new : SessionState) where
   stopped_not next is same none = absurd (stop_by next is (ap (λ (x : Next). stop_next (onward place x)) (sym same) ∙ none))
 
   row_came : (result : Step HandlerError) → StepsRow Client row s new result → Came (done (row_turn place s row)) [] place result (emptied new) new.records
-  row_came steps.Went (next, same) = inr (t, refl, ap (λ (x : SessionState). x.records) same, rw next refl, λ none. ap emptied same)
+  row_came steps.Went (next, same) = inr (t, refl, ap (λ (x : SessionState). x.records) same ∙ sym all_said, rw next refl, λ none. ap emptied same)
   row_came (steps.Ended e) (next, same) =
-      inr (t, refl, ap (λ (x : SessionState). x.records) same ∙ stop_says (when_done (all_moves row) s), rw next refl, λ none. stopped_not (row_ends e) tt next none)
+      inr (t, refl, ap (λ (x : SessionState). x.records) same ∙ stop_says (when_done (all_moves row) s) ∙ sym all_said, rw next refl, λ none. stopped_not (row_ends e) tt next none)
   row_came (steps.Refused x) (e, mid, told, same, inl (memory, fronts)) =
       let front : IsFront mid.records (when_done (all_moves row) s).records = front_says (all_moves row) s mid fronts in
       inl (
         ap (λ (y : HandlerError). Some (Err (handler_error_of place y))) (told ∙ ap Client memory),
-        inr (t, refl, (front.0, front.1 ∙ ap (λ (rs : List Record). rs ++ front.0) (sym (ap (λ (y : SessionState). y.records) same ∙ stop_says mid)))),
+        inr (t, refl, (front.0, all_said ∙ front.1 ∙ ap (λ (rs : List Record). rs ++ front.0) (sym (ap (λ (y : SessionState). y.records) same ∙ stop_says mid)))),
       )
   row_came (steps.Refused x) (e, mid, told, same, inr (next, moved)) =
-      inr (t, refl, ap (λ (y : SessionState). y.records) same ∙ stop_says mid ∙ ap (λ (y : SessionState). y.records) moved, rw (told, next) refl, λ none. stopped_not (refuses e) tt next none)
+      inr (t, refl, ap (λ (y : SessionState). y.records) same ∙ stop_says mid ∙ ap (λ (y : SessionState). y.records) moved ∙ sym all_said, rw (told, next) refl, λ none. stopped_not (refuses e) tt next none)
   row_came steps.Opened never = absurd never
   row_came steps.Closed never = absurd never
 
@@ -200,7 +204,7 @@ module _ (accepts : Accepts) (place : ℕ) (event : Event) (was is : Lent) (resu
   none_since same = ap (since was.calls) same ∙ drop-length was.calls
 
   pub opened_came : StepsRow Client followed was.session is.session result → is.calls ≡ was.calls → Came (done (row_turn place was.session followed)) (since was.calls is.calls) place result (emptied is.session) is.session.records
-  opened_came steps_row same = rw (none_since same) (row_came place followed was.session is.session result steps_row)
+  opened_came steps_row same = rw (none_since same) (row_came place followed was.session is.session ready.taken result steps_row)
 
   ready_on : is.session ≡ when_done (all_moves followed) was.session → IsReady opened (emptied is.session)
   ready_on same =

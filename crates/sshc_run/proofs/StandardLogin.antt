@@ -35,11 +35,14 @@ use Rattle.sshc_script.specs.declared.event_kind.EventKind.TheVariants as kinds
 use Rattle.sshc_run.specs.declared.known_hosts_handler.HandlerError.{HandlerError}
 use Rattle.sshc_run.specs.Headline.{IsValidScript}
 use Rattle.sshc_run.specs.KnownHosts.{Hosts, verdict}
-use Rattle.sshc_run.specs.Machine.{goes_on, opened, stopped, ended, refused, unanswered_stop}
+use Rattle.sshc_agent_turns.specs.AgentTurns.{idle}
+use Rattle.sshc_run.specs.Machine.{TurnOf, goes_on, opened, stopped, ended, refused, unanswered_stop}
 use Rattle.sshc_script.specs.Script.{Frame, ScriptStop, whole, taken, stop_of, events as events_at, front, sized_front, head_at}
 use Rattle.sshc_run.specs.ScriptRun.{Run, after, stopped_with, asked_run, run_on, at_end, events_run, script_run}
-use Rattle.sshc_run.specs.SessionPart.{is_session_kind}
-use Rattle.sshc_run.specs.SessionTurn.{SessionTurn, in_session, run_machine, run_turn}
+use Rattle.sshc_run.specs.SessionPart.{session_own}
+use Rattle.sshc_run.specs.Product.{in_one}
+use Rattle.sshc_run.specs.RunTurn.{RunState, kept as beside, run_machine, run_turn}
+use Rattle.sshc_run.specs.SessionTurn.{in_session}
 use Rattle.sshc_run.specs.Turn.{Turn, judged_turn, asked_turn, event_turn, opening_turn}
 use Rattle.sshc_run.specs.Words.{default_run, default_settings}
 use Rattle.sshc_run.proofs.SessionPart.{kept_in, mine_turn, same_turn}
@@ -127,26 +130,31 @@ success_turn hosts = ap (λ (r : Result Event EventError). event_turn hosts 206 
 abbrev pub kept : OpeningState → SessionState
 kept o = kept_in default_run o
 
+-- beside an agent that holds nothing
+abbrev pub in_run : OpeningState → RunState
+in_run o = beside (kept o) (idle false)
+
 -- the run of these events from a state of the opening, with no answers of the signer
 abbrev pub from : Hosts → Accepts → OpeningState → List Frame → ScriptStop → Run
-from hosts accepts s frames st = events_run (run_turn hosts accepts) (kept s) frames st []
+from hosts accepts s frames st = events_run (run_turn hosts accepts) (in_run s) frames st []
 
 -- an event of the session that is taken while the session isn't open
 pub record IsOpeningsOwn (s : OpeningState) (frame : Frame) : Type 0 where
-  pub mine : is_session_kind frame.kind ≡ true
+  pub mine : session_own.event frame ≡ true
   pub unopened : is_open s.phase ≡ false
 
 -- the run's turn is the opening's, seen in the session
-session_turn_is : (hosts : Hosts) (accepts : Accepts) (s : OpeningState) (frame : Frame) (t : Turn) → IsOpeningsOwn s frame → opening_turn hosts s frame ≡ done t → run_turn hosts accepts (kept s) frame ≡ done (in_session (kept s) t)
+session_turn_is : (hosts : Hosts) (accepts : Accepts) (s : OpeningState) (frame : Frame) (t : Turn) → IsOpeningsOwn s frame → opening_turn hosts s frame ≡ done t → run_turn hosts accepts (in_run s) frame ≡ done (in_one (in_run s) (in_session (kept s) t))
 session_turn_is hosts accepts s frame t own is =
-    mine_turn hosts accepts (kept s) frame own.mine ∙ same_turn hosts accepts default_run s frame own.unopened ∙ ap (asked_on (in_session (kept s))) is
+    mine_turn hosts accepts (in_run s) frame own.mine
+    ∙ ap (asked_on (in_one (in_run s))) (same_turn hosts accepts default_run s frame own.unopened ∙ ap (asked_on (in_session (kept s))) is)
 
 -- the run by its first turn
 pub by_first : (hosts : Hosts) (accepts : Accepts) (s : OpeningState) (frame : Frame) (frames : List Frame) (st : ScriptStop) (t : Turn) → IsOpeningsOwn s frame → opening_turn hosts s frame ≡ done t
-    → from hosts accepts s (frame ∷ frames) st ≡ run_on (in_session (kept s) t) t.next (from hosts accepts t.state frames st)
+    → from hosts accepts s (frame ∷ frames) st ≡ run_on (in_one (in_run s) (in_session (kept s) t)) t.next (from hosts accepts t.state frames st)
 unfolding events_run
 by_first hosts accepts s frame frames st t own is =
-    ap (λ (asked : Asking SessionTurn). asked_run unanswered_stop asked [] (λ t left. run_on t t.next (events_run (run_turn hosts accepts) t.state frames st left))) (session_turn_is hosts accepts s frame t own is)
+    ap (λ (asked : Asking (TurnOf RunState)). asked_run unanswered_stop asked [] (λ t left. run_on t t.next (events_run (run_turn hosts accepts) t.state frames st left))) (session_turn_is hosts accepts s frame t own is)
 
 -- the run by a first turn from which it goes on
 pub step_by : (hosts : Hosts) (accepts : Accepts) (s s' : OpeningState) (frame : Frame) (frames : List Frame) (st : ScriptStop) (records : List Record) (later : Run) → IsOpeningsOwn s frame → opening_turn hosts s frame ≡ done (on_from records s')
@@ -154,7 +162,7 @@ pub step_by : (hosts : Hosts) (accepts : Accepts) (s s' : OpeningState) (frame :
 step_by hosts accepts s s' frame frames st records later own is rest = by_first hosts accepts s frame frames st (on_from records s') own is ∙ ap (λ (r : Run). after records [] r) rest
 
 -- each event of the login is the session's, and comes before the session is open
-abbrev pub own_event : {s : OpeningState} {frame : Frame} → is_session_kind frame.kind ≡ true → is_open s.phase ≡ false → IsOpeningsOwn s frame
+abbrev pub own_event : {s : OpeningState} {frame : Frame} → session_own.event frame ≡ true → is_open s.phase ≡ false → IsOpeningsOwn s frame
 own_event mine unopened = record { mine = mine; unopened = unopened }
 
 -- behind the last event

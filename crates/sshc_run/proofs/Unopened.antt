@@ -1,4 +1,5 @@
--- A turn of the opening that goes on leaves the session unopened, and as little closed; one that opens it leaves it open.
+-- A turn of the opening that goes on leaves the session unopened, and as little closed; one that opens it leaves it open. None of its records is
+-- an agent's.
 use Rattle.std.proofs.Common.{◌≡◌, ℕ, Bool, true, false, Result, Ok, Err}
 use Rattle.sshc_key.specs.Asking.{asked_on, Always}
 use Rattle.sshc_key.specs.AskingLaws.{always_on}
@@ -12,6 +13,7 @@ use Rattle.sshc_opening.specs.OpeningTable.{open_row, asked_of}
 use Rattle.sshc_opening.specs.Row.{Row, Next, stays, opens, ends, refuses}
 use Rattle.sshc_moves.specs.SessionState.{is_open}
 use Rattle.sshc_session_laws.specs.OpeningStays.{StaysNext, Stays, open_stays}
+use Rattle.sshc_session_laws.specs.SessionRecords.{AreSessions}
 use Rattle.sshc_script.specs.declared.error.EventError.{EventError}
 use Rattle.sshc_script.specs.declared.error.EventError.TheVariants as reads
 use Rattle.sshc_script.specs.EventReading.{event_of}
@@ -28,23 +30,23 @@ Leaves closed opened t = is_open t.phase ≡ true
 Leaves closed (stopped stop) t = Unit {0}
 
 abbrev pub TurnLeaves : Bool → Turn → Type 0
-TurnLeaves closed t = Leaves closed t.next t.state
+TurnLeaves closed t = Leaves closed t.next t.state × AreSessions t.records
 
-next_leaves : (closed : Bool) (place : ℕ) (s : OpeningState) (row : Row) (next : Next) → StaysNext closed next → TurnLeaves closed (next_turn place s row next)
-next_leaves closed place s row (stays t) so = so
-next_leaves closed place s row (opens t) so = so
-next_leaves closed place s row (ends e) so = tt
-next_leaves closed place s row (refuses e) so = tt
+next_leaves : (closed : Bool) (place : ℕ) (s : OpeningState) (row : Row) (next : Next) → StaysNext closed next → AreSessions row.records → TurnLeaves closed (next_turn place s row next)
+next_leaves closed place s row (stays t) so says = (so, says)
+next_leaves closed place s row (opens t) so says = (so, says)
+next_leaves closed place s row (ends e) so says = (tt, says)
+next_leaves closed place s row (refuses e) so says = (tt, says)
 
 module _ (hosts : Hosts) (place : ℕ) (s : OpeningState) (unopened : is_open s.phase ≡ false) where
   told_leaves : (event : Event) (told : Told) → Always (TurnLeaves s.closed) (asked_on (row_turn place s) (open_row s event told))
   told_leaves event told =
-      always_on (Stays s.closed) (TurnLeaves s.closed) (row_turn place s) (open_row s event told) (λ row so. next_leaves s.closed place s row row.next so) (open_stays s event told unopened)
+      always_on (Stays s.closed) (TurnLeaves s.closed) (row_turn place s) (open_row s event told) (λ row so. next_leaves s.closed place s row row.next so.0 so.1) (open_stays s event told unopened)
 
   judged_leaves : (event : Event) (said : Result Bool HandlerError) → Always (TurnLeaves s.closed) (judged_turn place s event said)
   judged_leaves event (Ok true) = told_leaves event telling.Went
   judged_leaves event (Ok false) = told_leaves event telling.No
-  judged_leaves event (Err e) = tt
+  judged_leaves event (Err e) = (tt, tt)
 
   pub asked_leaves : (event : Event) (asks : Asks) → Always (TurnLeaves s.closed) (asked_turn hosts place s event asks)
   asked_leaves event wants.Nothing = told_leaves event telling.NotAsked
@@ -54,8 +56,8 @@ module _ (hosts : Hosts) (place : ℕ) (s : OpeningState) (unopened : is_open s.
 
   read_leaves : (read : Result Event EventError) → Always (TurnLeaves s.closed) (event_turn hosts place s read)
   read_leaves (Ok event) = asked_leaves event (asked_of s event)
-  read_leaves (Err reads.Bad) = tt
-  read_leaves (Err reads.NoMemory) = tt
+  read_leaves (Err reads.Bad) = (tt, tt)
+  read_leaves (Err reads.NoMemory) = (tt, tt)
 
 pub opening_leaves : (hosts : Hosts) (s : OpeningState) (frame : Frame) → is_open s.phase ≡ false → Always (TurnLeaves s.closed) (opening_turn hosts s frame)
 unfolding opening_turn

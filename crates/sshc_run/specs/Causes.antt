@@ -1,6 +1,6 @@
 -- Why a run ends: by the state that its table comes to, the event there, and what the known hosts text says.
 -- No row of the tables is named here, so that an error made in a table and in the code shows; why a session refuses or ends is said by its
--- state and the event (sshc_opening, Causes; sshc_session_laws, OpenCauses).
+-- state and the event (sshc_opening, Causes; sshc_session_laws, OpenCauses). An agent refuses no event that can be read.
 use Rattle.std.specs.Prelude.{◌≡◌, ℕ, false, List, Option, Some, Result, Ok, Err, Bool}
 use Rattle.sshc_key.specs.declared.error.Error.TheVariants as key_errors
 use Rattle.sshc_key.specs.Asking.{Answer}
@@ -14,7 +14,6 @@ use Rattle.sshc_opening.specs.declared.error.Error.TheVariants as auths
 use Rattle.sshc_opening.specs.declared.opening.Phase.TheVariants as phases
 use Rattle.sshc_packets.specs.HostKeyProof.{Accepts}
 use Rattle.sshc_moves.specs.SessionState.{SessionState}
-use Rattle.sshc_session.specs.Start.{new_session}
 use Rattle.sshc_session_laws.specs.OpenCauses.{IsSessionCause}
 use Rattle.sshc_script.specs.declared.error.EventError.TheVariants as reads
 use Rattle.sshc_run.specs.declared.error.RunError.{RunError}
@@ -28,8 +27,9 @@ use Rattle.sshc_run.specs.Machine.{RunStop, ended, refused, unanswered_stop}
 use Rattle.sshc_run.specs.Outcome.{stop_as}
 use Rattle.sshc_script.specs.EventReading.{event_of}
 use Rattle.sshc_run.specs.Configured.{RunSettings}
-use Rattle.sshc_run.specs.SessionTurn.{run_turn}
-use Rattle.sshc_run.specs.Unbuilt.{IsUnbuiltAt}
+use Rattle.sshc_run.specs.Product.{BothCause}
+use Rattle.sshc_run.specs.RunTurn.{RunState, run_machine, run_turn}
+use Rattle.sshc_run.specs.SessionPart.{IsAgentCause, session_own}
 use Rattle.sshc_script.specs.Script.{Frame, taken, stop_of}
 
 -- ---- what may be wrong with an event
@@ -56,11 +56,10 @@ IsRefusedBy hosts s frame e = OnRead frame (λ event. IsSessionCause (SaysNo hos
 
 -- ---- causes
 
--- why one event is refused; memory may run out at any time
+-- why one event of the session is refused; memory may run out at any time
 abbrev pub IsEventCause : Hosts → SessionState → Frame → RunError → Type 0
 IsEventCause hosts s frame errors.NoMemory = Unit {0}
 IsEventCause hosts s frame (errors.BadEvent at) = IsBadAt at frame
-IsEventCause hosts s frame (errors.Unbuilt at) = IsUnbuiltAt at frame
 IsEventCause hosts s frame (errors.OutOfTurn at) = (frame.place ≡ at) × IsRefusedBy hosts s frame auths.OutOfTurn
 IsEventCause hosts s frame (errors.KeyChanged line) = IsSaid hosts s frame (Err (Key (key_errors.KeyChanged line)))
 IsEventCause hosts s frame errors.Decode = IsSaid hosts s frame (Err (Key key_errors.Decode))
@@ -79,11 +78,15 @@ IsEventCause hosts s frame errors.KeepaliveTimeout = IsRefusedBy hosts s frame a
 IsEventCause hosts s frame errors.InactivityTimeout = IsRefusedBy hosts s frame auths.InactivityTimeout
 IsEventCause hosts s frame e = ⊥
 
--- why a run stops with an event: it is refused, or it ends the session
-abbrev pub IsStopCause : Hosts → SessionState → Frame → RunStop → Type 0
-IsStopCause hosts s frame (refused e) = IsEventCause hosts s frame e
-IsStopCause hosts s frame (ended e) = OnRead frame (λ event. IsEndCause s.opening event e)
-IsStopCause hosts s frame unanswered_stop = ⊥
+-- why a run stops with an event of the session: it is refused, or it ends the session
+abbrev pub IsSessionStop : Hosts → SessionState → Frame → RunStop → Type 0
+IsSessionStop hosts s frame (refused e) = IsEventCause hosts s frame e
+IsSessionStop hosts s frame (ended e) = OnRead frame (λ event. IsEndCause s.opening event e)
+IsSessionStop hosts s frame unanswered_stop = ⊥
+
+-- why a run stops with an event: for the session's cause with an event of the session, for the agent's with an agent's
+abbrev pub IsStopCause : Hosts → RunState → Frame → RunStop → Type 0
+IsStopCause hosts = BothCause session_own (IsSessionStop hosts) (λ s frame stop. IsAgentCause frame stop)
 
 -- an answer's cause, by the script's first events, what stands behind them and the signer's answers; memory may run out at any time, and faults of reading
 -- and writing have their own clauses
@@ -91,7 +94,7 @@ abbrev pub HasCauseIn : Hosts → Accepts → RunSettings → ℕ → List Answe
 HasCauseIn hosts accepts settings max answers script (Err errors.NoMemory) = Unit {0}
 HasCauseIn hosts accepts settings max answers script (Err errors.ReadFault) = Unit {0}
 HasCauseIn hosts accepts settings max answers script (Err errors.WriteFault) = Unit {0}
-HasCauseIn hosts accepts settings max answers script answer = CausedBy (run_turn hosts accepts) (new_session settings.session settings.opening) (IsStopCause hosts) (taken max script) (stop_of max script) answers (stop_as answer)
+HasCauseIn hosts accepts settings max answers script answer = CausedBy (run_turn hosts accepts) (run_machine hosts accepts settings).first (IsStopCause hosts) (taken max script) (stop_of max script) answers (stop_as answer)
 
 -- each answer has its cause in the whole script
 abbrev pub IsCaused : Hosts → Accepts → RunSettings → ℕ → List Answer → Option (List ℕ) → Result Ended RunError → Type 0

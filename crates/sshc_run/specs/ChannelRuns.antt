@@ -21,8 +21,10 @@ use Rattle.sshc_script.specs.Script.{Frame, taken}
 use Rattle.sshc_run.specs.Configured.{RunSettings}
 use Rattle.sshc_run.specs.KnownHosts.{Hosts}
 use Rattle.sshc_run.specs.Machine.{stop_next}
+use Rattle.sshc_run.specs.Part.{own_events}
 use Rattle.sshc_run.specs.ScriptRun.{answers_of}
-use Rattle.sshc_run.specs.SessionTurn.{SessionTurn, run_turn}
+use Rattle.sshc_run.specs.SessionPart.{session_own}
+use Rattle.sshc_run.specs.SessionTurn.{SessionTurn, session_turn}
 
 -- ---- one event
 
@@ -51,7 +53,7 @@ abbrev pub ComesCalling : Hosts → Accepts → SessionState → List Frame → 
 ComesCalling hosts accepts s [] answers calls said s' frame' = ⊥
 ComesCalling hosts accepts s (frame ∷ frames) answers calls said s' frame' =
     ((s ≡ s') × (frame ≡ frame') × (calls ≡ []) × (said ≡ []))
-    ⊎ ((t : SessionTurn) × (gained : List SignCall) × (left : List Answer) × (later : List Call) × (more : List Record) × Makes (run_turn hosts accepts s frame) gained t
+    ⊎ ((t : SessionTurn) × (gained : List SignCall) × (left : List Answer) × (later : List Call) × (more : List Record) × Makes (session_turn hosts accepts s frame) gained t
     × (answers ≡ answers_of gained ++ left) × (stop_next t.next ≡ None) × (calls ≡ calls_at accepts s frame ++ later) × (said ≡ said_open (is_open s.opening.phase) t.records ++ more)
     × ComesCalling hosts accepts t.state frames left later more s' frame')
 
@@ -72,8 +74,8 @@ pub record IsAccounted (s : SessionState) (calls : List Call) (said : List Recor
   pub packets : channel_packets said ≡ said_packets (ran calls (no_channels 0)).said
   pub lives : (n : ℕ) (l : Life n) → IsLife calls n l → HasAccount s n l
 
--- each state that the run comes to is accounted for
+-- each state that the session comes to, by its own events and answers, is accounted for
 abbrev pub AreAccounted : Hosts → Accepts → RunSettings → ℕ → List Answer → Option (List ℕ) → Type 0
 AreAccounted hosts accepts settings max answers script =
     (bytes : List ℕ) → script ≡ Some bytes → (s : SessionState) (frame : Frame) (calls : List Call) (said : List Record) →
-    ComesCalling hosts accepts (new_session settings.session settings.opening) (taken max bytes) answers calls said s frame → IsAccounted s calls said
+    ComesCalling hosts accepts (new_session settings.session settings.opening) (own_events session_own (taken max bytes)) answers calls said s frame → IsAccounted s calls said

@@ -1,5 +1,5 @@
 -- The settings of a client that is told no others, and what of them a session keeps.
-use Rattle.std.specs.Prelude.{◌≡◌, false, None, is_some, codes}
+use Rattle.std.specs.Prelude.{◌≡◌, Bool, false, None, is_some, codes}
 use Rattle.sshc_opening.specs.declared.opening.Settings.{Settings}
 use Rattle.sshc_moves.specs.declared.settings.SessionSettings.{SessionSettings}
 use Rattle.sshc_run.specs.declared.config.Config.{Config}
@@ -21,13 +21,15 @@ pub record IsDefault (c : Config) : Type 0 where
 abbrev pub settings_of : Config → Settings
 settings_of c = record { window_size = c.window_size; anonymous = c.anonymous; inactivity = is_some c.inactivity_timeout }
 
--- what a session is run by: what its opening keeps, and what it keeps besides
+-- what a session and an agent are run by: what the session's opening keeps, what it keeps besides, and whether the agent asks for each request
 pub record RunSettings : Type 0 where
   pub opening : Settings
   pub session : SessionSettings
+  pub agent_asks : Bool
 
 abbrev pub run_settings_of : Config → RunSettings
 run_settings_of c = record {
   opening = settings_of c;
   session = record { max_packet_size = c.maximum_packet_size; keepalive_interval = c.keepalive_interval; keepalive_max = c.keepalive_max };
+  agent_asks = c.agent_asks;
 }

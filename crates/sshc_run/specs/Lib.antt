@@ -4,9 +4,11 @@ pub mod Firsts
 pub mod Machine
 pub mod Configured
 pub mod SessionPart
-pub mod Unbuilt
 pub mod Turn
 pub mod SessionTurn
+pub mod AgentsTurn
+pub mod RunTurn
+pub mod AgentRuns
 pub mod Ready
 pub mod OpeningRun
 pub mod RecordLines

@@ -20,6 +20,8 @@ use Rattle.sshc_script.specs.Script.{Frame, taken}
 use Rattle.sshc_run.specs.ChannelRuns.{ComesCalling}
 use Rattle.sshc_run.specs.Configured.{RunSettings}
 use Rattle.sshc_run.specs.KnownHosts.{Hosts}
+use Rattle.sshc_run.specs.Part.{own_events}
+use Rattle.sshc_run.specs.SessionPart.{session_own}
 
 -- the moves of the event's row; before the session is open there are none
 abbrev pub row_moves : Bool → Accepts → SessionState → Event → List Move
@@ -36,9 +38,9 @@ pub record AnswersOnce (m : Move) (s : SessionState) : Type 0 where
   pub waits : AllByRecursion NoOpenAnswer (deed_of m s).says ⊎ AnswersOne s (after m s) (deed_of m s).says
   pub stays : (n : ℕ) → awaited n s.table ≡ None → call_opens n (deed_of m s).call s.table ≡ false → awaited n (after m s).table ≡ None
 
--- at each state that the run comes to each move of the next event's row does so, behind the moves before it
+-- at each state that the session comes to, by its own events and answers, each move of the next event's row does so, behind the moves before it
 abbrev pub OpensAreAnswered : Hosts → Accepts → RunSettings → ℕ → List Answer → Option (List ℕ) → Type 0
 OpensAreAnswered hosts accepts settings max answers script =
     (bytes : List ℕ) → script ≡ Some bytes → (s : SessionState) (frame : Frame) (calls : List Call) (said : List Record) →
-    ComesCalling hosts accepts (new_session settings.session settings.opening) (taken max bytes) answers calls said s frame →
+    ComesCalling hosts accepts (new_session settings.session settings.opening) (own_events session_own (taken max bytes)) answers calls said s frame →
     (front : List Move) (m : Move) (back : List Move) → moves_by accepts s (event_of frame.kind frame.fields) ≡ front ++ m ∷ back → AnswersOnce m (done front s)

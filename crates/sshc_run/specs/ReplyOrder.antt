@@ -1,4 +1,5 @@
 -- Over a whole run the server's replies go to our global requests in the order in which these were written (RFC 4254, section 4).
+-- Said of the session's events among all, with the answers of the session's own calls.
 -- Said of each state that a run comes to, with the requests that its rows wrote; the code keeps a queue.
 use Rattle.std.specs.Prelude.{◌≡◌, ◌⊎◌, ℕ, Bool, true, false, List, [], ◌∷◌, ◌++◌, Option, Some, None, Result, Ok, Err}
 use Rattle.sshc_key.specs.Signers.{SignCall}
@@ -17,8 +18,10 @@ use Rattle.sshc_script.specs.Script.{Frame, taken}
 use Rattle.sshc_run.specs.Configured.{RunSettings}
 use Rattle.sshc_run.specs.KnownHosts.{Hosts}
 use Rattle.sshc_run.specs.Machine.{stop_next}
+use Rattle.sshc_run.specs.Part.{own_events}
 use Rattle.sshc_run.specs.ScriptRun.{answers_of}
-use Rattle.sshc_run.specs.SessionTurn.{SessionTurn, run_turn}
+use Rattle.sshc_run.specs.SessionPart.{session_own}
+use Rattle.sshc_run.specs.SessionTurn.{SessionTurn, session_turn}
 
 -- ---- the requests of one event
 
@@ -43,11 +46,11 @@ abbrev pub ComesAsking : Hosts → Accepts → SessionState → List Frame → L
 ComesAsking hosts accepts s [] answers asked s' frame' = ⊥
 ComesAsking hosts accepts s (frame ∷ frames) answers asked s' frame' =
     ((s ≡ s') × (frame ≡ frame') × (asked ≡ []))
-    ⊎ ((t : SessionTurn) × (gained : List SignCall) × (left : List Answer) × (later : List Awaited) × Makes (run_turn hosts accepts s frame) gained t × (answers ≡ answers_of gained ++ left)
+    ⊎ ((t : SessionTurn) × (gained : List SignCall) × (left : List Answer) × (later : List Awaited) × Makes (session_turn hosts accepts s frame) gained t × (answers ≡ answers_of gained ++ left)
     × (stop_next t.next ≡ None) × (asked ≡ requests_at accepts s frame ++ later) × ComesAsking hosts accepts t.state frames left later s' frame')
 
--- at each state that the run comes to, the requests that were answered are the first of those written, and those that wait are the others
+-- at each state that the session comes to, the requests that were answered are the first of those written, and those that wait are the others
 abbrev pub AreInOrder : Hosts → Accepts → RunSettings → ℕ → List Answer → Option (List ℕ) → Type 0
 AreInOrder hosts accepts settings max answers script =
     (bytes : List ℕ) → script ≡ Some bytes → (s : SessionState) (frame : Frame) (asked : List Awaited) →
-    ComesAsking hosts accepts (new_session settings.session settings.opening) (taken max bytes) answers asked s frame → (answered : List Awaited) × (asked ≡ answered ++ s.replies)
+    ComesAsking hosts accepts (new_session settings.session settings.opening) (own_events session_own (taken max bytes)) answers asked s frame → (answered : List Awaited) × (asked ≡ answered ++ s.replies)

@@ -1,9 +1,12 @@
 -- What is the session's own in a run: every event but an agent's, every record but an agent's, and the calls that it makes of the signer.
-use Rattle.std.specs.Prelude.{◌≡◌, Bool, true, false, not}
-use Rattle.sshc_wire.specs.declared.record.Record.{Record}
+-- What is left is the agents'.
+use Rattle.std.specs.Prelude.{◌≡◌, Bool, true, false, not, Err}
 use Rattle.sshc_key.specs.declared.signer.Asker.{Asker}
 use Rattle.sshc_key.specs.declared.signer.Asker.TheVariants.{Session, Agent}
 use Rattle.sshc_run.specs.declared.error.RunError.TheVariants as errors
+use Rattle.sshc_agent_turns.specs.AgentEvents.{agent_event_of}
+use Rattle.sshc_session_laws.specs.SessionRecords.{is_session_record}
+use Rattle.sshc_script.specs.declared.error.EventError.{EventError}
 use Rattle.sshc_script.specs.declared.event_kind.EventKind.{EventKind}
 use Rattle.sshc_script.specs.EventKinds.{is_agent_kind}
 use Rattle.sshc_run.specs.Machine.{RunStop, refused}
@@ -13,10 +16,6 @@ use Rattle.sshc_script.specs.Script.{Frame}
 abbrev pub is_session_kind : EventKind → Bool
 is_session_kind kind = not (is_agent_kind kind)
 
--- a record below 40 (hexadecimal); no other is built yet
-abbrev pub is_session_record : Record → Bool
-is_session_record said = true
-
 abbrev pub is_session_asker : Asker → Bool
 is_session_asker Session = true
 is_session_asker (Agent connection) = false
@@ -24,6 +23,6 @@ is_session_asker (Agent connection) = false
 abbrev pub session_own : Own
 session_own = record { event = λ frame. is_session_kind frame.kind; said = is_session_record; asker = is_session_asker }
 
--- why an agent's event stops a run: none is built yet
+-- why an agent's event stops a run: its fields are outside the grammar
 abbrev pub IsAgentCause : Frame → RunStop → Type 0
-IsAgentCause frame stop = stop ≡ refused (errors.Unbuilt frame.place)
+IsAgentCause frame stop = (e : EventError) × (agent_event_of frame.kind frame.fields ≡ Err e) × (stop ≡ refused (errors.BadEvent frame.place))

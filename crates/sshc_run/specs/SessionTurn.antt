@@ -1,12 +1,13 @@
--- What one event of a script gives: its records, what the session is then, and whether the run goes on. Before the session is open it is the
+-- What one event of the session gives: its records, what the session is then, and whether the run goes on. Before the session is open it is the
 -- opening's turn, and then the row of the event, by the default answers of a handler. The code has one session, and takes its records.
-use Rattle.std.specs.Prelude.{ℕ, Bool, true, false, [], Result, Ok, Err}
+use Rattle.std.specs.Prelude.{ℕ, Bool, true, false, List, [], length, drop, Result, Ok, Err}
+use Rattle.sshc_wire.specs.declared.record.Record.{Record}
 use Rattle.sshc_key.specs.Asking.{Asking, done, asked_on}
 use Rattle.sshc_event.specs.declared.event.Event.{Event}
 use Rattle.sshc_opening.specs.OpeningState.{OpeningState}
 use Rattle.sshc_opening.specs.OpeningTable.{asked_of}
 use Rattle.sshc_packets.specs.HostKeyProof.{Accepts}
-use Rattle.sshc_moves.specs.Moves.{done as when_done}
+use Rattle.sshc_moves.specs.Moves.{Move, done as when_done}
 use Rattle.sshc_moves.specs.SessionRow.{Next, SessionRow, ends as row_ends, goes, refuses}
 use Rattle.sshc_moves.specs.SessionState.{SessionState, is_open}
 use Rattle.sshc_moves.specs.SessionTable.{session_row}
@@ -15,12 +16,10 @@ use Rattle.sshc_client.specs.Follows.{all_moves, default_opinions}
 use Rattle.sshc_script.specs.declared.error.EventError.{EventError}
 use Rattle.sshc_script.specs.declared.error.EventError.TheVariants as reads
 use Rattle.sshc_script.specs.EventReading.{event_of}
-use Rattle.sshc_script.specs.Script.{Frame}
 use Rattle.sshc_run.specs.declared.error.RunError.TheVariants as errors
 use Rattle.sshc_run.specs.Configured.{RunSettings}
 use Rattle.sshc_run.specs.KnownHosts.{Hosts}
 use Rattle.sshc_run.specs.Machine.{Machine, Onward, TurnOf, Turns, ended, goes_on, refused, stopped}
-use Rattle.sshc_run.specs.SessionPart.{is_session_kind}
 use Rattle.sshc_run.specs.Turn.{asked_turn, error_of, stops}
 
 abbrev pub SessionTurn : Type 0
@@ -43,10 +42,14 @@ onward place goes = goes_on
 onward place (row_ends e) = stopped (ended e)
 onward place (refuses e) = stopped (refused (error_of place e))
 
+-- what the moves say, behind what was said before
+abbrev pub said_by : List Move → SessionState → List Record
+said_by moves s = drop (length s.records) (when_done moves s).records
+
 -- the row's moves are done, and what they say is said
 abbrev pub row_turn : ℕ → SessionState → SessionRow → SessionTurn
 row_turn place s row = record {
-  records = (when_done (all_moves row) s).records;
+  records = said_by (all_moves row) s;
   state = emptied (when_done (all_moves row) s);
   next = onward place row.next;
 }
@@ -68,15 +71,6 @@ read_turn hosts accepts place s (Err reads.NoMemory) = done (stops s errors.NoMe
 unfoldable pub session_turn : Hosts → Accepts → Turns SessionState
 session_turn hosts accepts s frame = read_turn hosts accepts frame.place s (event_of frame.kind frame.fields)
 
--- an agent's event isn't built
-abbrev pub built_turn : Bool → Hosts → Accepts → SessionState → Frame → Asking SessionTurn
-built_turn true hosts accepts s frame = session_turn hosts accepts s frame
-built_turn false hosts accepts s frame = done (stops s (errors.Unbuilt frame.place))
-
--- the turn of an event
-unfoldable pub run_turn : Hosts → Accepts → Turns SessionState
-run_turn hosts accepts s frame = built_turn (is_session_kind frame.kind) hosts accepts s frame
-
 -- the session with its settings, as a machine
-abbrev pub run_machine : Hosts → Accepts → RunSettings → Machine SessionState
-run_machine hosts accepts settings = record { first = new_session settings.session settings.opening; turn = run_turn hosts accepts }
+abbrev pub session_machine : Hosts → Accepts → RunSettings → Machine SessionState
+session_machine hosts accepts settings = record { first = new_session settings.session settings.opening; turn = session_turn hosts accepts }

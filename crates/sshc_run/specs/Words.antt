@@ -18,7 +18,7 @@ use Rattle.sshc_run.specs.Configured.{RunSettings}
 use Rattle.sshc_run.specs.Outcome.{Streams, Ends}
 use Rattle.sshc_run.specs.RunFaults.{FaultCounts, FaultsAnswered}
 use Rattle.sshc_run.specs.ScriptRun.{Run, script_run}
-use Rattle.sshc_run.specs.SessionTurn.{run_machine}
+use Rattle.sshc_run.specs.RunTurn.{run_machine}
 
 -- ---- the words
 
@@ -58,7 +58,6 @@ error_name errors.InvalidDisconnect = codes "invalid-disconnect"
 error_name errors.RecvError = codes "recv-error"
 error_name errors.KeepaliveTimeout = codes "keepalive-timeout"
 error_name errors.InactivityTimeout = codes "inactivity-timeout"
-error_name (errors.Unbuilt place) = codes "unbuilt " ++ decimal place
 
 -- the line that tells an answer
 abbrev pub answer_line : Result Ended RunError → List ℕ
@@ -88,7 +87,6 @@ error_status errors.InvalidDisconnect = 37
 error_status errors.RecvError = 38
 error_status errors.KeepaliveTimeout = 39
 error_status errors.InactivityTimeout = 40
-error_status (errors.Unbuilt place) = 41
 
 abbrev pub status_of : Result Ended RunError → ℕ
 status_of (Ok e) = 0
@@ -120,7 +118,7 @@ abbrev pub default_settings : Settings
 default_settings = record { window_size = 2097152; anonymous = false; inactivity = false }
 
 abbrev pub default_run : RunSettings
-default_run = record { opening = default_settings; session = record { max_packet_size = 32768; keepalive_interval = None; keepalive_max = 3 } }
+default_run = record { opening = default_settings; session = record { max_packet_size = 32768; keepalive_interval = None; keepalive_max = 3 }; agent_asks = false }
 
 abbrev pub default_events : ℕ
 default_events = 8192

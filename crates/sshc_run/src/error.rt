@@ -68,7 +68,4 @@ pub enum RunError {
     /// Nothing came for too long.
     #[error("InactivityTimeout")]
     InactivityTimeout,
-    /// The event at the place isn't built yet.
-    #[error("Unbuilt")]
-    Unbuilt { at: u64 },
 }

@@ -7,10 +7,10 @@ mod known_hosts_handler;
 mod point;
 mod record_lines;
 mod run;
+mod serving;
 mod stepping;
 mod turn;
 mod unasked;
-mod unbuilt;
 mod words;
 
 pub use config::Config;

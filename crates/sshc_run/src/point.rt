@@ -2,19 +2,23 @@
 
 ghost use Rattle.std.specs.Prelude.{◌≡◌, false};
 ghost use Rattle.sshc_session.specs.Start.{new_session};
+ghost use Rattle.sshc_agent_turns.specs.AgentTurns.{idle};
 ghost use Rattle.sshc_run.specs.Configured.{run_settings_of};
 
 use crate::config::Config;
+use sshc_agent_turns::ServedAgent;
 use sshc_client::Session;
 use sshc_moves::SessionSettings;
 use sshc_opening::Settings;
 use std::alloc::Global;
 
-/// Where a run stands: the session, whether it is open, the place of the next event and the last moment.
+/// Where a run stands: the session, whether it is open, the agent with the bytes of its connections, the place of the next
+/// event and the last moment.
 #[derive(Debug, Drop)]
 pub struct Point {
     pub session: Session,
     pub opened: bool,
+    pub agents: ServedAgent,
     pub place: u64,
     pub last: u64,
 }
@@ -24,6 +28,7 @@ impl Point {
     pub fn at_start(alloc: Global, config: &Config) -> Point
         ensures session { result.session ≡ new_session (run_settings_of config.now).session (run_settings_of config.now).opening }
         ensures opened { result.opened ≡ false }
+        ensures agents { result.agents ≡ idle (run_settings_of config.now).agent_asks }
         ensures place { result.place ≡ 0 }
         ensures last { result.last ≡ 0 }
     {
@@ -40,6 +45,7 @@ impl Point {
         Point {
             session: Session::new(alloc, settings, opening),
             opened: false,
+            agents: ServedAgent::new(alloc, config.agent_asks),
             place: 0,
             last: 0,
         }

@@ -5,6 +5,7 @@ ghost use Rattle.sshc_wire.specs.Contents.{WritesFor};
 ghost use Rattle.sshc_wire.specs.Faults.{Rose};
 ghost use Rattle.sshc_hosts.specs.HostText.{host_text};
 ghost use Rattle.sshc_key.specs.Signers.{since};
+ghost use Rattle.sshc_run.specs.AgentRuns.{HasOneHistory};
 ghost use Rattle.sshc_run.specs.Causes.{IsCaused};
 ghost use Rattle.sshc_run.specs.ChannelRuns.{AreAccounted};
 ghost use Rattle.sshc_run.specs.Configured.{run_settings_of, settings_of};
@@ -13,10 +14,11 @@ ghost use Rattle.sshc_run.specs.OpenAnswers.{OpensAreAnswered};
 ghost use Rattle.sshc_run.specs.OpeningFirst.{IsOpeningFirst, IsOpeningDone, IsOpeningComplete};
 ghost use Rattle.sshc_run.specs.Outcome.{streams, Ends};
 ghost use Rattle.sshc_run.specs.ScriptRun.{script_run, answers_since, run, spot};
+ghost use Rattle.sshc_run.specs.Part.{own_answers};
 ghost use Rattle.sshc_run.specs.SessionPart.{session_own, IsAgentCause};
 ghost use Rattle.sshc_run.specs.Ready.{IsReady};
 ghost use Rattle.sshc_run.specs.ReplyOrder.{AreInOrder};
-ghost use Rattle.sshc_run.specs.SessionTurn.{run_machine, run_turn};
+ghost use Rattle.sshc_run.specs.RunTurn.{kept, run_machine, run_turn};
 ghost use Rattle.sshc_run.specs.Turn.{opening_machine};
 ghost use Rattle.sshc_run.specs.Turning.{hosts_of};
 
@@ -45,7 +47,7 @@ fn take_turns<S: Source, G: LocalSigner, V: Verifier, K: Sink>(
 ) -> Result<Ended, RunError>
     requires room { at.old.place ≡ 0 }
     requires ready { IsReady at.old.opened at.old.session }
-    ensures run { Ends max_events at.old.place at.old.last (run (run_turn (hosts_of gate.old) (V.accepts verifier.now)) max_events (spot at.old.place at.old.last at.old.session))
+    ensures run { Ends max_events at.old.place at.old.last (run (run_turn (hosts_of gate.old) (V.accepts verifier.now)) max_events (spot at.old.place at.old.last (kept at.old.session at.old.agents)))
         (streams (S.left source.old) (K.contents sink.old) (S.reads source.old) (G.calls signer.old))
         (streams (S.left source.new) (K.contents sink.new) (S.reads source.new) (G.calls signer.new)) result }
     ensures read_later { S.faults source.old ≤ S.faults source.new }
@@ -139,16 +141,20 @@ pub fn run_script<S: Source, K: Sink, G: LocalSigner, V: Verifier>(
     // Each end and each error comes by its cause: a state that the table comes to and the event there, or what stands behind the events.
     ensures causes { IsCaused (record { host = host_text host.now port; known = known.now }) (V.accepts verifier.now) (run_settings_of config.now) config.now.max_events
         (answers_since (G.calls signer.old) (G.calls signer.new)) (S.left source.old) result }
-    // At each state that the run comes to, our global requests that were answered are the first of those written, in order.
+    // At each state that the session comes to, our global requests that were answered are the first of those written, in order.
     ensures replies { AreInOrder (record { host = host_text host.now port; known = known.now }) (V.accepts verifier.now) (run_settings_of config.now) config.now.max_events
-        (answers_since (G.calls signer.old) (G.calls signer.new)) (S.left source.old) }
-    // At each state that the run comes to, each channel has its account: the channels are where the calls of the rows lead, and the packets of
+        (own_answers session_own (since (G.calls signer.old) (G.calls signer.new))) (S.left source.old) }
+    // At each state that the session comes to, each channel has its account: the channels are where the calls of the rows lead, and the packets of
     // channels that the open session says are those of these calls.
     ensures channels { AreAccounted (record { host = host_text host.now port; known = known.now }) (V.accepts verifier.now) (run_settings_of config.now) config.now.max_events
-        (answers_since (G.calls signer.old) (G.calls signer.new)) (S.left source.old) }
+        (own_answers session_own (since (G.calls signer.old) (G.calls signer.new))) (S.left source.old) }
     // An open of ours is answered where it waits, with its own ticket, and waits no more.
     ensures opens { OpensAreAnswered (record { host = host_text host.now port; known = known.now }) (V.accepts verifier.now) (run_settings_of config.now) config.now.max_events
-        (answers_since (G.calls signer.old) (G.calls signer.new)) (S.left source.old) }
+        (own_answers session_own (since (G.calls signer.old) (G.calls signer.new))) (S.left source.old) }
+    // The agent's records are those of one history of one agent that holds nothing at first: its inputs are those of the agents' events, its locks
+    // hold, and each signature of it is permitted.
+    ensures agents { HasOneHistory config.now.agent_asks config.now.max_events (script_run (run_machine (record { host = host_text host.now port; known = known.now }) (V.accepts verifier.now) (run_settings_of config.now)) config.now.max_events (answers_since (G.calls signer.old) (G.calls signer.new)))
+        (S.left source.old) }
     // The session records that are written are a front of the opening table's outputs or, once that table opens the session, all of them
     // followed by more, whatever events of agents stand in between.
     ensures opening { IsOpeningFirst (opening_machine (record { host = host_text host.now port; known = known.now }) (settings_of config.now)) session_own config.now.max_events (since (G.calls signer.old) (G.calls signer.new))

@@ -36,6 +36,7 @@ fn step_unopened<G: LocalSigner, V: Verifier>(
         (since (G.calls signer.old) (G.calls signer.new)) at.old.place result (emptied at.new.session) at.new.session.records }
     ensures ready { IsReadyAfter result at.new.opened (emptied at.new.session) }
     ensures moved { (at.new.place ≡ at.old.place) × (at.new.last ≡ at.old.last) }
+    ensures agents { at.new.agents ≡ at.old.agents }
     ensures same { hosts_of gate.new ≡ hosts_of gate.old }
     ensures gained { G.calls signer.new ≡ G.calls signer.old ++ since (G.calls signer.old) (G.calls signer.new) }
 {
@@ -57,6 +58,7 @@ fn step_opened<G: LocalSigner, V: Verifier>(
         (since (G.calls signer.old) (G.calls signer.new)) at.old.place result (emptied at.new.session) at.new.session.records }
     ensures ready { IsReadyAfter result at.new.opened (emptied at.new.session) }
     ensures moved { (at.new.place ≡ at.old.place) × (at.new.last ≡ at.old.last) }
+    ensures agents { at.new.agents ≡ at.old.agents }
     ensures gained { G.calls signer.new ≡ G.calls signer.old ++ since (G.calls signer.old) (G.calls signer.new) }
 {
     at.session.step(event, &mut Unasked, signer, verifier)
@@ -75,6 +77,7 @@ pub fn step_session<G: LocalSigner, V: Verifier>(
         (since (G.calls signer.old) (G.calls signer.new)) at.old.place result (emptied at.new.session) at.new.session.records }
     ensures ready { IsReadyAfter result at.new.opened (emptied at.new.session) }
     ensures moved { (at.new.place ≡ at.old.place) × (at.new.last ≡ at.old.last) }
+    ensures agents { at.new.agents ≡ at.old.agents }
     ensures same { hosts_of gate.new ≡ hosts_of gate.old }
     ensures gained { G.calls signer.new ≡ G.calls signer.old ++ since (G.calls signer.old) (G.calls signer.new) }
 {

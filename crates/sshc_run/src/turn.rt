@@ -8,7 +8,9 @@ ghost use Rattle.sshc_run.specs.Outcome.{streams};
 ghost use Rattle.sshc_run.specs.Ready.{IsReady};
 ghost use Rattle.sshc_script.specs.Script.{frame_at, size_of};
 ghost use Rattle.sshc_run.specs.ScriptRun.{run, spot};
-ghost use Rattle.sshc_run.specs.SessionTurn.{run_turn, step_turn};
+ghost use Rattle.sshc_run.specs.RunTurn.{kept, run_turn};
+ghost use Rattle.sshc_run.specs.SessionPart.{is_session_kind};
+ghost use Rattle.sshc_run.specs.SessionTurn.{session_turn, step_turn};
 ghost use Rattle.sshc_run.specs.Turn.{error_of, handler_error_of};
 ghost use Rattle.sshc_run.specs.Turning.{hosts_of, step_answer, TakeGives, TurnGives, LimitGives};
 
@@ -16,12 +18,12 @@ use crate::error::RunError;
 use crate::known_hosts_handler::{HandlerError, KnownHostsHandler};
 use crate::point::Point;
 use crate::record_lines::write_lines;
+use crate::serving::take_agent_event;
 use crate::stepping::step_session;
-use crate::unbuilt::is_session_kind;
 use sshc_event::Event;
 use sshc_key::{LocalSigner, Verifier};
 use sshc_opening::{Ended, Error, Step};
-use sshc_script::{EventError, NextError, RawEvent, next_event, read_event};
+use sshc_script::{EventError, EventKind, NextError, RawEvent, next_event, read_event};
 use sshc_wire::{Failed, Sink, Source, read_up_to};
 use std::alloc::Global;
 
@@ -64,7 +66,7 @@ fn handler_error_at(place: u64, e: HandlerError) -> RunError
     }
 }
 
-fn event_error_at(place: u64, e: EventError) -> RunError
+pub fn event_error_at(place: u64, e: EventError) -> RunError
     ensures { result ≡ (elim e [ EventError.NoMemory ↦ RunError.NoMemory | EventError.Bad ↦ RunError.BadEvent place ]) }
 {
     match e {
@@ -83,7 +85,7 @@ fn next_error_at(place: u64, e: NextError) -> RunError
     }
 }
 
-fn write_failed(failed: Failed) -> RunError
+pub fn write_failed(failed: Failed) -> RunError
     ensures { result ≡ (elim failed [ Failed.Fault ↦ RunError.WriteFault | Failed.NoMemory ↦ RunError.NoMemory ]) }
 {
     match failed {
@@ -127,6 +129,7 @@ fn step_event<G: LocalSigner, V: Verifier, K: Sink>(
     ensures gives { TakeGives (step_turn at.old.opened (hosts_of gate.old) (V.accepts verifier.now) at.old.place at.old.session event.now)
         (since (G.calls signer.old) (G.calls signer.new)) at.new.session (K.contents sink.old) (K.contents sink.new) result }
     ensures moved { (at.new.place ≡ at.old.place) × (at.new.last ≡ at.old.last) }
+    ensures agents { at.new.agents ≡ at.old.agents }
     ensures ready { IfNone result (IsReady at.new.opened at.new.session) }
     ensures same { hosts_of gate.new ≡ hosts_of gate.old }
     ensures gained { G.calls signer.new ≡ G.calls signer.old ++ since (G.calls signer.old) (G.calls signer.new) }
@@ -150,8 +153,8 @@ fn step_event<G: LocalSigner, V: Verifier, K: Sink>(
 /// Drops a value whose kinds need not be told apart.
 pub(crate) fn let_go<T: Drop>(_value: T) {}
 
-/// Takes an event, and writes its records.
-fn take_event<G: LocalSigner, V: Verifier, K: Sink>(
+/// Takes an event of the session, and writes its records.
+fn take_session_event<G: LocalSigner, V: Verifier, K: Sink>(
     alloc: Global,
     at: &mut Point,
     event: &RawEvent,
@@ -161,9 +164,10 @@ fn take_event<G: LocalSigner, V: Verifier, K: Sink>(
     sink: &mut K,
 ) -> Option<Result<Ended, RunError>>
     requires ready { IsReady at.old.opened at.old.session }
-    ensures gives { TakeGives (run_turn (hosts_of gate.old) (V.accepts verifier.now) at.old.session (frame_at at.old.place event.now))
+    ensures gives { TakeGives (session_turn (hosts_of gate.old) (V.accepts verifier.now) at.old.session (frame_at at.old.place event.now))
         (since (G.calls signer.old) (G.calls signer.new)) at.new.session (K.contents sink.old) (K.contents sink.new) result }
     ensures moved { (at.new.place ≡ at.old.place) × (at.new.last ≡ at.old.last) }
+    ensures agents { at.new.agents ≡ at.old.agents }
     ensures ready { IfNone result (IsReady at.new.opened at.new.session) }
     ensures same { hosts_of gate.new ≡ hosts_of gate.old }
     ensures gained { G.calls signer.new ≡ G.calls signer.old ++ since (G.calls signer.old) (G.calls signer.new) }
@@ -177,9 +181,6 @@ fn take_event<G: LocalSigner, V: Verifier, K: Sink>(
     ensures no_read { result ≢ Some (Err RunError.ReadFault) }
 {
     let place = at.place;
-    if !is_session_kind(event.kind()) {
-        return Some(Err(RunError::Unbuilt { at: place }));
-    }
     match read_event(alloc, event.kind(), event.fields()) {
         Ok(event) => {
             let answer = step_event(alloc, at, &event, gate, signer, verifier, sink);
@@ -187,6 +188,52 @@ fn take_event<G: LocalSigner, V: Verifier, K: Sink>(
             answer
         }
         Err(e) => Some(Err(event_error_at(place, e))),
+    }
+}
+
+/// Whether events of this kind are the session's; the others are an agent's.
+fn is_session_kind(kind: EventKind) -> bool
+    ensures { result ≡ is_session_kind kind }
+{
+    !matches!(
+        kind,
+        EventKind::AgentBytes
+            | EventKind::AgentRequestAnswer
+            | EventKind::AgentKeyAnswer
+            | EventKind::AgentClose
+    )
+}
+
+/// Takes an event, and writes its records.
+fn take_event<G: LocalSigner, V: Verifier, K: Sink>(
+    alloc: Global,
+    at: &mut Point,
+    event: &RawEvent,
+    gate: &mut KnownHostsHandler,
+    signer: &mut G,
+    verifier: &V,
+    sink: &mut K,
+) -> Option<Result<Ended, RunError>>
+    requires ready { IsReady at.old.opened at.old.session }
+    ensures gives { TakeGives (run_turn (hosts_of gate.old) (V.accepts verifier.now) (kept at.old.session at.old.agents) (frame_at at.old.place event.now))
+        (since (G.calls signer.old) (G.calls signer.new)) (kept at.new.session at.new.agents) (K.contents sink.old) (K.contents sink.new) result }
+    ensures moved { (at.new.place ≡ at.old.place) × (at.new.last ≡ at.old.last) }
+    ensures ready { IfNone result (IsReady at.new.opened at.new.session) }
+    ensures same { hosts_of gate.new ≡ hosts_of gate.old }
+    ensures gained { G.calls signer.new ≡ G.calls signer.old ++ since (G.calls signer.old) (G.calls signer.new) }
+    ensures moving_writes { IfNone result (K.empty_writes sink.new ≡ K.empty_writes sink.old) }
+    ensures last_write { K.empty_writes sink.new ≤ K.empty_writes sink.old + 1 }
+    ensures moved_writes { IfNone result (WritesMove (K.contents sink.old) (K.contents sink.new) (K.writes sink.old) (K.writes sink.new)) }
+    ensures writes { WritesFor (K.contents sink.old) (K.contents sink.new) (K.writes sink.old) (K.writes sink.new) }
+    ensures write_later { K.faults sink.old ≤ K.faults sink.new }
+    ensures write_fault { result ≡ Some (Err RunError.WriteFault) → Rose (K.faults sink.old) (K.faults sink.new) }
+    ensures write_told { (result ≡ Some (Err RunError.WriteFault) → ⊥) → K.faults sink.new ≡ K.faults sink.old }
+    ensures no_read { result ≢ Some (Err RunError.ReadFault) }
+{
+    if is_session_kind(event.kind()) {
+        take_session_event(alloc, at, event, gate, signer, verifier, sink)
+    } else {
+        take_agent_event(alloc, &mut at.agents, at.place, event, signer, sink)
     }
 }
 
@@ -202,7 +249,7 @@ pub fn one_turn<S: Source, G: LocalSigner, V: Verifier, K: Sink>(
 ) -> Option<Result<Ended, RunError>>
     requires room { at.old.place + 262148 < 2 ^ 64 }
     requires ready { IsReady at.old.opened at.old.session }
-    ensures gives { TurnGives (run (run_turn (hosts_of gate.old) (V.accepts verifier.now))) (spot at.old.place at.old.last at.old.session) (spot at.new.place at.new.last at.new.session)
+    ensures gives { TurnGives (run (run_turn (hosts_of gate.old) (V.accepts verifier.now))) (spot at.old.place at.old.last (kept at.old.session at.old.agents)) (spot at.new.place at.new.last (kept at.new.session at.new.agents))
         (streams (S.left source.old) (K.contents sink.old) (S.reads source.old) (G.calls signer.old))
         (streams (S.left source.new) (K.contents sink.new) (S.reads source.new) (G.calls signer.new)) result }
     ensures ready { IfNone result (IsReady at.new.opened at.new.session) }

@@ -67,7 +67,6 @@ fn error_name(alloc: Global, e: RunError) -> Result<String, NoMemory>
         RunError::RecvError => "recv-error",
         RunError::KeepaliveTimeout => "keepalive-timeout",
         RunError::InactivityTimeout => "inactivity-timeout",
-        RunError::Unbuilt { at } => return Ok(format!(in alloc; "unbuilt {at}")?),
     };
     Ok(format!(in alloc; "{name}")?)
 }
@@ -113,7 +112,6 @@ fn error_status(e: RunError) -> u8
         RunError::RecvError => 38,
         RunError::KeepaliveTimeout => 39,
         RunError::InactivityTimeout => 40,
-        RunError::Unbuilt { .. } => 41,
     }
 }
 

@@ -2,7 +2,7 @@
 
 use crate::parts::bytes_of;
 use sshc_run::{ToySigner, ToyVerifier, run_words};
-use sshc_wire::{MemFiles, MemSink, MemSource, NoMemory, Octets, Text, put_bytes};
+use sshc_wire::{MemFiles, MemSink, MemSource, NoMemory, Octets, Text, put_bytes, put_u64};
 use std::alloc::Global;
 
 /// A script and its outcome.
@@ -39,12 +39,16 @@ impl Row {
         self.name.as_str()
     }
 
-    /// Adds what a line says: `known` a line of the known hosts text, `event` an event at moment 0 by its kind and fields, `bytes`
+    /// Adds what a line says: `known` a line of the known hosts text, `event` an event at moment 0 by its kind and fields, `at` one at the moment that comes first, `bytes`
     /// bytes of the script, `record` a line that is to be written, `answer` the last line, `status` the program's status.
     pub fn line(&mut self, alloc: Global, command: &str, rest: &str) -> Result<(), NoMemory> {
         match command {
             "known" => put_line(&mut self.known, rest),
-            "event" => self.event(alloc, rest),
+            "event" => self.event(alloc, 0, rest),
+            "at" => {
+                let (moment, event) = rest.split_once(' ').unwrap_or((rest, ""));
+                self.event(alloc, moment.parse::<u64>().unwrap_or(0), event)
+            }
             "bytes" => {
                 self.script.extend_from_slice(&bytes_of(alloc, rest)?)?;
                 Ok(())
@@ -59,9 +63,9 @@ impl Row {
         }
     }
 
-    fn event(&mut self, alloc: Global, rest: &str) -> Result<(), NoMemory> {
+    fn event(&mut self, alloc: Global, moment: u64, rest: &str) -> Result<(), NoMemory> {
         let mut event = Vec::new(alloc);
-        event.extend_from_slice(&[0u8; 8])?;
+        put_u64(&mut event, moment)?;
         event.extend_from_slice(&bytes_of(alloc, rest)?)?;
         let event = Octets::from_vec(event)?;
         put_bytes(&mut self.script, event.as_slice())

@@ -152,41 +152,6 @@ fn events_out_of_turn_are_refused(rt: HostRuntime) -> Result<(), Fail> {
 /// The transport failed.
 const FAILED: &[u8] = b"\0\0\0\x09\0\0\0\0\0\0\0\0\x04";
 
-/// Bytes of an agent's connection.
-const AGENT_BYTES: &[u8] = b"\0\0\0\x0d\0\0\0\0\0\0\0\0\x40\0\0\0\x01";
-
-#[test]
-fn what_is_not_built_is_told_with_its_place(rt: HostRuntime) -> Result<(), Fail> {
-    let at_first: [&[u8]; 2] = [KEXINIT, AGENT_BYTES];
-    let once_open: [&[u8]; 6] = [KEXINIT, EXCHANGE, PASSWORD, ACCEPTED, SUCCESS, AGENT_BYTES];
-    for (case, events, at, written) in [
-        (
-            "an agent's event at first",
-            at_first.as_slice(),
-            13u64,
-            0usize,
-        ),
-        (
-            "an agent's event once the session is open",
-            once_open.as_slice(),
-            220,
-            195,
-        ),
-    ] {
-        let script = script_of(rt.alloc(), events)?;
-        let outcome = run_of(rt.alloc(), KNOWN, 8192, script);
-        assert_gives(
-            &rt,
-            case,
-            0,
-            &outcome,
-            &Err(RunError::Unbuilt { at }),
-            written,
-        );
-    }
-    Ok(())
-}
-
 #[test]
 fn refusals_of_the_opening_are_told(rt: HostRuntime) -> Result<(), Fail> {
     let in_service: [&[u8]; 5] = [KEXINIT, EXCHANGE, PASSWORD, FAILED, SUCCESS];

@@ -5,7 +5,8 @@ use Rattle.sshc_run.specs.Configured.{RunSettings, run_settings_of, settings_of}
 use Rattle.sshc_run.specs.KnownHosts.{Hosts}
 use Rattle.sshc_run.specs.Machine.{Machine}
 use Rattle.sshc_run.specs.SessionPart.{session_own, IsAgentCause}
-use Rattle.sshc_run.specs.SessionTurn.{run_machine, session_turn}
+use Rattle.sshc_run.specs.RunTurn.{RunState, run_machine}
+use Rattle.sshc_run.specs.SessionTurn.{session_turn}
 use Rattle.sshc_run.specs.Turn.{opening_machine}
 use Rattle.sshc_opening.specs.OpeningState.{OpeningState}
 use Rattle.sshc_key.specs.Signers.{since}
@@ -13,9 +14,11 @@ use Rattle.sshc_packets.specs.HostKeyProof.{Accepts}
 use Rattle.sshc_run.proofs.CausedRuns.{caused_of}
 use Rattle.sshc_run.proofs.Lines.{wrote_nothing}
 use Rattle.sshc_run.proofs.OpeningFirsts.{opening_first_of, opening_done_of, opening_complete_of, none_first, none_since}
-use Rattle.sshc_run.proofs.SessionPart.{IsUnopened, agent_ends_none, agent_stops, kept_in, session_continues, session_part}
+use Rattle.sshc_run.proofs.AgentEnds.{agent_ends_none}
+use Rattle.sshc_run.proofs.SessionPart.{IsUnopened, agent_stops, kept_in, session_continues, session_part}
 use Rattle.sshc_run.proofs.Promises.{none_ran, gate_of, prefix_of, done_of, kept_of, complete_of}
 use Rattle.sshc_run.proofs.RunChannels.{accounted}
+use Rattle.sshc_run.proofs.RunHistories.{one_history}
 use Rattle.sshc_run.proofs.RunOpens.{opens_answered}
 use Rattle.sshc_run.proofs.RunReplies.{replies_in_order}
 use Rattle.sshc_run.proofs.run.run_script.Goals as goal
@@ -68,7 +71,7 @@ returns-in-Ok-clause-opening g c =
     let accepts : Accepts = g.V.Verifier.accepts c.args.verifier.now in
     let settings : RunSettings = run_settings_of c.args.config.now in
     let short : Machine OpeningState = opening_machine hosts (settings_of c.args.config.now) in
-    opening_first_of short (session_turn hosts accepts) (kept_in settings) IsUnopened (session_continues hosts accepts settings) (refl, refl) (run_machine hosts accepts settings) (λ s. s) session_own (session_part hosts accepts) IsAgentCause (agent_stops hosts accepts) refl c.args.config.now.max_events _ _ c.run_events.result (rw c.in-Ok.ensures at c.run_events.ensures.run)
+    opening_first_of short (session_turn hosts accepts) (kept_in settings) IsUnopened (session_continues hosts accepts settings) (refl, refl) (run_machine hosts accepts settings) (λ (s : RunState). s.one) session_own (session_part hosts accepts) IsAgentCause (agent_stops hosts accepts) refl c.args.config.now.max_events _ _ c.run_events.result (rw c.in-Ok.ensures at c.run_events.ensures.run)
 
 pub returns-in-Ok-clause-opening_done : goal.returns-in-Ok-clause-opening_done
 returns-in-Ok-clause-opening_done g c =
@@ -76,7 +79,7 @@ returns-in-Ok-clause-opening_done g c =
     let accepts : Accepts = g.V.Verifier.accepts c.args.verifier.now in
     let settings : RunSettings = run_settings_of c.args.config.now in
     let short : Machine OpeningState = opening_machine hosts (settings_of c.args.config.now) in
-    opening_done_of short (session_turn hosts accepts) (kept_in settings) IsUnopened (session_continues hosts accepts settings) (refl, refl) (run_machine hosts accepts settings) (λ s. s) session_own (session_part hosts accepts) IsAgentCause (agent_stops hosts accepts) refl c.args.config.now.max_events _ _ c.run_events.result agent_ends_none (rw c.in-Ok.ensures at c.run_events.ensures.run)
+    opening_done_of short (session_turn hosts accepts) (kept_in settings) IsUnopened (session_continues hosts accepts settings) (refl, refl) (run_machine hosts accepts settings) (λ (s : RunState). s.one) session_own (session_part hosts accepts) IsAgentCause (agent_stops hosts accepts) refl c.args.config.now.max_events _ _ c.run_events.result agent_ends_none (rw c.in-Ok.ensures at c.run_events.ensures.run)
 
 pub returns-in-Ok-clause-opening_complete : goal.returns-in-Ok-clause-opening_complete
 returns-in-Ok-clause-opening_complete g c =
@@ -84,7 +87,7 @@ returns-in-Ok-clause-opening_complete g c =
     let accepts : Accepts = g.V.Verifier.accepts c.args.verifier.now in
     let settings : RunSettings = run_settings_of c.args.config.now in
     let short : Machine OpeningState = opening_machine hosts (settings_of c.args.config.now) in
-    opening_complete_of short (session_turn hosts accepts) (kept_in settings) IsUnopened (session_continues hosts accepts settings) (refl, refl) (run_machine hosts accepts settings) (λ s. s) session_own (session_part hosts accepts) IsAgentCause (agent_stops hosts accepts) refl c.args.config.now.max_events _ _ c.run_events.result _ _ _ _ (rw c.in-Ok.ensures at c.run_events.ensures.run) c.run_events.ensures.read_fault c.run_events.ensures.write_fault
+    opening_complete_of short (session_turn hosts accepts) (kept_in settings) IsUnopened (session_continues hosts accepts settings) (refl, refl) (run_machine hosts accepts settings) (λ (s : RunState). s.one) session_own (session_part hosts accepts) IsAgentCause (agent_stops hosts accepts) refl c.args.config.now.max_events _ _ c.run_events.result _ _ _ _ (rw c.in-Ok.ensures at c.run_events.ensures.run) c.run_events.ensures.read_fault c.run_events.ensures.write_fault
 
 pub returns-in-Err-clause-opening : goal.returns-in-Err-clause-opening
 returns-in-Err-clause-opening g c =
@@ -115,3 +118,11 @@ returns-in-Ok-clause-opens g c =
 pub returns-in-Err-clause-opens : goal.returns-in-Err-clause-opens
 returns-in-Err-clause-opens g c =
     opens_answered c.session_laws.ensures.opens c.session_laws.ensures.accounted c.account.ensures.account c.account.ensures.legal (record { host = host_text c.args.host.now c.args.port; known = c.args.known.now }) (g.V.Verifier.accepts c.args.verifier.now) (run_settings_of c.args.config.now) c.args.config.now.max_events _ _
+
+pub returns-in-Ok-clause-agents : goal.returns-in-Ok-clause-agents
+returns-in-Ok-clause-agents g c =
+    one_history (record { host = host_text c.args.host.now c.args.port; known = c.args.known.now }) (g.V.Verifier.accepts c.args.verifier.now) (run_settings_of c.args.config.now) c.args.config.now.max_events _ _
+
+pub returns-in-Err-clause-agents : goal.returns-in-Err-clause-agents
+returns-in-Err-clause-agents g c =
+    one_history (record { host = host_text c.args.host.now c.args.port; known = c.args.known.now }) (g.V.Verifier.accepts c.args.verifier.now) (run_settings_of c.args.config.now) c.args.config.now.max_events _ _

@@ -1,9 +1,8 @@
 use Rattle.std.proofs.Common.{arith, refl, subst, ap, ◌∙◌, ◌≡◌, ◌-◌, ℕ, Some}
 use Rattle.sshc_wire.specs.Contents.{no_writes, writes_on, writes_end, moved_for}
-use Rattle.sshc_moves.specs.SessionState.{SessionState}
 use Rattle.sshc_run.specs.Outcome.{Streams, streams, Ends}
 use Rattle.sshc_run.specs.ScriptRun.{Spot, spot, run}
-use Rattle.sshc_run.specs.SessionTurn.{run_turn}
+use Rattle.sshc_run.specs.RunTurn.{RunState, kept, run_turn}
 use Rattle.sshc_run.specs.Turning.{hosts_of}
 use Rattle.sshc_run.proofs.Coming.{along_none, along_more, along_ends, turn_ends}
 use Rattle.sshc_run.proofs.Going.{limit_ends}
@@ -12,7 +11,7 @@ use Rattle.sshc_run.proofs.run.take_turns.Goals as goal
 pub loop-turn-init : goal.loop-turn-init
 loop-turn-init g c =
     record {
-      along = along_none (run (run_turn (hosts_of c.args.gate.now) (g.V.Verifier.accepts c.args.verifier.now))) (spot c.args.at.now.place c.args.at.now.last c.args.at.now.session) c.args.max_events _ _ refl;
+      along = along_none (run (run_turn (hosts_of c.args.gate.now) (g.V.Verifier.accepts c.args.verifier.now))) (spot c.args.at.now.place c.args.at.now.last (kept c.args.at.now.session c.args.at.now.agents)) c.args.max_events _ _ refl;
       turns = omega arith;
       same = refl;
       ready = c.requires.ready;
@@ -34,7 +33,7 @@ pub loop-turn-preserved : goal.loop-turn-preserved
 loop-turn-preserved g c =
     let gives = rw c.loop-turn.invariant.same at c.in_default.ensures.gives in
     record {
-      along = along_more (run (run_turn (hosts_of c.args.gate.now) (g.V.Verifier.accepts c.args.verifier.now))) (spot c.args.at.now.place c.args.at.now.last c.args.at.now.session) c.args.max_events _ _ _ _ _ _ c.loop-turn-test.true c.loop-turn.invariant.along gives;
+      along = along_more (run (run_turn (hosts_of c.args.gate.now) (g.V.Verifier.accepts c.args.verifier.now))) (spot c.args.at.now.place c.args.at.now.last (kept c.args.at.now.session c.args.at.now.agents)) c.args.max_events _ _ _ _ _ _ c.loop-turn-test.true c.loop-turn.invariant.along gives;
       turns = omega (arith, c.loop-turn-test.true);
       ready = c.in_default.ensures.ready;
       same = c.one_turn.ensures.same ∙ c.loop-turn.invariant.same;
@@ -49,7 +48,7 @@ loop-turn-preserved g c =
 pub returns-in-Some-clause-run : goal.returns-in-Some-clause-run
 returns-in-Some-clause-run g c =
     let gives = rw c.loop-turn.invariant.same at c.in-Some.ensures.gives in
-    (turn_ends (run (run_turn (hosts_of c.args.gate.now) (g.V.Verifier.accepts c.args.verifier.now))) (spot c.args.at.now.place c.args.at.now.last c.args.at.now.session) c.args.max_events _ _ _ _ _ c.in-Some.answer c.loop-turn-test.true c.loop-turn.invariant.along gives)
+    (turn_ends (run (run_turn (hosts_of c.args.gate.now) (g.V.Verifier.accepts c.args.verifier.now))) (spot c.args.at.now.place c.args.at.now.last (kept c.args.at.now.session c.args.at.now.agents)) c.args.max_events _ _ _ _ _ c.in-Some.answer c.loop-turn-test.true c.loop-turn.invariant.along gives)
 
 pub returns-in-Some-clause-read_fault : goal.returns-in-Some-clause-read_fault
 returns-in-Some-clause-read_fault g c = λ e. let rose = c.in-Some.ensures.read_fault (ap Some e) in omega (arith, rose, c.loop-turn.invariant.reads)
@@ -60,10 +59,10 @@ returns-in-Some-clause-write_fault g c = λ e. let rose = c.in-Some.ensures.writ
 pub returns-clause-run : goal.returns-clause-run
 returns-clause-run g c =
     let none : 0 ≡ c.args.max_events - c.loop-turn.turn = omega (arith, c.loop-turn-test.false) in
-    let at : Spot SessionState = spot c.loop-turn.at.place c.loop-turn.at.last c.loop-turn.at.session in
+    let at : Spot RunState = spot c.loop-turn.at.place c.loop-turn.at.last (kept c.loop-turn.at.session c.loop-turn.at.agents) in
     let now : Streams = streams (g.S.Source.left c.loop-turn.source) (g.K.Sink.contents c.loop-turn.sink) (g.S.Source.reads c.loop-turn.source) (g.G.LocalSigner.calls c.loop-turn.signer) in
     let ends = limit_ends (run_turn (hosts_of c.args.gate.now) (g.V.Verifier.accepts c.args.verifier.now)) at now (g.S.Source.left c.at_limit.new.source) (g.S.Source.reads c.at_limit.new.source) c.at_limit.result c.at_limit.ensures.gives c.at_limit.ensures.count in
-    (along_ends (run (run_turn (hosts_of c.args.gate.now) (g.V.Verifier.accepts c.args.verifier.now))) (spot c.args.at.now.place c.args.at.now.last c.args.at.now.session) c.args.max_events c.loop-turn.turn at _ now _ c.at_limit.result (omega (arith, c.loop-turn.invariant.turns)) c.loop-turn.invariant.along
+    (along_ends (run (run_turn (hosts_of c.args.gate.now) (g.V.Verifier.accepts c.args.verifier.now))) (spot c.args.at.now.place c.args.at.now.last (kept c.args.at.now.session c.args.at.now.agents)) c.args.max_events c.loop-turn.turn at _ now _ c.at_limit.result (omega (arith, c.loop-turn.invariant.turns)) c.loop-turn.invariant.along
     (subst (λ (n : ℕ). Ends n at.place at.last (run (run_turn (hosts_of c.args.gate.now) (g.V.Verifier.accepts c.args.verifier.now)) n at) now (record now { left = g.S.Source.left c.at_limit.new.source; reads = g.S.Source.reads c.at_limit.new.source }) c.at_limit.result) none ends))
 
 pub returns-in-Some-clause-writes : goal.returns-in-Some-clause-writes

@@ -4,14 +4,14 @@ use Rattle.sshc_run.specs.Along.{IsAlong}
 use Rattle.sshc_run.specs.Outcome.{streams}
 use Rattle.sshc_run.specs.Ready.{IsReady}
 use Rattle.sshc_run.specs.ScriptRun.{run, spot}
-use Rattle.sshc_run.specs.SessionTurn.{run_turn}
+use Rattle.sshc_run.specs.RunTurn.{kept, run_turn}
 use Rattle.sshc_run.specs.Turning.{hosts_of}
 use Rattle.sshc_run.proofs.run.take_turns.Given as goal
 
 abbrev pub invariant-loop-turn : goal.invariant-loop-turn
 invariant-loop-turn g l =
     record {
-      along : IsAlong (run (run_turn (hosts_of l.initial.gate) (g.V.Verifier.accepts l.verifier))) (spot l.initial.at.place l.initial.at.last l.initial.at.session) l.max_events l.turn (spot l.at.place l.at.last l.at.session)
+      along : IsAlong (run (run_turn (hosts_of l.initial.gate) (g.V.Verifier.accepts l.verifier))) (spot l.initial.at.place l.initial.at.last (kept l.initial.at.session l.initial.at.agents)) l.max_events l.turn (spot l.at.place l.at.last (kept l.at.session l.at.agents))
           (streams (g.S.Source.left l.initial.source) (g.K.Sink.contents l.initial.sink) (g.S.Source.reads l.initial.source) (g.G.LocalSigner.calls l.initial.signer))
           (streams (g.S.Source.left l.source) (g.K.Sink.contents l.sink) (g.S.Source.reads l.source) (g.G.LocalSigner.calls l.signer));
       turns : l.turn ≤ l.max_events;

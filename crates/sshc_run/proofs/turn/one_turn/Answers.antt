@@ -1,7 +1,7 @@
 use Rattle.std.proofs.Common.{ap, ◌∙◌, ◌≡◌, ◌+◌, Some, None}
 use Rattle.sshc_key.specs.Signers.{since}
 use Rattle.sshc_run.specs.ScriptRun.{spot}
-use Rattle.sshc_run.specs.SessionTurn.{run_turn}
+use Rattle.sshc_run.specs.RunTurn.{kept, run_turn}
 use Rattle.sshc_run.specs.Turning.{hosts_of}
 use Rattle.sshc_run.proofs.SessionCaused.{never_at_end}
 use Rattle.sshc_run.proofs.Going.{end_ends, next_ends, taken_gives}
@@ -18,13 +18,13 @@ returns-in-Err-clause-gives g c = next_ends (run_turn (hosts_of c.args.gate.now)
 pub returns-in-Some-clause-gives : goal.returns-in-Some-clause-gives
 returns-in-Some-clause-gives g c =
     let gives = rw c.in-Ok-Some.field-0-is at c.in-Ok-Some.ensures.gives in
-    taken_gives (run_turn (hosts_of c.args.gate.now) (g.V.Verifier.accepts c.args.verifier.now)) (never_at_end (hosts_of c.args.gate.now) (g.V.Verifier.accepts c.args.verifier.now)) (spot c.args.at.now.place c.args.at.now.last c.args.at.now.session) (spot c.take_event.new.at.place c.take_event.new.at.last c.take_event.new.at.session) c.in-Ok-Some.event _ _
+    taken_gives (run_turn (hosts_of c.args.gate.now) (g.V.Verifier.accepts c.args.verifier.now)) (never_at_end (hosts_of c.args.gate.now) (g.V.Verifier.accepts c.args.verifier.now)) (spot c.args.at.now.place c.args.at.now.last (kept c.args.at.now.session c.args.at.now.agents)) (spot c.take_event.new.at.place c.take_event.new.at.last (kept c.take_event.new.at.session c.take_event.new.at.agents)) c.in-Ok-Some.event _ _
     (since (g.G.LocalSigner.calls c.args.signer.now) (g.G.LocalSigner.calls c.take_event.new.signer)) (Some c.in-Some.answer) c.take_event.ensures.gained gives c.in-Some.ensures.gives tt
 
 pub returns-clause-gives : goal.returns-clause-gives
 returns-clause-gives g c =
     let gives = rw c.in-Ok-Some.field-0-is at c.in-Ok-Some.ensures.gives in
     let none : c.take_event.result ≡ None = cc in
-    taken_gives (run_turn (hosts_of c.args.gate.now) (g.V.Verifier.accepts c.args.verifier.now)) (never_at_end (hosts_of c.args.gate.now) (g.V.Verifier.accepts c.args.verifier.now)) (spot c.args.at.now.place c.args.at.now.last c.args.at.now.session) _ c.in-Ok-Some.event _ _
+    taken_gives (run_turn (hosts_of c.args.gate.now) (g.V.Verifier.accepts c.args.verifier.now)) (never_at_end (hosts_of c.args.gate.now) (g.V.Verifier.accepts c.args.verifier.now)) (spot c.args.at.now.place c.args.at.now.last (kept c.args.at.now.session c.args.at.now.agents)) _ c.in-Ok-Some.event _ _
     (since (g.G.LocalSigner.calls c.args.signer.now) (g.G.LocalSigner.calls c.take_event.new.signer)) None c.take_event.ensures.gained gives (rw none at c.take_event.ensures.gives)
     (ap (λ k. k + c.size.result) c.take_event.ensures.moved.0 ∙ ap (λ k. c.args.at.now.place + k) c.size.ensures.size, c.moment-at.ensures)

@@ -1,5 +1,5 @@
 use Rattle.sshc_hosts.specs.HostText.{host_text}
-use Rattle.sshc_run.specs.SessionTurn.{run_machine}
+use Rattle.sshc_run.specs.RunTurn.{run_machine}
 use Rattle.sshc_run.specs.Words.{default_events, default_run}
 use Rattle.sshc_run.proofs.Promises.{none_ran}
 use Rattle.std.proofs.Common.{refl, arith}
@@ -7,7 +7,7 @@ use Rattle.sshc_run.proofs.words.run_default.Goals as goal
 
 pub returns-in-Ok-clause-run : goal.returns-in-Ok-clause-run
 returns-in-Ok-clause-run g c =
-    let default = c.in-Ok.ensures in rw (default.window_size, default.anonymous, default.inactivity_timeout, default.max_events, default.maximum_packet_size, default.keepalive_interval, default.keepalive_max) at c.run_script.ensures.run
+    let default = c.in-Ok.ensures in rw (default.window_size, default.anonymous, default.inactivity_timeout, default.max_events, default.maximum_packet_size, default.keepalive_interval, default.keepalive_max, default.agent_asks) at c.run_script.ensures.run
 
 pub returns-in-Err-clause-run : goal.returns-in-Err-clause-run
 returns-in-Err-clause-run g c = none_ran (run_machine (record { host = host_text c.args.asked.now.host.now c.args.asked.now.port; known = c.args.known.now }) (g.V.Verifier.accepts c.args.verifier.now) default_run) default_events _

@@ -1,54 +1,20 @@
--- What a run of two machines side by side promises by the opening that the one begins as.
-use Rattle.std.proofs.Common.{◌≡◌, ℕ, Bool, true, false, List, [], ◌∷◌, ◌++◌, Option, Err, Result, refl, ap, sym, ◌∙◌, subst, true≢false}
-use Rattle.sshc_wire.specs.Faults.{Rose}
+-- A run writes no payload where its part's run writes none: the gate of a part is the gate of the whole.
+use Rattle.std.proofs.Common.{◌≡◌, ℕ, Bool, true, false, List, [], ◌∷◌, ◌++◌, Option, Result, refl, ap, sym, ◌∙◌, subst, true≢false}
 use Rattle.sshc_wire.specs.Records.{IsPayload}
 use Rattle.sshc_wire.specs.declared.record.Record.{Record}
-use Rattle.sshc_opening.specs.declared.ended.Ended.{Ended}
-use Rattle.sshc_key.specs.Asking.{Answer, Always}
-use Rattle.sshc_key.specs.Signers.{since}
-use Rattle.sshc_run.specs.declared.error.RunError.{RunError}
-use Rattle.sshc_run.specs.declared.error.RunError.TheVariants as errors
+use Rattle.sshc_key.specs.Asking.{Answer}
 use Rattle.sshc_script.specs.declared.event_kind.EventKind.{EventKind}
 use Rattle.sshc_script.specs.declared.event_kind.EventKind.TheVariants as kinds
 use Rattle.sshc_run.specs.declared.known_hosts_handler.HandlerError.{HandlerError}
-use Rattle.sshc_run.specs.Comes.{StopsFor}
 use Rattle.sshc_run.specs.Firsts.{IsFront}
 use Rattle.sshc_opening.specs.GateLaw.{NonePayload}
 use Rattle.sshc_run.specs.Headline.{said_at, said_of_first, is_yes, is_accepted}
 use Rattle.sshc_run.specs.KnownHosts.{Hosts}
-use Rattle.sshc_run.specs.Machine.{RunStop, TurnOf, Turns, Machine}
-use Rattle.sshc_run.specs.OpeningFirst.{IsOpeningFirst, IsOpeningDone, IsOpeningComplete}
-use Rattle.sshc_run.specs.OpeningRun.{Continues}
-use Rattle.sshc_run.specs.Outcome.{Streams, Ends}
+use Rattle.sshc_run.specs.Machine.{RunStop, Turns}
 use Rattle.sshc_run.specs.Part.{Own, own_events, own_records, own_answers, HasPart, StopsOthers, StopsElse, PartOf}
-use Rattle.sshc_run.specs.Product.{both_machine, Apart}
 use Rattle.sshc_script.specs.Script.{Frame, ScriptStop}
-use Rattle.sshc_run.specs.ScriptRun.{Run, events_run, script_run}
-use Rattle.sshc_run.proofs.OpeningFirsts.{EndsNone, opening_first_of, opening_done_of, opening_complete_of}
+use Rattle.sshc_run.specs.ScriptRun.{Run, events_run}
 use Rattle.sshc_run.proofs.Parted.{own_first, other_first, parted}
-use Rattle.sshc_run.proofs.Products.{one_part, other_stops}
-
--- ---- the headline's sentence
-
-module _ {O : Type 0} {A : Type 0} {B : Type 0} (short : Machine O) (one : Machine A) (other : Machine B) (as_kept : O → A) (Before : O → Type 0)
-    (continues : Continues short.turn one.turn as_kept Before) (unopened : Before short.first)
-    (own : Own) (apart : Apart own one.turn other.turn) (Cause : Frame → RunStop → Type 0)
-    (stops : (s : B) (frame : Frame) → own.event frame ≡ false → Always (λ (t : TurnOf B). StopsFor (Cause frame) t.next) (other.turn s frame))
-    (begin : one.first ≡ as_kept short.first) (max : ℕ) (before now : Streams) (a : Result Ended RunError) (ends : Ends max 0 0 (script_run (both_machine own one other) max) before now a) where
-  -- the one's records and calls are a front of the opening's or, once it opens the session, all of them followed by more
-  pub both_first : IsOpeningFirst short own max (since before.calls now.calls) before.left before.held now.held
-  both_first =
-      opening_first_of short one.turn as_kept Before continues unopened (both_machine own one other) (λ s. s.one) own (one_part own one.turn other.turn apart) Cause (other_stops own one.turn other.turn apart Cause stops) begin max before now a ends
-
-  pub both_done : EndsNone Cause → IsOpeningDone short own max (since before.calls now.calls) before.left before.held now.held a
-  both_done none =
-      opening_done_of short one.turn as_kept Before continues unopened (both_machine own one other) (λ s. s.one) own (one_part own one.turn other.turn apart) Cause (other_stops own one.turn other.turn apart Cause stops) begin max before now a none ends
-
-  pub both_complete : (reads reads' writes writes' : ℕ) → (a ≡ Err errors.ReadFault → Rose reads reads') → (a ≡ Err errors.WriteFault → Rose writes writes') →
-      IsOpeningComplete short own Cause max (since before.calls now.calls) before.left reads reads' writes writes' a
-  both_complete reads reads' writes writes' r w =
-      opening_complete_of short one.turn as_kept Before continues unopened (both_machine own one other) (λ s. s.one) own (one_part own one.turn other.turn apart) Cause (other_stops own one.turn other.turn apart Cause stops) begin max before now a
-      reads reads' writes writes' ends r w
 
 -- ---- what holds of the part's records holds of the run's
 

@@ -1,0 +1,76 @@
+//! One event of an agent's connection: it is taken by the agent, and its records are written.
+
+ghost use Rattle.std.specs.Prelude.{◌≡◌, ◌≢◌, ◌+◌, ◌++◌, ◌≤◌, Some, Err, IfNone};
+ghost use Rattle.sshc_wire.specs.Contents.{WritesMove, WritesFor};
+ghost use Rattle.sshc_wire.specs.Faults.{Rose};
+ghost use Rattle.sshc_key.specs.Signers.{since};
+ghost use Rattle.sshc_script.specs.Script.{frame_at};
+ghost use Rattle.sshc_run.specs.AgentsTurn.{agents_turn, served_turn};
+ghost use Rattle.sshc_run.specs.Turning.{TakeGives};
+
+use crate::error::RunError;
+use crate::record_lines::write_lines;
+use crate::turn::{event_error_at, write_failed};
+use sshc_agent_turns::{AgentEvent, ServedAgent, read_agent_event};
+use sshc_key::LocalSigner;
+use sshc_opening::Ended;
+use sshc_script::RawEvent;
+use sshc_wire::{NoMemory, Sink};
+use std::alloc::Global;
+
+/// Serves an event at a moment in milliseconds, and writes the records.
+fn serve_event<G: LocalSigner, K: Sink>(
+    alloc: Global,
+    agents: &mut ServedAgent,
+    moment: u64,
+    event: &AgentEvent,
+    signer: &mut G,
+    sink: &mut K,
+) -> Option<Result<Ended, RunError>>
+    ensures gives { TakeGives (served_turn moment event.now agents.old)
+        (since (G.calls signer.old) (G.calls signer.new)) agents.new (K.contents sink.old) (K.contents sink.new) result }
+    ensures gained { G.calls signer.new ≡ G.calls signer.old ++ since (G.calls signer.old) (G.calls signer.new) }
+    ensures moving_writes { IfNone result (K.empty_writes sink.new ≡ K.empty_writes sink.old) }
+    ensures last_write { K.empty_writes sink.new ≤ K.empty_writes sink.old + 1 }
+    ensures moved_writes { IfNone result (WritesMove (K.contents sink.old) (K.contents sink.new) (K.writes sink.old) (K.writes sink.new)) }
+    ensures writes { WritesFor (K.contents sink.old) (K.contents sink.new) (K.writes sink.old) (K.writes sink.new) }
+    ensures write_later { K.faults sink.old ≤ K.faults sink.new }
+    ensures write_fault { result ≡ Some (Err RunError.WriteFault) → Rose (K.faults sink.old) (K.faults sink.new) }
+    ensures write_told { (result ≡ Some (Err RunError.WriteFault) → ⊥) → K.faults sink.new ≡ K.faults sink.old }
+    ensures no_read { result ≢ Some (Err RunError.ReadFault) }
+{
+    match agents.take(moment, event, signer) {
+        Ok(said) => match write_lines(alloc, sink, &said) {
+            Ok(()) => None,
+            Err(failed) => Some(Err(write_failed(failed))),
+        },
+        Err(NoMemory) => Some(Err(RunError::NoMemory)),
+    }
+}
+
+/// Takes an event of an agent at its place, and writes its records.
+pub fn take_agent_event<G: LocalSigner, K: Sink>(
+    alloc: Global,
+    agents: &mut ServedAgent,
+    place: u64,
+    event: &RawEvent,
+    signer: &mut G,
+    sink: &mut K,
+) -> Option<Result<Ended, RunError>>
+    ensures gives { TakeGives (agents_turn agents.old (frame_at place event.now))
+        (since (G.calls signer.old) (G.calls signer.new)) agents.new (K.contents sink.old) (K.contents sink.new) result }
+    ensures gained { G.calls signer.new ≡ G.calls signer.old ++ since (G.calls signer.old) (G.calls signer.new) }
+    ensures moving_writes { IfNone result (K.empty_writes sink.new ≡ K.empty_writes sink.old) }
+    ensures last_write { K.empty_writes sink.new ≤ K.empty_writes sink.old + 1 }
+    ensures moved_writes { IfNone result (WritesMove (K.contents sink.old) (K.contents sink.new) (K.writes sink.old) (K.writes sink.new)) }
+    ensures writes { WritesFor (K.contents sink.old) (K.contents sink.new) (K.writes sink.old) (K.writes sink.new) }
+    ensures write_later { K.faults sink.old ≤ K.faults sink.new }
+    ensures write_fault { result ≡ Some (Err RunError.WriteFault) → Rose (K.faults sink.old) (K.faults sink.new) }
+    ensures write_told { (result ≡ Some (Err RunError.WriteFault) → ⊥) → K.faults sink.new ≡ K.faults sink.old }
+    ensures no_read { result ≢ Some (Err RunError.ReadFault) }
+{
+    match read_agent_event(alloc, event.kind(), event.fields()) {
+        Ok(read) => serve_event(alloc, agents, event.moment(), &read, signer, sink),
+        Err(e) => Some(Err(event_error_at(place, e))),
+    }
+}
