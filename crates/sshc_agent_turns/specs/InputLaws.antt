@@ -118,3 +118,11 @@ inputs_in_pieces s a b =
     let both = pieces s (rest_of (pushed s a)) (rest_of (pushed (rest_of (pushed s a)) b)) a b (inputs_of (pushed s a)) (inputs_of (pushed (rest_of (pushed s a)) b)) one two in
     one_list (pushed s (a ++ b)) (rest_of (pushed s (a ++ b))) (rest_of (pushed (rest_of (pushed s a)) b)) (inputs_of (pushed s (a ++ b))) (inputs_of (pushed s a) ++ inputs_of (pushed (rest_of (pushed s a)) b))
     (gives_inputs (pushed s (a ++ b))) both
+
+-- ---- the same, as laws
+
+abbrev pub PiecesGiveTheSame : Type 0
+PiecesGiveTheSame = (s : FrameBytes) (a b : List ℕ) → inputs_of (pushed s (a ++ b)) ≡ inputs_of (pushed s a) ++ inputs_of (pushed (rest_of (pushed s a)) b)
+
+abbrev pub InputsAreAll : Type 0
+InputsAreAll = (s : FrameBytes) → GivesAll s (inputs_of s) (rest_of s)

@@ -2,9 +2,11 @@
 #![tactic(auto)]
 
 mod event;
+mod laws;
 mod served;
 mod step;
 
 pub use event::{AgentEvent, read_agent_event};
+pub use laws::input_laws;
 pub use served::ServedAgent;
 pub use step::step_input;
