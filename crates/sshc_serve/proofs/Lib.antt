@@ -1,4 +1,4 @@
 mod Talking
 mod Quiet
 mod Reading
-mod Sending
+pub mod Sending

@@ -35,7 +35,7 @@ key_send = search (octets.the_send, text.the_send, signature.the_send, knot.cros
 public_send : IsSend PublicKey.the_row
 public_send = let k = key_send in search (text.the_send, sendable, crosses) depth 20 fits 20000
 
-private_send : IsSend PrivateKey.the_row
+pub private_send : IsSend PrivateKey.the_row
 private_send = let p = public_send in search (pair_data.the_field_send, sendable, crosses) depth 20 fits 20000
 
 held_send : IsSend (HeldKey.the_field).row
@@ -51,10 +51,10 @@ module _ (L : RattleType) (g : Ghosts L.Denot) (l : IsSend L) where
   state_send : IsSend (AgentState.the_row L g)
   state_send = let c = core_send in search (book.the_send, share.the_send, entry.the_field_send, sendable, crosses, maps.crosses) depth 20 fits 20000
 
-  shared_sync : IsSync (AgentShared.the_row L g)
+  pub shared_sync : IsSync (AgentShared.the_row L g)
   shared_sync = let s = state_send in search (sendable, crosses) depth 20 fits 20000
 
-  seat_send : IsSend (Seat.the_row L g)
+  pub seat_send : IsSend (Seat.the_row L g)
   seat_send = search (share.the_send, call.the_field_send, sendable, crosses) depth 20 fits 20000
 
   seats_send : IsSend (Seats.the_field L g).row

@@ -116,26 +116,32 @@ fn serve_all<
     ensures same { result.0.ghost_name ≡ listener.entry.ghost_name }
     ensures fault { OnOk result.1 (Rose (I.faults listener.entry.now) (I.faults result.0.now)) }
 {
-    thread::scope(thread::scope_env(), rt, move |scope| -> (&mut I, Result<(), NoMemory>)
-        requires handle { IsSync R.row × (IsSend L.row × (IsSend A.row × (IsSync A.row × (IsSync P.row × (IsSend G.row × (IsSend C.row × IsSend I.Stream.row)))))) }
-        ensures same { result.0.ghost_name ≡ listener.entry.ghost_name }
-        ensures fault { OnOk result.1 (Rose (I.faults listener.entry.now) (I.faults result.0.now)) }
-    {
-        for _ in rt.forever() {
-            match listener.accept() {
-                Err(Failed::Fault) => return (listener, Ok(())),
-                Err(Failed::NoMemory) => return (listener, Err(NoMemory)),
-                Ok(stream) => {
-                    if let Some(connection) = server.seated(rt, stream, signer, clock) {
-                        if let Err(refused) = scope.spawn(move || server.serve(rt, connection)) {
-                            (refused.value)();
+    thread::scope(
+        thread::scope_env(),
+        rt,
+        move |scope| -> (&mut I, Result<(), NoMemory>)
+            requires handle { IsSync R.row × (IsSend L.row × (IsSend A.row × (IsSync A.row × (IsSync P.row × (IsSend G.row × (IsSend C.row × IsSend I.Stream.row)))))) }
+            ensures same { result.0.ghost_name ≡ listener.entry.ghost_name }
+            ensures fault { OnOk result.1 (Rose (I.faults listener.entry.now) (I.faults result.0.now)) }
+        {
+            for _ in rt.forever() {
+                match listener.accept() {
+                    Err(Failed::Fault) => return (listener, Ok(())),
+                    Err(Failed::NoMemory) => return (listener, Err(NoMemory)),
+                    Ok(stream) => {
+                        if let Some(connection) = server.seated(rt, stream, signer, clock) {
+                            if let Err(refused) = scope.spawn(move || server.serve(
+                                rt, connection,
+                            )) {
+                                (refused.value)();
+                            }
                         }
                     }
                 }
             }
-        }
-        unreachable!()
-    })
+            unreachable!()
+        },
+    )
 }
 
 /// The server over the ledger of one agent.
@@ -144,9 +150,9 @@ fn serve_by<
     L: Ledger + Send,
     I: Listener,
     A: Agent,
-    G: LocalSigner + Clone + Send + Sync,
+    G: LocalSigner + Clone + Send,
     P: Pause,
-    C: Clock + Clone + Send + Sync,
+    C: Clock + Clone + Send,
     R: Threads + Wait + Sync,
 >(
     rt: &R,
@@ -194,9 +200,9 @@ fn serve_by<
 pub fn serve<
     I: Listener,
     A: Agent,
-    G: LocalSigner + Clone + Send + Sync,
+    G: LocalSigner + Clone + Send,
     P: Pause,
-    C: Clock + Clone + Send + Sync,
+    C: Clock + Clone + Send,
     R: Threads + Wait + Sync,
 >(
     rt: &R,
