@@ -1,3 +1,4 @@
 mod Talking
 mod Quiet
 mod Reading
+pub mod Sending

@@ -1,5 +1,5 @@
 -- What a caller is told of a call, and that the call of Close asks nothing and says nothing.
-use Rattle.std.proofs.Common.{◌≡◌, ◌≤◌, ◌⊎◌, ℕ, List, [], ◌∷◌, ◌++◌, Option, Some, None, Result, Ok, Err, IfOk, OnErr, refl, sym, ap, subst, ◌∙◌, arith, inl, inr}
+use Rattle.std.proofs.Common.{◌≡◌, ℕ, List, [], ◌∷◌, ◌++◌, Option, Some, None, Result, Ok, Err, IfOk, OnErr, refl, sym, ap, subst, arith, inl, inr}
 use Rattle.sshc_wire.specs.Faults.{Rose}
 use Rattle.sshc_key.specs.Signers.{SignCall}
 use Rattle.sshc_key.specs.Asking.{Asking, Makes, asks, done}
@@ -13,7 +13,6 @@ use Rattle.sshc_agent.specs.AgentHistory.{IsEntry, Leads, stands_in}
 use Rattle.sshc_agent.specs.AgentList.{AgentList, aged, seen}
 use Rattle.sshc_agent.specs.AgentTable.{Steps, agent_row, seen_row, standing_row}
 use Rattle.sshc_agent.specs.Turn.{Outcome}
-use Rattle.sshc_shared.specs.declared.call.Call.{Call}
 use Rattle.sshc_shared.specs.declared.error.CallRefused.{CallRefused}
 use Rattle.sshc_shared.specs.Calls.{call_of}
 use Rattle.sshc_shared.specs.Closing.{Tells}

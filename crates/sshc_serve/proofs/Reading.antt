@@ -1,5 +1,5 @@
 -- Bytes that are read piece by piece, and the input that their frames give.
-use Rattle.std.proofs.Common.{◌≡◌, ◌⊎◌, ℕ, Bool, true, false, cond, List, [], ◌∷◌, ◌++◌, Option, Some, None, Result, Ok, Err, refl, sym, ap, subst, ◌∙◌}
+use Rattle.std.proofs.Common.{◌≡◌, ◌⊎◌, ℕ, Bool, true, false, List, [], ◌∷◌, ◌++◌, Option, Some, None, Result, Ok, Err, refl, sym, ap, subst, ◌∙◌}
 use Rattle.std.specs.Prelude.{nat_lt, length}
 use Rattle.std.specs.Int.{w32}
 use Rattle.sshc_wire.specs.declared.error.NoMemory.{NoMemory}
@@ -8,7 +8,6 @@ use Rattle.sshc_wire.specs.Contents.{IsAtEnd, prepend, prepend-nothing, prepend-
 use Rattle.sshc_wire.specs.Faults.{Rose}
 use Rattle.sshc_wire.specs.Reads.{number_at}
 use Rattle.sshc_agent.specs.declared.input.AgentInput.{AgentInput}
-use Rattle.sshc_agent.specs.declared.input.AgentInput.TheVariants as inputs
 use Rattle.sshc_agent.specs.declared.msg.TheConstants.{MAX_AGENT_FRAME_LEN}
 use Rattle.sshc_agent.specs.AgentFrames.{FrameBytes, framed_by, framed_in as given_in, next_in, pushed}
 use Rattle.sshc_agent.specs.FrameLaws.{pushed_on}

@@ -1,5 +1,5 @@
 -- A connection that goes on by one call, and the ways in which it ends.
-use Rattle.std.proofs.Common.{◌≡◌, ◌≤◌, ◌+◌, ◌⊎◌, ℕ, Bool, true, false, List, [], ◌∷◌, ◌++◌, Option, Some, None, Result, Ok, Err, refl, sym, ap, subst, ◌∙◌, arith, append_assoc, inl, inr}
+use Rattle.std.proofs.Common.{◌≡◌, ◌≤◌, ◌⊎◌, ℕ, List, [], ◌∷◌, ◌++◌, Option, Some, None, Result, Ok, Err, refl, sym, ap, subst, ◌∙◌, arith, append_assoc, inl, inr}
 use Rattle.std.proofs.lemmas.List.{append-nil}
 use Rattle.sshc_wire.specs.declared.error.NoMemory.{NoMemory}
 use Rattle.sshc_wire.specs.Contents.{IsAtEnd, append, append-append, append-nothing, prepend, prepend-nothing, prepend-prepend}
@@ -13,7 +13,7 @@ use Rattle.sshc_agent.specs.FrameLaws.{gives_more, gives_on, pushed_on}
 use Rattle.sshc_shared.specs.declared.call.Call.{Call}
 use Rattle.sshc_shared.specs.Kept.{SeatState}
 use Rattle.sshc_serve.specs.declared.turn.Next.TheVariants as steps
-use Rattle.sshc_serve.specs.Talk.{Allows, Answered, Closes, ClosesLast, Confirms, Ending, Fetched, FitsQuestion, Follows, IsCall, IsClose, IsClosed, IsRefused, NoneCloses, Opens, Question, RanOut, Serves, Serving, StreamSeen, Turned, WroteFront, closed, framed, framed_in, key, question, read_failed, refused, replies_of, reply, request, starved, whole, write_failed}
+use Rattle.sshc_serve.specs.Talk.{Allows, Closes, ClosesLast, Confirms, Ending, Fetched, FitsQuestion, Follows, IsCall, IsClose, IsClosed, IsRefused, NoneCloses, Opens, Question, RanOut, Serves, Serving, StreamSeen, Turned, closed, framed, framed_in, key, question, read_failed, refused, replies_of, reply, request, starved, whole, write_failed}
 
 -- ---- bytes
 

@@ -3,8 +3,11 @@
 
 mod fetching;
 mod outside;
+mod seats;
+mod server;
 mod serving;
 mod turn;
 
 pub use outside::{Agent, Clock, Listener, Pause};
+pub use server::serve;
 pub use serving::serve_one;

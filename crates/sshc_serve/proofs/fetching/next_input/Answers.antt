@@ -1,4 +1,4 @@
-use Rattle.std.proofs.Common.{rules, ◌≡◌, true, Ok, Err, None, refl, sym, ap, subst, ◌∙◌}
+use Rattle.std.proofs.Common.{rules, ◌≡◌, true, Ok, refl, ap, ◌∙◌}
 use Rattle.sshc_serve.specs.Talk.{seen}
 use Rattle.sshc_serve.proofs.Reading.{found, nothing_read, read_on, starved_read}
 use Rattle.sshc_serve.proofs.fetching.next_input.Goals as goal

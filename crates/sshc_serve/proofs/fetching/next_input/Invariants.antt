@@ -1,4 +1,4 @@
-use Rattle.std.proofs.Common.{◌≡◌, ◌≤◌, ◌<◌}
+use Rattle.std.proofs.Common.{◌≡◌}
 use Rattle.sshc_serve.specs.Talk.{ReadSoFar, seen}
 use Rattle.sshc_serve.proofs.fetching.next_input.Given as goal
 

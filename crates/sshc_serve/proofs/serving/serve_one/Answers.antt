@@ -1,4 +1,3 @@
-use Rattle.std.proofs.Common.{◌≡◌, refl, Some, None, Ok, Err}
 use Rattle.sshc_serve.specs.Talk.{seen}
 use Rattle.sshc_serve.proofs.Talking.{asks_turn, begun, closed_turn, goes_turn, gone, refused_turn, starved_turn, unfetched, write_failed_turn}
 use Rattle.sshc_serve.proofs.serving.serve_one.Goals as goal

@@ -1,4 +1,4 @@
-use Rattle.std.proofs.Common.{◌≡◌, refl}
+use Rattle.std.proofs.Common.{refl}
 use Rattle.std.proofs.lemmas.Result.{IfOk-weaker}
 use Rattle.sshc_shared.specs.Calls.{call_of}
 use Rattle.sshc_serve.proofs.Quiet.{refused_from, told_call}

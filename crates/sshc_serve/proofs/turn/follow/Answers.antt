@@ -1,4 +1,4 @@
-use Rattle.std.proofs.Common.{◌≡◌, ℕ, List, refl, subst}
+use Rattle.std.proofs.Common.{ℕ, List, refl, subst}
 use Rattle.sshc_serve.specs.Talk.{key, request}
 use Rattle.sshc_serve.proofs.turn.follow.Goals as goal
 

@@ -1,0 +1,234 @@
+//! Serves many connections beside one another, each in a thread of its own.
+
+ghost use Rattle.std.specs.Prelude.{◌≡◌, IfErr, IfOk, OnOk};
+ghost use Rattle.std.specs.Thread.{IsSend, IsSync};
+ghost use Rattle.sshc_agent.specs.AgentHistory.{IsLegal};
+ghost use Rattle.sshc_shared.specs.LockLaw.{LocksHold};
+ghost use Rattle.sshc_wire.specs.Faults.{Rose};
+ghost use Rattle.sshc_serve.specs.Ends.{Differs};
+
+use crate::outside::{Agent, Clock, Listener, Pause};
+use crate::seats::Seats;
+use crate::serving::serve_one;
+use sshc_agent::Entry;
+use sshc_key::LocalSigner;
+use sshc_shared::{AgentShared, CloseError, Seat};
+use sshc_wire::{AgentStream, Failed, NoMemory};
+use std::alloc::Global;
+use std::marker::Brand;
+use std::sync::ledger::{Blank, Ledger};
+use std::sync::{Mutex, Wait};
+use std::thread;
+use std::thread::Threads;
+
+/// The parts of the ledger that counts an agent's entries.
+const PARTS: u64 = 67_108_864;
+
+/// What a connection has of its own.
+#[derive(Drop)]
+struct Connection<L: Ledger, S: AgentStream + Drop, G: LocalSigner + Drop, C: Clock + Drop> {
+    seat: Seat<L>,
+    stream: S,
+    signer: G,
+    clock: C,
+}
+
+/// What all connections share: the agent with its user, and the seats.
+#[derive(Drop)]
+struct Server<'a, L: Ledger, A: Agent, P: Pause> {
+    alloc: Global,
+    shared: AgentShared<L>,
+    seats: Mutex<Seats<L>>,
+    agent: &'a A,
+    pause: &'a P,
+}
+
+impl<'a, L: Ledger, A: Agent, P: Pause> Server<'a, L, A, P> {
+    /// Gives the stream a seat, and a signer and a clock of its own. A stream for which one of them can't be had is closed.
+    fn seated<S: AgentStream + Drop, G: LocalSigner + Clone, C: Clock + Clone, R: Wait>(
+        &self,
+        rt: &R,
+        stream: S,
+        signer: &G,
+        clock: &C,
+    ) -> Option<Connection<L, S, G, C>> {
+        let signer: Result<G, _> = signer.clone();
+        let signer = signer.ok()?;
+        let clock: Result<C, _> = clock.clone();
+        let clock = clock.ok()?;
+        let seat = self.seats.lock(rt).connect(rt, &self.shared)?;
+        Some(Connection {
+            seat,
+            stream,
+            signer,
+            clock,
+        })
+    }
+
+    /// Serves a connection to its end, and takes its seat back.
+    fn serve<S: AgentStream + Drop, G: LocalSigner + Drop, C: Clock + Drop, R: Wait>(
+        &self,
+        rt: &R,
+        connection: Connection<L, S, G, C>,
+    ) {
+        let Connection {
+            seat,
+            stream,
+            signer,
+            clock,
+        } = connection;
+        let mut stream = stream;
+        let mut signer = signer;
+        let mut clock = clock;
+        let (seat, _ended) = serve_one(
+            rt,
+            self.alloc,
+            &self.shared,
+            seat,
+            &mut stream,
+            self.agent,
+            &mut signer,
+            self.pause,
+            &mut clock,
+        );
+        self.seats.lock(rt).take_back(seat);
+    }
+}
+
+/// Serves each stream that is accepted in a thread of its own, or right here where none can be started, until the listener fails
+/// or finds no memory. It returns once all connections have ended, and hands the listener back.
+fn serve_all<
+    'l,
+    L: Ledger + Send,
+    I: Listener,
+    A: Agent,
+    G: LocalSigner + Clone + Send,
+    P: Pause,
+    C: Clock + Clone + Send,
+    R: Threads + Wait + Sync,
+>(
+    rt: &R,
+    server: &Server<'_, L, A, P>,
+    listener: &'l mut I,
+    signer: &G,
+    clock: &C,
+) -> (&'l mut I, Result<(), NoMemory>)
+    ensures same { result.0.ghost_name ≡ listener.entry.ghost_name }
+    ensures fault { OnOk result.1 (Rose (I.faults listener.entry.now) (I.faults result.0.now)) }
+{
+    thread::scope(
+        thread::scope_env(),
+        rt,
+        move |scope| -> (&mut I, Result<(), NoMemory>)
+            requires handle { IsSync R.row × (IsSend L.row × (IsSend A.row × (IsSync A.row × (IsSync P.row × (IsSend G.row × (IsSend C.row × IsSend I.Stream.row)))))) }
+            ensures same { result.0.ghost_name ≡ listener.entry.ghost_name }
+            ensures fault { OnOk result.1 (Rose (I.faults listener.entry.now) (I.faults result.0.now)) }
+        {
+            for _ in rt.forever() {
+                match listener.accept() {
+                    Err(Failed::Fault) => return (listener, Ok(())),
+                    Err(Failed::NoMemory) => return (listener, Err(NoMemory)),
+                    Ok(stream) => {
+                        if let Some(connection) = server.seated(rt, stream, signer, clock) {
+                            if let Err(refused) = scope.spawn(move || server.serve(
+                                rt, connection,
+                            )) {
+                                (refused.value)();
+                            }
+                        }
+                    }
+                }
+            }
+            unreachable!()
+        },
+    )
+}
+
+/// The server over the ledger of one agent.
+fn serve_by<
+    'a,
+    L: Ledger + Send,
+    I: Listener,
+    A: Agent,
+    G: LocalSigner + Clone + Send,
+    P: Pause,
+    C: Clock + Clone + Send,
+    R: Threads + Wait + Sync,
+>(
+    rt: &R,
+    alloc: Global,
+    blank: Blank,
+    listener: &mut I,
+    agent: &'a A,
+    signer: &G,
+    pause: &'a P,
+    clock: &C,
+    journal_limit: u32,
+) -> Result<Vec<Entry>, CloseError>
+    requires parts { blank.parts ≡ 67108864 }
+    requires ledger { (blank.name ≡ L.name) × (blank.parts ≡ L.parts) }
+    ensures fault { OnOk result (Rose (I.faults listener.old) (I.faults listener.new)) }
+    ensures legal { IfOk result (λ h. IsLegal h.items) }
+    ensures locks { IfOk result (λ h. LocksHold h.items) }
+    ensures differs { IfErr result (λ e. Differs e) }
+{
+    let Ok(shared) = AgentShared::<L>::new(alloc, blank, true, journal_limit) else {
+        return Err(CloseError::NoMemory);
+    };
+    let server = Server {
+        alloc,
+        shared,
+        seats: Mutex::new(Seats::new(alloc)),
+        agent,
+        pause,
+    };
+    let (listener, ended) = serve_all(rt, &server, listener, signer, clock);
+    if ended.is_err() {
+        return Err(CloseError::NoMemory);
+    }
+    let _listener = listener;
+    let Server { shared, seats, .. } = server;
+    match shared.close(seats.into_inner().into_back()) {
+        Ok(history) => Ok(history),
+        Err((_shared, _seats, why)) => Err(why),
+    }
+}
+
+/// Serves each stream that the listener accepts, beside the others: an agent that asks about each request, with a signer and a
+/// clock of its own for each connection. A connection ends alone. Ends where the listener fails and all connections have ended,
+/// and then gives the history of all calls.
+pub fn serve<
+    I: Listener,
+    A: Agent,
+    G: LocalSigner + Clone + Send,
+    P: Pause,
+    C: Clock + Clone + Send,
+    R: Threads + Wait + Sync,
+>(
+    rt: &R,
+    alloc: Global,
+    listener: &mut I,
+    agent: &A,
+    signer: &G,
+    pause: &P,
+    clock: &C,
+    journal_limit: u32,
+) -> Result<Vec<Entry>, CloseError>
+    // The history comes only where the listener failed.
+    ensures fault { OnOk result (Rose (I.faults listener.old) (I.faults listener.new)) }
+    ensures legal { IfOk result (λ h. IsLegal h.items) }
+    ensures locks { IfOk result (λ h. LocksHold h.items) }
+    ensures differs { IfErr result (λ e. Differs e) }
+{
+    serve_by::<Brand, I, A, G, P, C, R>(
+        rt,
+        alloc,
+        Blank::new(PARTS),
+        listener,
+        agent,
+        signer,
+        pause,
+        clock,
+        journal_limit,
+    )
+}
