@@ -151,8 +151,8 @@ pub fn run_script<S: Source, K: Sink, G: LocalSigner, V: Verifier>(
     // An open of ours is answered where it waits, with its own ticket, and waits no more.
     ensures opens { OpensAreAnswered (record { host = host_text host.now port; known = known.now }) (V.accepts verifier.now) (run_settings_of config.now) config.now.max_events
         (own_answers session_own (since (G.calls signer.old) (G.calls signer.new))) (S.left source.old) }
-    // The agent's records are those of one history of one agent that holds nothing at first: its inputs are those of the agents' events, its locks
-    // hold, and each signature of it is permitted.
+    // The agent's records are those of one history of one agent that holds nothing at first: its inputs are those of
+    // the agents' events, its locks hold, and each signature of it is permitted.
     ensures agents { HasOneHistory config.now.agent_asks config.now.max_events (script_run (run_machine (record { host = host_text host.now port; known = known.now }) (V.accepts verifier.now) (run_settings_of config.now)) config.now.max_events (answers_since (G.calls signer.old) (G.calls signer.new)))
         (S.left source.old) }
     // The session records that are written are a front of the opening table's outputs or, once that table opens the session, all of them
