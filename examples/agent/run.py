@@ -1,6 +1,6 @@
 #!/usr/bin/env python3
-"""Runs `sshc agent SOCKET` beside Debian's ssh-agent, outside the gate: the same calls of ssh-add to both, and 64 connections of
-mixed garbage at once, and prints both answers. It starts and stops both agents itself, and needs openssh-client.
+"""Runs `sshc agent SOCKET` beside Debian's ssh-agent, outside the gate: the same calls of ssh-add to both, and 64 connections
+of mixed garbage at once, and prints both answers. It starts and stops both agents itself, and needs openssh-client.
 
 Usage: examples/agent/run.py COMMAND [WORDS..]
 COMMAND runs the program: crates/sshc/out/sshc after `rt run` there, or before any proof `rt try --seconds 600 --` there.

@@ -8,7 +8,8 @@ use std::thread;
 /// After so many turns a flag counts as not raised.
 const TURNS: u32 = 100_000_000;
 
-/// Flag A is raised where connection 1 is about to answer the question about its key; flag B where connection 2 gets its answer.
+/// Flag A is raised where connection 1 is about to answer the question about its key; flag B where connection 2 gets
+/// its answer.
 #[derive(Drop)]
 pub(crate) struct Flags {
     asked: AtomicBool,
@@ -42,7 +43,8 @@ impl Flags {
     }
 }
 
-/// Connection 1 waits before its call 4 until connection 2 has an answer; connection 2 begins where connection 1 waits.
+/// Connection 1 waits before its call 4 until connection 2 has an answer; connection 2 begins where connection 1
+/// waits.
 impl Pause for Flags {
     fn before(&self, conn: u32, number: u32) {
         if conn == 1 && number == 4 {
