@@ -1,7 +1,9 @@
-//! The program `sshc`: it hands real streams, files, a signer and a verifier to `run_words`.
+//! The program `sshc`: it hands real streams, files, a signer and a verifier to `run_words`, and the words of an agent to
+//! `serve_words`.
 #![tactic(auto)]
 
 use sshc_run::{ToySigner, ToyVerifier, run_words};
+use sshc_serve_words::serve_words;
 use sshc_wire::{NoMemory, StdFiles, StdSink, StdSource, Text};
 use std::alloc::Global;
 use std::process::ExitCode;
@@ -23,16 +25,23 @@ fn words_of(rt: &HostRuntime) -> Result<Vec<Text>, NoMemory> {
     Ok(words)
 }
 
-fn run(rt: &HostRuntime) -> Result<u8, NoMemory> {
+/// Whether the words are `agent` and a path.
+fn is_agent(words: &[Text]) -> bool {
+    match words {
+        [agent, _socket] => agent.as_str() == "agent",
+        _ => false,
+    }
+}
+
+fn run(rt: &HostRuntime, words: &[Text]) -> Result<u8, NoMemory> {
     let alloc: Global = rt.alloc();
-    let words = words_of(rt)?;
     let mut source = StdSource::new(alloc, rt.reader())?;
     let mut sink = StdSink::new(io::writer(rt));
     let mut files = StdFiles::new(rt);
     let mut signer = ToySigner::new(alloc);
     Ok(run_words(
         alloc,
-        words.as_slice(),
+        words,
         &mut files,
         &mut signer,
         &ToyVerifier::new(alloc),
@@ -42,7 +51,13 @@ fn run(rt: &HostRuntime) -> Result<u8, NoMemory> {
 }
 
 fn main(rt: HostRuntime) -> ExitCode {
-    match run(&rt) {
+    let Ok(words) = words_of(&rt) else {
+        return ExitCode::from(NO_MEMORY);
+    };
+    if is_agent(words.as_slice()) {
+        return ExitCode::from(serve_words(&rt, rt.alloc(), words.as_slice()));
+    }
+    match run(&rt, words.as_slice()) {
         Ok(status) => ExitCode::from(status),
         Err(NoMemory) => ExitCode::from(NO_MEMORY),
     }

@@ -5,7 +5,8 @@ use std::alloc::Global;
 use std::sync::Wait;
 use std::sync::ledger::Ledger;
 
-/// The seats that came back, and how many are still out. There is room for these, so that none is lost for lack of memory.
+/// The seats that came back, and how many are still out. There is room for these, so that none is lost for lack of
+/// memory.
 #[derive(Drop)]
 pub(crate) struct Seats<L: Ledger> {
     back: Vec<Seat<L>>,

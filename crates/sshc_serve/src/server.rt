@@ -44,7 +44,8 @@ struct Server<'a, L: Ledger, A: Agent, P: Pause> {
 }
 
 impl<'a, L: Ledger, A: Agent, P: Pause> Server<'a, L, A, P> {
-    /// Gives the stream a seat, and a signer and a clock of its own. A stream for which one of them can't be had is closed.
+    /// Gives the stream a seat, and a signer and a clock of its own. A stream for which one of them can't be had is
+    /// closed.
     fn seated<S: AgentStream + Drop, G: LocalSigner + Clone, C: Clock + Clone, R: Wait>(
         &self,
         rt: &R,
@@ -95,8 +96,8 @@ impl<'a, L: Ledger, A: Agent, P: Pause> Server<'a, L, A, P> {
     }
 }
 
-/// Serves each stream that is accepted in a thread of its own, or right here where none can be started, until the listener fails
-/// or finds no memory. It returns once all connections have ended, and hands the listener back.
+/// Serves each stream that is accepted in a thread of its own, or right here where none can be started, until the
+/// listener fails or finds no memory. It returns once all connections have ended, and hands the listener back.
 fn serve_all<
     'l,
     L: Ledger + Send,
@@ -194,9 +195,9 @@ fn serve_by<
     }
 }
 
-/// Serves each stream that the listener accepts, beside the others: an agent that asks about each request, with a signer and a
-/// clock of its own for each connection. A connection ends alone. Ends where the listener fails and all connections have ended,
-/// and then gives the history of all calls.
+/// Serves each stream that the listener accepts, beside the others: an agent that asks about each request, with a
+/// signer and a clock of its own for each connection. A connection ends alone. Ends where the listener fails and all
+/// connections have ended, and then gives the history of all calls.
 pub fn serve<
     I: Listener,
     A: Agent,

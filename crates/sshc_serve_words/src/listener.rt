@@ -1,4 +1,5 @@
-//! A Unix socket at which streams are accepted. It tells no contents; that a real socket behaves as its trait says is not proved.
+//! A Unix socket at which streams are accepted. It tells no contents; that a real socket behaves as its trait says is
+//! not proved.
 
 ghost use Rattle.std.specs.Prelude.{◌≡◌, IfOk};
 

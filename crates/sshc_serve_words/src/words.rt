@@ -83,8 +83,9 @@ fn serve_at<R: Files + Net + Clock + Threads + Wait + Sync>(rt: &R, alloc: Globa
     }
 }
 
-/// Runs an agent at a Unix socket, where the words are `agent` and its path. The status where it returns: 0 where the listener
-/// failed, 2 for other words, 20 out of memory, 46 where the socket can't be made, 47 and 48 where the history isn't whole.
+/// Runs an agent at a Unix socket, where the words are `agent` and its path. The status where it returns: 0 where the
+/// listener failed, 2 for other words, 20 out of memory, 46 where the socket can't be made, 47 and 48 where the
+/// history isn't whole.
 pub fn serve_words<R: Files + Net + Clock + Threads + Wait + Sync>(
     rt: &R,
     alloc: Global,

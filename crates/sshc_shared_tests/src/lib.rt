@@ -1,0 +1,7 @@
+//! Tests of the shared agent: calls on seats by hand.
+#![tactic(auto)]
+
+#[cfg(test)]
+mod frames;
+#[cfg(test)]
+mod seats;
