@@ -201,20 +201,26 @@ fn add_channel(line: &mut Line, happened: &ChannelRecord) -> Result<(), Stop> {
         ChannelRecord::ExitStatus { exit_status } => {
             line.number("ExitStatus status", u64::from(*exit_status))?
         }
-        ChannelRecord::ExitSignal {
-            signal_name,
-            core_dumped,
-            error_message,
-            lang_tag,
-        } => {
-            line.text("ExitSignal signal", signal_name.name())?;
-            line.flag("core-dumped", *core_dumped)?;
-            line.text("message", error_message.as_str())?;
-            line.text("language", lang_tag.as_str())?;
-        }
+        ChannelRecord::ExitSignal { .. } => add_exit_signal(line, happened)?,
         ChannelRecord::WindowAdjusted { new_size } => {
             line.number("WindowAdjusted window", u64::from(*new_size))?
         }
+    }
+    Ok(())
+}
+
+fn add_exit_signal(line: &mut Line, happened: &ChannelRecord) -> Result<(), Stop> {
+    if let ChannelRecord::ExitSignal {
+        signal_name,
+        core_dumped,
+        error_message,
+        lang_tag,
+    } = happened
+    {
+        line.text("ExitSignal signal", signal_name.name())?;
+        line.flag("core-dumped", *core_dumped)?;
+        line.text("message", error_message.as_str())?;
+        line.text("language", lang_tag.as_str())?;
     }
     Ok(())
 }
@@ -243,22 +249,28 @@ fn add_server_open(line: &mut Line, opened: &ServerOpen) -> Result<(), Stop> {
             line.text("X11 originator", originator_address.as_str())?;
             line.number("originator-port", u64::from(*originator_port))?;
         }
-        ServerOpen::ForwardedTcpIp {
-            connected_address,
-            connected_port,
-            originator_address,
-            originator_port,
-        } => {
-            line.text("ForwardedTcpIp address", connected_address.as_str())?;
-            line.number("port", u64::from(*connected_port))?;
-            line.text("originator", originator_address.as_str())?;
-            line.number("originator-port", u64::from(*originator_port))?;
-        }
+        ServerOpen::ForwardedTcpIp { .. } => add_forwarded(line, opened)?,
         ServerOpen::ForwardedStreamLocal { socket_path } => {
             line.text("ForwardedStreamLocal path", socket_path.as_str())?
         }
         ServerOpen::AgentForward => line.word("AgentForward")?,
         ServerOpen::Unknown => line.word("Unknown")?,
+    }
+    Ok(())
+}
+
+fn add_forwarded(line: &mut Line, opened: &ServerOpen) -> Result<(), Stop> {
+    if let ServerOpen::ForwardedTcpIp {
+        connected_address,
+        connected_port,
+        originator_address,
+        originator_port,
+    } = opened
+    {
+        line.text("ForwardedTcpIp address", connected_address.as_str())?;
+        line.number("port", u64::from(*connected_port))?;
+        line.text("originator", originator_address.as_str())?;
+        line.number("originator-port", u64::from(*originator_port))?;
     }
     Ok(())
 }
