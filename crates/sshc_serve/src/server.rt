@@ -3,7 +3,7 @@
 ghost use Rattle.std.specs.Prelude.{◌≡◌, IfErr, IfOk, OnOk};
 ghost use Rattle.std.specs.Thread.{IsSend, IsSync};
 ghost use Rattle.sshc_agent.specs.AgentHistory.{IsLegal};
-ghost use Rattle.sshc_shared.specs.LockLaw.{LocksHold};
+ghost use Rattle.sshc_agent.specs.LockLaw.{LocksHold};
 ghost use Rattle.sshc_wire.specs.Faults.{Rose};
 ghost use Rattle.sshc_serve.specs.Ends.{Differs};
 
