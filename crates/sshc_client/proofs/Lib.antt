@@ -1,2 +1,6 @@
+mod AskedLemmas
+mod BeforeLemmas
+mod HandlerLemmas
 mod MethodLemmas
 mod RowLemmas
+mod StepLemmas

@@ -6,13 +6,8 @@ use Rattle.sshc_packets.specs.ChannelOpens.{ChannelOpen}
 use Rattle.sshc_moves.specs.SessionState.{SessionState}
 use Rattle.sshc_moves.specs.Moves.{Disconnects, Leaves, Move, Moved, Opens, after, done}
 use Rattle.sshc_moves.specs.Grown.{Grown, May}
+use Rattle.sshc_moves.specs.GrownLaws.{grown_by, grown_same}
 use Rattle.sshc_client.specs.Methods.{Acts, acted}
-
-grown_same : (s : SessionState) → Grown s s
-grown_same s = record { moves = []; may = tt; is = refl }
-
-grown_by : (m : Move) (s : SessionState) → May m → Grown s (after m s)
-grown_by m s may = record { moves = m ∷ []; may = (may, tt); is = refl }
 
 pub moved_acts : (m : Move) (old new : SessionState) (moved : Result (Unit {0}) RanOut) → Moved m old new moved → Acts (m ∷ []) old new (acted moved)
 moved_acts m old new (Ok u) is = is

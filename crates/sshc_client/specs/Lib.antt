@@ -1,4 +1,9 @@
+pub mod Asked
+pub mod Asking
 pub mod Configured
-pub mod Follows
+pub mod Handling
+pub mod HandledRow
+pub mod HandledStep
 pub mod Methods
 pub mod Stepping
+pub use Rattle.sshc_rows.specs.Follows

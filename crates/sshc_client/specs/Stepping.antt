@@ -16,7 +16,7 @@ use Rattle.sshc_moves.specs.Moves.{Fronts, Stops, after, done}
 use Rattle.sshc_moves.specs.SessionRow.{SessionRow, ends, goes, refuses}
 use Rattle.sshc_moves.specs.SessionTable.{session_row}
 use Rattle.sshc_session.specs.OpeningStep.{Lent, StepsOpening}
-use Rattle.sshc_client.specs.Follows.{all_moves, default_opinions}
+use Rattle.sshc_rows.specs.Follows.{all_moves, default_opinions}
 
 -- ---- in an open session
 

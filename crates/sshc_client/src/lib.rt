@@ -1,14 +1,17 @@
-//! A session: its opening and what follows, one event in and records out, with no IO.
+//! A session: its opening and what follows, one event in and records out, with no IO; and the handler that it is lent to.
 #![tactic(auto)]
 
 mod answers;
 mod config;
-mod flow;
+mod handler;
 mod message;
 mod session;
+mod stop;
+mod verdict;
 
 pub use answers::{DisconnectReason, KeyboardInteractiveAuthResponse};
 pub use config::Config;
+pub use handler::Handler;
 pub use message::Msg;
 pub use session::Session;
 pub use sshc_moves::{OpenAnswer, SessionSettings};

@@ -3,7 +3,7 @@
 ghost use Rattle.std.specs.Prelude.{◌≡◌, []};
 ghost use Rattle.sshc_opening.specs.OpeningState.{is_awaiting};
 ghost use Rattle.sshc_session.specs.Start.{new_session};
-ghost use Rattle.sshc_client.specs.Follows.{wants_user_events};
+ghost use Rattle.sshc_client.specs.Asking.{wants_user_events};
 
 use sshc_moves::{Life, SessionSettings};
 use sshc_opening::Settings;
@@ -13,20 +13,18 @@ use std::alloc::Global;
 use std::marker::Model;
 
 mod acting;
-mod asked_of_channel;
 mod bytes;
+mod calls;
 mod channel_opens;
 mod channel_requests;
 mod exchanges;
 mod global_requests;
+mod opening;
 mod opens;
 mod packets;
-mod replies;
 mod requests;
 mod stepping;
 mod streams;
-mod timers;
-mod users;
 
 /// A session, which contracts see as plain data.
 #[derive(Debug, Drop)]

@@ -19,7 +19,7 @@ use Rattle.sshc_moves.specs.Grown.{Grown, May}
 use Rattle.sshc_moves.specs.Keeps.{SameOrBegun}
 use Rattle.sshc_moves.specs.KeptChannels.{ChannelKeeps, GrownSessionsKeepChannels, IsKept}
 use Rattle.sshc_moves.proofs.ChannelNumbers.{number_of, with_other, with_same}
-use Rattle.sshc_moves.proofs.KeepLemmas.{keeps_move}
+use Rattle.sshc_moves.specs.KeepLaws.{keeps_move}
 
 -- ---- calls of methods, which are told whether an exchange runs
 

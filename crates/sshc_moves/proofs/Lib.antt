@@ -2,9 +2,7 @@ mod AccountLemmas
 mod QuietLemmas
 mod ReplyLemmas
 mod TakenLemmas
-mod GrownLemmas
 mod OpensLemmas
-mod KeepLemmas
 mod StandardFacts
 mod StayLemmas
 mod ChannelNumbers

@@ -8,7 +8,9 @@ pub mod ReplyQueue
 pub mod OpensOnce
 pub mod RecordsTaken
 pub mod Grown
+pub mod GrownLaws
 pub mod Keeps
+pub mod KeepLaws
 pub mod KeptChannels
 pub mod SessionRow
 pub mod SessionTable

@@ -58,7 +58,7 @@ abbrev pub ending : List Move → Ended → SessionRow
 ending moves e = record { front = moves; asks = None; back = λ said. []; next = ends e }
 
 -- moves, a call, and moves behind it whatever it answers
-abbrev pub asking : List Move → Callback → List Move → SessionRow
+unfoldable pub asking : List Move → Callback → List Move → SessionRow
 asking front callback back = record { front = front; asks = Some callback; back = λ said. back; next = goes }
 
 abbrev pub on_channel : ℕ → ChannelRecord → Record

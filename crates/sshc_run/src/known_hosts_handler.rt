@@ -1,18 +1,18 @@
-//! The gate of a script: it judges host keys by a known hosts text.
+//! The handler of a script: it judges host keys by a known hosts text, and keeps all defaults beside.
 
 ghost use Rattle.std.specs.Prelude.{◌≡◌, ◌≤◌, ◌∷◌, [], ℕ, List, IfOk, OnErr};
 ghost use Rattle.sshc_hosts.specs.HostText.{host_text};
+ghost use Rattle.sshc_client.specs.Handling.{ended_by};
 ghost use Rattle.sshc_run.specs.declared.known_hosts_handler.HandlerError.TheVariants as errors;
 
+use sshc_client::{DisconnectReason, Error, Handler};
 use sshc_hosts::judge_text;
 use sshc_key::PublicKeyOrCertificate;
-use sshc_opening::{Error, Gate};
-use sshc_transport::NamesChosen;
-use sshc_wire::{NoMemory, Outbox, Text};
+use sshc_wire::{NoMemory, Text};
 use std::alloc::Global;
 use std::marker::Model;
 
-/// Why the gate refuses.
+/// Why the handler refuses.
 #[derive(Clone, Copy, Debug, PartialEq, Eq)]
 pub enum HandlerError {
     /// An error of the session.
@@ -61,23 +61,21 @@ impl KnownHostsHandler {
     }
 }
 
-impl Gate for KnownHostsHandler {
+impl Handler for KnownHostsHandler {
     type Error = HandlerError;
 
     ghost use Rattle.std.specs.Prelude.{◌≡◌, ◌∷◌, []};
-    ghost use Rattle.sshc_run.specs.KnownHosts.{Judges, AddsNothing};
+    ghost use Rattle.sshc_run.specs.KnownHosts.{Judges};
 
     ghost setting = { λ h. h.host ∷ h.known ∷ [] };
 
     ghost judges = { λ h key answer. Judges (record { host = h.host; known = h.known }) key answer };
 
-    ghost tells = { λ _ _. AddsNothing };
-
-    ghost tells_banner = { λ _. AddsNothing };
-
     ghost told_as = { λ e. errors.Client e };
 
     ghost refusals = { λ h. h.refusals };
+
+    ghost keeps_defaults = { Unit {0} };
 
     #[tactic(auto, unfolding(crate::specs::KnownHosts::verdict))]
     fn check_server_key(&mut self, key: &PublicKeyOrCertificate) -> Result<bool, HandlerError> {
@@ -101,20 +99,16 @@ impl Gate for KnownHostsHandler {
         }
     }
 
-    fn kex_done(
-        &mut self,
-        _secret: Option<&[u8]>,
-        _names: &NamesChosen,
-        _out: &mut Outbox,
-    ) -> Result<(), HandlerError> {
-        Ok(())
+    fn disconnected(&mut self, reason: DisconnectReason<HandlerError>) -> Result<(), HandlerError>
+        ensures default { result ≡ ended_by reason }
+    {
+        match reason {
+            DisconnectReason::ReceivedDisconnect(_) => Ok(()),
+            DisconnectReason::Error(e) => Err(e),
+        }
     }
 
-    fn auth_banner(&mut self, _banner: &str, _out: &mut Outbox) -> Result<(), HandlerError> {
-        Ok(())
-    }
-
-    fn from_auth(e: Error) -> HandlerError
+    fn from_client(e: Error) -> HandlerError
         ensures { result ≡ errors.Client e }
     {
         HandlerError::Client(e)

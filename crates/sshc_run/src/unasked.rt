@@ -1,54 +1,46 @@
-//! What stands in place of a gate once nobody asks it.
+//! What stands in place of a handler once nobody asks it.
 
 ghost use Rattle.std.specs.Prelude.{◌≡◌};
+ghost use Rattle.sshc_client.specs.Handling.{ended_by};
 ghost use Rattle.sshc_run.specs.declared.known_hosts_handler.HandlerError.TheVariants as errors;
 
 use crate::known_hosts_handler::HandlerError;
+use sshc_client::{DisconnectReason, Error, Handler};
 use sshc_key::PublicKeyOrCertificate;
-use sshc_opening::{Error, Gate};
-use sshc_transport::NamesChosen;
-use sshc_wire::Outbox;
 
-/// Accepts no host key, and adds nothing.
+/// Accepts no host key, and keeps all defaults beside.
 #[derive(Debug, Drop)]
 pub struct Unasked;
 
-impl Gate for Unasked {
+impl Handler for Unasked {
     type Error = HandlerError;
 
     ghost use Rattle.std.specs.Prelude.{◌≡◌, [], Ok, false};
-    ghost use Rattle.sshc_run.specs.KnownHosts.{AddsNothing};
 
     ghost setting = { λ g. [] };
 
     ghost judges = { λ g key answer. answer ≡ Ok false };
 
-    ghost tells = { λ _ _. AddsNothing };
-
-    ghost tells_banner = { λ _. AddsNothing };
-
     ghost told_as = { λ e. errors.Client e };
 
     ghost refusals = { λ g. 0 };
+
+    ghost keeps_defaults = { Unit {0} };
 
     fn check_server_key(&mut self, _key: &PublicKeyOrCertificate) -> Result<bool, HandlerError> {
         Ok(false)
     }
 
-    fn kex_done(
-        &mut self,
-        _secret: Option<&[u8]>,
-        _names: &NamesChosen,
-        _out: &mut Outbox,
-    ) -> Result<(), HandlerError> {
-        Ok(())
+    fn disconnected(&mut self, reason: DisconnectReason<HandlerError>) -> Result<(), HandlerError>
+        ensures default { result ≡ ended_by reason }
+    {
+        match reason {
+            DisconnectReason::ReceivedDisconnect(_) => Ok(()),
+            DisconnectReason::Error(e) => Err(e),
+        }
     }
 
-    fn auth_banner(&mut self, _banner: &str, _out: &mut Outbox) -> Result<(), HandlerError> {
-        Ok(())
-    }
-
-    fn from_auth(e: Error) -> HandlerError
+    fn from_client(e: Error) -> HandlerError
         ensures { result ≡ errors.Client e }
     {
         HandlerError::Client(e)

@@ -265,7 +265,7 @@ fn run_other_words<F: Files, K: Sink>(
 
 /// Runs the program by its words, and answers its status: 0 where the run ended or known hosts answered, 1 for an unknown
 /// key, 2 for words that it doesn't know, 3 for a known hosts file that is no text or can't be read, 4 for one that can't
-/// be added to, 5 for a word KEY that can't be read, and 20 to 41 for the errors of a run in their order.
+/// be added to, 5 for a word KEY that can't be read, and 20 to 40 for the errors of a run in their order.
 pub fn run_words<F: Files, S: Source, K: Sink, G: LocalSigner, V: Verifier>(
     alloc: Global,
     words: &[Text],

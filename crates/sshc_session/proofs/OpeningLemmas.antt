@@ -1,5 +1,5 @@
 -- A step of the opening leaves an outbox as muted as it was.
-use Rattle.std.proofs.Common.{◌≡◌, ◌⊎◌, ℕ, Bool, true, false, List, Option, Some, None, Result, Ok, Err, refl, ap, sym, subst, ◌∙◌, inl, inr}
+use Rattle.std.proofs.Common.{◌≡◌, ◌⊎◌, ℕ, Bool, true, false, not, List, Option, Some, None, Result, Ok, Err, refl, ap, sym, subst, ◌∙◌, inl, inr}
 use Rattle.sshc_wire.specs.declared.record.Record.{Record}
 use Rattle.sshc_wire.specs.Outgoing.{Outgoing}
 use Rattle.sshc_key.specs.Asking.{Asking}
@@ -18,8 +18,8 @@ use Rattle.sshc_opening.specs.Promises.{Stepped}
 use Rattle.sshc_opening.specs.Row.{Did, Row, Span, Steps}
 use Rattle.sshc_opening.specs.OpeningState.{OpeningState}
 use Rattle.sshc_opening.specs.Stepping.{Answered, GateAnswers, GateRefused, Judged, Lent, LentGate, StepsBy, StepsTold, Tells, exchange_in, gained, lent, span_of, told_of, with_gate}
-use Rattle.sshc_moves.specs.SessionState.{SessionState}
-use Rattle.sshc_session.specs.OpeningStep.{StepsOpening, goes_on, lent_session, life_if, outgoing}
+use Rattle.sshc_moves.specs.SessionState.{SessionState, runs}
+use Rattle.sshc_session.specs.OpeningStep.{StepsLent, goes_on, lent_session, life_behind, outbox_of}
 
 same_muted : (new old : Outgoing) → new ≡ old → new.muted ≡ old.muted
 same_muted new old same = ap (λ (o : Outgoing). o.muted) same
@@ -86,22 +86,22 @@ keeps_muted gate event was is result stepped =
 abbrev outbox : List Record → ℕ → Bool → Outgoing
 outbox records room muted = record { records = records; room = room; muted = muted }
 
-same_outbox : (s : SessionState) (old : Outgoing) → old.records ≡ s.records → old.muted ≡ false → old ≡ outgoing s old.room
+same_outbox : (s : SessionState) (old : Outgoing) → old.records ≡ s.records → old.muted ≡ not (runs s.life) → old ≡ outbox_of s old.room
 same_outbox s old records_are muted_is =
     ap (λ (records : List Record). outbox records old.room old.muted) records_are
     ∙ ap (λ (muted : Bool). outbox s.records old.room muted) muted_is
 
-pub steps_opening : {E : Type 0} (gate : GateAnswers E) (event : Event) (s t : SessionState) (before after : OpeningState) (old new : Outgoing) (calls calls2 : List SignCall) (refusals refusals2 gate_refusals gate_refusals2 : ℕ) (setting setting2 : List (List ℕ)) (result : Step E) →
+pub steps_lent : {E : Type 0} (gate : GateAnswers E) (event : Event) (s t : SessionState) (before after : OpeningState) (old new : Outgoing) (calls calls2 : List SignCall) (refusals refusals2 gate_refusals gate_refusals2 : ℕ) (setting setting2 : List (List ℕ)) (result : Step E) →
     Stepped gate event (with_gate (lent before old calls refusals) gate_refusals setting) (with_gate (lent after new calls2 refusals2) gate_refusals2 setting2) result →
-    s.opening ≡ before → old.records ≡ s.records → old.muted ≡ false →
-    t ≡ record s { opening = after; records = new.records; life = life_if (goes_on result) } →
-    StepsOpening gate event (lent_session s calls refusals gate_refusals setting) (lent_session t calls2 refusals2 gate_refusals2 setting2) result
-steps_opening gate event s t before after old new calls calls2 refusals refusals2 gate_refusals gate_refusals2 setting setting2 result stepped opening_is records_are muted_is rest_is = record {
+    s.opening ≡ before → old.records ≡ s.records → old.muted ≡ not (runs s.life) →
+    t ≡ record s { opening = after; records = new.records; life = life_behind (goes_on result) s.life } →
+    StepsLent gate event (lent_session s calls refusals gate_refusals setting) (lent_session t calls2 refusals2 gate_refusals2 setting2) result
+steps_lent gate event s t before after old new calls calls2 refusals refusals2 gate_refusals gate_refusals2 setting setting2 result stepped opening_is records_are muted_is rest_is = record {
   opening = after;
   said = new;
   room = old.room;
   stepped =
-      subst (λ (o : OpeningState). Stepped gate event (with_gate (lent o (outgoing s old.room) calls refusals) gate_refusals setting) (with_gate (lent after new calls2 refusals2) gate_refusals2 setting2) result)
+      subst (λ (o : OpeningState). Stepped gate event (with_gate (lent o (outbox_of s old.room) calls refusals) gate_refusals setting) (with_gate (lent after new calls2 refusals2) gate_refusals2 setting2) result)
       (sym opening_is)
       (subst (λ (out : Outgoing). Stepped gate event (with_gate (lent before out calls refusals) gate_refusals setting) (with_gate (lent after new calls2 refusals2) gate_refusals2 setting2) result)
       (same_outbox s old records_are muted_is) stepped);

@@ -1,6 +1,6 @@
 -- A step of the opening before the session is open: over the session's own records, and nothing else of the session
 -- changes but its life.
-use Rattle.std.specs.Prelude.{◌≡◌, ℕ, Bool, true, false, List}
+use Rattle.std.specs.Prelude.{◌≡◌, ℕ, Bool, true, false, not, List}
 use Rattle.sshc_wire.specs.Outgoing.{Outgoing}
 use Rattle.sshc_event.specs.declared.event.Event.{Event}
 use Rattle.sshc_key.specs.Signers.{SignCall}
@@ -11,7 +11,7 @@ use Rattle.sshc_opening.specs.Promises.{Stepped}
 use Rattle.sshc_opening.specs.Stepping.{GateAnswers, lent, with_gate}
 use Rattle.sshc_moves.specs.declared.life.Life.{Life}
 use Rattle.sshc_moves.specs.declared.life.Life.TheVariants.{Over, Runs}
-use Rattle.sshc_moves.specs.SessionState.{SessionState}
+use Rattle.sshc_moves.specs.SessionState.{SessionState, runs}
 
 -- what a step is lent besides its session, as it is at one moment: the signer's calls and refusals, and the gate's
 -- refusals with what it judges by
@@ -35,6 +35,25 @@ goes_on step = false
 abbrev pub life_if : Bool → Life
 life_if true = Runs
 life_if false = Over
+
+-- where it goes on its life is as it was, else it is over
+abbrev pub life_behind : Bool → Life → Life
+life_behind true life = life
+life_behind false life = Over
+
+-- the records of a session, which drops packets once the user has left it
+abbrev pub outbox_of : SessionState → ℕ → Outgoing
+outbox_of s room = record { records = s.records; room = room; muted = not (runs s.life) }
+
+-- the opening's step over the session's records, and nothing else of the session changes but its life
+pub record StepsLent {E : Type 0} (gate : GateAnswers E) (event : Event) (was is : Lent) (result : Step E) : Type 0 where
+  pub opening : OpeningState
+  pub said : Outgoing
+  pub room : ℕ
+  pub stepped :
+      Stepped gate event (with_gate (lent was.session.opening (outbox_of was.session room) was.calls was.signer_refusals) was.gate_refusals was.setting)
+      (with_gate (lent opening said is.calls is.signer_refusals) is.gate_refusals is.setting) result
+  pub rest : is.session ≡ record (was.session) { opening = opening; records = said.records; life = life_behind (goes_on result) was.session.life }
 
 -- the records of a session that drops none
 abbrev pub outgoing : SessionState → ℕ → Outgoing

@@ -96,6 +96,11 @@ impl Connection {
         std::mem::replace(&mut self.outbox, fresh)
     }
 
+    /// Where it takes memory from.
+    pub fn alloc(&self) -> Global {
+        self.alloc
+    }
+
     /// What it was made with.
     pub fn settings(&self) -> SessionSettings
         ensures { result ≡ self.now.settings }

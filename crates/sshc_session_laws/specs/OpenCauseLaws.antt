@@ -56,7 +56,7 @@ use Rattle.sshc_moves.specs.declared.open_answer.OpenAnswer.TheVariants as answe
 use Rattle.sshc_moves.specs.ListLaws.{onto-append}
 use Rattle.sshc_moves.specs.Moves.{Counts, Hears, Move, onto}
 use Rattle.sshc_moves.specs.SessionState.{SessionState, exchanging, is_open, is_running, own_window}
-use Rattle.sshc_moves.specs.SessionRow.{Next, Opinions, SessionRow, behind_moves, ends, established_row, goes, plain_row, refuses, reports, with_kept, with_read}
+use Rattle.sshc_moves.specs.SessionRow.{Next, Opinions, SessionRow, asking, behind_moves, ends, established_row, goes, plain_row, refuses, reports, with_kept, with_read}
 use Rattle.sshc_moves.specs.SessionTable.{disconnect_row, heard, held_row, numbered_row, packet_row, payload_row, reason_row, session_row}
 use Rattle.sshc_moves.specs.SessionTable.Exchanges.{exchange_done_row, peer_kexinit_row}
 use Rattle.sshc_moves.specs.SessionTable.Opens.{channel_open_row, confirmed_row, failed_row, numbered_open_row, open_confirmation_row, open_failure_row, served_row, serving_row, settled}
@@ -128,6 +128,7 @@ same_number : (n m : ℕ) → (n == m) ≡ true → n ≡ m
 same_number n m is = grind (arith, nat_tests)
 
 reports_holds : (P : Why) (front : List Move) (id : ℕ) (said : ChannelRecord) (back : List Move) → AllKeep front → AllKeep back → RowHolds P (reports front id said back)
+unfolding asking
 reports_holds P front id said back all others = record { caused = tt; front = all; back = λ answer. (tt, others) }
 
 -- a part that can't be read breaks the packet; else what follows it may
@@ -162,6 +163,7 @@ module _ (accepts : Accepts) (o : Opinions) (s : SessionState) (n : ℕ) (body :
 
   -- 80
   global_holds_so : (g : PeerGlobal) → RowHolds P (global_row g)
+  unfolding asking
   global_holds_so (globals.Keepalive want_reply) = plain_holds P _ (wanted_keep want_reply _ tt)
   global_holds_so (globals.HostKeys keys) = record { caused = tt; front = (tt, tt); back = λ answer. (tt, tt) }
   global_holds_so (globals.Unknown want_reply) = plain_holds P _ (wanted_keep want_reply _ tt)
@@ -350,6 +352,7 @@ kexinit_holds s flags.Ours is = plain_holds (open_why s events.PeerKexinit) _ (t
 kexinit_holds s flags.Peer is = record { caused = is; front = tt; back = λ answer. tt }
 
 exchange_holds : (s : SessionState) (x : ExchangeResult) (flag : ExchangeFlag) → s.opening.flag ≡ flag → RowHolds (open_why s (events.ExchangeDone x)) (exchange_done_row flag x)
+unfolding asking
 exchange_holds s x flags.Idle is = record { caused = λ peer. let clash : flags.Idle ≡ flags.Peer = sym is ∙ peer in absurd cc; front = tt; back = λ answer. tt }
 exchange_holds s x flags.Ours is = record { caused = λ peer. let clash : flags.Ours ≡ flags.Peer = sym is ∙ peer in absurd cc; front = tt; back = λ answer. tt }
 exchange_holds s x flags.Peer is = record { caused = tt; front = tt; back = λ answer. (tt, (tt, tt)) }

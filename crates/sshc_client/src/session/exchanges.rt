@@ -1,62 +1,100 @@
-//! Rows of key exchanges in an open session (RFC 4253, section 7).
+//! An exchange that is done in an open session (RFC 4253, section 7).
 
-ghost use Rattle.std.specs.Prelude.{◌≡◌, [], ◌∷◌};
-ghost use Rattle.sshc_moves.specs.Moves.{Begins};
-ghost use Rattle.sshc_moves.specs.SessionRow.{plain_row};
-ghost use Rattle.sshc_moves.specs.SessionTable.Exchanges.{exchange_done_row, peer_kexinit_row};
-ghost use Rattle.sshc_client.specs.Follows.{Follows};
+ghost use Rattle.std.specs.Prelude.{◌≡◌, [], ◌∷◌, Ok, option_copied};
+ghost use Rattle.sshc_wire.specs.declared.record.Record.TheVariants.{KexDone as KexDoneRecord};
+ghost use Rattle.sshc_moves.specs.Moves.{Does, Resumes, Tells};
+ghost use Rattle.sshc_moves.specs.SessionTable.Exchanges.{exchange_done_row};
+ghost use Rattle.sshc_client.specs.Handling.{handler_at};
+ghost use Rattle.sshc_client.specs.HandledRow.{Calls, FollowsOne};
 
 use super::Session;
-use crate::flow::Flow;
+use crate::handler::Handler;
+use crate::stop::{Stop, lent, went};
 use sshc_opening::{Error, ExchangeFlag, ExchangeResult};
-use sshc_wire::Record;
+use sshc_rows::Flow;
+use sshc_wire::{NoMemory, Record, Text};
+
+/// The shared secret of an exchange, if the transport told it.
+pub(super) fn secret_of(exchange: &ExchangeResult) -> Option<&[u8]>
+    ensures { option_copied result ≡ exchange.now.secret }
+{
+    match &exchange.secret {
+        Some(secret) => Some(secret.as_slice()),
+        None => None,
+    }
+}
 
 impl Session {
-    /// The transport asks for an exchange.
-    pub(super) fn rekey_limit(&mut self) -> Result<Flow, Error>
-        ensures row { Follows (plain_row (Begins ∷ [])) self.old self.new result }
-    {
-        self.connection.begin_exchange()?;
-        Ok(Flow::Went)
-    }
-
-    /// The peer's KEXINIT; a second is out of turn.
-    pub(super) fn peer_kexinit(&mut self) -> Result<Flow, Error>
-        ensures row { Follows (peer_kexinit_row self.old.opening.flag) self.old self.new result }
-    {
-        let flag = self.connection.opening().flag();
-        match flag {
-            ExchangeFlag::Idle => self.peer_begins(),
-            ExchangeFlag::Ours => self.peer_begins(),
-            ExchangeFlag::Peer => Err(Error::OutOfTurn),
-        }
-    }
-
-    fn peer_begins(&mut self) -> Result<Flow, Error>
-        ensures row { Follows (peer_kexinit_row ExchangeFlag.Idle) self.old self.new result }
-    {
-        self.connection.peer_begins()?;
-        Ok(Flow::Went)
-    }
-
     /// An exchange is done. Nobody judges its key.
-    pub(super) fn exchange_done(&mut self, exchange: &ExchangeResult) -> Result<Flow, Error>
-        ensures row { Follows (exchange_done_row self.old.opening.flag exchange.now) self.old self.new result }
+    #[tactic(auto, using(crate::proofs::HandlerLemmas::ran_out_with, crate::proofs::HandlerLemmas::refused_with))]
+    pub(super) fn exchange_done<H: Handler>(
+        &mut self,
+        exchange: &ExchangeResult,
+        handler: &mut H,
+    ) -> Result<Flow, Stop<H::Error>>
+        ensures { FollowsOne H.keeps_defaults
+            (handler_at (H.refusals handler.old) (H.setting handler.old)) (handler_at (H.refusals handler.new) (H.setting handler.new))
+            (exchange_done_row self.old.opening.flag exchange.now) self.old self.new result }
     {
         let flag = self.connection.opening().flag();
         match flag {
-            ExchangeFlag::Idle => Err(Error::OutOfTurn),
-            ExchangeFlag::Ours => Err(Error::OutOfTurn),
-            ExchangeFlag::Peer => self.go_on_behind(exchange),
+            ExchangeFlag::Idle => Err(Stop::Own(Error::OutOfTurn)),
+            ExchangeFlag::Ours => Err(Stop::Own(Error::OutOfTurn)),
+            ExchangeFlag::Peer => self.go_on_behind(exchange, handler),
         }
     }
 
-    fn go_on_behind(&mut self, exchange: &ExchangeResult) -> Result<Flow, Error>
-        ensures row { Follows (exchange_done_row ExchangeFlag.Peer exchange.now) self.old self.new result }
+    #[tactic(auto, using(crate::proofs::HandlerLemmas::ran_out_with))]
+    fn go_on_behind<H: Handler>(
+        &mut self,
+        exchange: &ExchangeResult,
+        handler: &mut H,
+    ) -> Result<Flow, Stop<H::Error>>
+        ensures { FollowsOne H.keeps_defaults
+            (handler_at (H.refusals handler.old) (H.setting handler.old)) (handler_at (H.refusals handler.new) (H.setting handler.new))
+            (exchange_done_row ExchangeFlag.Peer exchange.now) self.old self.new result }
     {
         let kex = exchange.names.kex.copy()?;
+        self.go_on_with(kex, exchange, handler)
+    }
+
+    /// The same with a copy of the exchange's name, which is said.
+    #[tactic(auto, using(crate::proofs::HandlerLemmas::refused_call, crate::proofs::HandlerLemmas::let_go_call))]
+    fn go_on_with<H: Handler>(
+        &mut self,
+        kex: Text,
+        exchange: &ExchangeResult,
+        handler: &mut H,
+    ) -> Result<Flow, Stop<H::Error>>
+        requires { kex ≡ exchange.now.names.kex }
+        ensures { FollowsOne H.keeps_defaults
+            (handler_at (H.refusals handler.old) (H.setting handler.old)) (handler_at (H.refusals handler.new) (H.setting handler.new))
+            (exchange_done_row ExchangeFlag.Peer exchange.now) self.old self.new result }
+    {
+        match self.call_kex_done(exchange, handler) {
+            Ok(()) => went(self.resume(kex)),
+            Err(stop) => Err(stop),
+        }
+    }
+
+    #[tactic(auto, using(crate::proofs::HandlerLemmas::called))]
+    fn call_kex_done<H: Handler>(
+        &mut self,
+        exchange: &ExchangeResult,
+        handler: &mut H,
+    ) -> Result<(), Stop<H::Error>>
+        ensures { Calls H.keeps_defaults (Ok tt)
+            (handler_at (H.refusals handler.old) (H.setting handler.old)) (handler_at (H.refusals handler.new) (H.setting handler.new))
+            self.old self.new result }
+    {
+        lent(handler.kex_done(secret_of(exchange), &exchange.names, self))
+    }
+
+    /// Says which exchange is done, and what waits on the channels goes out.
+    fn resume(&mut self, kex: Text) -> Result<(), NoMemory>
+        ensures { Does (Tells (KexDoneRecord kex) ∷ Resumes ∷ []) self.old self.new result }
+    {
         self.connection.tell(Record::KexDone { kex })?;
-        self.connection.resume()?;
-        Ok(Flow::Went)
+        self.connection.resume()
     }
 }

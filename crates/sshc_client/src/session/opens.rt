@@ -1,65 +1,95 @@
 //! Rows of opens and their answers (RFC 4254, section 5.1).
 
-ghost use Rattle.std.specs.Prelude.{◌≡◌, Some, true, false};
+ghost use Rattle.std.specs.Prelude.{◌≡◌, [], ◌∷◌, Ok, Some, true, false};
 ghost use Rattle.sshc_mux.specs.ChannelTable.Opens.{awaited, next_number};
 ghost use Rattle.sshc_packets.specs.ChannelPackets.{lent_refusal};
+ghost use Rattle.sshc_moves.specs.Moves.{Does, Tells};
 ghost use Rattle.sshc_moves.specs.SessionState.{is_live};
-ghost use Rattle.sshc_moves.specs.SessionTable.Opens.{channel_open_row, confirmed_row, failed_row, numbered_open_row, open_confirmation_row, open_failure_row, served_row, serving_row};
-ghost use Rattle.sshc_client.specs.Follows.{Follows, default_opinions};
+ghost use Rattle.sshc_moves.specs.SessionTable.Opens.{channel_open_row, confirmed_row, failed_row, numbered_open_row, open_confirmation_row, open_failure_row, settled};
+ghost use Rattle.sshc_wire.specs.declared.record.Record.TheVariants.{ServerOpened as ServerOpenedRecord};
+ghost use Rattle.sshc_client.specs.Handling.{handler_at};
+ghost use Rattle.sshc_client.specs.HandledRow.{Accepts, Calls, FollowsOne, FollowsWith, default_answer, is_unknown, served};
 
 use super::Session;
-use crate::flow::{Flow, refusal_of};
+use crate::handler::Handler;
+use crate::stop::{Stop, lent, went};
+use sshc_moves::OpenAnswer;
 use sshc_opening::Error;
 use sshc_packets::{
     Confirmation, OpenRefusal, Sender, read_channel_open, read_confirmation, read_open_failure,
     read_server_open,
 };
-use sshc_wire::{ChannelId, ChannelOpenFailure, ChannelRecord, Record, ServerOpen, Text};
+use sshc_rows::{Flow, refusal_of};
+use sshc_wire::{ChannelId, ChannelOpenFailure, ChannelRecord, NoMemory, Record, ServerOpen, Text};
 
 impl Session {
     /// CHANNEL_OPEN_CONFIRMATION.
-    #[tactic(auto, unfolding(sshc_moves::specs::SessionTable::Opens::open_confirmation_row))]
-    pub(super) fn open_confirmation(&mut self, body: &[u8]) -> Result<Flow, Error>
+    #[tactic(auto, using(crate::proofs::HandlerLemmas::ran_out_with, crate::proofs::HandlerLemmas::passed_with, crate::proofs::HandlerLemmas::refused_with), unfolding(sshc_moves::specs::SessionTable::Opens::open_confirmation_row))]
+    pub(super) fn open_confirmation<H: Handler>(
+        &mut self,
+        body: &[u8],
+        handler: &mut H,
+    ) -> Result<Flow, Stop<H::Error>>
         requires { is_live self.old ≡ true }
-        ensures row { Follows (open_confirmation_row self.old body.now) self.old self.new result }
+        ensures row { FollowsOne H.keeps_defaults
+            (handler_at (H.refusals handler.old) (H.setting handler.old)) (handler_at (H.refusals handler.new) (H.setting handler.new))
+            (open_confirmation_row self.old body.now) self.old self.new result }
     {
         let c = read_confirmation(body)?;
-        self.confirmed(c)
+        self.confirmed(c, handler)
     }
 
     /// An open of ours that waits is confirmed, and then what waits on the channel goes out.
-    fn confirmed(&mut self, c: Confirmation) -> Result<Flow, Error>
+    #[tactic(auto, using(crate::proofs::HandlerLemmas::ran_out_with, crate::proofs::HandlerLemmas::passed_with, crate::proofs::HandlerLemmas::refused_with, crate::proofs::HandlerLemmas::confirmed_one, crate::proofs::HandlerLemmas::none_confirmed))]
+    fn confirmed<H: Handler>(
+        &mut self,
+        c: Confirmation,
+        handler: &mut H,
+    ) -> Result<Flow, Stop<H::Error>>
         requires { is_live self.old ≡ true }
-        ensures row { Follows (confirmed_row (awaited c.recipient self.old.table) c) self.old self.new result }
+        ensures row { FollowsOne H.keeps_defaults
+            (handler_at (H.refusals handler.old) (H.setting handler.old)) (handler_at (H.refusals handler.new) (H.setting handler.new))
+            (confirmed_row (awaited c.recipient self.old.table) c) self.old self.new result }
     {
         if !self.connection.confirm(c)? {
-            return Err(Error::Inconsistent);
+            return Err(Stop::Own(Error::Inconsistent));
         }
-        let id = ChannelId(c.recipient);
-        self.report(
-            id,
+        self.report_and_grant(
+            ChannelId(c.recipient),
             ChannelRecord::Open {
                 max_packet_size: c.sender.max_packet_size,
                 window_size: c.sender.window_size,
             },
-        )?;
-        let _left = self.connection.grant(id, 0)?;
-        Ok(Flow::Went)
+            handler,
+        )
     }
 
     /// CHANNEL_OPEN_FAILURE.
-    #[tactic(auto, unfolding(sshc_moves::specs::SessionTable::Opens::open_failure_row))]
-    pub(super) fn open_failure(&mut self, body: &[u8]) -> Result<Flow, Error>
+    #[tactic(auto, using(crate::proofs::HandlerLemmas::ran_out_with, crate::proofs::HandlerLemmas::passed_with, crate::proofs::HandlerLemmas::refused_with), unfolding(sshc_moves::specs::SessionTable::Opens::open_failure_row))]
+    pub(super) fn open_failure<H: Handler>(
+        &mut self,
+        body: &[u8],
+        handler: &mut H,
+    ) -> Result<Flow, Stop<H::Error>>
         requires { is_live self.old ≡ true }
-        ensures row { Follows (open_failure_row self.old body.now) self.old self.new result }
+        ensures row { FollowsOne H.keeps_defaults
+            (handler_at (H.refusals handler.old) (H.setting handler.old)) (handler_at (H.refusals handler.new) (H.setting handler.new))
+            (open_failure_row self.old body.now) self.old self.new result }
     {
         let refusal = read_open_failure(body)?;
-        self.failed_open(&refusal)
+        self.failed_open(&refusal, handler)
     }
 
-    fn failed_open(&mut self, refusal: &OpenRefusal<'_>) -> Result<Flow, Error>
+    #[tactic(auto, using(crate::proofs::HandlerLemmas::ran_out_with, crate::proofs::HandlerLemmas::passed_with, crate::proofs::HandlerLemmas::refused_with, crate::proofs::HandlerLemmas::failed_one, crate::proofs::HandlerLemmas::none_failed))]
+    fn failed_open<H: Handler>(
+        &mut self,
+        refusal: &OpenRefusal<'_>,
+        handler: &mut H,
+    ) -> Result<Flow, Stop<H::Error>>
         requires { is_live self.old ≡ true }
-        ensures row { Follows (failed_row (awaited refusal.now.id.0 self.old.table) (lent_refusal refusal.now)) self.old self.new result }
+        ensures row { FollowsOne H.keeps_defaults
+            (handler_at (H.refusals handler.old) (H.setting handler.old)) (handler_at (H.refusals handler.new) (H.setting handler.new))
+            (failed_row (awaited refusal.now.id.0 self.old.table) (lent_refusal refusal.now)) self.old self.new result }
     {
         let description = Text::from_str(self.alloc, refusal.description)?;
         let language = Text::from_str(self.alloc, refusal.language)?;
@@ -73,37 +103,169 @@ impl Session {
                 description,
                 language,
             },
-        )?;
-        Ok(Flow::Went)
+            handler,
+        )
     }
 
     /// CHANNEL_OPEN. Where no number is free there is no memory for it.
-    #[tactic(auto, unfolding(sshc_moves::specs::SessionTable::Opens::channel_open_row))]
-    pub(super) fn channel_open(&mut self, body: &[u8]) -> Result<Flow, Error>
+    #[tactic(auto, using(crate::proofs::HandlerLemmas::ran_out_with, crate::proofs::HandlerLemmas::passed_with, crate::proofs::HandlerLemmas::refused_with), unfolding(sshc_moves::specs::SessionTable::Opens::channel_open_row))]
+    pub(super) fn channel_open<H: Handler>(
+        &mut self,
+        body: &[u8],
+        handler: &mut H,
+    ) -> Result<Flow, Stop<H::Error>>
         requires { is_live self.old ≡ true }
-        ensures row { Follows (channel_open_row (default_opinions self.old) self.old body.now) self.old self.new result }
+        ensures row { FollowsWith H.keeps_defaults
+            (handler_at (H.refusals handler.old) (H.setting handler.old)) (handler_at (H.refusals handler.new) (H.setting handler.new))
+            (λ o. channel_open_row o self.old body.now) self.old self.new result }
     {
         let head = read_channel_open(body)?;
         match read_server_open(self.alloc, head.kind, head.rest) {
-            Ok(opened) => self.numbered_open(head.sender, opened),
-            Err(e) => Err(refusal_of(e)),
+            Ok(ServerOpen::Unknown) => self.unknown_open(head.sender, head.kind, handler),
+            Ok(opened) => self.known_open(head.sender, opened, handler),
+            Err(e) => Err(Stop::Own(refusal_of(e))),
         }
     }
 
-    fn numbered_open(&mut self, sender: Sender, opened: ServerOpen) -> Result<Flow, Error>
-        requires { is_live self.old ≡ true }
-        ensures row { Follows (numbered_open_row (default_opinions self.old) (next_number self.old.table) sender opened) self.old self.new result }
+    /// An open of a type that is known.
+    #[tactic(auto, using(crate::proofs::HandlerLemmas::ran_out_with, crate::proofs::HandlerLemmas::known_open, crate::proofs::HandlerLemmas::known_accepts))]
+    fn known_open<H: Handler>(
+        &mut self,
+        sender: Sender,
+        opened: ServerOpen,
+        handler: &mut H,
+    ) -> Result<Flow, Stop<H::Error>>
+        requires live { is_live self.old ≡ true }
+        requires known { is_unknown opened ≡ false }
+        ensures row { FollowsWith H.keeps_defaults
+            (handler_at (H.refusals handler.old) (H.setting handler.old)) (handler_at (H.refusals handler.new) (H.setting handler.new))
+            (λ o. numbered_open_row o (next_number self.old.table) sender opened) self.old self.new result }
     {
-        let is_unknown = matches!(&opened, ServerOpen::Unknown);
         let id = self.connection.reserve(sender)?;
-        if is_unknown {
-            self.connection
-                .reject(id, ChannelOpenFailure::UnknownChannelType)?;
-            return Ok(Flow::Went);
+        self.serve(id, opened, handler)
+    }
+
+    /// An open of a type that isn't known is refused, unless the handler takes such.
+    #[tactic(auto, using(crate::proofs::HandlerLemmas::ran_out_with, crate::proofs::HandlerLemmas::passed_with, crate::proofs::HandlerLemmas::refused_with, crate::proofs::HandlerLemmas::taken_open, crate::proofs::HandlerLemmas::not_taken_open, crate::proofs::HandlerLemmas::not_taken_ran_out, crate::proofs::HandlerLemmas::taken_accepts))]
+    fn unknown_open<H: Handler>(
+        &mut self,
+        sender: Sender,
+        kind: &str,
+        handler: &mut H,
+    ) -> Result<Flow, Stop<H::Error>>
+        requires { is_live self.old ≡ true }
+        ensures row { FollowsWith H.keeps_defaults
+            (handler_at (H.refusals handler.old) (H.setting handler.old)) (handler_at (H.refusals handler.new) (H.setting handler.new))
+            (λ o. numbered_open_row o (next_number self.old.table) sender ServerOpen.Unknown) self.old self.new result }
+    {
+        let id = self.connection.reserve(sender)?;
+        if handler.should_accept_unknown_server_channel(id, kind) {
+            return self.serve(id, ServerOpen::Unknown, handler);
         }
-        self.connection.tell(Record::ServerOpened { id, opened })?;
-        self.connection.accept(id)?;
-        let _left = self.connection.grant(id, 0)?;
+        self.connection
+            .reject(id, ChannelOpenFailure::UnknownChannelType)?;
         Ok(Flow::Went)
+    }
+
+    /// The handler is asked about an open of the peer's, and what it answers is done.
+    #[tactic(auto, using(crate::proofs::HandlerLemmas::refused_open, crate::proofs::HandlerLemmas::let_go_open))]
+    fn serve<H: Handler>(
+        &mut self,
+        id: ChannelId,
+        opened: ServerOpen,
+        handler: &mut H,
+    ) -> Result<Flow, Stop<H::Error>>
+        requires { Accepts H.keeps_defaults (default_answer opened) }
+        ensures row { FollowsOne H.keeps_defaults
+            (handler_at (H.refusals handler.old) (H.setting handler.old)) (handler_at (H.refusals handler.new) (H.setting handler.new))
+            (served id.0 opened) self.old self.new result }
+    {
+        match self.call_for_open(id, &opened, handler) {
+            Ok(answer) => went(self.settle(id, opened, answer)),
+            Err(stop) => Err(stop),
+        }
+    }
+
+    /// Says that the peer opens a channel, and does what the handler answered.
+    fn settle(
+        &mut self,
+        id: ChannelId,
+        opened: ServerOpen,
+        answer: OpenAnswer,
+    ) -> Result<(), NoMemory>
+        ensures { Does (Tells (ServerOpenedRecord id opened) ∷ settled id.0 answer) self.old self.new result }
+    {
+        self.connection.tell(Record::ServerOpened { id, opened })?;
+        match answer {
+            OpenAnswer::Accept => {
+                self.connection.accept(id)?;
+                let _left = self.connection.grant(id, 0)?;
+                Ok(())
+            }
+            OpenAnswer::Reject(reason) => self.connection.reject(id, reason),
+            OpenAnswer::Later => Ok(()),
+        }
+    }
+
+    /// Asks the handler about an open of the peer's.
+    #[tactic(auto, using(crate::proofs::HandlerLemmas::called))]
+    fn call_for_open<H: Handler>(
+        &mut self,
+        id: ChannelId,
+        opened: &ServerOpen,
+        handler: &mut H,
+    ) -> Result<OpenAnswer, Stop<H::Error>>
+        ensures { Calls H.keeps_defaults (Ok (default_answer opened.now))
+            (handler_at (H.refusals handler.old) (H.setting handler.old)) (handler_at (H.refusals handler.new) (H.setting handler.new))
+            self.old self.new result }
+    {
+        match opened {
+            ServerOpen::Session => lent(handler.server_channel_open_session(id, self)),
+            ServerOpen::DirectTcpIp {
+                host_to_connect,
+                port_to_connect,
+                originator_address,
+                originator_port,
+            } => lent(handler.server_channel_open_direct_tcpip(
+                id,
+                host_to_connect.as_str(),
+                *port_to_connect,
+                originator_address.as_str(),
+                *originator_port,
+                self,
+            )),
+            ServerOpen::DirectStreamLocal { socket_path } => lent(
+                handler.server_channel_open_direct_streamlocal(id, socket_path.as_str(), self),
+            ),
+            ServerOpen::X11 {
+                originator_address,
+                originator_port,
+            } => lent(handler.server_channel_open_x11(
+                id,
+                originator_address.as_str(),
+                *originator_port,
+                self,
+            )),
+            ServerOpen::ForwardedTcpIp {
+                connected_address,
+                connected_port,
+                originator_address,
+                originator_port,
+            } => lent(handler.server_channel_open_forwarded_tcpip(
+                id,
+                connected_address.as_str(),
+                *connected_port,
+                originator_address.as_str(),
+                *originator_port,
+                self,
+            )),
+            ServerOpen::ForwardedStreamLocal { socket_path } => lent(
+                handler.server_channel_open_forwarded_streamlocal(id, socket_path.as_str(), self),
+            ),
+            ServerOpen::AgentForward => {
+                lent(handler.server_channel_open_agent_forward(id, self))
+            }
+            ServerOpen::Unknown => lent(handler.server_channel_open_unknown(id, self)),
+        }
     }
 }

@@ -1,18 +1,21 @@
 //! Packets in an open session, by their numbers.
 
-ghost use Rattle.std.specs.Prelude.{◌≡◌, [], ◌∷◌, Some, true};
+ghost use Rattle.std.specs.Prelude.{◌≡◌, [], ◌∷◌, true};
 ghost use Rattle.sshc_opening.specs.OpeningTable.Packets.{is_ignored};
 ghost use Rattle.sshc_moves.specs.Moves.{Counts, Hears};
 ghost use Rattle.sshc_moves.specs.SessionRow.{behind_moves};
 ghost use Rattle.sshc_moves.specs.SessionState.{is_live};
-ghost use Rattle.sshc_moves.specs.SessionTable.{disconnect_row, numbered_row, packet_row, payload_row, reason_row};
-ghost use Rattle.sshc_client.specs.Follows.{Follows, default_opinions};
+ghost use Rattle.sshc_moves.specs.SessionTable.{numbered_row, packet_row, payload_row};
+ghost use Rattle.sshc_client.specs.Handling.{handler_at};
+ghost use Rattle.sshc_client.specs.HandledRow.{FollowsWith};
 
 use super::Session;
-use crate::flow::Flow;
+use crate::handler::Handler;
+use crate::stop::{Stop, own};
 use sshc_key::Verifier;
-use sshc_opening::{Ended, Error, ExchangeFlag, RemoteDisconnectInfo};
-use sshc_wire::{ChannelRecord, Cursor, Disconnect, Octets, Text, msg};
+use sshc_opening::{Error, ExchangeFlag};
+use sshc_rows::{Flow, disconnect, request_failure, request_success};
+use sshc_wire::{ChannelRecord, Octets, msg};
 
 /// 2, IGNORE; 3, UNIMPLEMENTED; 4, DEBUG (RFC 4253, section 11).
 fn is_ignored(number: u8) -> bool
@@ -23,149 +26,152 @@ fn is_ignored(number: u8) -> bool
 
 impl Session {
     /// An empty packet is passed over, and isn't heard.
-    #[tactic(auto, unfolding(sshc_moves::specs::SessionTable::payload_row))]
-    pub(super) fn payload<V: Verifier>(
+    #[tactic(auto, using(crate::proofs::HandlerLemmas::passed_with, crate::proofs::HandlerLemmas::own_with), unfolding(sshc_moves::specs::SessionTable::payload_row))]
+    pub(super) fn payload<V: Verifier, H: Handler>(
         &mut self,
         packet: &Octets,
         verifier: &V,
-    ) -> Result<Flow, Error>
+        handler: &mut H,
+    ) -> Result<Flow, Stop<H::Error>>
         requires { is_live self.old ≡ true }
-        ensures row { Follows (payload_row (V.accepts verifier.now) (default_opinions self.old) self.old packet.now) self.old self.new result }
+        ensures row { FollowsWith H.keeps_defaults
+            (handler_at (H.refusals handler.old) (H.setting handler.old)) (handler_at (H.refusals handler.new) (H.setting handler.new))
+            (λ o. payload_row (V.accepts verifier.now) o self.old packet.now) self.old self.new result }
     {
         match packet.as_slice() {
             [] => Ok(Flow::Went),
-            [msg::DISCONNECT, body @ ..] => self.disconnected(body),
-            [msg::GLOBAL_REQUEST, body @ ..] => {
-                self.packet(
-                    packet.as_slice().len() as u64,
-                    msg::GLOBAL_REQUEST,
-                    body,
-                    verifier,
-                )
-            }
-            [number, body @ ..] => {
-                self.heard(packet.as_slice().len() as u64, *number, body, verifier)
-            }
+            [number, body @ ..] => self.first(packet, *number, body, verifier, handler),
         }
+    }
+
+    /// A packet by its first byte. A disconnection and a global request aren't heard.
+    #[tactic(auto, using(crate::proofs::RowLemmas::disconnect_first, crate::proofs::RowLemmas::global_first, crate::proofs::RowLemmas::other_first))]
+    fn first<V: Verifier, H: Handler>(
+        &mut self,
+        packet: &Octets,
+        number: u8,
+        body: &[u8],
+        verifier: &V,
+        handler: &mut H,
+    ) -> Result<Flow, Stop<H::Error>>
+        requires live { is_live self.old ≡ true }
+        requires whole { packet.now ≡ number ∷ body.now }
+        ensures row { FollowsWith H.keeps_defaults
+            (handler_at (H.refusals handler.old) (H.setting handler.old)) (handler_at (H.refusals handler.new) (H.setting handler.new))
+            (λ o. payload_row (V.accepts verifier.now) o self.old packet.now) self.old self.new result }
+    {
+        let len = packet.as_slice().len() as u64;
+        if number == msg::DISCONNECT {
+            return own(disconnect(&mut self.connection, body));
+        }
+        if number == msg::GLOBAL_REQUEST {
+            return self.packet(len, msg::GLOBAL_REQUEST, body, verifier, handler);
+        }
+        self.heard(len, number, body, verifier, handler)
     }
 
     /// What comes from the peer is heard.
     #[tactic(auto, using(crate::proofs::RowLemmas::heard_first, crate::proofs::RowLemmas::heard_lives))]
-    fn heard<V: Verifier>(
+    fn heard<V: Verifier, H: Handler>(
         &mut self,
         len: u64,
         number: u8,
         body: &[u8],
         verifier: &V,
-    ) -> Result<Flow, Error>
+        handler: &mut H,
+    ) -> Result<Flow, Stop<H::Error>>
         requires { is_live self.old ≡ true }
-        ensures row { Follows (behind_moves (Hears ∷ []) (packet_row (V.accepts verifier.now) (default_opinions self.old) self.old len number body.now)) self.old self.new result }
+        ensures row { FollowsWith H.keeps_defaults
+            (handler_at (H.refusals handler.old) (H.setting handler.old)) (handler_at (H.refusals handler.new) (H.setting handler.new))
+            (λ o. behind_moves (Hears ∷ []) (packet_row (V.accepts verifier.now) o self.old len number body.now)) self.old self.new result }
     {
         self.connection.hear();
-        self.packet(len, number, body, verifier)
+        self.packet(len, number, body, verifier, handler)
     }
 
     /// A packet of so many bytes. Those from 50 on may not come while the peer's exchange runs (RFC 4253, section 7.1).
-    fn packet<V: Verifier>(
+    #[tactic(auto, using(crate::proofs::HandlerLemmas::passed_with, crate::proofs::HandlerLemmas::refused_with))]
+    fn packet<V: Verifier, H: Handler>(
         &mut self,
         len: u64,
         number: u8,
         body: &[u8],
         verifier: &V,
-    ) -> Result<Flow, Error>
+        handler: &mut H,
+    ) -> Result<Flow, Stop<H::Error>>
         requires { is_live self.old ≡ true }
-        ensures row { Follows (packet_row (V.accepts verifier.now) (default_opinions self.old) self.old len number body.now) self.old self.new result }
+        ensures row { FollowsWith H.keeps_defaults
+            (handler_at (H.refusals handler.old) (H.setting handler.old)) (handler_at (H.refusals handler.new) (H.setting handler.new))
+            (λ o. packet_row (V.accepts verifier.now) o self.old len number body.now) self.old self.new result }
     {
         if is_ignored(number) {
             return Ok(Flow::Went);
         }
         if number < 50 {
-            return self.numbered(number, body, verifier);
+            return self.numbered(number, body, verifier, handler);
         }
         let flag = self.connection.opening().flag();
         match flag {
-            ExchangeFlag::Idle => self.numbered(number, body, verifier),
-            ExchangeFlag::Peer => Err(Error::Inconsistent),
+            ExchangeFlag::Idle => self.numbered(number, body, verifier, handler),
+            ExchangeFlag::Peer => Err(Stop::Own(Error::Inconsistent)),
             ExchangeFlag::Ours => {
                 if self.connection.opening().is_too_much(len) {
-                    return Err(Error::Pending);
+                    return Err(Stop::Own(Error::Pending));
                 }
-                self.counted(len, number, body, verifier)
+                self.counted(len, number, body, verifier, handler)
             }
         }
     }
 
     /// A packet that is counted while an exchange of ours runs.
     #[tactic(auto, using(crate::proofs::RowLemmas::counted_first, crate::proofs::RowLemmas::counted_lives))]
-    fn counted<V: Verifier>(
+    fn counted<V: Verifier, H: Handler>(
         &mut self,
         len: u64,
         number: u8,
         body: &[u8],
         verifier: &V,
-    ) -> Result<Flow, Error>
+        handler: &mut H,
+    ) -> Result<Flow, Stop<H::Error>>
         requires { is_live self.old ≡ true }
-        ensures row { Follows (behind_moves (Counts len ∷ []) (numbered_row (V.accepts verifier.now) (default_opinions self.old) self.old number body.now)) self.old self.new result }
+        ensures row { FollowsWith H.keeps_defaults
+            (handler_at (H.refusals handler.old) (H.setting handler.old)) (handler_at (H.refusals handler.new) (H.setting handler.new))
+            (λ o. behind_moves (Counts len ∷ []) (numbered_row (V.accepts verifier.now) o self.old number body.now)) self.old self.new result }
     {
         self.connection.count(len);
-        self.numbered(number, body, verifier)
+        self.numbered(number, body, verifier, handler)
     }
 
     /// A packet by its number; one that isn't known is passed over.
-    #[tactic(auto, unfolding(sshc_moves::specs::SessionTable::numbered_row))]
-    fn numbered<V: Verifier>(
+    #[tactic(auto, using(crate::proofs::HandlerLemmas::passed_with, crate::proofs::HandlerLemmas::own_with), unfolding(sshc_moves::specs::SessionTable::numbered_row))]
+    fn numbered<V: Verifier, H: Handler>(
         &mut self,
         number: u8,
         body: &[u8],
         verifier: &V,
-    ) -> Result<Flow, Error>
+        handler: &mut H,
+    ) -> Result<Flow, Stop<H::Error>>
         requires { is_live self.old ≡ true }
-        ensures row { Follows (numbered_row (V.accepts verifier.now) (default_opinions self.old) self.old number body.now) self.old self.new result }
+        ensures row { FollowsWith H.keeps_defaults
+            (handler_at (H.refusals handler.old) (H.setting handler.old)) (handler_at (H.refusals handler.new) (H.setting handler.new))
+            (λ o. numbered_row (V.accepts verifier.now) o self.old number body.now) self.old self.new result }
     {
         match number {
-            msg::GLOBAL_REQUEST => self.global_request(body),
-            msg::REQUEST_SUCCESS => self.request_success(body, verifier),
-            msg::REQUEST_FAILURE => self.request_failure(body),
-            msg::CHANNEL_OPEN => self.channel_open(body),
-            msg::CHANNEL_OPEN_CONFIRMATION => self.open_confirmation(body),
-            msg::CHANNEL_OPEN_FAILURE => self.open_failure(body),
-            msg::CHANNEL_WINDOW_ADJUST => self.window_adjust(body),
-            msg::CHANNEL_DATA => self.channel_data(body),
-            msg::CHANNEL_EXTENDED_DATA => self.channel_extended_data(body),
-            msg::CHANNEL_EOF => self.channel_report(ChannelRecord::Eof, body),
-            msg::CHANNEL_CLOSE => self.channel_close(body),
-            msg::CHANNEL_REQUEST => self.channel_request(body),
-            msg::CHANNEL_SUCCESS => self.channel_report(ChannelRecord::Success, body),
-            msg::CHANNEL_FAILURE => self.channel_report(ChannelRecord::Failure, body),
+            msg::GLOBAL_REQUEST => self.global_request(body, handler),
+            msg::REQUEST_SUCCESS => own(request_success(&mut self.connection, body, verifier)),
+            msg::REQUEST_FAILURE => own(request_failure(&mut self.connection, body)),
+            msg::CHANNEL_OPEN => self.channel_open(body, handler),
+            msg::CHANNEL_OPEN_CONFIRMATION => self.open_confirmation(body, handler),
+            msg::CHANNEL_OPEN_FAILURE => self.open_failure(body, handler),
+            msg::CHANNEL_WINDOW_ADJUST => self.window_adjust(body, handler),
+            msg::CHANNEL_DATA => self.channel_data(body, handler),
+            msg::CHANNEL_EXTENDED_DATA => self.channel_extended_data(body, handler),
+            msg::CHANNEL_EOF => self.channel_report(ChannelRecord::Eof, body, handler),
+            msg::CHANNEL_CLOSE => self.channel_close(body, handler),
+            msg::CHANNEL_REQUEST => self.channel_request(body, handler),
+            msg::CHANNEL_SUCCESS => self.channel_report(ChannelRecord::Success, body, handler),
+            msg::CHANNEL_FAILURE => self.channel_report(ChannelRecord::Failure, body, handler),
             _ => Ok(Flow::Went),
         }
-    }
-
-    /// DISCONNECT (RFC 4253, section 11.1).
-    #[tactic(auto, unfolding(sshc_moves::specs::SessionTable::disconnect_row))]
-    fn disconnected(&mut self, body: &[u8]) -> Result<Flow, Error>
-        ensures row { Follows (disconnect_row body.now) self.old self.new result }
-    {
-        let mut packet = Cursor::new(body);
-        let code = packet.u32()?;
-        match Disconnect::from_u32(code) {
-            Some(reason) => self.disconnect_for(reason, packet.rest()),
-            None => Err(Error::InvalidDisconnect),
-        }
-    }
-
-    fn disconnect_for(&mut self, reason_code: Disconnect, rest: &[u8]) -> Result<Flow, Error>
-        ensures row { Follows (reason_row (Some reason_code) rest.now) self.old self.new result }
-    {
-        let mut packet = Cursor::new(rest);
-        let message = packet.text()?;
-        let lang_tag = packet.text()?;
-        let message = Text::from_str(self.alloc, message)?;
-        let lang_tag = Text::from_str(self.alloc, lang_tag)?;
-        Ok(Flow::Ended(Ended::RemoteDisconnect(RemoteDisconnectInfo {
-            reason_code,
-            message,
-            lang_tag,
-        })))
     }
 }

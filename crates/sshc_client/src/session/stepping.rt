@@ -1,31 +1,57 @@
-//! A step of a session, whose handler keeps its default answers but for what its gate says.
+//! A step of a session.
 
 ghost use Rattle.std.specs.Prelude.{◌≡◌, true};
-ghost use Rattle.sshc_opening.specs.Stepping.{gate_answers};
 ghost use Rattle.sshc_moves.specs.SessionState.{is_live};
 ghost use Rattle.sshc_moves.specs.SessionTable.{session_row};
 ghost use Rattle.sshc_session.specs.OpeningStep.{lent_session};
-ghost use Rattle.sshc_client.specs.Follows.{Follows, default_opinions};
-ghost use Rattle.sshc_client.specs.Stepping.{SessionStepped, StepsRow};
+ghost use Rattle.sshc_client.specs.Handling.{handler_at};
+ghost use Rattle.sshc_client.specs.HandledRow.{FollowsWith};
+ghost use Rattle.sshc_client.specs.HandledStep.{EndsRow, SessionSteps, StepsOpen, handler_gate};
+ghost use Rattle.sshc_client.specs.Stepping.{SessionStepped};
 
 use super::Session;
-use crate::flow::Flow;
+use crate::handler::Handler;
+use crate::stop::{Stop, own};
 use sshc_key::{LocalSigner, Verifier};
 use sshc_moves::Life;
-use sshc_opening::{Ended, Error, Event, Gate, Step};
+use sshc_opening::{Ended, Error, Event, Step};
+use sshc_rows::{Flow, inactivity_timer, keepalive_timer, peer_kexinit, rekey_limit, user};
 
 impl Session {
-    /// What an event does, with the gate's answers and the default answers of a handler.
-    pub fn step<G: Gate, S: LocalSigner, V: Verifier>(
+    /// What an event does. In an open session its row is followed, with whatever the handler does to the session that
+    /// it is lent (`steps`); where the handler keeps its defaults, that is the exact row (`defaults`). A handler's
+    /// refusal ends the session.
+    #[tactic(auto, using(crate::proofs::StepLemmas::plain_step))]
+    pub fn step<H: Handler, S: LocalSigner, V: Verifier>(
         &mut self,
         event: &Event,
-        gate: &mut G,
+        handler: &mut H,
         signer: &mut S,
         verifier: &V,
-    ) -> Step<G::Error>
-        ensures { SessionStepped (gate_answers G.told_as (G.judges gate.old) G.tells G.tells_banner) (V.accepts verifier.now) event.now
-            (lent_session self.old (S.calls signer.old) (S.refusals signer.old) (G.refusals gate.old) (G.setting gate.old))
-            (lent_session self.new (S.calls signer.new) (S.refusals signer.new) (G.refusals gate.new) (G.setting gate.new))
+    ) -> Step<H::Error>
+        ensures steps { SessionSteps H.keeps_defaults (handler_gate H.told_as (H.judges handler.old)) (V.accepts verifier.now) event.now
+            (lent_session self.old (S.calls signer.old) (S.refusals signer.old) (H.refusals handler.old) (H.setting handler.old))
+            (lent_session self.new (S.calls signer.new) (S.refusals signer.new) (H.refusals handler.new) (H.setting handler.new))
+            result }
+        ensures defaults { H.keeps_defaults → SessionStepped (handler_gate H.told_as (H.judges handler.old)) (V.accepts verifier.now) event.now
+            (lent_session self.old (S.calls signer.old) (S.refusals signer.old) (H.refusals handler.old) (H.setting handler.old))
+            (lent_session self.new (S.calls signer.new) (S.refusals signer.new) (H.refusals handler.new) (H.setting handler.new))
+            result }
+    {
+        self.step_with(event, handler, signer, verifier)
+    }
+
+    #[tactic(auto, using(crate::proofs::StepLemmas::over_steps, crate::proofs::StepLemmas::left_steps, crate::proofs::StepLemmas::live_steps, crate::proofs::StepLemmas::before_steps, crate::proofs::BeforeLemmas::not_live_early))]
+    fn step_with<H: Handler, S: LocalSigner, V: Verifier>(
+        &mut self,
+        event: &Event,
+        handler: &mut H,
+        signer: &mut S,
+        verifier: &V,
+    ) -> Step<H::Error>
+        ensures { SessionSteps H.keeps_defaults (handler_gate H.told_as (H.judges handler.old)) (V.accepts verifier.now) event.now
+            (lent_session self.old (S.calls signer.old) (S.refusals signer.old) (H.refusals handler.old) (H.setting handler.old))
+            (lent_session self.new (S.calls signer.new) (S.refusals signer.new) (H.refusals handler.new) (H.setting handler.new))
             result }
     {
         match self.connection.life() {
@@ -36,47 +62,74 @@ impl Session {
             }
             Life::Runs => {
                 if self.connection.is_live() {
-                    self.step_open::<G, V>(event, verifier)
+                    self.step_open(event, handler, verifier)
                 } else {
-                    self.connection.step_opening(event, gate, signer)
+                    self.step_before(event, handler, signer)
                 }
             }
         }
     }
 
     /// The same in an open session.
-    fn step_open<G: Gate, V: Verifier>(&mut self, event: &Event, verifier: &V) -> Step<G::Error>
+    #[tactic(auto, using(crate::proofs::StepLemmas::opened_steps))]
+    fn step_open<H: Handler, V: Verifier>(
+        &mut self,
+        event: &Event,
+        handler: &mut H,
+        verifier: &V,
+    ) -> Step<H::Error>
         requires { is_live self.old ≡ true }
-        ensures { StepsRow G.told_as (session_row (V.accepts verifier.now) (default_opinions self.old) self.old event.now) self.old self.new result }
+        ensures steps { StepsOpen H.keeps_defaults H.told_as (V.accepts verifier.now) event.now
+            (handler_at (H.refusals handler.old) (H.setting handler.old)) (handler_at (H.refusals handler.new) (H.setting handler.new))
+            self.old self.new result }
     {
-        match self.row(event, verifier) {
-            Ok(Flow::Went) => Step::Went,
+        let answer = self.row(event, handler, verifier);
+        self.end_row::<H>(answer)
+    }
+
+    /// How a step ends behind its row. Where the user left the session meanwhile, it doesn't go on.
+    fn end_row<H: Handler>(&mut self, answer: Result<Flow, Stop<H::Error>>) -> Step<H::Error>
+        ensures { EndsRow H.told_as self.old self.new answer result }
+    {
+        match answer {
+            Ok(Flow::Went) => self.end_left(Step::Went),
             Ok(Flow::Ended(e)) => {
                 self.connection.stop();
                 Step::Ended(e)
             }
-            Err(e) => {
+            Err(Stop::Own(e)) => {
                 self.connection.stop();
-                Step::Refused(G::from_auth(e))
+                Step::Refused(H::from_client(e))
+            }
+            Err(Stop::Handler(e)) => {
+                self.connection.stop();
+                Step::Refused(e)
             }
         }
     }
 
     /// The row of an event in an open session.
-    #[tactic(auto, unfolding(sshc_moves::specs::SessionTable::session_row))]
-    fn row<V: Verifier>(&mut self, event: &Event, verifier: &V) -> Result<Flow, Error>
+    #[tactic(auto, using(crate::proofs::HandlerLemmas::refused_with, crate::proofs::HandlerLemmas::own_with), unfolding(sshc_moves::specs::SessionTable::session_row))]
+    fn row<H: Handler, V: Verifier>(
+        &mut self,
+        event: &Event,
+        handler: &mut H,
+        verifier: &V,
+    ) -> Result<Flow, Stop<H::Error>>
         requires { is_live self.old ≡ true }
-        ensures row { Follows (session_row (V.accepts verifier.now) (default_opinions self.old) self.old event.now) self.old self.new result }
+        ensures row { FollowsWith H.keeps_defaults
+            (handler_at (H.refusals handler.old) (H.setting handler.old)) (handler_at (H.refusals handler.new) (H.setting handler.new))
+            (λ o. session_row (V.accepts verifier.now) o self.old event.now) self.old self.new result }
     {
         match event {
-            Event::PeerKexinit => self.peer_kexinit(),
-            Event::ExchangeDone(exchange) => self.exchange_done(exchange),
-            Event::Payload(packet) => self.payload(packet, verifier),
-            Event::TransportFailed => Err(Error::TransportFailed),
-            Event::RekeyLimit => self.rekey_limit(),
-            Event::KeepaliveTimer => self.keepalive_timer(),
-            Event::InactivityTimer => self.inactivity_timer(),
-            _ => self.user(event),
+            Event::PeerKexinit => own(peer_kexinit(&mut self.connection)),
+            Event::ExchangeDone(exchange) => self.exchange_done(exchange, handler),
+            Event::Payload(packet) => self.payload(packet, verifier, handler),
+            Event::TransportFailed => Err(Stop::Own(Error::TransportFailed)),
+            Event::RekeyLimit => own(rekey_limit(&mut self.connection)),
+            Event::KeepaliveTimer => own(keepalive_timer(&mut self.connection)),
+            Event::InactivityTimer => own(inactivity_timer(&mut self.connection)),
+            _ => own(user(&mut self.connection, event)),
         }
     }
 }

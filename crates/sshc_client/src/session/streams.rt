@@ -3,18 +3,20 @@
 
 ghost use Rattle.std.specs.Prelude.{◌≡◌, [], ◌∷◌, true};
 ghost use Rattle.sshc_mux.specs.ChannelTable.{is_established};
-ghost use Rattle.sshc_moves.specs.Moves.{Does, Receives, Tells, done};
-ghost use Rattle.sshc_moves.specs.SessionRow.{on_channel};
+ghost use Rattle.sshc_moves.specs.Moves.{Receives, done};
+ghost use Rattle.sshc_moves.specs.SessionRow.{reports};
 ghost use Rattle.sshc_moves.specs.SessionState.{is_live};
-ghost use Rattle.sshc_moves.specs.SessionTable.Streams.{channel_close_row, channel_data_row, channel_extended_data_row, channel_report_row, received_row, retargets, window_adjust_row};
-ghost use Rattle.sshc_client.specs.Follows.{Follows, default_opinions, target_moves};
+ghost use Rattle.sshc_moves.specs.SessionTable.Streams.{channel_close_row, channel_data_row, channel_extended_data_row, channel_report_row, retargets, window_adjust_row};
+ghost use Rattle.sshc_client.specs.Handling.{Opines, handler_at};
+ghost use Rattle.sshc_client.specs.HandledRow.{FollowsOne, FollowsWith, Retargets, target_moves};
 
 use super::Session;
-use crate::flow::Flow;
+use crate::handler::Handler;
+use crate::stop::Stop;
 use sshc_mux::ChannelId as Number;
-use sshc_opening::Error;
 use sshc_packets::{read_channel, read_data, read_extended_data, read_window_adjust};
-use sshc_wire::{ChannelId, ChannelRecord, NoMemory, Octets, Record};
+use sshc_rows::Flow;
+use sshc_wire::{ChannelId, ChannelRecord, Octets};
 
 impl Session {
     /// Whether the channel is established.
@@ -24,18 +26,17 @@ impl Session {
         self.connection.table().is_established(Number(id.0))
     }
 
-    /// Says what happened on a channel.
-    pub(super) fn report(&mut self, id: ChannelId, happened: ChannelRecord) -> Result<(), NoMemory>
-        ensures { Does (Tells (on_channel id.0 happened) ∷ []) self.old self.new result }
-    {
-        self.connection.tell(Record::Channel { id, happened })
-    }
-
     /// CHANNEL_WINDOW_ADJUST.
-    #[tactic(auto, unfolding(sshc_moves::specs::SessionTable::Streams::window_adjust_row))]
-    pub(super) fn window_adjust(&mut self, body: &[u8]) -> Result<Flow, Error>
+    #[tactic(auto, using(crate::proofs::HandlerLemmas::ran_out_with, crate::proofs::HandlerLemmas::passed_with, crate::proofs::HandlerLemmas::refused_with, crate::proofs::HandlerLemmas::reports_front), unfolding(sshc_moves::specs::SessionTable::Streams::window_adjust_row))]
+    pub(super) fn window_adjust<H: Handler>(
+        &mut self,
+        body: &[u8],
+        handler: &mut H,
+    ) -> Result<Flow, Stop<H::Error>>
         requires { is_live self.old ≡ true }
-        ensures row { Follows (window_adjust_row self.old body.now) self.old self.new result }
+        ensures row { FollowsOne H.keeps_defaults
+            (handler_at (H.refusals handler.old) (H.setting handler.old)) (handler_at (H.refusals handler.new) (H.setting handler.new))
+            (window_adjust_row self.old body.now) self.old self.new result }
     {
         let adjust = read_window_adjust(body)?;
         if !self.is_established(adjust.id) {
@@ -45,35 +46,58 @@ impl Session {
             Some(left) => left,
             None => 0,
         };
-        self.report(adjust.id, ChannelRecord::WindowAdjusted { new_size })?;
-        Ok(Flow::Went)
+        self.report(
+            adjust.id,
+            ChannelRecord::WindowAdjusted { new_size },
+            handler,
+        )
     }
 
-    /// The handler's window target where our window was brought back; 0 is none.
-    fn retarget(&mut self, is_adjusted: bool, target: u32)
-        ensures { self.new ≡ done (target_moves is_adjusted target) self.old }
+    /// The handler is asked with a window target; its answer is the next one, where it is above 0.
+    fn retarget<H: Handler>(&mut self, id: ChannelId, target: u32, handler: &mut H)
+        ensures { Retargets H.keeps_defaults target
+            (handler_at (H.refusals handler.old) (H.setting handler.old)) (handler_at (H.refusals handler.new) (H.setting handler.new))
+            self.old self.new }
     {
-        if is_adjusted && target > 0 {
-            self.connection.target(target);
+        let window = handler.adjust_window(id, target);
+        if window > 0 {
+            self.connection.target(window);
         }
     }
 
-    /// Our window falls, and the handler is asked for its target where it is brought back.
-    fn receive(&mut self, id: ChannelId, len: u64) -> Result<(), NoMemory>
+    /// Bytes of the peer's use up our window, and the handler is asked for its target where it is brought back.
+    #[tactic(auto, using(crate::proofs::HandlerLemmas::kept_window, crate::proofs::HandlerLemmas::brought_back, crate::proofs::HandlerLemmas::ran_out_with))]
+    fn received<H: Handler>(
+        &mut self,
+        id: ChannelId,
+        len: u64,
+        said: ChannelRecord,
+        handler: &mut H,
+    ) -> Result<Flow, Stop<H::Error>>
         requires { is_live self.old ≡ true }
-        ensures { Does (Receives id.0 len ∷ retargets (default_opinions self.old) self.old id.0 len) self.old self.new result }
+        ensures row { FollowsWith H.keeps_defaults
+            (handler_at (H.refusals handler.old) (H.setting handler.old)) (handler_at (H.refusals handler.new) (H.setting handler.new))
+            (λ o. reports (Receives id.0 len ∷ retargets o self.old id.0 len) id.0 said []) self.old self.new result }
     {
         let target = self.connection.window_target();
-        let is_adjusted = self.connection.receive(id, len)?;
-        self.retarget(is_adjusted, target);
-        Ok(())
+        if !self.connection.receive(id, len)? {
+            return self.report(id, said, handler);
+        }
+        self.retarget(id, target, handler);
+        self.report(id, said, handler)
     }
 
     /// CHANNEL_DATA. The bytes are copied once, into the record.
-    #[tactic(auto, unfolding(sshc_moves::specs::SessionTable::Streams::channel_data_row))]
-    pub(super) fn channel_data(&mut self, body: &[u8]) -> Result<Flow, Error>
+    #[tactic(auto, using(crate::proofs::HandlerLemmas::ran_out_with, crate::proofs::HandlerLemmas::passed_with, crate::proofs::HandlerLemmas::refused_with), unfolding(sshc_moves::specs::SessionTable::Streams::channel_data_row))]
+    pub(super) fn channel_data<H: Handler>(
+        &mut self,
+        body: &[u8],
+        handler: &mut H,
+    ) -> Result<Flow, Stop<H::Error>>
         requires { is_live self.old ≡ true }
-        ensures row { Follows (channel_data_row (default_opinions self.old) self.old body.now) self.old self.new result }
+        ensures row { FollowsWith H.keeps_defaults
+            (handler_at (H.refusals handler.old) (H.setting handler.old)) (handler_at (H.refusals handler.new) (H.setting handler.new))
+            (λ o. channel_data_row o self.old body.now) self.old self.new result }
     {
         let data = read_data(body)?;
         if !self.is_established(data.id) {
@@ -81,16 +105,20 @@ impl Session {
         }
         let body = Octets::from_slice(self.alloc, data.body)?;
         let len = data.body.len() as u64;
-        self.receive(data.id, len)?;
-        self.report(data.id, ChannelRecord::Data { body })?;
-        Ok(Flow::Went)
+        self.received(data.id, len, ChannelRecord::Data { body }, handler)
     }
 
     /// CHANNEL_EXTENDED_DATA. The bytes are copied once, into the record.
-    #[tactic(auto, unfolding(sshc_moves::specs::SessionTable::Streams::channel_extended_data_row))]
-    pub(super) fn channel_extended_data(&mut self, body: &[u8]) -> Result<Flow, Error>
+    #[tactic(auto, using(crate::proofs::HandlerLemmas::ran_out_with, crate::proofs::HandlerLemmas::passed_with, crate::proofs::HandlerLemmas::refused_with), unfolding(sshc_moves::specs::SessionTable::Streams::channel_extended_data_row))]
+    pub(super) fn channel_extended_data<H: Handler>(
+        &mut self,
+        body: &[u8],
+        handler: &mut H,
+    ) -> Result<Flow, Stop<H::Error>>
         requires { is_live self.old ≡ true }
-        ensures row { Follows (channel_extended_data_row (default_opinions self.old) self.old body.now) self.old self.new result }
+        ensures row { FollowsWith H.keeps_defaults
+            (handler_at (H.refusals handler.old) (H.setting handler.old)) (handler_at (H.refusals handler.new) (H.setting handler.new))
+            (λ o. channel_extended_data_row o self.old body.now) self.old self.new result }
     {
         let data = read_extended_data(body)?;
         if !self.is_established(data.id) {
@@ -99,39 +127,49 @@ impl Session {
         let ext = data.ext;
         let body = Octets::from_slice(self.alloc, data.body)?;
         let len = data.body.len() as u64;
-        self.receive(data.id, len)?;
-        self.report(data.id, ChannelRecord::ExtendedData { ext, body })?;
-        Ok(Flow::Went)
+        self.received(
+            data.id,
+            len,
+            ChannelRecord::ExtendedData { ext, body },
+            handler,
+        )
     }
 
     /// CHANNEL_EOF, CHANNEL_SUCCESS and CHANNEL_FAILURE.
-    #[tactic(auto, unfolding(sshc_moves::specs::SessionTable::Streams::channel_report_row))]
-    pub(super) fn channel_report(
+    #[tactic(auto, using(crate::proofs::HandlerLemmas::ran_out_with, crate::proofs::HandlerLemmas::passed_with, crate::proofs::HandlerLemmas::refused_with), unfolding(sshc_moves::specs::SessionTable::Streams::channel_report_row))]
+    pub(super) fn channel_report<H: Handler>(
         &mut self,
         happened: ChannelRecord,
         body: &[u8],
-    ) -> Result<Flow, Error>
-        ensures row { Follows (channel_report_row self.old happened body.now) self.old self.new result }
+        handler: &mut H,
+    ) -> Result<Flow, Stop<H::Error>>
+        ensures row { FollowsOne H.keeps_defaults
+            (handler_at (H.refusals handler.old) (H.setting handler.old)) (handler_at (H.refusals handler.new) (H.setting handler.new))
+            (channel_report_row self.old happened body.now) self.old self.new result }
     {
         let id = read_channel(body)?;
         if !self.is_established(id) {
             return Ok(Flow::Went);
         }
-        self.report(id, happened)?;
-        Ok(Flow::Went)
+        self.report(id, happened, handler)
     }
 
     /// CHANNEL_CLOSE: the channel is taken away.
-    #[tactic(auto, unfolding(sshc_moves::specs::SessionTable::Streams::channel_close_row))]
-    pub(super) fn channel_close(&mut self, body: &[u8]) -> Result<Flow, Error>
-        ensures row { Follows (channel_close_row self.old body.now) self.old self.new result }
+    #[tactic(auto, using(crate::proofs::HandlerLemmas::ran_out_with, crate::proofs::HandlerLemmas::passed_with, crate::proofs::HandlerLemmas::refused_with, crate::proofs::HandlerLemmas::reports_front), unfolding(sshc_moves::specs::SessionTable::Streams::channel_close_row))]
+    pub(super) fn channel_close<H: Handler>(
+        &mut self,
+        body: &[u8],
+        handler: &mut H,
+    ) -> Result<Flow, Stop<H::Error>>
+        ensures row { FollowsOne H.keeps_defaults
+            (handler_at (H.refusals handler.old) (H.setting handler.old)) (handler_at (H.refusals handler.new) (H.setting handler.new))
+            (channel_close_row self.old body.now) self.old self.new result }
     {
         let id = read_channel(body)?;
         if !self.is_established(id) {
             return Ok(Flow::Went);
         }
         self.connection.close_by_peer(id)?;
-        self.report(id, ChannelRecord::Close)?;
-        Ok(Flow::Went)
+        self.report(id, ChannelRecord::Close, handler)
     }
 }

@@ -1,9 +1,10 @@
 //! The opening's steps, before the session is open.
 
-ghost use Rattle.std.specs.Prelude.{◌≡◌, true};
+ghost use Rattle.std.specs.Prelude.{◌≡◌};
+ghost use Rattle.sshc_opening.specs.OpeningState.{shut};
 ghost use Rattle.sshc_opening.specs.Stepping.{gate_answers};
-ghost use Rattle.sshc_moves.specs.SessionState.{opens_later};
-ghost use Rattle.sshc_session.specs.OpeningStep.{StepsOpening, goes_on, lent_session};
+ghost use Rattle.sshc_moves.specs.declared.life.Life.TheVariants.{Over};
+ghost use Rattle.sshc_session.specs.OpeningStep.{StepsLent, goes_on, lent_session};
 
 use super::Connection;
 use sshc_key::LocalSigner;
@@ -19,16 +20,15 @@ fn goes_on<E>(step: &Step<E>) -> bool
 
 impl Connection {
     /// What an event does before the session is open, with the gate's answers. Where the opening doesn't go on, the
-    /// session is over.
-    #[tactic(auto, using(crate::proofs::LiveLemmas::later_runs, crate::proofs::OpeningLemmas::keeps_muted))]
+    /// session is over. Once the user has left the session no packet is added.
+    #[tactic(auto, using(crate::proofs::OpeningLemmas::keeps_muted))]
     pub fn step_opening<G: Gate, S: LocalSigner>(
         &mut self,
         event: &Event,
         gate: &mut G,
         signer: &mut S,
     ) -> Step<G::Error>
-        requires { opens_later self.old ≡ true }
-        ensures { StepsOpening (gate_answers G.told_as (G.judges gate.old) G.tells G.tells_banner) event.now
+        ensures { StepsLent (gate_answers G.told_as (G.judges gate.old) G.tells G.tells_banner) event.now
             (lent_session self.old (S.calls signer.old) (S.refusals signer.old) (G.refusals gate.old) (G.setting gate.old))
             (lent_session self.new (S.calls signer.new) (S.refusals signer.new) (G.refusals gate.new) (G.setting gate.new))
             result }
@@ -39,5 +39,14 @@ impl Connection {
             self.life = Life::Over;
         }
         step
+    }
+
+    /// The opening is refused: it is closed, and the session is over.
+    pub fn shut_opening(&mut self)
+        ensures { self.new ≡ record self.old { opening = shut self.old.opening; life = Over } }
+    {
+        self.opening.shut();
+        self.outbox.mute();
+        self.life = Life::Over;
     }
 }

@@ -1,6 +1,6 @@
 use Rattle.sshc_moves.proofs.AccountLemmas.{accounted, has_account}
-use Rattle.sshc_moves.proofs.GrownLemmas.{grown_closed}
-use Rattle.sshc_moves.proofs.KeepLemmas.{grown_keeps}
+use Rattle.sshc_moves.specs.GrownLaws.{grown_closed}
+use Rattle.sshc_moves.specs.KeepLaws.{grown_keeps}
 use Rattle.sshc_moves.proofs.KeptLemmas.{grown_keeps_channels}
 use Rattle.sshc_moves.proofs.OpensLemmas.{answers_where_it_waits}
 use Rattle.sshc_moves.proofs.StayLemmas.{answered_stays}

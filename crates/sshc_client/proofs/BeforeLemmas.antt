@@ -1,0 +1,135 @@
+-- A step before the session is open, by what the handler said.
+use Rattle.std.proofs.Common.{◌≡◌, ◌⊎◌, inl, inr, ℕ, Bool, true, false, ◌&&◌, List, [], Option, Some, None, Result, Ok, Err, refl, ap, sym, subst, ◌∙◌}
+use Rattle.std.specs.Prelude.{if◌then◌else◌}
+use Rattle.sshc_wire.specs.Faults.{Rose}
+use Rattle.sshc_key.specs.Signers.{SignCall}
+use Rattle.sshc_key.specs.declared.identity.PublicKeyOrCertificate.{PublicKeyOrCertificate}
+use Rattle.sshc_event.specs.declared.event.Event.{Event}
+use Rattle.sshc_opening.specs.declared.error.Error.{Error}
+use Rattle.sshc_opening.specs.declared.error.Error.TheVariants.{NoMemory}
+use Rattle.sshc_opening.specs.declared.step.Asks.{Asks}
+use Rattle.sshc_opening.specs.declared.step.Asks.TheVariants as asking
+use Rattle.sshc_opening.specs.declared.step.Step.{Step}
+use Rattle.sshc_opening.specs.declared.step.Step.TheVariants as steps
+use Rattle.sshc_opening.specs.AskedLaws.{has_exchange}
+use Rattle.sshc_opening.specs.OpeningState.{OpeningState}
+use Rattle.sshc_opening.specs.OpeningTable.{asked_of}
+use Rattle.sshc_opening.specs.Stepping.{GateKeeps, HasExchange, exchange_in}
+use Rattle.sshc_moves.specs.SessionState.{SessionState, is_live, is_open, runs}
+use Rattle.sshc_moves.specs.declared.life.Life.TheVariants.{Runs}
+use Rattle.sshc_moves.specs.Grown.{Grown}
+use Rattle.sshc_moves.specs.GrownLaws.{grown_same}
+use Rattle.sshc_moves.specs.KeepLaws.{grown_keeps}
+use Rattle.sshc_session.specs.OpeningStep.{lent_session}
+use Rattle.sshc_client.specs.Asked.{AsksHandler, IsVerdict, Refuses, RefusesKey, Said, StepsBefore, verdict_gate}
+use Rattle.sshc_client.specs.Handling.{HandlerAt, HandlerKeeps, handler_at}
+use Rattle.sshc_client.specs.HandledStep.{Before, RefusedBefore, StepsBehind, WhyRefused, handler_gate, shut_session}
+use Rattle.sshc_client.proofs.AskedLemmas.{lent_with}
+use Rattle.sshc_client.proofs.HandlerLemmas.{same_handler}
+
+pub exchange_there : (s : OpeningState) (event : Event) (asks : Asks) → asks ≡ asked_of s event → HasExchange asks (exchange_in event)
+exchange_there s event asks asked = subst (λ (a : Asks). HasExchange a (exchange_in event)) (sym asked) (has_exchange s event)
+
+closed_asks : (s : OpeningState) (event : Event) → s.closed ≡ true → asked_of s event ≡ asking.Nothing
+unfolding asked_of
+closed_asks s event closed = rw closed refl
+
+gate_keeps : (r r2 : ℕ) (setting setting2 : List (List ℕ)) → HandlerKeeps (handler_at r setting) (handler_at r2 setting2) → GateKeeps r r2 setting setting2
+gate_keeps r r2 setting setting2 keeps = record { later = keeps.later; kept = keeps.kept }
+
+-- the opening is closed, and nobody is asked
+pub steps_closed : {E : Type 0} (defaults : Type 0) (told_as : Error → E) (judges : PublicKeyOrCertificate → Result Bool E → Type 0) (event : Event) (s t : SessionState) (calls calls2 : List SignCall) (x x2 r : ℕ) (setting : List (List ℕ)) (result : Step E) →
+    s.opening.closed ≡ true → StepsBefore (verdict_gate told_as false) event (lent_session s calls x 0 []) (lent_session t calls2 x2 0 []) result →
+    Before defaults (handler_gate told_as judges) event (lent_session s calls x r setting) (lent_session t calls2 x2 r setting) result
+steps_closed {E = E} defaults told_as judges event s t calls calls2 x x2 r setting result closed b =
+    let keeps = same_handler (handler_at r setting) in
+    record {
+      steps_on = inl (record {
+        mid = s;
+        grown = grown_same s;
+        same = λ plain. refl;
+        last = b.last;
+        step = b.step;
+        stepped = lent_with told_as judges false event s b.last calls calls2 x x2 r r setting setting b.step
+            (subst (λ (asks : Asks). IsVerdict judges asks false) (sym (closed_asks s.opening event closed)) refl) (gate_keeps r r setting setting keeps) b.stepped;
+        ends = b.ends;
+      });
+      keeps = keeps;
+    }
+
+-- the handler let the opening go on
+pub steps_behind : {E : Type 0} (defaults : Type 0) (told_as : Error → E) (judges : PublicKeyOrCertificate → Result Bool E → Type 0) (event : Event) (asks : Asks) (accepts : Bool) (s mid t : SessionState) (calls calls2 : List SignCall) (x x2 r r2 : ℕ) (setting setting2 : List (List ℕ)) (result : Step E) →
+    s.opening.closed ≡ false → asks ≡ asked_of s.opening event →
+    AsksHandler {E = E} defaults judges asks (handler_at r setting) (handler_at r2 setting2) s mid (Ok accepts) → is_open s.opening.phase ≡ false →
+    StepsBefore (verdict_gate told_as accepts) event (lent_session mid calls x 0 []) (lent_session t calls2 x2 0 []) result →
+    Before defaults (handler_gate told_as judges) event (lent_session s calls x r setting) (lent_session t calls2 x2 r2 setting2) result
+steps_behind {E = E} defaults told_as judges event asks accepts s mid t calls calls2 x x2 r r2 setting setting2 result fresh asked h early b = record {
+  steps_on = inl (record {
+    mid = mid;
+    grown = h.grown;
+    same = h.said.1;
+    last = b.last;
+    step = b.step;
+    stepped = lent_with told_as judges accepts event mid b.last calls calls2 x x2 r r2 setting setting2 b.step
+        (subst (λ (a : Asks). IsVerdict judges a accepts) (asked ∙ ap (λ (o : OpeningState). asked_of o event) (sym ((grown_keeps s mid h.grown).closed early).0)) h.said.0)
+        (gate_keeps r r2 setting setting2 h.keeps) b.stepped;
+    ends = b.ends;
+  });
+  keeps = h.keeps;
+}
+
+why_refused : {E : Type 0} (defaults : Type 0) (told_as : Error → E) (judges : PublicKeyOrCertificate → Result Bool E → Type 0) (event : Event) (asks : Asks) (s mid t : SessionState) (calls calls2 : List SignCall) (x x2 r r2 : ℕ) (setting setting2 : List (List ℕ)) (e : E) →
+    asked_of s.opening event ≡ asks → Refuses defaults judges asks s mid e → Rose r r2 →
+    WhyRefused defaults (handler_gate told_as judges) event (lent_session s calls x r setting) (lent_session t calls2 x2 r2 setting2) mid e
+why_refused defaults told_as judges event (asking.HostKey key) s mid t calls calls2 x x2 r r2 setting setting2 e asked (inl (says, same)) rose = inr (inl (key, asked, says, same, rose))
+why_refused defaults told_as judges event asking.Nothing s mid t calls calls2 x x2 r r2 setting setting2 e asked (inl (never, same)) rose = absurd never
+why_refused defaults told_as judges event asking.Exchange s mid t calls calls2 x x2 r r2 setting setting2 e asked (inl (never, same)) rose = absurd never
+why_refused defaults told_as judges event (asking.Banner text) s mid t calls calls2 x x2 r r2 setting setting2 e asked (inl (never, same)) rose = absurd never
+why_refused defaults told_as judges event asks s mid t calls calls2 x x2 r r2 setting setting2 e asked (inr own_body) rose = inr (inr (rose, own_body))
+
+-- the handler refused
+pub refused_before : {E : Type 0} (defaults : Type 0) (told_as : Error → E) (judges : PublicKeyOrCertificate → Result Bool E → Type 0) (event : Event) (asks : Asks) (s mid : SessionState) (calls : List SignCall) (x r r2 : ℕ) (setting setting2 : List (List ℕ)) (e : E) →
+    s.opening.closed ≡ false → asks ≡ asked_of s.opening event →
+    AsksHandler {E = E} defaults judges asks (handler_at r setting) (handler_at r2 setting2) s mid (Err e) →
+    Before defaults (handler_gate told_as judges) event (lent_session s calls x r setting) (lent_session (shut_session mid) calls x r2 setting2) (steps.Refused e)
+refused_before {E = E} defaults told_as judges event asks s mid calls x r r2 setting setting2 e fresh asked h = record {
+  steps_on = inr (record {
+    fresh = fresh;
+    mid = mid;
+    grown = h.grown;
+    error = e;
+    refused = refl;
+    shut = refl;
+    why = why_refused defaults told_as judges event asks s mid (shut_session mid) calls calls x x r r2 setting setting2 e (sym asked) h.said.0 h.said.1;
+    calls = refl;
+    refusals = refl;
+  });
+  keeps = h.keeps;
+}
+
+-- memory ran out before the handler was asked
+pub ran_out : {E : Type 0} (defaults : Type 0) (told_as : Error → E) (judges : PublicKeyOrCertificate → Result Bool E → Type 0) (event : Event) (s : SessionState) (calls : List SignCall) (x r : ℕ) (setting : List (List ℕ)) (e : E) →
+    s.opening.closed ≡ false → e ≡ told_as NoMemory →
+    Before defaults (handler_gate told_as judges) event (lent_session s calls x r setting) (lent_session (shut_session s) calls x r setting) (steps.Refused e)
+ran_out defaults told_as judges event s calls x r setting e fresh is = record {
+  steps_on = inr (record {
+    fresh = fresh;
+    mid = s;
+    grown = grown_same s;
+    error = e;
+    refused = refl;
+    shut = refl;
+    why = inl (is, refl);
+    calls = refl;
+    refusals = refl;
+  });
+  keeps = same_handler (handler_at r setting);
+}
+
+first_of_two : (a b : Bool) → a && b ≡ false → b ≡ true → a ≡ false
+first_of_two true b dead holds = let clash : true ≡ false = sym holds ∙ dead in absurd cc
+first_of_two false b dead holds = refl
+
+-- a session that goes on and isn't live isn't open
+pub not_live_early : (s : SessionState) → is_live s ≡ false → s.life ≡ Runs → is_open s.opening.phase ≡ false
+not_live_early s dead life = first_of_two (is_open s.opening.phase) (runs s.life) dead (ap runs life)

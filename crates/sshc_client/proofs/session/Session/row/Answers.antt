@@ -1,0 +1,15 @@
+use Rattle.std.proofs.Common.{rules, ◌≡◌, true, ℕ, ◌+◌, ◌-◌, ◌*◌, ◌<◌, ◌≤◌, length, ◌/◌, ◌%◌, Bool, false, nat_eq, nat_lt, List, [], ◌∷◌, ◌++◌, slice_index_or, slice_set, bit_and, bit_or, Fits, w8, w32, w64, Bor, MutBor}
+use Rattle.sshc_moves.specs.SessionState.{is_live}
+use Rattle.sshc_moves.specs.SessionTable.{session_row}
+use Rattle.sshc_session.specs.OpeningStep.{lent_session}
+use Rattle.sshc_client.specs.Handling.{handler_at}
+use Rattle.sshc_client.specs.HandledRow.{FollowsWith}
+use Rattle.sshc_client.specs.HandledStep.{EndsRow, SessionSteps, StepsOpen, handler_gate}
+use Rattle.sshc_client.specs.Stepping.{SessionStepped}
+use Rattle.sshc_client.proofs.HandlerLemmas.{own_with}
+use Rattle.sshc_client.proofs.session.Session.row.Goals as goal
+
+-- src/session/stepping.rt:112:5
+pub returns-in_default : goal.returns-in_default
+unfolding session_row
+returns-in_default g c = record { row = rw (← c.self-in_default.view_is) (own_with _ _ _ _ _ c.user.result _ c.own-in_default.ensures (search (rules))) }

@@ -1,0 +1,53 @@
+-- What the handler is asked before the session is open, and the opening's step with what it said of the host key.
+use Rattle.std.specs.Prelude.{◌≡◌, ◌⊎◌, Bool, true, false, ◌&&◌, Result, Ok, Err}
+use Rattle.sshc_wire.specs.Faults.{Rose}
+use Rattle.sshc_key.specs.declared.identity.PublicKeyOrCertificate.{PublicKeyOrCertificate}
+use Rattle.sshc_event.specs.declared.event.Event.{Event}
+use Rattle.sshc_opening.specs.declared.error.Error.{Error}
+use Rattle.sshc_opening.specs.declared.step.Asks.{Asks}
+use Rattle.sshc_opening.specs.declared.step.Asks.TheVariants as asking
+use Rattle.sshc_opening.specs.declared.step.Step.{Step}
+use Rattle.sshc_opening.specs.Stepping.{GateAnswers, gate_answers}
+use Rattle.sshc_moves.specs.SessionState.{SessionState}
+use Rattle.sshc_moves.specs.Grown.{Grown}
+use Rattle.sshc_session.specs.OpeningStep.{Lent, StepsLent, goes_on}
+use Rattle.sshc_client.specs.Handling.{HandlerAt, HandlerKeeps}
+use Rattle.sshc_client.specs.HandledStep.{AddsNothing, EndsBy, has_left}
+
+-- the verdict
+abbrev pub Says : {E : Type 0} → Bool → PublicKeyOrCertificate → Result Bool E → Type 0
+Says accepts key answer = answer ≡ Ok accepts
+
+-- a gate that says what was said of the host key, and is told nothing
+abbrev pub verdict_gate : {E : Type 0} → (Error → E) → Bool → GateAnswers E
+verdict_gate told_as accepts = gate_answers told_as (Says accepts) (λ secret names. AddsNothing) (λ banner. AddsNothing)
+
+-- the verdict is the handler's where it was asked, and no where it wasn't
+abbrev pub IsVerdict : {E : Type 0} → (PublicKeyOrCertificate → Result Bool E → Type 0) → Asks → Bool → Type 0
+IsVerdict judges (asking.HostKey key) accepts = judges key (Ok accepts)
+IsVerdict judges asks accepts = accepts ≡ false
+
+-- the handler refused the host key, before it was lent the session; or it refused otherwise, by a body of its own
+abbrev pub RefusesKey : {E : Type 0} → (PublicKeyOrCertificate → Result Bool E → Type 0) → Asks → E → Type 0
+RefusesKey judges (asking.HostKey key) e = judges key (Err e)
+RefusesKey judges asks e = ⊥
+
+abbrev pub Refuses : {E : Type 0} → Type 0 → (PublicKeyOrCertificate → Result Bool E → Type 0) → Asks → SessionState → SessionState → E → Type 0
+Refuses defaults judges asks old new e = (RefusesKey judges asks e × (new ≡ old)) ⊎ (defaults → ⊥)
+
+abbrev pub Said : {E : Type 0} → Type 0 → (PublicKeyOrCertificate → Result Bool E → Type 0) → Asks → HandlerAt → HandlerAt → SessionState → SessionState → Result Bool E → Type 0
+Said defaults judges asks was is old new (Ok accepts) = IsVerdict judges asks accepts × (defaults → new ≡ old)
+Said defaults judges asks was is old new (Err e) = Refuses defaults judges asks old new e × Rose was.refusals is.refusals
+
+-- the handler was asked what the row asks
+pub record AsksHandler {E : Type 0} (defaults : Type 0) (judges : PublicKeyOrCertificate → Result Bool E → Type 0) (asks : Asks) (was is : HandlerAt) (old new : SessionState) (result : Result Bool E) : Type 0 where
+  pub said : Said defaults judges asks was is old new result
+  pub grown : Grown old new
+  pub keeps : HandlerKeeps was is
+
+-- the opening's step, and the end of a session that the user left meanwhile
+pub record StepsBefore {E : Type 0} (gate : GateAnswers E) (event : Event) (was is : Lent) (result : Step E) : Type 0 where
+  pub last : SessionState
+  pub step : Step E
+  pub stepped : StepsLent gate event was (record is { session = last }) step
+  pub ends : EndsBy (goes_on step && has_left last.life) last (is.session) step result

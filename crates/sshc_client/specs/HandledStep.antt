@@ -1,0 +1,127 @@
+-- What a step of a session does, with any handler. In an open session the event's row is followed, with whatever the
+-- handler does to the session that it is lent; before that the opening's step goes on behind what the handler did. By
+-- relations between states; the code does one move after the other.
+use Rattle.std.specs.Prelude.{◌≡◌, ◌⊎◌, ℕ, Bool, true, false, ◌&&◌, not, List, [], Result, Ok, Err}
+use Rattle.sshc_wire.specs.Faults.{Rose}
+use Rattle.sshc_wire.specs.declared.record.Record.{Record}
+use Rattle.sshc_key.specs.declared.identity.PublicKeyOrCertificate.{PublicKeyOrCertificate}
+use Rattle.sshc_event.specs.declared.event.Event.{Event}
+use Rattle.sshc_opening.specs.declared.ended.Ended.TheVariants.{Disconnected}
+use Rattle.sshc_opening.specs.declared.error.Error.{Error}
+use Rattle.sshc_opening.specs.declared.error.Error.TheVariants.{NoMemory}
+use Rattle.sshc_opening.specs.declared.step.Asks.{Asks}
+use Rattle.sshc_opening.specs.declared.step.Asks.TheVariants as asking
+use Rattle.sshc_opening.specs.declared.step.Step.{Step}
+use Rattle.sshc_opening.specs.declared.step.Step.TheVariants as steps
+use Rattle.sshc_opening.specs.OpeningState.{shut}
+use Rattle.sshc_opening.specs.OpeningTable.{asked_of}
+use Rattle.sshc_opening.specs.Stepping.{GateAnswers, gate_answers}
+use Rattle.sshc_packets.specs.HostKeyProof.{Accepts}
+use Rattle.sshc_moves.specs.declared.life.Life.{Life}
+use Rattle.sshc_moves.specs.declared.life.Life.TheVariants.{Left, Over}
+use Rattle.sshc_moves.specs.SessionState.{SessionState, is_live, opens_later, runs}
+use Rattle.sshc_moves.specs.Moves.{Stops, after}
+use Rattle.sshc_moves.specs.SessionTable.{session_row}
+use Rattle.sshc_moves.specs.Grown.{Grown}
+use Rattle.sshc_session.specs.OpeningStep.{Lent, StepsLent, goes_on}
+use Rattle.sshc_rows.specs.declared.flow.Flow.{Flow}
+use Rattle.sshc_rows.specs.declared.flow.Flow.TheVariants as flows
+use Rattle.sshc_client.specs.declared.stop.Stop.{Stop}
+use Rattle.sshc_client.specs.declared.stop.Stop.TheVariants.{Own, Handler}
+use Rattle.sshc_client.specs.Handling.{HandlerAt, HandlerKeeps, handler_at}
+use Rattle.sshc_client.specs.HandledRow.{FollowsWith}
+
+-- the handler, as it is at one moment
+abbrev pub handler_of : Lent → HandlerAt
+handler_of l = handler_at l.gate_refusals l.setting
+
+-- ---- how a step ends
+
+-- where the user left the session while the handler was called, a step that would go on ends it
+abbrev pub EndsBy : {E : Type 0} → Bool → SessionState → SessionState → Step E → Step E → Type 0
+EndsBy false last new step result = (result ≡ step) × (new ≡ last)
+EndsBy true last new step result = (result ≡ steps.Ended Disconnected) × (new ≡ after Stops last)
+
+abbrev pub has_left : Life → Bool
+has_left Left = true
+has_left life = false
+
+-- ---- in an open session
+
+-- by how the row ended; where it doesn't go on, the session is over
+abbrev pub EndsRow : {E : Type 0} → (Error → E) → SessionState → SessionState → Result Flow (Stop E) → Step E → Type 0
+EndsRow told_as last new (Ok flows.Went) result = EndsBy (has_left last.life) last new steps.Went result
+EndsRow told_as last new (Ok (flows.Ended e)) result = (result ≡ steps.Ended e) × (new ≡ after Stops last)
+EndsRow told_as last new (Err (Own e)) result = (result ≡ steps.Refused (told_as e)) × (new ≡ after Stops last)
+EndsRow told_as last new (Err (Handler e)) result = (result ≡ steps.Refused e) × (new ≡ after Stops last)
+
+pub record StepsOpen {E : Type 0} (defaults : Type 0) (told_as : Error → E) (accepts : Accepts) (event : Event) (was is : HandlerAt) (old new : SessionState) (result : Step E) : Type 0 where
+  pub last : SessionState
+  pub answer : Result Flow (Stop E)
+  pub follows : FollowsWith defaults was is (λ o. session_row accepts o old event) old last answer
+  pub ends : EndsRow told_as last new answer result
+
+-- ---- before the session is open
+
+-- What the handler does to the session stands in the session, so the opening is told nothing more.
+abbrev pub AddsNothing : {E : Type 0} → Result (Unit {0}) E → List Record → Type 0
+AddsNothing answer more = (answer ≡ Ok tt) × (more ≡ [])
+
+-- a handler as a gate of the opening: its answer for the host key
+abbrev pub handler_gate : {E : Type 0} → (Error → E) → (PublicKeyOrCertificate → Result Bool E → Type 0) → GateAnswers E
+handler_gate told_as judges = gate_answers told_as judges (λ secret names. AddsNothing) (λ banner. AddsNothing)
+
+-- the handler grew the session, and the opening's step went on from there
+pub record StepsBehind {E : Type 0} (defaults : Type 0) (gate : GateAnswers E) (event : Event) (was is : Lent) (result : Step E) : Type 0 where
+  pub mid : SessionState
+  pub grown : Grown (was.session) mid
+  pub same : defaults → mid ≡ was.session
+  pub last : SessionState
+  pub step : Step E
+  pub stepped : StepsLent gate event (record was { session = mid }) (record is { session = last }) step
+  pub ends : EndsBy (goes_on step && has_left last.life) last (is.session) step result
+
+-- the session as it is where it is refused before it is open
+abbrev pub shut_session : SessionState → SessionState
+shut_session s = record s { opening = shut s.opening; life = Over }
+
+-- why: memory ran out; the handler refused the host key that it was asked about; or it refused otherwise, by a body of
+-- its own
+abbrev pub WhyRefused : {E : Type 0} → Type 0 → GateAnswers E → Event → Lent → Lent → SessionState → E → Type 0
+WhyRefused defaults gate event was is mid e =
+    ((e ≡ gate.told_as NoMemory) × (mid ≡ was.session))
+    ⊎ (((key : PublicKeyOrCertificate) × (asked_of was.session.opening event ≡ asking.HostKey key) × gate.judges key (Err e) × (mid ≡ was.session) × Rose was.gate_refusals is.gate_refusals)
+    ⊎ (Rose was.gate_refusals is.gate_refusals × (defaults → ⊥)))
+
+pub record RefusedBefore {E : Type 0} (defaults : Type 0) (gate : GateAnswers E) (event : Event) (was is : Lent) (result : Step E) : Type 0 where
+  pub fresh : was.session.opening.closed ≡ false
+  pub mid : SessionState
+  pub grown : Grown (was.session) mid
+  pub error : E
+  pub refused : result ≡ steps.Refused error
+  pub shut : is.session ≡ shut_session mid
+  pub why : WhyRefused defaults gate event was is mid error
+  pub calls : is.calls ≡ was.calls
+  pub refusals : is.signer_refusals ≡ was.signer_refusals
+
+-- a step before the session is open, and the handler's count and setting
+pub record Before {E : Type 0} (defaults : Type 0) (gate : GateAnswers E) (event : Event) (was is : Lent) (result : Step E) : Type 0 where
+  pub steps_on : StepsBehind defaults gate event was is result ⊎ RefusedBefore defaults gate event was is result
+  pub keeps : HandlerKeeps (handler_of was) (handler_of is)
+
+-- ---- the step
+
+pub record SessionSteps {E : Type 0} (defaults : Type 0) (gate : GateAnswers E) (accepts : Accepts) (event : Event) (was is : Lent) (result : Step E) : Type 0 where
+  -- a session that is over answers Closed, and stays as it is
+  pub closed : was.session.life ≡ Over → (result ≡ steps.Closed) × (is.session ≡ was.session)
+  -- what the user left is over with the next step
+  pub left : was.session.life ≡ Left → (result ≡ steps.Ended Disconnected) × (is.session ≡ after Stops (was.session))
+  -- before the session is open
+  pub opening : opens_later (was.session) ≡ true →
+      StepsBehind defaults gate event was is result ⊎ RefusedBefore defaults gate event was is result
+  -- the row of the table; neither signer nor gate is asked
+  pub row : is_live (was.session) ≡ true →
+      StepsOpen defaults gate.told_as accepts event (handler_of was) (handler_of is) (was.session) (is.session) result
+      × (is.calls ≡ was.calls)
+  -- the handler's count of refusals never falls, and it keeps what it judges by
+  pub keeps : HandlerKeeps (handler_of was) (handler_of is)

@@ -1,0 +1,39 @@
+-- What a call of a handler does: what it may do to a session that it is lent, how often it refused, and what its
+-- default body answers. By relations between two moments; the code is whatever the handler does.
+use Rattle.std.specs.Prelude.{◌≡◌, ◌≤◌, ℕ, List, Result, Ok, Err, Bool, OnErr}
+use Rattle.sshc_wire.specs.Faults.{Rose}
+use Rattle.sshc_moves.specs.SessionState.{SessionState}
+use Rattle.sshc_moves.specs.Grown.{Grown}
+use Rattle.sshc_client.specs.declared.answers.DisconnectReason.{DisconnectReason}
+use Rattle.sshc_client.specs.declared.answers.DisconnectReason.TheVariants as reasons
+
+-- what is known of a handler at one moment: how often it refused, and what it judges host keys by
+pub record HandlerAt : Type 0 where
+  pub refusals : ℕ
+  pub setting : List (List ℕ)
+
+abbrev pub handler_at : ℕ → List (List ℕ) → HandlerAt
+handler_at refusals setting = record { refusals = refusals; setting = setting }
+
+-- its count of refusals never falls, and it keeps what it judges by
+pub record HandlerKeeps (was is : HandlerAt) : Type 0 where
+  pub later : was.refusals ≤ is.refusals
+  pub kept : is.setting ≡ was.setting
+
+-- A call that is lent the session leaves one grown from it, and answers an error only where its count of refusals
+-- rose. A handler that keeps its defaults answers the default, and does nothing to the session.
+pub record Handles {T E : Type 0} (defaults : Type 0) (default : Result T E) (was is : HandlerAt) (old new : SessionState) (result : Result T E) : Type 0 where
+  pub grown : Grown old new
+  pub keeps : HandlerKeeps was is
+  pub cause : OnErr result (Rose was.refusals is.refusals)
+  pub default_body : defaults → (result ≡ default) × (new ≡ old)
+
+-- the same of a call that isn't lent the session, and can't refuse
+pub record Opines {T : Type 0} (defaults : Type 0) (default : T) (was is : HandlerAt) (answer : T) : Type 0 where
+  pub keeps : HandlerKeeps was is
+  pub default_body : defaults → answer ≡ default
+
+-- what a handler answers by default to the end of a session: the error by which it ended, if it was one
+abbrev pub ended_by : {E : Type 0} → DisconnectReason E → Result (Unit {0}) E
+ended_by (reasons.ReceivedDisconnect info) = Ok tt
+ended_by (reasons.Error e) = Err e

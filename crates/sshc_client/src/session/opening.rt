@@ -1,0 +1,185 @@
+//! A step before the session is open. The handler is asked first, and lent the session, in which the opening stays in
+//! its place; then the opening's step goes on with what the handler said of the host key.
+
+ghost use Rattle.std.specs.Prelude.{◌≡◌, ◌&&◌, [], false, option_copied};
+ghost use Rattle.sshc_opening.specs.OpeningTable.{asked_of};
+ghost use Rattle.sshc_opening.specs.Stepping.{HasExchange, exchange_in};
+ghost use Rattle.sshc_moves.specs.SessionState.{is_open};
+ghost use Rattle.sshc_session.specs.OpeningStep.{goes_on, lent_session};
+ghost use Rattle.sshc_client.specs.Asked.{AsksHandler, StepsBefore, verdict_gate};
+ghost use Rattle.sshc_client.specs.Handling.{handler_at};
+ghost use Rattle.sshc_client.specs.HandledStep.{Before, EndsBy, handler_gate, has_left};
+
+use super::Session;
+use super::exchanges::secret_of;
+use crate::handler::Handler;
+use crate::verdict::Verdict;
+use sshc_key::{LocalSigner, PublicKeyOrCertificate};
+use sshc_moves::Life;
+use sshc_opening::{Asks, Ended, Error, Event, ExchangeResult, Step};
+use sshc_wire::NoMemory;
+use std::marker::PhantomData;
+
+/// The exchange of an event that is one.
+fn exchange_of(event: &Event) -> Option<&ExchangeResult>
+    ensures { option_copied result ≡ exchange_in event.now }
+{
+    match event {
+        Event::ExchangeDone(exchange) => Some(exchange),
+        _ => None,
+    }
+}
+
+impl Session {
+    /// Asks the handler for the host key, and tells it of the exchange where it accepts the key.
+    #[tactic(auto, using(crate::proofs::AskedLemmas::key_said_no, crate::proofs::AskedLemmas::key_refused, crate::proofs::AskedLemmas::key_told, crate::proofs::AskedLemmas::key_told_refused))]
+    fn judge<H: Handler>(
+        &mut self,
+        key: &PublicKeyOrCertificate,
+        exchange: &ExchangeResult,
+        handler: &mut H,
+    ) -> Result<bool, H::Error>
+        ensures { AsksHandler H.keeps_defaults (H.judges handler.old) (Asks.HostKey key.now)
+            (handler_at (H.refusals handler.old) (H.setting handler.old)) (handler_at (H.refusals handler.new) (H.setting handler.new))
+            self.old self.new result }
+    {
+        if !handler.check_server_key(key)? {
+            return Ok(false);
+        }
+        handler.kex_done(secret_of(exchange), &exchange.names, self)?;
+        Ok(true)
+    }
+
+    /// Asks the handler what the opening's row asks. Returns whether a host key was accepted.
+    #[tactic(auto, using(crate::proofs::AskedLemmas::not_asked, crate::proofs::AskedLemmas::told_exchange, crate::proofs::AskedLemmas::told_banner, crate::proofs::AskedLemmas::refused_telling))]
+    fn ask_handler<H: Handler>(
+        &mut self,
+        asks: &Asks,
+        event: &Event,
+        handler: &mut H,
+    ) -> Result<bool, H::Error>
+        requires { HasExchange asks.now (exchange_in event.now) }
+        ensures { AsksHandler H.keeps_defaults (H.judges handler.old) asks.now
+            (handler_at (H.refusals handler.old) (H.setting handler.old)) (handler_at (H.refusals handler.new) (H.setting handler.new))
+            self.old self.new result }
+    {
+        match asks {
+            Asks::Nothing => Ok(false),
+            Asks::HostKey(key) => match exchange_of(event) {
+                Some(exchange) => self.judge(key, exchange, handler),
+                None => unreachable!(),
+            },
+            Asks::Exchange => match exchange_of(event) {
+                Some(exchange) => {
+                    handler.kex_done(secret_of(exchange), &exchange.names, self)?;
+                    Ok(false)
+                }
+                None => unreachable!(),
+            },
+            Asks::Banner(text) => {
+                handler.auth_banner(text.as_str(), self)?;
+                Ok(false)
+            }
+        }
+    }
+
+    /// The opening's step, once the handler was asked; where the user left the session meanwhile, it ends.
+    #[tactic(auto, using(crate::proofs::AskedLemmas::ended_before))]
+    fn step_asked<H: Handler, S: LocalSigner>(
+        &mut self,
+        event: &Event,
+        accepts: bool,
+        signer: &mut S,
+    ) -> Step<H::Error>
+        ensures { StepsBefore (verdict_gate H.told_as accepts) event.now
+            (lent_session self.old (S.calls signer.old) (S.refusals signer.old) 0 [])
+            (lent_session self.new (S.calls signer.new) (S.refusals signer.new) 0 [])
+            result }
+    {
+        let mut verdict: Verdict<H> = Verdict {
+            accepts,
+            of: PhantomData,
+        };
+        let step = self.connection.step_opening(event, &mut verdict, signer);
+        verdict.let_go();
+        self.end_left(step)
+    }
+
+    /// A step that would go on ends a session that the user left.
+    #[tactic(auto, using(crate::proofs::StepLemmas::nobody_left_ends))]
+    pub(super) fn end_left<E: Drop>(&mut self, step: Step<E>) -> Step<E>
+        ensures { EndsBy (goes_on step && has_left self.old.life) self.old self.new step result }
+    {
+        match self.connection.life() {
+            Life::Left => self.end_step(step),
+            Life::Runs => step,
+            Life::Over => step,
+        }
+    }
+
+    fn end_step<E: Drop>(&mut self, step: Step<E>) -> Step<E>
+        ensures { EndsBy (goes_on step) self.old self.new step result }
+    {
+        match step {
+            Step::Went | Step::Opened => {
+                self.connection.stop();
+                Step::Ended(Ended::Disconnected)
+            }
+            Step::Ended(e) => Step::Ended(e),
+            Step::Refused(e) => Step::Refused(e),
+            Step::Closed => Step::Closed,
+        }
+    }
+
+    /// What an event does before the session is open.
+    #[tactic(auto, using(crate::proofs::BeforeLemmas::exchange_there, crate::proofs::BeforeLemmas::steps_closed, crate::proofs::BeforeLemmas::steps_behind, crate::proofs::BeforeLemmas::refused_before, crate::proofs::BeforeLemmas::ran_out))]
+    pub(super) fn step_before<H: Handler, S: LocalSigner>(
+        &mut self,
+        event: &Event,
+        handler: &mut H,
+        signer: &mut S,
+    ) -> Step<H::Error>
+        requires { is_open self.old.opening.phase ≡ false }
+        ensures { Before H.keeps_defaults (handler_gate H.told_as (H.judges handler.old)) event.now
+            (lent_session self.old (S.calls signer.old) (S.refusals signer.old) (H.refusals handler.old) (H.setting handler.old))
+            (lent_session self.new (S.calls signer.new) (S.refusals signer.new) (H.refusals handler.new) (H.setting handler.new))
+            result }
+    {
+        if self.connection.opening().is_closed() {
+            return self.step_asked::<H, S>(event, false, signer);
+        }
+        match self.connection.opening().asks(event) {
+            Ok(asks) => self.step_asking(&asks, event, handler, signer),
+            Err(NoMemory) => {
+                self.connection.shut_opening();
+                Step::Refused(H::from_client(Error::NoMemory))
+            }
+        }
+    }
+
+    /// The same, once it is known what the row asks.
+    #[tactic(auto, using(crate::proofs::BeforeLemmas::exchange_there, crate::proofs::BeforeLemmas::steps_behind, crate::proofs::BeforeLemmas::refused_before))]
+    fn step_asking<H: Handler, S: LocalSigner>(
+        &mut self,
+        asks: &Asks,
+        event: &Event,
+        handler: &mut H,
+        signer: &mut S,
+    ) -> Step<H::Error>
+        requires early { is_open self.old.opening.phase ≡ false }
+        requires fresh { self.old.opening.closed ≡ false }
+        requires asked { asks.now ≡ asked_of self.old.opening event.now }
+        ensures { Before H.keeps_defaults (handler_gate H.told_as (H.judges handler.old)) event.now
+            (lent_session self.old (S.calls signer.old) (S.refusals signer.old) (H.refusals handler.old) (H.setting handler.old))
+            (lent_session self.new (S.calls signer.new) (S.refusals signer.new) (H.refusals handler.new) (H.setting handler.new))
+            result }
+    {
+        match self.ask_handler(asks, event, handler) {
+            Ok(accepts) => self.step_asked::<H, S>(event, accepts, signer),
+            Err(e) => {
+                self.connection.shut_opening();
+                Step::Refused(e)
+            }
+        }
+    }
+}

@@ -1,0 +1,42 @@
+-- What a call does that follows a row of an open session, where the handler keeps its default answers: it accepts what
+-- the server opens, but for types that aren't known, keeps its window target and does nothing to the session that it
+-- is lent. Moves in a row and what comes after; the code does one move after the other.
+use Rattle.std.specs.Prelude.{◌≡◌, ◌⊎◌, ℕ, nat_lt, if◌then◌else◌, Bool, false, not, ◌&&◌, ◌||◌, List, [], ◌∷◌, Option, Result, Ok, Err}
+use Rattle.sshc_wire.specs.declared.resolution.Resolution.{Resolution}
+use Rattle.sshc_opening.specs.declared.error.Error.{Error}
+use Rattle.sshc_opening.specs.declared.error.Error.TheVariants.{NoMemory, SshEncoding}
+use Rattle.sshc_opening.specs.OpeningState.{is_awaiting}
+use Rattle.sshc_mux.specs.ChannelTable.{any_waits}
+use Rattle.sshc_packets.specs.declared.error.PacketError.{PacketError}
+use Rattle.sshc_packets.specs.declared.error.PacketError.TheVariants as packets
+use Rattle.sshc_moves.specs.declared.open_answer.OpenAnswer.TheVariants.{Accept}
+use Rattle.sshc_moves.specs.SessionState.{SessionState, exchanging, runs}
+use Rattle.sshc_moves.specs.Moves.{Fronts, Move, Targets, done, onto}
+use Rattle.sshc_moves.specs.SessionRow.{Opinions, SessionRow, ends, goes, refused, refuses}
+use Rattle.sshc_moves.specs.SessionTable.Replies.{replied_row}
+use Rattle.sshc_rows.specs.declared.flow.Flow.{Flow}
+use Rattle.sshc_rows.specs.declared.flow.Flow.TheVariants as flows
+
+abbrev pub default_opinions : SessionState → Opinions
+default_opinions s = record { takes_unknown = false; window_target = s.window_target }
+
+-- the moves of a row, with those by the default answer
+abbrev pub all_moves : SessionRow → List Move
+all_moves row = onto row.front (row.back Accept)
+
+-- the row was followed to its end, or memory ran out behind some of its moves
+abbrev pub Follows : SessionRow → SessionState → SessionState → Result Flow Error → Type 0
+Follows row old new (Ok flows.Went) = (row.next ≡ goes) × (new ≡ done (all_moves row) old)
+Follows row old new (Ok (flows.Ended e)) = (row.next ≡ ends e) × (new ≡ done (all_moves row) old)
+Follows row old new (Err e) =
+    ((e ≡ NoMemory) × Fronts (all_moves row) old new) ⊎ ((row.next ≡ refuses e) × (new ≡ done (all_moves row) old))
+
+-- the refusal for a packet that can't be read
+abbrev pub refusal_of : PacketError → Error
+refusal_of packets.NoMemory = NoMemory
+refusal_of packets.SshEncoding = SshEncoding
+
+-- a row that answers the oldest request: by its answer, or its refusal, or memory ran out
+abbrev pub Succeeds : SessionRow → Result (Option Resolution) Error → Type 0
+Succeeds row (Ok answer) = row ≡ replied_row answer
+Succeeds row (Err e) = (e ≡ NoMemory) ⊎ (row ≡ refused e)
