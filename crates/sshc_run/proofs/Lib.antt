@@ -32,7 +32,6 @@ pub mod Gated
 pub mod RunHistories
 pub mod Promises
 pub mod CausedRuns
-pub mod WordLists
 pub mod Longer
 pub mod StandardFacts
 pub mod StandardEvents

@@ -1,4 +1,4 @@
-//! Scripts: bytes in, records out, and the command-line arguments.
+//! Scripts: bytes in, records out.
 #![tactic(auto)]
 
 mod config;
@@ -11,11 +11,9 @@ mod serving;
 mod stepping;
 mod turn;
 mod unasked;
-mod words;
 
 pub use config::Config;
 pub use error::RunError;
 pub use known_hosts_handler::{HandlerError, KnownHostsHandler};
 pub use run::run_script;
 pub use sshc_toy::{RefusingSigner, RefusingVerifier, ToySigner, ToyVerifier};
-pub use words::run_words;

@@ -1,7 +1,8 @@
 //! A row: a script, its known hosts text, and what is to come of it.
 
 use crate::parts::bytes_of;
-use sshc_run::{ToySigner, ToyVerifier, run_words};
+use sshc_run::{ToySigner, ToyVerifier};
+use sshc_run_words::run_words;
 use sshc_wire::{MemFiles, MemSink, MemSource, NoMemory, Octets, Text, put_bytes, put_u64};
 use std::alloc::Global;
 

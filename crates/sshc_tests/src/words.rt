@@ -5,7 +5,8 @@ use crate::scripts::{
     ACCEPTED, EXCHANGE, KEXINIT, KNOWN, LINES, LOGIN, PASSWORD, PLACES, SUCCESS, WRITTEN,
     script_of, whole_events,
 };
-use sshc_run::{RefusingSigner, RefusingVerifier, run_words};
+use sshc_run::{RefusingSigner, RefusingVerifier};
+use sshc_run_words::run_words;
 use sshc_wire::{MemFiles, MemSink, MemSource, NoMemory, Octets, Text};
 use std::alloc::Global;
 use std::process::Abort;

@@ -3,7 +3,7 @@ use Rattle.sshc_run.specs.RunTurn.{run_machine}
 use Rattle.sshc_run.specs.Words.{default_events, default_run}
 use Rattle.sshc_run.proofs.Promises.{none_ran}
 use Rattle.std.proofs.Common.{refl, arith}
-use Rattle.sshc_run.proofs.words.run_default.Goals as goal
+use Rattle.sshc_run_words.proofs.script_words.run_default.Goals as goal
 
 pub returns-in-Ok-clause-run : goal.returns-in-Ok-clause-run
 returns-in-Ok-clause-run g c =

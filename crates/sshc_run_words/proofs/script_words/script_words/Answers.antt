@@ -1,7 +1,7 @@
 use Rattle.std.proofs.Common.{◌≡◌, ◌∙◌, length, sym, arith}
 use Rattle.sshc_words.specs.WordLaws.{same_word, at_place}
-use Rattle.sshc_run.proofs.WordLists.{four_words}
-use Rattle.sshc_run.proofs.words.script_words.Goals as goal
+use Rattle.sshc_run_words.proofs.WordLists.{four_words}
+use Rattle.sshc_run_words.proofs.script_words.script_words.Goals as goal
 
 pub returns-in-Some-clause-some : goal.returns-in-Some-clause-some
 returns-in-Some-clause-some c =

@@ -1,0 +1,3 @@
+mod WordLists
+mod TextLines
+mod GeneratedRuns

@@ -1,0 +1,151 @@
+//! The words `gen SEED N`: a run of a generated script over memory, told in a summary.
+
+ghost use Rattle.std.specs.Prelude.{◌≡◌, ◌≤◌, ◌++◌, ℕ, IfOk, IfSome, IsNone, string_bytes};
+ghost use Rattle.sshc_gen.specs.Blocks.{generated};
+ghost use Rattle.sshc_run.specs.Words.{answer_line, status_of};
+ghost use Rattle.sshc_words.specs.Adding.{Adds};
+ghost use Rattle.sshc_run_words.specs.GenWords.{IsSeed, IsBlockCount, IsGenWords, IsRunOf, GenGives};
+ghost use Rattle.sshc_run_words.specs.Summary.{summary_lines};
+
+use crate::summary::{Summary, summary_lines, summary_of};
+use crate::told::{answer_line, status_of};
+use sshc_gen::{Generated, HOST, KNOWN, PORT, generate};
+use sshc_opening::Ended;
+use sshc_run::{Config, RunError, ToySigner, ToyVerifier, run_script};
+use sshc_wire::{MemSink, MemSource, NoMemory, Sink, Text};
+use sshc_words::{NO_MEMORY_STATUS, add_line};
+use std::alloc::Global;
+
+/// The words `gen SEED N`.
+#[derive(Clone, Copy, Debug)]
+pub(crate) struct GenWords {
+    pub seed: u64,
+    pub count: u32,
+}
+
+/// The most blocks of a generated script.
+const MOST_BLOCKS: u32 = 100_000;
+
+/// The most events that its run takes.
+const MOST_EVENTS: u32 = 300_000;
+
+/// The seed that a word names.
+fn seed_of(word: &str) -> Option<u64>
+    ensures some { IfSome result (λ seed. IsSeed word.now seed) }
+    ensures none { IsNone result → (seed : ℕ) → IsSeed word.now seed → ⊥ }
+{
+    if word.starts_with('+') {
+        return None;
+    }
+    match word.parse::<u64>() {
+        Ok(seed) => Some(seed),
+        Err(_) => None,
+    }
+}
+
+/// The number of blocks that a word names.
+fn block_count_of(word: &str) -> Option<u32>
+    ensures some { IfSome result (λ count. IsBlockCount word.now count) }
+    ensures none { IsNone result → (count : ℕ) → IsBlockCount word.now count → ⊥ }
+{
+    if word.starts_with('+') {
+        return None;
+    }
+    match word.parse::<u32>() {
+        Ok(count) if 1 <= count && count <= MOST_BLOCKS => Some(count),
+        _ => None,
+    }
+}
+
+/// The words, where they are `gen SEED N`.
+pub(crate) fn gen_words(words: &[Text]) -> Option<GenWords>
+    ensures some { IfSome result (λ asked. IsGenWords words.now asked.seed asked.count) }
+    ensures none { IsNone result → (seed : ℕ) (count : ℕ) → IsGenWords words.now seed count → ⊥ }
+{
+    if words.len() != 3 || words[0].as_str() != "gen" {
+        return None;
+    }
+    match (
+        seed_of(words[1].as_str()),
+        block_count_of(words[2].as_str()),
+    ) {
+        (Some(seed), Some(count)) => Some(GenWords { seed, count }),
+        _ => None,
+    }
+}
+
+/// How a run of a generated script ended, and the summary of its record lines.
+#[derive(Debug, Drop)]
+struct GeneratedRun {
+    events: u64,
+    answer: Result<Ended, RunError>,
+    summary: Summary,
+}
+
+/// Runs a generated script over memory.
+fn run_generated(alloc: Global, script: Generated) -> Result<GeneratedRun, NoMemory>
+    ensures { IfOk result (λ run. IsRunOf script run.events run.summary run.answer) }
+{
+    let mut config = Config::default_in(alloc)?;
+    config.max_events = MOST_EVENTS;
+    let events = script.events();
+    let mut source = MemSource::new(script.into_text(), Vec::new(alloc));
+    let mut sink = MemSink::new(Vec::new(alloc), Vec::new(alloc));
+    let mut signer = ToySigner::new(alloc);
+    let verifier = ToyVerifier::new(alloc);
+    let answer = run_script(
+        alloc,
+        &config,
+        HOST,
+        PORT,
+        KNOWN,
+        &mut signer,
+        &verifier,
+        &mut source,
+        &mut sink,
+    );
+    Ok(GeneratedRun {
+        events,
+        answer,
+        summary: summary_of(sink.contents()),
+    })
+}
+
+/// The run of the script that the words ask for.
+fn run_asked(alloc: Global, asked: GenWords) -> Result<GeneratedRun, NoMemory>
+    requires { asked.count ≤ 100000 }
+    ensures { IfOk result (λ run. IsRunOf (generated asked.seed asked.count) run.events run.summary run.answer) }
+{
+    run_generated(alloc, generate(alloc, asked.seed, asked.count)?)
+}
+
+/// The lines that tell a run.
+fn run_lines(alloc: Global, run: &GeneratedRun) -> Result<String, NoMemory>
+    ensures { IfOk result (λ text. string_bytes text ≡ summary_lines run.now.events run.now.summary ++ answer_line run.now.answer) }
+{
+    let mut lines = summary_lines(alloc, run.events, &run.summary)?;
+    lines.push_str(answer_line(alloc, &run.answer)?.as_str())?;
+    Ok(lines)
+}
+
+/// Tells a run, and answers its status.
+fn tell_run<K: Sink>(alloc: Global, sink: &mut K, run: &GeneratedRun) -> u8
+    ensures adds { Adds (summary_lines run.now.events run.now.summary ++ answer_line run.now.answer) (status_of run.now.answer)
+        (K.contents sink.old) (K.contents sink.new) (K.faults sink.old) (K.faults sink.new) result }
+{
+    match run_lines(alloc, run) {
+        Ok(lines) => add_line(sink, lines.as_str(), status_of(&run.answer)),
+        Err(NoMemory) => NO_MEMORY_STATUS,
+    }
+}
+
+/// Runs the words `gen SEED N`.
+pub(crate) fn run_gen_words<K: Sink>(alloc: Global, asked: GenWords, sink: &mut K) -> u8
+    requires { asked.count ≤ 100000 }
+    ensures gives { GenGives asked.seed asked.count (K.contents sink.old) (K.contents sink.new) (K.faults sink.old) (K.faults sink.new) result }
+{
+    match run_asked(alloc, asked) {
+        Ok(run) => tell_run(alloc, sink, &run),
+        Err(NoMemory) => add_line(sink, "error no-memory\n", NO_MEMORY_STATUS),
+    }
+}

@@ -1,0 +1,10 @@
+//! The program's words that run scripts, and what is told of a run.
+#![tactic(auto)]
+
+mod gen_words;
+mod script_words;
+mod summary;
+mod told;
+mod words;
+
+pub use words::run_words;

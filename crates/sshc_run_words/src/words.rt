@@ -1,0 +1,79 @@
+//! The program's words: which of them ask for what.
+
+ghost use Rattle.std.specs.Prelude.{◌≡◌, ℕ, List, codes, ◌++◌, ◌∷◌, []};
+ghost use Rattle.sshc_run.specs.Outcome.{streams};
+ghost use Rattle.sshc_run.specs.RunFaults.{fault_counts};
+ghost use Rattle.sshc_run.specs.Words.{IsScriptWords, ScriptGives};
+ghost use Rattle.sshc_run_words.specs.GenWords.{IsGenWords, GenGives};
+ghost use Rattle.sshc_words.specs.Adding.{Adds};
+ghost use Rattle.sshc_words.specs.Asked.{Asked, Asks};
+ghost use Rattle.sshc_words.specs.HostsWords.{outside, AskedGives};
+
+use crate::gen_words::{gen_words, run_gen_words};
+use crate::script_words::{run_script_words, script_words};
+use sshc_key::{LocalSigner, Verifier};
+use sshc_wire::{Files, Sink, Source, Text};
+use sshc_words::{WORDS_STATUS, add_line, run_hosts_words};
+use std::alloc::Global;
+
+/// Runs words that are no script's: those of known hosts, or none that the program knows.
+fn run_other_words<F: Files, K: Sink>(
+    alloc: Global,
+    words: &[Text],
+    files: &mut F,
+    sink: &mut K,
+) -> u8
+    ensures hosts { (asked : Asked) → Asks words.now asked → AskedGives asked
+        (outside (F.contents files.old) (F.read_faults files.old) (F.append_faults files.old) (K.contents sink.old) (K.faults sink.old))
+        (outside (F.contents files.new) (F.read_faults files.new) (F.append_faults files.new) (K.contents sink.new) (K.faults sink.new)) result }
+    ensures other { ((asked : Asked) → Asks words.now asked → ⊥) → (F.contents files.new ≡ F.contents files.old)
+        × Adds (codes "error words" ++ 10 ∷ []) 2 (K.contents sink.old) (K.contents sink.new) (K.faults sink.old) (K.faults sink.new) result }
+{
+    match run_hosts_words(alloc, words, files, sink) {
+        Some(status) => status,
+        None => add_line(sink, "error words\n", WORDS_STATUS),
+    }
+}
+
+/// Runs the program by its words, and answers its status: 0 where the run ended or known hosts answered, 1 for an unknown
+/// key, 2 for words that it doesn't know, 3 for a known hosts file that is no text or can't be read, 4 for one that can't
+/// be added to, 5 for a word KEY that can't be read, and 20 to 40 for the errors of a run in their order.
+pub fn run_words<F: Files, S: Source, K: Sink, G: LocalSigner, V: Verifier>(
+    alloc: Global,
+    words: &[Text],
+    files: &mut F,
+    signer: &mut G,
+    verifier: &V,
+    source: &mut S,
+    sink: &mut K,
+) -> u8
+    // `script HOST PORT KNOWN`: the run, and the line that tells its answer.
+    ensures script { (host : List ℕ) (port : ℕ) (path : List ℕ) → IsScriptWords words.now host port path →
+        ScriptGives (V.accepts verifier.now) host port path (F.contents files.old)
+        (streams (S.left source.old) (K.contents sink.old) (S.reads source.old) (G.calls signer.old))
+        (streams (S.left source.new) (K.contents sink.new) (S.reads source.new) (G.calls signer.new))
+        (fault_counts (S.faults source.old) (K.faults sink.old)) (fault_counts (S.faults source.new) (K.faults sink.new))
+        (F.read_faults files.old) (F.read_faults files.new) result }
+    // The files are as they were: no script adds to a known hosts file.
+    ensures kept { (host : List ℕ) (port : ℕ) (path : List ℕ) → IsScriptWords words.now host port path → F.contents files.new ≡ F.contents files.old }
+    // `gen SEED N`: the run of the generated script over memory, told in a summary. The files are as they were, and nothing is read.
+    ensures generated { (seed : ℕ) (count : ℕ) → IsGenWords words.now seed count → (S.left source.new ≡ S.left source.old) × (F.contents files.new ≡ F.contents files.old)
+        × GenGives seed count (K.contents sink.old) (K.contents sink.new) (K.faults sink.old) (K.faults sink.new) result }
+    // `hosts check`, `hosts keys` and `hosts learn`: the answer of known hosts, told; nothing is read from the source.
+    ensures hosts { (asked : Asked) → Asks words.now asked → (S.left source.new ≡ S.left source.old) × AskedGives asked
+        (outside (F.contents files.old) (F.read_faults files.old) (F.append_faults files.old) (K.contents sink.old) (K.faults sink.old))
+        (outside (F.contents files.new) (F.read_faults files.new) (F.append_faults files.new) (K.contents sink.new) (K.faults sink.new)) result }
+    // Other words: nothing is read, and the files stay as they were.
+    ensures other { ((host : List ℕ) (port : ℕ) (path : List ℕ) → IsScriptWords words.now host port path → ⊥) →
+        ((seed : ℕ) (count : ℕ) → IsGenWords words.now seed count → ⊥) → ((asked : Asked) → Asks words.now asked → ⊥) →
+        (S.left source.new ≡ S.left source.old) × (F.contents files.new ≡ F.contents files.old)
+        × Adds (codes "error words" ++ 10 ∷ []) 2 (K.contents sink.old) (K.contents sink.new) (K.faults sink.old) (K.faults sink.new) result }
+{
+    match script_words(words) {
+        Some(asked) => run_script_words(alloc, &asked, files, signer, verifier, source, sink),
+        None => match gen_words(words) {
+            Some(asked) => run_gen_words(alloc, asked, sink),
+            None => run_other_words(alloc, words, files, sink),
+        },
+    }
+}
