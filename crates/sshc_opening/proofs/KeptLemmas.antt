@@ -35,12 +35,12 @@ use Rattle.sshc_opening.specs.Stepping.{Lent, GateAnswers, Adds, Answered, Judge
 -- ---- what was added
 
 -- the records that a gate added are answers to tickets
-record GateAdds (old mid : Outgoing) : Type 0 where
-  more : List Record
-  added : mid.records ≡ old.records ++ more
-  answers : AllByRecursion IsResolved more
+pub record GateAdds (old mid : Outgoing) : Type 0 where
+  pub more : List Record
+  pub added : mid.records ≡ old.records ++ more
+  pub answers : AllByRecursion IsResolved more
 
-nothing_added : (old mid : Outgoing) → mid ≡ old → GateAdds old mid
+pub nothing_added : (old mid : Outgoing) → mid ≡ old → GateAdds old mid
 nothing_added old mid same = record { more = []; added = ap (λ (o : Outgoing). o.records) same ∙ sym (append-nil old.records); answers = tt }
 
 by_gate : {E : Type 0} (tells : Result (Unit {0}) E → List Record → Type 0) (old mid : Outgoing) (told : Result Told E) → Tells tells old mid told → GateAdds old mid
@@ -52,7 +52,7 @@ by_verdict tells old mid told (Ok true) judged = by_gate tells old mid told judg
 by_verdict tells old mid told (Ok false) (is, same) = nothing_added old mid same
 by_verdict tells old mid told (Err e) (is, same) = nothing_added old mid same
 
-gate_adds : {E : Type 0} (gate : GateAnswers E) (event : Event) (old mid : Outgoing) (told : Result Told E) (wanted : Asks) → Answered gate (exchange_in event) old mid told wanted → GateAdds old mid
+pub gate_adds : {E : Type 0} (gate : GateAnswers E) (event : Event) (old mid : Outgoing) (told : Result Told E) (wanted : Asks) → Answered gate (exchange_in event) old mid told wanted → GateAdds old mid
 gate_adds gate event old mid told asking.Nothing (is, same) = nothing_added old mid same
 gate_adds gate event old mid told (asking.HostKey key) (verdict, judges, judged) = by_verdict (told_of gate (exchange_in event)) old mid told verdict judged
 gate_adds gate event old mid told asking.Exchange tells = by_gate (told_of gate (exchange_in event)) old mid told tells

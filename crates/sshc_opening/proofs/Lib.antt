@@ -4,4 +4,5 @@ mod CountedLemmas
 mod FaultLemmas
 mod StepLemmas
 mod KeptLemmas
+mod PasswordLemmas
 mod StandardFacts

@@ -13,6 +13,8 @@ pub mod AskedLaws
 pub mod SessionWords
 pub mod GateLaw
 pub mod KeepLaws
+pub mod Passwords
+pub mod PasswordLaw
 pub mod SignedRuns
 pub mod AskerLaw
 pub mod Promises

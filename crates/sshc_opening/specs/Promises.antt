@@ -6,6 +6,7 @@ use Rattle.sshc_opening.specs.declared.step.Step.{Step}
 use Rattle.sshc_opening.specs.declared.step.Told.{Told}
 use Rattle.sshc_opening.specs.Causes.{HasCause, HasGateCause}
 use Rattle.sshc_opening.specs.OpeningTable.{open_row}
+use Rattle.sshc_opening.specs.Passwords.{KeepsPasswords}
 use Rattle.sshc_opening.specs.Row.{Steps}
 use Rattle.sshc_opening.specs.SessionWords.{KeepsTo}
 use Rattle.sshc_opening.specs.Stepping.{Lent, LentGate, GateAnswers, span_of, gained, StaysClosed, StepsBy, SignerGrows, GateKeeps}
@@ -40,3 +41,5 @@ pub record Stepped {E : Type 0} (gate : GateAnswers E) (event : Event) (was is :
   pub keeps : GateKeeps was.refusals is.refusals was.setting is.setting
   -- the first exchange, the session id, what is signed, and whose request is stored
   pub laws : KeepsTo gate event was.rest is.rest result
+  -- how often a password is written
+  pub passwords : KeepsPasswords event was.rest is.rest

@@ -1,5 +1,6 @@
 use Rattle.sshc_opening.specs.Stepping.{gate_answers, lent}
 use Rattle.sshc_opening.proofs.KeptLemmas.{step_keeps}
+use Rattle.sshc_opening.proofs.PasswordLemmas.{step_passwords}
 use Rattle.sshc_opening.proofs.opening.Opening.step.Goals as goal
 
 pub returns : goal.returns
@@ -14,4 +15,5 @@ returns g c =
       signer = c.step_by_table.ensures.signer;
       keeps = c.step_by_table.ensures.keeps;
       laws = step_keeps gate c.args.event.now was is c.step_by_table.result c.step_by_table.ensures.closed c.step_by_table.ensures.row;
+      passwords = step_passwords gate c.args.event.now was is c.step_by_table.result c.step_by_table.ensures.closed c.step_by_table.ensures.row;
     }
