@@ -42,7 +42,7 @@ fn algorithm_name(key: &KeyData) -> Option<&str>
         KeyData::SkEd25519 { .. } => Some("sk-ssh-ed25519@openssh.com"),
         KeyData::Other { name, .. } => Some(name.as_str()),
         KeyData::Certificate(certificate) => {
-            let _ = &certificate.nonce;
+            let _ = certificate.is_certificate();
             None
         }
     }
@@ -53,10 +53,7 @@ fn is_certificate(key: &PublicKey) -> bool
     ensures { result ≡ is_certificate key.now.0 }
 {
     match &key.key {
-        KeyData::Certificate(certificate) => {
-            let _ = &certificate.nonce;
-            true
-        }
+        KeyData::Certificate(certificate) => certificate.is_certificate(),
         _ => false,
     }
 }
