@@ -1,16 +1,13 @@
 -- Base64 has only its symbols, so neither a space nor a line feed.
-use Rattle.std.proofs.Common.{◌≡◌, ℕ, zero, suc, Bool, true, false, List, [], ◌∷◌, Some, Ok, arith, length, get_or, replicate, refl, ap, ◌∙◌, inl, inr}
+use Rattle.std.proofs.Common.{◌≡◌, ℕ, zero, suc, Bool, true, false, List, [], ◌∷◌, length, get_or, replicate, refl, ap, ◌∙◌, inl, inr}
 use Rattle.std.specs.List.{list_all}
-use Rattle.std.specs.Prelude.{filter, ◌==◌, not, slice_index}
+use Rattle.std.specs.Prelude.{◌==◌, not, slice_index}
 use Rattle.std.proofs.lemmas.Bool.{cases_lt}
 use Rattle.std.proofs.lemmas.List.{get_or_past}
 use Rattle.std.proofs.lemmas.List.Sums.{AllPass-from_list_all}
 use Rattle.base64.specs.Rfc4648.{encode_symbols, padding_len}
-use Rattle.base64.specs.GeneralPurpose.{encode_of, decode_of}
+use Rattle.base64.specs.GeneralPurpose.{encode_of}
 use Rattle.base64.specs.Engines.{standard}
-use Rattle.sshc_key.specs.KeyGrammar.{Key, key_text}
-use Rattle.sshc_key.specs.KeyText.{is_no_line_end, decoded, decoded_key}
-use Rattle.sshc_key.specs.Nesting.{blob_key, key_or_fault}
 use Rattle.sshc_hosts.specs.Learning.{Lacks}
 use Rattle.sshc_hosts.proofs.LearningLemmas.{Lacks-nothing, Lacks-append, Lacks-cons}
 
@@ -59,31 +56,3 @@ base64_no_space m = base64_lacks m 32 refl refl (Lacks-from_test 32 standard.enc
 
 pub base64_no_line_feed : (m : List ℕ) → Lacks (encode_of standard m) 10
 base64_no_line_feed m = base64_lacks m 10 refl refl (Lacks-from_test 10 standard.encode_table refl)
-
-no_line_end : (b : ℕ) → (b == 13) ≡ false → (b == 10) ≡ false → is_no_line_end b ≡ true
-no_line_end b no_return no_feed = rw (no_return, no_feed) refl
-
-Lacks-head : (x : ℕ) (xs : List ℕ) (byte : ℕ) → Lacks (x ∷ xs) byte → (x == byte) ≡ false
-Lacks-head x xs byte none = none 0 0 (omega arith)
-
-Lacks-tail : (x : ℕ) (xs : List ℕ) (byte : ℕ) → Lacks (x ∷ xs) byte → Lacks xs byte
-Lacks-tail x xs byte none k d within = none (suc k) d (omega arith)
-
--- base64 has no line ends, so that all of it is kept
-kept_all : (xs : List ℕ) → Lacks xs 13 → Lacks xs 10 → filter is_no_line_end xs ≡ xs
-kept_all [] no_return no_feed = refl
-kept_all (x ∷ xs) no_return no_feed =
-    let kept : is_no_line_end x ≡ true = no_line_end x (Lacks-head x xs 13 no_return) (Lacks-head x xs 10 no_feed) in
-    rw kept (ap (λ (rest : List ℕ). x ∷ rest) (kept_all xs (Lacks-tail x xs 13 no_return) (Lacks-tail x xs 10 no_feed)))
-
-base64_no_carriage_return : (m : List ℕ) → Lacks (encode_of standard m) 13
-base64_no_carriage_return m = base64_lacks m 13 refl refl (Lacks-from_test 13 standard.encode_table refl)
-
--- a key is read from the base64 of its blob
-pub decoded_key-base64 : (key : Key) → decode_of standard (encode_of standard (key_text key)) ≡ Ok (key_text key) → blob_key (key_text key) ≡ Some key
-    → decoded_key (encode_of standard (key_text key)) ≡ Ok key
-unfolding decoded_key
-decoded_key-base64 key back is_read =
-    let text : List ℕ = encode_of standard (key_text key) in
-    ap (λ t. decoded (decode_of standard t)) (kept_all text (base64_no_carriage_return (key_text key)) (base64_no_line_feed (key_text key)))
-    ∙ ap (λ bytes. decoded bytes) back ∙ ap key_or_fault is_read

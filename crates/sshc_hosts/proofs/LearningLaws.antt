@@ -5,19 +5,17 @@ use Rattle.std.specs.List.{cons_option}
 use Rattle.std.proofs.lemmas.Bool.{false_from_ne_true}
 use Rattle.std.proofs.lemmas.List.{append-nil}
 use Rattle.std.proofs.lemmas.Slice.Eq.{bytes_eq-Decides}
-use Rattle.sshc_key.specs.KeyGrammar.{Key, key_name, key_text, Fits}
+use Rattle.sshc_key.specs.KeyGrammar.{Key, key_name, key_text}
 use Rattle.sshc_hosts.specs.MatchingLines.{parts_at, line_key, matching}
 use Rattle.sshc_hosts.specs.Judgement.{is_certificate, read_lines, known_keys, judged_by, judged}
 use Rattle.sshc_key.specs.KeyText.{decoded_key}
 use Rattle.sshc_hosts.specs.Learning.{Lacks, IsLearnable, ends_line, added_line, once_learned, learned, IsLearnableKey, Learns}
 use Rattle.sshc_hosts.specs.HostText.{host_text}
 use Rattle.base64.specs.Engines.{standard}
-use Rattle.base64.specs.GeneralPurpose.{encode_of, decode_of, IsBytes}
-use Rattle.base64.proofs.EngineFacts.{decode_of-encode_of}
-use Rattle.sshc_key.specs.Algorithms.{commented_text, openssh_text}
-use Rattle.sshc_key.specs.Nesting.{blob_key, markers}
-use Rattle.std.proofs.Common.{append_assoc, subst, ◌≤◌}
-use Rattle.sshc_hosts.proofs.Base64Lemmas.{base64_no_space, base64_no_line_feed, decoded_key-base64}
+use Rattle.base64.specs.GeneralPurpose.{encode_of}
+use Rattle.sshc_key.specs.Algorithms.{commented_text, key_base64, openssh_text}
+use Rattle.std.proofs.Common.{append_assoc, subst}
+use Rattle.sshc_hosts.proofs.Base64Lemmas.{base64_no_space, base64_no_line_feed}
 use Rattle.sshc_hosts.proofs.NameLemmas.{name_no_space, name_no_line_feed}
 use Rattle.sshc_hosts.proofs.LineLemmas.{matching-added, added_number}
 use Rattle.sshc_hosts.proofs.LearningLemmas.{line_key-learned, Lacks-append, Lacks-cons, last_field, field_before, IsLearnable-host_text}
@@ -83,8 +81,8 @@ learned_line host key fit good =
     let fields = comment_fields field key.1 (base64_no_space (key_text key.0)) in
     record {
       learnable = fit;
-      name_space = name_no_space key.0 good.no_certificate good.fits;
-      name_line_feed = name_no_line_feed key.0 good.no_certificate good.fits;
+      name_space = name_no_space key.0 good.fits;
+      name_line_feed = name_no_line_feed key.0 good.fits;
       rest_line_feed = Lacks-append field (commented_text key.1) 10 (base64_no_line_feed (key_text key.0)) (comment_line key.1 good.one_line);
       later = fields.0;
       fields = fields.1;
@@ -95,25 +93,16 @@ line_text host key comment = simp append_assoc
 
 -- learning a key for a host at a port
 pub learns : (old host : List ℕ) (port : ℕ) (key : Key × List ℕ) → port < 2 ^ 64 → IsLearnable host → IsLearnableKey key
-    → IsBytes (key_text key.0) → blob_key (key_text key.0) ≡ Some key.0
-    → Learns old (learned old (host_text host port) key) (host_text host port) key.0
+    → decoded_key (key_base64 key.0) ≡ Ok key.0 → Learns old (learned old (host_text host port) key) (host_text host port) key.0
 unfolding learned judged known_keys
-learns old host port key short fit good bytes is_read =
+learns old host port key short fit good is_read =
     let text : List ℕ = host_text host port in
     let line : IsLearnedLine text (key_name key.0) (encode_of standard (key_text key.0)) (encode_of standard (key_text key.0) ++ commented_text key.1) =
     learned_line text key (IsLearnable-host_text host port short fit) good in
-    let back : decode_of standard (encode_of standard (key_text key.0)) ≡ Ok (key_text key.0) = decode_of-encode_of standard (key_text key.0) refl bytes in
     let parts : host_text host port ++ 32 ∷ openssh_text key.0 key.1 ≡ text ++ 32 ∷ (key_name key.0 ++ 32 ∷ (encode_of standard (key_text key.0) ++ commented_text key.1)) =
     line_text text key.0 key.1 in
     subst (λ (whole : List ℕ). Learns old (added_line old whole) text key.0) (sym parts)
     (record {
-      accepted = learned_is_accepted old text (key_name key.0) _ _ key.0 line good.no_certificate (decoded_key-base64 key.0 back is_read);
+      accepted = learned_is_accepted old text (key_name key.0) _ _ key.0 line good.no_certificate is_read;
       others = λ other k apart. ap (λ found. judged_by (read_lines found) k) (learning_touches_no_other old other text (key_name key.0) _ _ line apart);
     })
-
--- where nothing follows what was written
-pub nothing_follows : (key : Key) (blob : List ℕ) → blob ≡ key_text key → ((rest : List ℕ) → Fits key → markers (blob ++ rest) ≤ 8 → blob_key (blob ++ rest) ≡ Some key)
-    → Fits key → markers (key_text key) ≤ 8 → blob_key (key_text key) ≡ Some key
-nothing_follows key blob same again fits few =
-    let whole : blob ++ [] ≡ key_text key = append-nil blob ∙ same in
-    subst (λ (b : List ℕ). blob_key b ≡ Some key) whole (again [] fits (subst (λ (b : List ℕ). markers b ≤ 8) (sym whole) few))

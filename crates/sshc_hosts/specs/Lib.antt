@@ -5,3 +5,4 @@ pub mod Judgement
 pub mod HostsFile
 pub mod Learning
 pub mod SaidRefusals
+pub mod Acceptance

@@ -1,6 +1,6 @@
 //! Whether a host key is one that the matching lines record.
 
-ghost use Rattle.std.specs.Prelude.{◌≡◌, option_copied, option_map, find, map, IfErr};
+ghost use Rattle.std.specs.Prelude.{◌≡◌, true, option_copied, option_map, find, map, IfErr};
 ghost use Rattle.std.specs.List.{list_any};
 ghost use Rattle.sshc_key.specs.View.{view};
 ghost use Rattle.sshc_key.specs.KeyEq.{key_eq};
@@ -8,6 +8,7 @@ ghost use Rattle.sshc_key.specs.AlgorithmNames.{kind_name};
 ghost use Rattle.sshc_key.specs.declared.kind.Kind.TheVariants.{Known};
 ghost use Rattle.sshc_key.specs.declared.kind.Known.TheVariants.{Ecdsa};
 ghost use Rattle.sshc_hosts.specs.Judgement.{is_certificate, algorithm_name, same_algorithm, contradicts, has_key, judged_among, read_lines, known_keys, judged, IsUnreadable, IsRefusal};
+ghost use Rattle.sshc_hosts.specs.Acceptance.{IsAcceptedBy};
 ghost use Rattle.sshc_key.specs.Gives.{GivesAll};
 ghost use Rattle.sshc_key.specs.KeyText.{decoded_key};
 ghost use Rattle.sshc_key.specs.Nesting.{Parses};
@@ -42,7 +43,7 @@ fn algorithm_name(key: &KeyData) -> Option<&str>
         KeyData::SkEd25519 { .. } => Some("sk-ssh-ed25519@openssh.com"),
         KeyData::Other { name, .. } => Some(name.as_str()),
         KeyData::Certificate(certificate) => {
-            let _ = &certificate.nonce;
+            let _ = certificate.is_certificate();
             None
         }
     }
@@ -53,10 +54,7 @@ fn is_certificate(key: &PublicKey) -> bool
     ensures { result ≡ is_certificate key.now.0 }
 {
     match &key.key {
-        KeyData::Certificate(certificate) => {
-            let _ = &certificate.nonce;
-            true
-        }
+        KeyData::Certificate(certificate) => certificate.is_certificate(),
         _ => false,
     }
 }
@@ -158,6 +156,8 @@ pub fn judge_text(
     key: &PublicKey,
 ) -> Result<bool, Error>
     ensures verdict { GivesAll (λ accepted. accepted) result (judged text.now (host_text host.now port) key.now.0) }
+    // A key is accepted where each matching line can be read, none contradicts it and one has it.
+    ensures accepted { result ≡ Ok true → IsAcceptedBy text.now (host_text host.now port) key.now.0 }
     ensures refusal { IfErr result IsRefusal }
 {
     if is_certificate(key) {

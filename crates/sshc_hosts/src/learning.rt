@@ -1,15 +1,11 @@
 //! What is added to a known hosts text where a key is learned.
 
-ghost use Rattle.std.specs.Prelude.{◌≡◌, ◌++◌, ◌∷◌, ◌≤◌, IfOk, Some, string_bytes};
+ghost use Rattle.std.specs.Prelude.{◌≡◌, ◌++◌, ◌∷◌, IfOk};
 ghost use Rattle.sshc_hosts.specs.Learning.{ends_line, line_feed_after, added_line, learned, IsLearnable, IsLearnableKey, Learns};
 ghost use Rattle.sshc_hosts.specs.HostText.{host_text};
-ghost use Rattle.base64.specs.GeneralPurpose.{IsBytes};
-ghost use Rattle.sshc_key.specs.KeyGrammar.{key_text, Fits};
-ghost use Rattle.sshc_key.specs.Algorithms.{openssh_text};
-ghost use Rattle.sshc_key.specs.Nesting.{markers, blob_key};
 
 use crate::host::host_text;
-use sshc_key::{PublicKey, PublicKeyBase64};
+use sshc_key::PublicKey;
 use sshc_wire::{NoMemory, Text};
 use std::alloc::Global;
 
@@ -38,23 +34,6 @@ fn added_line(alloc: Global, old: &str, host: &str, key: &str) -> Result<Text, N
     Text::from_string(format!(in alloc; "{line_feed}{host} {key}\n")?)
 }
 
-/// Tells proofs that the numbers in a slice of bytes are bytes.
-fn holds_bytes(_bytes: &[u8])
-    ensures { IsBytes _bytes.now }
-{}
-
-/// The key as OpenSSH writes it. Its blob is made once more, since that call tells that the key is read again from it.
-#[tactic(auto, using(crate::proofs::LearningLaws::nothing_follows))]
-fn written(key: &PublicKey) -> Result<String, NoMemory>
-    ensures text { IfOk result (λ t. string_bytes t ≡ openssh_text key.now.0 key.now.1) }
-    ensures bytes { IfOk result (λ _. IsBytes (key_text key.now.0)) }
-    ensures again { IfOk result (λ _. Fits key.now.0 → markers (key_text key.now.0) ≤ 8 → blob_key (key_text key.now.0) ≡ Some key.now.0) }
-{
-    let blob = key.public_key_bytes()?;
-    holds_bytes(&blob);
-    key.to_openssh()
-}
-
 /// What is added to a known hosts text where the key is learned for the host at the port: a line of its own.
 pub fn learn_text(
     alloc: Global,
@@ -67,6 +46,6 @@ pub fn learn_text(
     ensures law { IsLearnable host.now → IsLearnableKey key.now → IfOk result (λ t. Learns old.now t (host_text host.now port) key.now.0) }
 {
     let host = host_text(alloc, host, port)?;
-    let key = written(key)?;
+    let key = key.to_openssh()?;
     added_line(alloc, old, host.as_str(), key.as_str())
 }

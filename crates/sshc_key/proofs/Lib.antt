@@ -1,5 +1,6 @@
 mod Pairs
 mod FieldLemmas
 mod LineLemmas
+mod WrittenLines
 mod StandardFacts
 mod Levels

@@ -32,7 +32,7 @@ parts_found p cs es c none is =
     let within : nat_lt (length cs) (length (cs ++ (c ∷ es))) ≡ true = grind (arith, nat_tests) in
     rw (first_place p cs es c none is, within, take-append_seam cs (c ∷ es), drop-append-add cs (c ∷ es) 1)
 
-no_parts : (p : ℕ → Bool) (cs : List ℕ) → NonePass p cs → at_first p cs ≡ None
+pub no_parts : (p : ℕ → Bool) (cs : List ℕ) → NonePass p cs → at_first p cs ≡ None
 no_parts p cs none =
     let beyond : nat_lt (length cs) (length cs) ≡ false = grind (arith, nat_tests) in
     rw (no_place p cs none, beyond)
@@ -51,7 +51,7 @@ unfolding at_white_space
 white_space_none text utf8 (cs, spells, none) =
     rw (← chars_from_encodes cs text utf8 spells, no_parts is_whitespace cs none)
 
-parts_of_chars : (text cs es : List ℕ) (c : ℕ) (front back : List ℕ) → chars text ≡ cs ++ (c ∷ es) → NonePass is_whitespace cs → is_whitespace c ≡ true
+pub parts_of_chars : (text cs es : List ℕ) (c : ℕ) (front back : List ℕ) → chars text ≡ cs ++ (c ∷ es) → NonePass is_whitespace cs → is_whitespace c ≡ true
     → encode_utf8_all cs ≡ front → encode_utf8_all es ≡ back → at_white_space text ≡ Some (front, back)
 unfolding at_white_space
 parts_of_chars text cs es c front back parts none is before behind = rw (parts, parts_found is_whitespace cs es c none is, before, behind)

@@ -1,9 +1,9 @@
 -- The standards' own examples, computed: the integers of RFC 4251, section 5, and names of algorithms.
 use Rattle.std.proofs.Common.{◌≡◌, ℕ, List, [], ◌∷◌, ◌++◌, true, false, Some, None, refl}
 use Rattle.std.specs.Prelude.{codes}
-use Rattle.sshc_wire.specs.Wire.{string_text, u32_text}
+use Rattle.sshc_wire.specs.Wire.{string_text}
 use Rattle.sshc_wire.specs.declared.hash_alg.HashAlg.TheVariants.{Sha256, Sha512}
-use Rattle.sshc_key.specs.AlgorithmNames.{kind_name, certificate_name, parted}
+use Rattle.sshc_key.specs.AlgorithmNames.{certificate_name, parted}
 use Rattle.sshc_key.specs.declared.kind.Known.TheVariants as known
 use Rattle.sshc_key.specs.declared.kind.Kind.TheVariants as kinds
 use Rattle.sshc_key.specs.KeyGrammar.{ed25519, is_mpint, key_text, plain, rsa}

@@ -42,6 +42,15 @@ pub data Key : Type 0 where
   plain : Plain → Key
   certificate : List ℕ → Key → Statement → Key → Signature → Key
 
+-- the key is a certificate of these parts
+pub record IsCertificate (key : Key) : Type 0 where
+  pub nonce : List ℕ
+  pub certified : Key
+  pub says : Statement
+  pub signer : Key
+  pub signature : Signature
+  pub is : key ≡ certificate nonce certified says signer signature
+
 -- what a certificate says
 abbrev pub said : Key → Option Statement
 said (plain k) = None

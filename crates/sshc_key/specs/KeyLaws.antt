@@ -6,6 +6,7 @@ pub mod Keys
 pub mod Markers
 pub mod Blobs
 pub mod Base64
+pub mod Words
 pub mod Pairs
 -- The bridge between reading keys and the key grammar: what is read is just what the grammar has, and what is written is read
 -- again. These laws are said of lists of bytes; the calls' clauses say the same of what the calls return.

@@ -19,6 +19,7 @@ pub mod KeyWriting
 pub mod PairGrammar
 pub mod Algorithms
 pub mod KeyFiles
+pub mod KeyLines
 pub mod AgentKeys
 pub mod RequestNames
 pub mod KeyLaws

@@ -63,10 +63,7 @@ impl KeyData {
                 g: g2,
                 y: y2,
             } => p == p2 && q == q2 && g == g2 && y == y2,
-            KeyData::Certificate(certificate) => {
-                let _ = &certificate.nonce;
-                false
-            }
+            KeyData::Certificate(certificate) => !certificate.is_certificate(),
             _ => false,
         }
     }
@@ -79,10 +76,7 @@ impl KeyData {
                 curve: curve2,
                 point: point2,
             } => curve == *curve2 && point == point2,
-            KeyData::Certificate(certificate) => {
-                let _ = &certificate.nonce;
-                false
-            }
+            KeyData::Certificate(certificate) => !certificate.is_certificate(),
             _ => false,
         }
     }
@@ -92,10 +86,7 @@ impl KeyData {
     {
         match self {
             KeyData::Ed25519 { public: public2 } => public == public2,
-            KeyData::Certificate(certificate) => {
-                let _ = &certificate.nonce;
-                false
-            }
+            KeyData::Certificate(certificate) => !certificate.is_certificate(),
             _ => false,
         }
     }
@@ -105,10 +96,7 @@ impl KeyData {
     {
         match self {
             KeyData::Rsa { e: e2, n: n2 } => e == e2 && n == n2,
-            KeyData::Certificate(certificate) => {
-                let _ = &certificate.nonce;
-                false
-            }
+            KeyData::Certificate(certificate) => !certificate.is_certificate(),
             _ => false,
         }
     }
@@ -121,10 +109,7 @@ impl KeyData {
                 point: point2,
                 application: application2,
             } => point == point2 && application == application2,
-            KeyData::Certificate(certificate) => {
-                let _ = &certificate.nonce;
-                false
-            }
+            KeyData::Certificate(certificate) => !certificate.is_certificate(),
             _ => false,
         }
     }
@@ -137,10 +122,7 @@ impl KeyData {
                 public: public2,
                 application: application2,
             } => public == public2 && application == application2,
-            KeyData::Certificate(certificate) => {
-                let _ = &certificate.nonce;
-                false
-            }
+            KeyData::Certificate(certificate) => !certificate.is_certificate(),
             _ => false,
         }
     }
@@ -153,10 +135,7 @@ impl KeyData {
                 name: name2,
                 body: body2,
             } => name == name2 && body == body2,
-            KeyData::Certificate(certificate) => {
-                let _ = &certificate.nonce;
-                false
-            }
+            KeyData::Certificate(certificate) => !certificate.is_certificate(),
             _ => false,
         }
     }

@@ -75,7 +75,7 @@ impl PrivateKeyWithHashAlg {
                 self.key.public.comment.allocator(),
             )),
             KeyData::Certificate(certificate) => {
-                let _ = &certificate.nonce;
+                let _ = certificate.is_certificate();
                 Algorithm::Other(Text::new(self.key.public.comment.allocator()))
             }
         }
@@ -100,7 +100,7 @@ fn hash_for(key: &KeyData, hash: Option<HashAlg>) -> Option<HashAlg>
     match key {
         KeyData::Rsa { .. } => hash,
         KeyData::Certificate(certificate) => {
-            let _ = &certificate.nonce;
+            let _ = certificate.is_certificate();
             None
         }
         _ => None,

@@ -1,5 +1,8 @@
 //! Public keys and certificates as values (RFC 4253, section 6.6; OpenSSH's PROTOCOL.certkeys).
 
+ghost use Rattle.std.specs.Prelude.{IsTrue};
+ghost use Rattle.sshc_key.specs.KeyGrammar.{IsCertificate};
+
 use crate::algorithm::EcdsaCurve;
 use crate::signature::Signature;
 use sshc_wire::{List, Octets, Text};
@@ -69,6 +72,17 @@ pub struct Certificate {
     pub reserved: Octets,
     pub signature_key: KeyData,
     pub signature: Signature,
+}
+
+impl Certificate {
+    /// That this is a certificate and no plain key, which a contract knows only once it was asked.
+    pub fn is_certificate(&self) -> bool
+        ensures yes { IsTrue result }
+        ensures parts { IsCertificate self.now }
+    {
+        let _nonce = &self.nonce;
+        true
+    }
 }
 
 impl Model for Certificate {

@@ -38,7 +38,7 @@ fn certificate_of(alloc: Global, name: &str, key: &PublicKey) -> Result<Certific
     let own = key.key.name(alloc)?;
     match &key.key {
         KeyData::Certificate(certificate) => {
-            let _ = &certificate.nonce;
+            let _ = certificate.is_certificate();
             if own.as_str() != name {
                 return Err(Error::SshKey);
             }

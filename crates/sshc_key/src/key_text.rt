@@ -3,6 +3,7 @@
 ghost use Rattle.std.specs.Prelude.{◌≡◌, ◌↔◌, ◌≤◌, ◌++◌, ℕ, List, Some, Ok, filter, IfOk, OnOk, string_bytes};
 ghost use Rattle.sshc_key.specs.Algorithms.{algorithm_of, key_base64, commented_text, openssh_text};
 ghost use Rattle.sshc_key.specs.KeyGrammar.{Key, key_text, Fits};
+ghost use Rattle.sshc_key.specs.KeyLines.{IsLineKey, IsLoadedFrom, IsReadAgain};
 ghost use Rattle.sshc_key.specs.KeyText.{IsKeyText, is_no_line_end, decoded_key};
 ghost use Rattle.sshc_key.specs.Nesting.{Parses, IsReadable, markers, blob_key, key_or_fault};
 
@@ -108,7 +109,7 @@ impl PublicKey {
             KeyData::SkEd25519 { .. } => Ok(Algorithm::SkEd25519),
             KeyData::Other { name, .. } => Ok(Algorithm::Other(name.copy()?)),
             KeyData::Certificate(certificate) => {
-                let _ = &certificate.nonce;
+                let _ = certificate.is_certificate();
                 Ok(Algorithm::Other(self.key.name(self.comment.allocator())?))
             }
         }
@@ -116,7 +117,11 @@ impl PublicKey {
 
     /// The key as a line of a key file.
     pub fn to_openssh(&self) -> Result<String, NoMemory>
-        ensures { IfOk result (λ t. string_bytes t ≡ openssh_text self.now.0 self.now.1) }
+        ensures text { IfOk result (λ t. string_bytes t ≡ openssh_text self.now.0 self.now.1) }
+        // The key is read again from the line's base64.
+        ensures base64 { IfOk result (λ _. IsReadAgain self.now.0) }
+        // Whoever loads a file that holds just the line reads the key again, with its comment.
+        ensures again { IfOk result (λ t. IsLineKey self.now → IsLoadedFrom self.now (string_bytes t)) }
     {
         let name = self.key.name(self.comment.allocator())?;
         let base64 = self.public_key_base64()?;

@@ -27,10 +27,7 @@ fn is_plain_key(key: &KeyData) -> bool
     ensures { result ≡ is_plain (view key.now) }
 {
     match key {
-        KeyData::Certificate(certificate) => {
-            let _ = &certificate.nonce;
-            false
-        }
+        KeyData::Certificate(certificate) => !certificate.is_certificate(),
         _ => true,
     }
 }
@@ -64,7 +61,7 @@ fn certificate_in_key(key: KeyData) -> Result<Certificate, EventError>
 {
     match key {
         KeyData::Certificate(certificate) => {
-            let _ = &certificate.nonce;
+            let _ = certificate.is_certificate();
             Ok(Box::into_inner(certificate))
         }
         _plain => Err(EventError::Bad),

@@ -52,7 +52,7 @@ pub(super) fn put_fields(out: &mut Vec<u8>, key: &KeyData) -> Result<(), NoMemor
         KeyData::Other { body, .. } => put_bytes(out, body.as_slice()),
         // It is outside the grammar, and has no fields of its own there.
         KeyData::Certificate(certificate) => {
-            let _ = &certificate.nonce;
+            let _ = certificate.is_certificate();
             Ok(())
         }
     }

@@ -125,7 +125,7 @@ impl KeyData {
         match self {
             KeyData::Rsa { .. } => Text::from_str(alloc, rsa_certificate_name(hash_alg)),
             KeyData::Certificate(certificate) => {
-                let _ = &certificate.nonce;
+                let _ = certificate.is_certificate();
                 let kind = certificate.public_key.kind()?;
                 kind.certificate_name(alloc)
             }

@@ -28,7 +28,7 @@ fn put_dsa_pair(out: &mut Vec<u8>, key: &KeyData, x: &Octets) -> Result<(), NoMe
             put_bytes(out, x.as_slice())
         }
         KeyData::Certificate(certificate) => {
-            let _ = &certificate.nonce;
+            let _ = certificate.is_certificate();
             Ok(())
         }
         _ => Ok(()),
@@ -46,7 +46,7 @@ fn put_ecdsa_pair(out: &mut Vec<u8>, key: &KeyData, d: &Octets) -> Result<(), No
             put_bytes(out, d.as_slice())
         }
         KeyData::Certificate(certificate) => {
-            let _ = &certificate.nonce;
+            let _ = certificate.is_certificate();
             Ok(())
         }
         _ => Ok(()),
@@ -63,7 +63,7 @@ fn put_ed25519_pair(out: &mut Vec<u8>, key: &KeyData, private: &Octets) -> Resul
             put_bytes(out, private.as_slice())
         }
         KeyData::Certificate(certificate) => {
-            let _ = &certificate.nonce;
+            let _ = certificate.is_certificate();
             Ok(())
         }
         _ => Ok(()),
@@ -95,7 +95,7 @@ fn put_rsa_pair(
             put_three(out, iqmp, p, q)
         }
         KeyData::Certificate(certificate) => {
-            let _ = &certificate.nonce;
+            let _ = certificate.is_certificate();
             Ok(())
         }
         _ => Ok(()),

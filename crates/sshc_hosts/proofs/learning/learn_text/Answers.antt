@@ -27,5 +27,5 @@ returns-clause-text c =
 pub returns-clause-law : goal.returns-clause-law
 returns-clause-law c fit good =
     law_of (λ t. Learns c.args.old.now t (host_text c.args.host.now c.args.port) c.args.key.now.0) _ _
-    (learns c.args.old.now c.args.host.now c.args.port c.args.key.now (omega arith) fit good c.in_ok-key.ensures.bytes (let again = c.in_ok-key.ensures.again good.fits good.nesting in again))
+    (learns c.args.old.now c.args.host.now c.args.port c.args.key.now (omega arith) fit good (let again = c.in_ok-key.ensures.base64 good.fits good.nesting in again))
     (returns-clause-text c)
