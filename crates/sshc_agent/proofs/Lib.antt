@@ -3,3 +3,5 @@ mod Asked
 pub mod Constrained
 mod Stepped
 mod Fronts
+pub mod Listable
+mod Short

@@ -1,6 +1,6 @@
 -- The keys that an agent holds, in the order of their adding: plain data. No two have one blob, since a key that is held
 -- already keeps its place.
-use Rattle.std.specs.Prelude.{ℕ, ◌+◌, ◌*◌, ◌-◌, ◌^◌, min, Bool, false, not, nat_le, List, [], ◌∷◌, ◌++◌, length, filter, find, position, slice_set, sum_by, bytes_eq, Option, Some, None, if◌then◌else◌}
+use Rattle.std.specs.Prelude.{ℕ, ◌+◌, ◌*◌, ◌-◌, ◌^◌, ◌≤◌, min, Bool, false, not, nat_le, List, [], ◌∷◌, ◌++◌, length, filter, find, position, slice_set, sum_by, bytes_eq, Option, Some, None, if◌then◌else◌}
 use Rattle.std.specs.Option.{is_some}
 use Rattle.sshc_wire.specs.Wire.{counted_text, string_text}
 use Rattle.sshc_agent.specs.declared.key_list.HeldKey.{HeldKey}
@@ -48,6 +48,10 @@ listed key = length key.blob + 8
 -- the listing with such a key in it has at most the bytes of a frame
 abbrev pub has_room : List HeldKey → List ℕ → Bool
 has_room keys blob = nat_le ((if is_some (held keys blob) then 5 else length blob + 13) + sum_by listed keys) MAX_AGENT_FRAME_LEN
+
+-- the listing of the keys has at most the bytes of a frame
+abbrev pub AreListable : List HeldKey → Type 0
+AreListable keys = 5 + sum_by listed keys ≤ MAX_AGENT_FRAME_LEN
 
 -- the moment and the seconds behind it, in milliseconds; at the end of its type it stands still
 abbrev pub deadline_of : ℕ → Option ℕ → Option ℕ

@@ -5,6 +5,7 @@ pub mod Connections
 pub mod AgentList
 pub mod Turn
 pub mod AgentTable
+pub mod AnswerBytes
 pub mod AgentFrames
 pub mod FrameLaws
 pub mod AgentHistory

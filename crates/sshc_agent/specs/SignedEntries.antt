@@ -1,7 +1,7 @@
 -- An entry has a signature only where its step may sign: the agent isn't locked, the request is a signature's, its key is held and hasn't expired, and
 -- where the key wants it, the entry is the yes to this connection's own question (draft-miller-ssh-agent, section 3.6).
 -- Said of any cut of a history into what came before the entry, it, and what came after.
-use Rattle.std.proofs.Common.{◌≡◌, ℕ, Bool, List, [], ◌∷◌, ◌++◌, Option, Some, None, refl, sym, ◌∙◌, ap}
+use Rattle.std.proofs.Common.{◌≡◌, ℕ, Bool, List, [], ◌∷◌, ◌++◌, Some, refl, sym, ◌∙◌, ap}
 use Rattle.sshc_key.specs.Signers.{SignCall}
 use Rattle.sshc_agent.specs.declared.entry.Entry.{Entry}
 use Rattle.sshc_agent.specs.AgentHistory.{IsEntry, IsPermitted, Leads, signature_in}

@@ -4,7 +4,7 @@ ghost use Rattle.std.specs.Prelude.{◌≡◌, IfOk};
 ghost use Rattle.std.specs.Option.{is_some};
 ghost use Rattle.sshc_agent.specs.AgentList.{aged, empty_list};
 ghost use Rattle.sshc_agent.specs.AgentTable.{asked_turn, frame_turn, is_refused, key_answer_turn, message_turn, request_answer_turn, tested_turn};
-ghost use Rattle.sshc_agent.specs.KeyList.{listing};
+ghost use Rattle.sshc_agent.specs.KeyList.{AreListable, listing};
 ghost use Rattle.sshc_agent.specs.Connections.{awaits_in, standing_of};
 ghost use Rattle.sshc_agent.specs.Turn.{Follows, answered};
 
@@ -40,6 +40,7 @@ pub struct AgentCore {
 
 impl Model for AgentCore {
     ghost use Rattle.sshc_agent.specs.AgentList.{AgentList};
+    ghost use Rattle.sshc_agent.specs.KeyList.{AreListable};
     ghost use Rattle.std.specs.Coded.{codes};
     ghost use Rattle.sshc_key.specs.PairCode.{key_pair_code};
 
@@ -48,10 +49,13 @@ impl Model for AgentCore {
     ghost coded = { Prim.hlevel (codes, key_pair_code) };
 
     ghost view = { λ a. record { asks = a.asks; latest = a.latest; keys = a.keys; passphrase = a.passphrase; conns = a.conns } };
+
+    ghost invariant = { λ a. AreListable a.keys };
 }
 
 impl AgentCore {
     /// No keys and no lock. Where it asks, the user is asked about each request.
+    #[tactic(auto, using(crate::proofs::Listable::none_listable))]
     pub fn new(alloc: Global, asks: bool) -> AgentCore
         ensures { result ≡ empty_list asks }
     {
@@ -207,7 +211,15 @@ impl AgentCore {
         self.confirmed(whole)
     }
 
+    /// The listing of the keys has at most the bytes of a frame.
+    fn is_listable(&self)
+        ensures { AreListable self.now.keys }
+    {
+        let _keys = &self.keys;
+    }
+
     /// The moment counts, unless an earlier one was greater, and keys whose deadline has come go.
+    #[tactic(auto, using(crate::proofs::Listable::unexpired_listable))]
     fn age(&mut self, now: u64)
         ensures { self.new ≡ aged now self.old }
     {

@@ -142,7 +142,7 @@ impl AgentCore {
         AgentOutput::Closed(Cause::Unreadable)
     }
 
-    #[tactic(auto, using(crate::proofs::Asked::signed, crate::proofs::Asked::signed_out, crate::proofs::Asked::quiet_out, crate::specs::SignerLists::grew_one, crate::specs::SignerLists::grew_same))]
+    #[tactic(auto, using(crate::proofs::Asked::signed, crate::proofs::Asked::signed_out, crate::proofs::Asked::quiet_out, crate::specs::SignerLists::grew_signed, crate::specs::SignerLists::grew_refused, crate::specs::SignerLists::grew_same))]
     fn ask_signer<G: LocalSigner>(
         &mut self,
         conn: u32,

@@ -1,10 +1,11 @@
 //! One step of the agent.
 
-ghost use Rattle.std.specs.Prelude.{◌≡◌, ◌∷◌, ◌++◌, List, ℕ, IfOk, IsSome, None, OnErr, OnOk, Some, false, if◌then◌else◌};
+ghost use Rattle.std.specs.Prelude.{◌≡◌, ◌≤◌, ◌+◌, ◌∷◌, ◌++◌, List, ℕ, IfOk, IsSome, None, OnErr, OnOk, Some, false, if◌then◌else◌};
 ghost use Rattle.sshc_key.specs.Signers.{SignCall, since};
 ghost use Rattle.sshc_agent.specs.AgentHistory.{IsPermitted, KeepsLock, KeepsRefused};
 ghost use Rattle.sshc_agent.specs.AgentList.{aged, seen, standing};
 ghost use Rattle.sshc_agent.specs.AgentTable.{Finishes, Steps, frame_turn, is_shut, key_answer_turn, request_answer_turn, seen_row, standing_row, turned};
+ghost use Rattle.sshc_agent.specs.AnswerBytes.{answer_bytes};
 ghost use Rattle.sshc_agent.specs.Connections.{is_new, standing_of, without};
 ghost use Rattle.sshc_agent.specs.SignerLists.{Grew};
 ghost use Rattle.sshc_agent.specs.Turn.{FollowsBy, IsTakeable};
@@ -14,6 +15,7 @@ use super::AgentCore;
 use super::turn::Turn;
 use crate::connections::Standing;
 use crate::input::{AgentInput, AgentOutput, Cause};
+use crate::msg::MAX_AGENT_FRAME_LEN;
 use sshc_key::LocalSigner;
 use sshc_wire::{NoMemory, Octets};
 
@@ -37,7 +39,10 @@ impl AgentCore {
         ensures locked { (p : List ℕ) → self.old.passphrase ≡ Some p → KeepsLock p now conn input.now self.old self.new (since (G.calls signer.old) (G.calls signer.new)) result }
         // A signature needs an unlocked agent, a key that is held and not expired, and where the key wants it a confirmation.
         ensures signed { (call : SignCall) (calls : List SignCall) → since (G.calls signer.old) (G.calls signer.new) ≡ call ∷ calls → IsPermitted now conn input.now self.old call.by call.key }
+        // An answer has at most the bytes of a frame and its length.
+        ensures short { answer_bytes result ≤ MAX_AGENT_FRAME_LEN + 4 }
     {
+        self.is_listable();
         self.row(now, conn, input, signer)
     }
 

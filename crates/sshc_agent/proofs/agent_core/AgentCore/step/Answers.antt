@@ -1,5 +1,7 @@
 use Rattle.sshc_agent.specs.LockLaws.{step_locked}
 use Rattle.sshc_agent.specs.SignLaws.{step_permits}
+use Rattle.sshc_agent.specs.SignerLists.{grew_short}
+use Rattle.sshc_agent.proofs.Short.{step_short}
 use Rattle.sshc_agent.proofs.agent_core.AgentCore.step.Goals as goal
 
 pub returns-clause-locked : goal.returns-clause-locked
@@ -7,3 +9,6 @@ returns-clause-locked g c = λ p is. step_locked p _ _ _ _ _ _ _ c.row.ensures.r
 
 pub returns-clause-signed : goal.returns-clause-signed
 returns-clause-signed g c = λ call calls is. step_permits _ _ _ _ _ _ _ call calls c.row.ensures.row is
+
+pub returns-clause-short : goal.returns-clause-short
+returns-clause-short g c = step_short _ _ _ _ _ _ _ c.row.ensures.row c.is_listable.ensures (grew_short _ _ c.row.ensures.grew)
