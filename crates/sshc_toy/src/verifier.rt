@@ -25,7 +25,7 @@ fn is_own_name(alloc: Global, key: &KeyData, name: &str) -> Result<bool, NoMemor
             Ok(name == "ssh-rsa" || name == "rsa-sha2-256" || name == "rsa-sha2-512")
         }
         KeyData::Certificate(certificate) => {
-            let _ = &certificate.nonce;
+            let _ = certificate.is_certificate();
             Ok(false)
         }
         _ => {
