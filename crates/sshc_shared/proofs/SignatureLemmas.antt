@@ -1,5 +1,5 @@
 -- An answer holds a signature just where the signer gave one: by cases on each row once.
-use Rattle.std.proofs.Common.{◌≡◌, ℕ, Bool, true, false, cond, List, [], ◌∷◌, drop, Option, Some, None, Result, Ok, Err, refl, ap, subst, ◌∙◌, inl, inr}
+use Rattle.std.proofs.Common.{◌≡◌, ℕ, Bool, true, false, cond, List, [], ◌∷◌, Option, Some, None, Result, Ok, Err, refl, ap, subst, ◌∙◌, inl, inr}
 use Rattle.std.specs.Int.{w32}
 use Rattle.std.specs.Option.{is_some}
 use Rattle.std.specs.Prelude.{◌==◌}
@@ -8,7 +8,6 @@ use Rattle.sshc_wire.specs.declared.message_type.MessageType.{MessageType}
 use Rattle.sshc_wire.specs.declared.message_type.MessageType.TheVariants as messages
 use Rattle.sshc_wire.specs.Format.{made_at}
 use Rattle.sshc_wire.specs.Reads.{number_at, string_at, text_at}
-use Rattle.sshc_wire.specs.Wire.{string_text, u32_text}
 use Rattle.sshc_key.specs.declared.error.Error.{Error}
 use Rattle.sshc_key.specs.KeyGrammar.{key_text}
 use Rattle.sshc_key.specs.PairCode.{KeyPair}

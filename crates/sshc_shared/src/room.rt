@@ -1,84 +1,88 @@
 //! Room that is made before a step, so that no copy of its answer fails for lack of memory.
 
-ghost use Rattle.std.specs.Prelude.{◌≡◌, ◌<◌, ◌^◌, ℕ, IfOk, IsSome, OnOk, drop, length, vec_capacity, vec_len};
+ghost use Rattle.std.specs.Prelude.{◌≡◌, ◌<◌, ◌≤◌, ℕ, IfOk, IsSome, OnOk, drop, length, vec_capacity, vec_len};
 ghost use Rattle.std.specs.BTreeMap.{get};
 ghost use Rattle.std.specs.Ordering.{nat_cmp};
+ghost use Rattle.sshc_agent.specs.AnswerBytes.{answer_bytes};
 ghost use Rattle.sshc_shared.specs.Calls.{call_of, entry_of, signature_at, signature_of};
 ghost use Rattle.sshc_shared.specs.Counting.{count_in};
 
 use crate::call::Call;
 use crate::counts::Counts;
-use sshc_agent::msg::{MAX_AGENT_FRAME_LEN, SIGN_RESPONSE};
+use sshc_agent::msg::SIGN_RESPONSE;
 use sshc_agent::{AgentInput, AgentOutput, Entry};
 use sshc_wire::{NoMemory, Octets};
 use std::alloc::Global;
-use std::sync::Wait;
+use std::mem;
 
 /// The bytes of a frame's length.
 const LENGTH_BYTES: usize = 4;
 
-/// What an entry and a call need beside the step.
+/// The most bytes that an answer has: those of a frame, and its length.
+const ANSWER_BYTES: usize = 262_148;
+
+/// A buffer for each copy of an answer, which a copy takes where no other memory is found for it.
 #[derive(Drop)]
-pub(crate) struct Room {
-    theirs: AgentInput,
+pub(crate) struct Rooms {
     signature: Vec<u8>,
     kept: Vec<u8>,
     told: Vec<u8>,
 }
 
-/// Room for the greatest answer that the input can have.
-fn room_for(alloc: Global, input: &AgentInput) -> Result<Vec<u8>, NoMemory> {
-    match input {
-        AgentInput::Oversize { .. } | AgentInput::Close => Ok(Vec::new(alloc)),
-        _ => Ok(Vec::with_capacity(alloc, MAX_AGENT_FRAME_LEN as usize + LENGTH_BYTES)?),
-    }
+/// Makes room for the greatest answer, if the buffer has none.
+fn make_room(buffer: &mut Vec<u8>) -> Result<(), NoMemory>
+    ensures { OnOk result (262148 ≤ vec_capacity buffer.new) }
+{
+    buffer.clear();
+    buffer.reserve(ANSWER_BYTES)?;
+    Ok(())
 }
 
-/// A copy, once there is memory for it.
-fn copied_later<R: Wait>(rt: &R, alloc: Global, bytes: &[u8]) -> Octets
-    requires { length bytes.now < 2 ^ 32 }
+/// The buffer with these bytes in it, for which it has room.
+fn filled(buffer: Vec<u8>, bytes: &[u8]) -> Octets
+    requires room { length bytes.now ≤ vec_capacity buffer }
+    requires short { length bytes.now ≤ 262148 }
     ensures { result ≡ bytes.now }
 {
-    for _ in rt.forever() {
-        if let Ok(copy) = Octets::from_slice(alloc, bytes) {
-            return copy;
-        }
+    let mut buffer = buffer;
+    buffer.clear();
+    if buffer.extend_from_slice(bytes).is_ok() {
+        return Octets::from_short(buffer);
     }
     unreachable!()
 }
 
-/// A copy that is just as large as the bytes are, or in the room. Bytes that the room can't hold wait for memory.
-fn copied<R: Wait>(rt: &R, room: Vec<u8>, bytes: &[u8]) -> Octets
-    requires { length bytes.now < 2 ^ 32 }
+/// A copy that is just as large as the bytes are, or in the buffer.
+fn copied(buffer: &mut Vec<u8>, bytes: &[u8]) -> Octets
+    requires room { 262148 ≤ vec_capacity buffer.old }
+    requires short { length bytes.now ≤ 262148 }
     ensures { result ≡ bytes.now }
 {
-    let alloc = *room.allocator();
+    let alloc = *buffer.allocator();
     if let Ok(copy) = Octets::from_slice(alloc, bytes) {
         return copy;
     }
-    let mut room = room;
-    room.clear();
-    if room.extend_from_slice(bytes).is_ok() {
-        return Octets::from_short(room);
-    }
-    copied_later(rt, alloc, bytes)
+    filled(mem::replace(buffer, Vec::new(alloc)), bytes)
 }
 
-fn output_in<R: Wait>(rt: &R, room: Vec<u8>, output: &AgentOutput) -> AgentOutput
+fn output_in(buffer: &mut Vec<u8>, output: &AgentOutput) -> AgentOutput
+    requires room { 262148 ≤ vec_capacity buffer.old }
+    requires short { answer_bytes output.now ≤ 262148 }
     ensures { result ≡ output.now }
 {
     match output {
-        AgentOutput::Answer(frame) => AgentOutput::Answer(copied(rt, room, frame.as_slice())),
+        AgentOutput::Answer(frame) => AgentOutput::Answer(copied(buffer, frame.as_slice())),
         AgentOutput::AskRequest(message) => AgentOutput::AskRequest(*message),
-        AgentOutput::AskKey(blob) => AgentOutput::AskKey(copied(rt, room, blob.as_slice())),
+        AgentOutput::AskKey(blob) => AgentOutput::AskKey(copied(buffer, blob.as_slice())),
         AgentOutput::Nothing => AgentOutput::Nothing,
         AgentOutput::Closed(cause) => AgentOutput::Closed(*cause),
     }
 }
 
 /// The signature in a frame without its length, if it is one of type 14.
-fn signature_at<R: Wait>(rt: &R, room: Vec<u8>, body: &[u8]) -> Option<Octets>
-    requires { length body.now < 2 ^ 32 }
+fn signature_at(buffer: &mut Vec<u8>, body: &[u8]) -> Option<Octets>
+    requires room { 262148 ≤ vec_capacity buffer.old }
+    requires short { length body.now ≤ 262148 }
     ensures { result ≡ signature_at body.now }
 {
     match body {
@@ -87,7 +91,7 @@ fn signature_at<R: Wait>(rt: &R, room: Vec<u8>, body: &[u8]) -> Option<Octets>
             if *number != SIGN_RESPONSE {
                 return None;
             }
-            Some(copied(rt, room, behind(rest, LENGTH_BYTES)))
+            Some(copied(buffer, behind(rest, LENGTH_BYTES)))
         }
     }
 }
@@ -104,28 +108,40 @@ fn behind(bytes: &[u8], count: usize) -> &[u8]
 }
 
 /// The signature that an answer holds.
-fn signature_in<R: Wait>(rt: &R, room: Vec<u8>, output: &AgentOutput) -> Option<Octets>
+fn signature_in(buffer: &mut Vec<u8>, output: &AgentOutput) -> Option<Octets>
+    requires room { 262148 ≤ vec_capacity buffer.old }
+    requires short { answer_bytes output.now ≤ 262148 }
     ensures { result ≡ signature_of output.now }
 {
     match output {
-        AgentOutput::Answer(frame) => {
-            signature_at(rt, room, behind(frame.as_slice(), LENGTH_BYTES))
-        }
+        AgentOutput::Answer(frame) => signature_at(buffer, behind(frame.as_slice(), LENGTH_BYTES)),
         _ => None,
     }
 }
 
-impl Room {
-    /// Makes the room that a call with this input can need: for an entry, a call and their bytes.
-    pub(crate) fn new(
-        alloc: Global,
+impl Rooms {
+    ghost use Rattle.sshc_shared.specs.Rooms.{AreMade};
+
+    /// No room yet.
+    pub(crate) fn new(alloc: Global) -> Rooms {
+        Rooms {
+            signature: Vec::new(alloc),
+            kept: Vec::new(alloc),
+            told: Vec::new(alloc),
+        }
+    }
+
+    /// Makes the room that a call with this input needs for an entry, a call and their bytes, and copies the input.
+    pub(crate) fn make(
+        &mut self,
         input: &AgentInput,
         conn: u32,
         journal: &mut Vec<Entry>,
         calls: &mut Vec<Call>,
         counts: &mut Counts,
-    ) -> Result<Room, NoMemory>
-        ensures theirs { IfOk result (λ r. r.theirs ≡ input.now) }
+    ) -> Result<AgentInput, NoMemory>
+        ensures input { IfOk result (λ theirs. theirs ≡ input.now) }
+        ensures rooms { OnOk result (AreMade self.new) }
         ensures journal { journal.new.items ≡ journal.old.items }
         ensures journal_room { OnOk result (vec_len journal.new < vec_capacity journal.new) }
         ensures calls { calls.new.items ≡ calls.old.items }
@@ -136,46 +152,40 @@ impl Room {
         journal.reserve(1)?;
         calls.reserve(1)?;
         counts.open(conn)?;
-        Ok(Room {
-            theirs: input.copy()?,
-            signature: room_for(alloc, input)?,
-            kept: room_for(alloc, input)?,
-            told: room_for(alloc, input)?,
-        })
+        make_room(&mut self.signature)?;
+        make_room(&mut self.kept)?;
+        make_room(&mut self.told)?;
+        input.copy()
     }
 
-    /// The entry and the call of an answer.
-    pub(crate) fn entries<R: Wait>(
-        self,
-        rt: &R,
+    /// The entry and the call of an answer; `theirs` is a copy of the input.
+    pub(crate) fn entries(
+        &mut self,
         conn: u32,
         number: u32,
         moment: u64,
         input: AgentInput,
+        theirs: AgentInput,
         output: &AgentOutput,
     ) -> (Entry, Call)
-        requires same { self.theirs ≡ input }
+        requires made { AreMade self.old }
+        requires short { answer_bytes output.now ≤ 262148 }
+        requires same { theirs ≡ input }
         ensures entry { result.0 ≡ entry_of conn number moment input output.now }
         ensures call { result.1 ≡ call_of moment input output.now }
     {
-        let Room {
-            theirs,
-            signature,
-            kept,
-            told,
-        } = self;
         let entry = Entry {
             conn,
             number,
             moment,
             input,
-            signature: signature_in(rt, signature, output),
-            output: output_in(rt, kept, output),
+            signature: signature_in(&mut self.signature, output),
+            output: output_in(&mut self.kept, output),
         };
         let call = Call {
             moment,
             input: theirs,
-            output: output_in(rt, told, output),
+            output: output_in(&mut self.told, output),
         };
         (entry, call)
     }

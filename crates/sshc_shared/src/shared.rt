@@ -60,7 +60,7 @@ impl<L: Ledger> AgentShared<L> {
         ensures seen { IfErr result.1 (λ e. RefusalSeen seat e) }
     {
         let mut state = self.state.lock(rt);
-        let (seat, result) = state.call(rt, seat, now, input, signer);
+        let (seat, result) = state.call(seat, now, input, signer);
         state.is_legal();
         (seat, result)
     }

@@ -8,14 +8,13 @@ ghost use Rattle.sshc_shared.specs.Kept.{Adds, IsHistoryOf, due, new_seat, refus
 use crate::call::frame_length;
 use crate::counts::Counts;
 use crate::error::CallRefused;
-use crate::room::Room;
+use crate::room::Rooms;
 use crate::seat::Seat;
 use sshc_agent::{AgentCore, AgentInput, AgentOutput, Entry};
 use sshc_key::LocalSigner;
 use sshc_wire::NoMemory;
 use std::alloc::Global;
 use std::marker::{Model, PhantomData};
-use std::sync::Wait;
 use std::sync::ledger::{Blank, Book, Ledger, Share};
 
 /// What a seat weighs in the journal, and what an entry weighs beside its frame.
@@ -42,6 +41,7 @@ pub struct AgentState<L: Ledger> {
     pub(crate) book: Book<L>,
     pub(crate) spare: Share<L>,
     pub(crate) whole: Whole<L>,
+    pub(crate) rooms: Rooms,
 }
 
 impl<L: Ledger> Model for AgentState<L> {
@@ -78,6 +78,7 @@ impl<L: Ledger> AgentState<L> {
             book,
             spare,
             whole: Whole { of: PhantomData },
+            rooms: Rooms::new(alloc),
         }
     }
 
@@ -112,9 +113,8 @@ impl<L: Ledger> AgentState<L> {
     }
 
     /// One step of the agent, with its entry in the journal and its call in the seat.
-    fn try_call<G: LocalSigner, R: Wait>(
+    fn try_call<G: LocalSigner>(
         &mut self,
-        rt: &R,
         seat: &mut Seat<L>,
         now: u64,
         input: AgentInput,
@@ -140,18 +140,18 @@ impl<L: Ledger> AgentState<L> {
         if left < heavy || left - heavy < ENTRY_WEIGHT {
             return Err(CallRefused::JournalFull);
         }
-        let Ok(room) = Room::new(
-            self.alloc,
+        let Ok(theirs) = self.rooms.make(
             &input,
             conn,
             &mut self.journal,
             &mut seat.calls,
             &mut self.counts,
-        ) else {
+        )
+        else {
             return Err(CallRefused::NoMemory);
         };
         let output = self.agent.step(now, conn, &input, signer);
-        let (entry, call) = room.entries(rt, conn, kept, now, input, &output);
+        let (entry, call) = self.rooms.entries(conn, kept, now, input, theirs, &output);
         self.journal.push_reserved(entry);
         seat.calls.push_reserved(call);
         self.counts.raise(conn);
@@ -162,9 +162,8 @@ impl<L: Ledger> AgentState<L> {
 
     /// Takes an input of the seat's connection at a moment in milliseconds: one step of the agent, with its entry in the
     /// journal and its call in the seat. A refused call changes nothing but the seat's count of such calls.
-    pub fn call<G: LocalSigner, R: Wait>(
+    pub fn call<G: LocalSigner>(
         &mut self,
-        rt: &R,
         seat: Seat<L>,
         now: u64,
         input: AgentInput,
@@ -177,7 +176,7 @@ impl<L: Ledger> AgentState<L> {
         ensures unasked { OnErr result.1 (G.calls signer.new ≡ G.calls signer.old) }
     {
         let mut seat = seat;
-        match self.try_call(rt, &mut seat, now, input, signer) {
+        match self.try_call(&mut seat, now, input, signer) {
             Ok(output) => (seat, Ok(output)),
             Err(refused) => {
                 seat.refuse();

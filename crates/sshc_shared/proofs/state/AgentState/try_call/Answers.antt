@@ -12,12 +12,12 @@ overflow_cast-result g c =
     omega (arith, c.audit.ensures.bound, c.seat.invariant.1, c.len-own.ensures, k.book, k.weighs, k.within, entries_weigh c.self.inside.made c.self.inside.journal.items, c.self.ranges)
 
 pub invariant_of-self-in_default : goal.invariant_of-self-in_default
-invariant_of-self-in_default g c = kept_same _ _ _ _ _ _ _ _ _ _ _ _ _ c.self.invariant c.new.ensures.journal c.new.ensures.counts c.audit.ensures.total
+invariant_of-self-in_default g c = kept_same _ _ _ _ _ _ _ _ _ _ _ _ _ c.self.invariant c.make.ensures.journal c.make.ensures.counts c.audit.ensures.total
 
 pub raise-requires-clause-fits : goal.raise-requires-clause-fits
 raise-requires-clause-fits g c =
     let k = c.self.invariant in
-    omega (arith, c.new.ensures.counts c.seat.inside.conn, k.counted c.seat.inside.conn, count_at_most c.seat.inside.conn c.self.inside.journal.items, k.weighs, k.within, entries_weigh c.self.inside.made c.self.inside.journal.items, c.self.ranges)
+    omega (arith, c.make.ensures.counts c.seat.inside.conn, k.counted c.seat.inside.conn, count_at_most c.seat.inside.conn c.self.inside.journal.items, k.weighs, k.within, entries_weigh c.self.inside.made c.self.inside.journal.items, c.self.ranges)
 
 pub invariant_of-self-2 : goal.invariant_of-self-2
 invariant_of-self-2 g c =
@@ -25,8 +25,8 @@ invariant_of-self-2 g c =
     kept_push _ _ _ _ _ _ _ _ _ _ _ _ _ _ _ _ _ _ _ _ _ k
     (c.at-kept.ensures ∙ k.counted c.seat.inside.conn)
     c.step-output.ensures.row
-    (c.push_reserved.ensures.items ∙ (λ i. c.new.ensures.journal i ++ c.entries-entry.ensures.entry i ∷ []))
-    (λ q. c.raise.ensures q ∙ ap (λ (n : ℕ). n + (if c.seat.inside.conn == q then 1 else 0)) (c.new.ensures.counts q))
+    (c.push_reserved.ensures.items ∙ (λ i. c.make.ensures.journal i ++ c.entries-entry.ensures.entry i ∷ []))
+    (λ q. c.raise.ensures q ∙ ap (λ (n : ℕ). n + (if c.seat.inside.conn == q then 1 else 0)) (c.make.ensures.counts q))
     (omega (arith, c.add.ensures.total, c.audit.ensures.total))
     (omega (arith, c.frame_length-heavy.ensures))
     (omega (arith, c.if-left-heavy.false, c.if-left-heavy-lt-ENTRY_WEIGHT.false))
@@ -36,14 +36,14 @@ returns-clause-ok g c =
     let k = c.self.invariant in
     let conn = c.seat.inside.conn in
     let own : c.at-kept.result ≡ length c.seat.inside.calls.items = omega (arith, c.if-own-kept.false, c.len-own.ensures) in
-    let calls = c.push_reserved-2.ensures.items ∙ (λ i. c.new.ensures.calls i ++ c.entries-entry.ensures.call i ∷ []) in
+    let calls = c.push_reserved-2.ensures.items ∙ (λ i. c.make.ensures.calls i ++ c.entries-entry.ensures.call i ∷ []) in
     let parts = c.add.ensures.parts ∙ c.audit.ensures.parts in
     let amount = c.add.ensures.amount ∙ ap (λ (n : ℕ). n + 1) c.audit.ensures.amount in
     rw (← c.self.view_is, ← c.seat.view_is)
     (record {
       numbered = sym own ∙ (c.at-kept.ensures ∙ k.counted conn);
       step = c.step-output.ensures.row;
-      journal = c.push_reserved.ensures.items ∙ ((λ i. c.new.ensures.journal i ++ c.entries-entry.ensures.entry i ∷ [])
+      journal = c.push_reserved.ensures.items ∙ ((λ i. c.make.ensures.journal i ++ c.entries-entry.ensures.entry i ∷ [])
           ∙ ap (λ (n : ℕ). c.self.inside.journal.items ++ entry_of conn n c.args.now c.args.input c.step-output.result ∷ []) own);
       asks = refl;
       made = refl;
