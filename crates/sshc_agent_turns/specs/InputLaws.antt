@@ -9,7 +9,7 @@ use Rattle.sshc_wire.specs.Reads.{number_at}
 use Rattle.sshc_agent.specs.declared.input.AgentInput.{AgentInput}
 use Rattle.sshc_agent.specs.declared.input.AgentInput.TheVariants.{Frame, Oversize}
 use Rattle.sshc_agent.specs.declared.msg.TheConstants.{MAX_AGENT_FRAME_LEN}
-use Rattle.sshc_agent.specs.AgentFrames.{FrameBytes, GivesAll, framed_by, framed_in, next_in, pushed}
+use Rattle.sshc_agent.specs.AgentFrames.{FrameBytes, Gives, GivesAll, framed_by, framed_in, next_in, pushed}
 use Rattle.sshc_agent.specs.FrameLaws.{number_by, one_list, pieces}
 use Rattle.sshc_agent_turns.specs.AgentTurns.{Taken, and_then, inputs_of, most, rest_of, taken_by, taken_in}
 
@@ -118,6 +118,23 @@ inputs_in_pieces s a b =
     let both = pieces s (rest_of (pushed s a)) (rest_of (pushed (rest_of (pushed s a)) b)) a b (inputs_of (pushed s a)) (inputs_of (pushed (rest_of (pushed s a)) b)) one two in
     one_list (pushed s (a ++ b)) (rest_of (pushed s (a ++ b))) (rest_of (pushed (rest_of (pushed s a)) b)) (inputs_of (pushed s (a ++ b))) (inputs_of (pushed s a) ++ inputs_of (pushed (rest_of (pushed s a)) b))
     (gives_inputs (pushed s (a ++ b))) both
+
+-- what is left behind the same inputs is the same
+same_rest : (s t u : FrameBytes) (inputs : List AgentInput) → Gives s inputs t → Gives s inputs u → t ≡ u
+same_rest s t u [] one two = sym one ∙ two
+same_rest s t u (input ∷ inputs) one two =
+    let is = some_is (input, one.0) (input, two.0) (sym one.1 ∙ two.1) in
+    same_rest one.0 t u inputs one.2 (subst (λ (v : FrameBytes). Gives v inputs u) (sym (ap (λ (p : AgentInput × FrameBytes). p.1) is)) two.2)
+
+-- and so are the bytes that are left
+pub rest_in_pieces : (s : FrameBytes) (a b : List ℕ) → rest_of (pushed s (a ++ b)) ≡ rest_of (pushed (rest_of (pushed s a)) b)
+rest_in_pieces s a b =
+    let left : FrameBytes = rest_of (pushed s a) in
+    let one = gives_inputs (pushed s a) in
+    let two = gives_inputs (pushed left b) in
+    let both = pieces s left (rest_of (pushed left b)) a b (inputs_of (pushed s a)) (inputs_of (pushed left b)) one two in
+    same_rest (pushed s (a ++ b)) (rest_of (pushed s (a ++ b))) (rest_of (pushed left b)) (inputs_of (pushed s (a ++ b))) (gives_inputs (pushed s (a ++ b))).gives
+    (subst (λ (inputs : List AgentInput). Gives (pushed s (a ++ b)) inputs (rest_of (pushed left b))) (sym (inputs_in_pieces s a b)) both.gives)
 
 -- ---- the same, as laws
 
