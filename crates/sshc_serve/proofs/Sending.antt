@@ -24,6 +24,7 @@ use Rattle.sshc_agent.specs.contracts.agent_core.AgentCore as AgentCore
 use Rattle.sshc_shared.specs.contracts.state.AgentState as AgentState
 use Rattle.sshc_shared.specs.contracts.shared.AgentShared as AgentShared
 use Rattle.sshc_shared.specs.contracts.seat.Seat as Seat
+use Rattle.sshc_shared.specs.contracts.room.Rooms as Rooms
 use Rattle.sshc_shared.proofs.call.Call.TheSendSync as call
 use Rattle.sshc_serve.specs.contracts.seats.Seats as Seats
 use Rattle.sshc_serve.specs.contracts.server.Server as Server
@@ -47,9 +48,12 @@ keys_send = let h = held_send in search (sendable, crosses) depth 20 fits 20000
 core_send : IsSend AgentCore.the_row
 core_send = let k = keys_send in search (connections.the_send, octets.the_send, sendable, crosses) depth 20 fits 20000
 
+rooms_send : IsSend (Rooms.the_field).row
+rooms_send = search (sendable, crosses) depth 20 fits 20000
+
 module _ (L : RattleType) (g : Ghosts L.Denot) (l : IsSend L) where
   state_send : IsSend (AgentState.the_row L g)
-  state_send = let c = core_send in search (book.the_send, share.the_send, entry.the_field_send, sendable, crosses, maps.crosses) depth 20 fits 20000
+  state_send = let c = core_send in let r = rooms_send in search (book.the_send, share.the_send, entry.the_field_send, sendable, crosses, maps.crosses) depth 24 fits 20000
 
   pub shared_sync : IsSync (AgentShared.the_row L g)
   shared_sync = let s = state_send in search (sendable, crosses) depth 20 fits 20000
