@@ -196,6 +196,7 @@ stepped_with told_as judges accepts event was is r r2 setting setting2 result sa
     handed = step.laws.handed;
     request = step.laws.request;
   };
+  passwords = step.passwords;
 }
 
 pub lent_with : {E : Type 0} (told_as : Error → E) (judges : PublicKeyOrCertificate → Result Bool E → Type 0) (accepts : Bool) (event : Event) (s t : SessionState) (calls calls2 : List SignCall) (refusals refusals2 r r2 : ℕ) (setting setting2 : List (List ℕ)) (result : Step E) →

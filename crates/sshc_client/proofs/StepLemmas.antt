@@ -190,6 +190,7 @@ shut_stepped gate event s out calls calls2 x r r2 setting setting2 e fresh same 
     handed = ([], sym (append-nil out.records), tt);
     request = inl (refl, inl refl);
   };
+  passwords = record { fits = λ fits has. fits; written = λ fits has user password short. ([], sym (append-nil out.records), omega arith) };
 }
 
 shut_so : {E : Type 0} (gate : GateAnswers E) (event : Event) (s : SessionState) (calls calls2 : List SignCall) (x r r2 : ℕ) (setting setting2 : List (List ℕ)) (e : E) → s.opening.closed ≡ false → calls2 ≡ calls → GateKeeps r r2 setting setting2 →
