@@ -1,0 +1,3 @@
+mod DealingLemmas
+mod PickingLemmas
+mod TakingLemmas

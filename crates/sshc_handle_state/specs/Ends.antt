@@ -1,0 +1,7 @@
+-- Ends that hold words of the server's.
+use Rattle.sshc_opening.specs.declared.ended.Ended.{Ended}
+use Rattle.sshc_opening.specs.declared.ended.Ended.TheVariants.{RemoteDisconnect}
+
+abbrev pub IsRemote : Ended → Type 0
+IsRemote (RemoteDisconnect info) = Unit {0}
+IsRemote ended = ⊥

@@ -1,0 +1,64 @@
+-- What the threads of a handle share, as plain data.
+use Rattle.std.specs.Prelude.{ℕ, Bool, false, List, [], ◌∷◌, ◌++◌, Option, Some, None, map}
+use Rattle.sshc_wire.specs.declared.channel_id.ChannelId.{ChannelId}
+use Rattle.sshc_wire.specs.declared.ticket.Ticket.{Ticket}
+use Rattle.sshc_key.specs.declared.agent.AgentSessionBinding.{AgentSessionBinding}
+use Rattle.sshc_event.specs.declared.event.Event.{Event}
+use Rattle.sshc_moves.specs.SessionState.{SessionState}
+use Rattle.sshc_session.specs.Start.{new_session}
+use Rattle.sshc_client.specs.declared.config.Config.{Config}
+use Rattle.sshc_client.specs.Configured.{session_settings_of, settings_of}
+use Rattle.sshc_tickets.specs.Tickets.{TicketState, dropped}
+use Rattle.sshc_handle_state.specs.declared.end.End.{End}
+use Rattle.sshc_handle_state.specs.declared.timers.Timers.{Timers}
+
+pub record HandleAt : Type 0 where
+  pub session : SessionState
+  pub submitted : List Event  -- the events that no turn has taken yet, the oldest first
+  pub tickets : TicketState  -- the tickets whose answer is due, and the records that are held
+  pub prompts : Option Ticket  -- the ticket of the login with prompts that was begun last
+  pub binding : Option AgentSessionBinding  -- the first exchange's host key, session id and signature
+  pub remote_sshid : List ℕ  -- the peer's version line (RFC 4253, section 4.2)
+  pub timers : Timers
+  pub failed : Bool  -- a call of the transport has failed
+  pub end : Option End  -- how the session has ended
+
+abbrev pub no_tickets : TicketState
+no_tickets = record { due = []; held = []; closed = []; last = 0 }
+
+abbrev pub new_timers : Config → Timers
+new_timers c = record { inactivity_timeout = c.inactivity_timeout; keepalive_interval = c.keepalive_interval; heard = None; beat = 0 }
+
+-- a new session; nothing is submitted, open or held
+abbrev pub new_handle : Config → List ℕ → HandleAt
+new_handle c sshid = record {
+  session = new_session (session_settings_of c) (settings_of c);
+  submitted = [];
+  tickets = no_tickets;
+  prompts = None;
+  binding = None;
+  remote_sshid = sshid;
+  timers = new_timers c;
+  failed = false;
+  end = None;
+}
+
+-- ---- submitting
+
+-- a ticket is open behind the others
+abbrev pub with_ticket : Ticket → TicketState → TicketState
+with_ticket ticket t = record t { due = t.due ++ ticket ∷ []; last = ticket.0 }
+
+-- an event stands behind the others
+abbrev pub with_event : Event → HandleAt → HandleAt
+with_event event s = record s { submitted = s.submitted ++ event ∷ [] }
+
+-- ---- ending
+
+-- each open ticket is answered as dropped
+abbrev pub all_dropped : TicketState → TicketState
+all_dropped t = record t { due = []; held = t.held ++ map dropped t.due }
+
+-- the session has ended so, and nobody waits for an answer any more
+abbrev pub ended_with : End → HandleAt → HandleAt
+ended_with end s = record s { tickets = all_dropped s.tickets; end = Some end }

@@ -1,0 +1,14 @@
+-- The code by which proofs tell such states apart; nothing else depends on it.
+use Rattle.std.specs.Coded.{Coded, codes}
+use Rattle.sshc_key.specs.KeyCode.{key_code}
+use Rattle.sshc_key.specs.PairCode.{key_pair_code}
+use Rattle.sshc_opening.specs.StateCode.{method_code}
+use Rattle.sshc_session.specs.StateCode.{session_code}
+use Rattle.sshc_event.specs.declared.event.Event.{Event}
+use Rattle.sshc_handle_state.specs.HandleAt.{HandleAt}
+
+pub event_code : Coded Event
+event_code = hlevel (codes, key_code, key_pair_code, method_code)
+
+pub handle_code : Coded HandleAt
+handle_code = hlevel (codes, event_code, session_code)

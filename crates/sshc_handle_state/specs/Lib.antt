@@ -1,0 +1,10 @@
+pub mod Asked
+pub mod Clocks
+pub mod Dealing
+pub mod Ends
+pub mod HandleAt
+pub mod HandleCode
+pub mod Picking
+pub mod Submission
+pub mod Submitting
+pub mod Turning

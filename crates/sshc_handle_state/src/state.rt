@@ -1,0 +1,282 @@
+//! What the threads of a handle share.
+
+ghost use Rattle.std.specs.Prelude.{◌≡◌, ◌<◌, ◌++◌, Some, IfOk, OnErr, OnOk, is_some};
+ghost use Rattle.std.specs.List.{list_any};
+ghost use Rattle.std.specs.VecDeque.{deque_capacity, deque_len};
+ghost use Rattle.sshc_wire.specs.Outgoing.{listed};
+ghost use Rattle.sshc_opening.specs.OpeningState.{is_awaiting};
+ghost use Rattle.sshc_tickets.specs.Tickets.{closed_with, first_of, is_channel, is_of, is_on, is_ticket, without_first};
+ghost use Rattle.sshc_handle_state.specs.Asked.{Admits, PromptsAt, Responds, TellsEnd, kept_prompts};
+ghost use Rattle.sshc_handle_state.specs.HandleAt.{new_handle};
+ghost use Rattle.sshc_handle_state.specs.Submitting.{Submits, SubmitsEvent};
+
+use crate::end::End;
+use crate::ending::ended_copied;
+use crate::submission::{asks_answer, event_of, let_go};
+use crate::timers::Timers;
+use sshc_client::{Config, Handler, Msg, Session, SessionSettings};
+use sshc_key::AgentSessionBinding;
+use sshc_opening::{Ended, Error, Event, Method, Settings};
+use sshc_tickets::Tickets;
+use sshc_wire::{ChannelId, List, NoMemory, Octets, Record, Text, Ticket};
+use std::alloc::Global;
+use std::collections::VecDeque;
+use std::marker::{Model, PhantomData};
+
+/// A session with what is submitted to it, the records that are held for those who wait, and its timers. No call of it
+/// waits for anybody.
+#[derive(Drop)]
+pub struct HandleState<H: Handler> {
+    pub(crate) session: Session,
+    pub(crate) submitted: VecDeque<Event>,
+    pub(crate) tickets: Tickets,
+    pub(crate) prompts: Option<Ticket>,
+    pub(crate) binding: Option<AgentSessionBinding>,
+    pub(crate) remote_sshid: Octets,
+    pub(crate) timers: Timers,
+    pub(crate) failed: bool,
+    pub(crate) end: Option<End>,
+    pub(crate) of: PhantomData<H>,
+}
+
+impl<H: Handler> Model for HandleState<H> {
+    ghost use Rattle.sshc_handle_state.specs.HandleAt.{HandleAt};
+    ghost use Rattle.sshc_handle_state.specs.HandleCode.{handle_code};
+
+    ghost Value = { HandleAt };
+
+    ghost coded = { handle_code };
+
+    ghost view = { λ s. record {
+      session = s.session;
+      submitted = s.submitted.items;
+      tickets = s.tickets;
+      prompts = s.prompts;
+      binding = s.binding;
+      remote_sshid = s.remote_sshid;
+      timers = s.timers;
+      failed = s.failed;
+      end = s.end;
+    } };
+}
+
+/// Makes room for an event, and opens a ticket where an answer is asked for.
+fn admitted(
+    end: &Option<End>,
+    submitted: &mut VecDeque<Event>,
+    tickets: &mut Tickets,
+    asks: bool,
+) -> Result<Option<Ticket>, Error>
+    ensures admits { Admits end.now asks tickets.old tickets.new result }
+    ensures same { submitted.new.items ≡ submitted.old.items }
+    ensures room { OnOk result (deque_len submitted.new < deque_capacity submitted.new) }
+{
+    if end.is_some() {
+        return Err(Error::SendError);
+    }
+    submitted.reserve(1)?;
+    if asks {
+        Ok(Some(tickets.open_ticket()?))
+    } else {
+        Ok(None)
+    }
+}
+
+/// Adds an event for which there is room, or none.
+fn add(submitted: &mut VecDeque<Event>, event: Option<Event>)
+    requires { deque_len submitted.old < deque_capacity submitted.old }
+    ensures { submitted.new.items ≡ submitted.old.items ++ listed event }
+{
+    if let Some(event) = event {
+        submitted.push_back_reserved(event);
+    }
+}
+
+impl<H: Handler> HandleState<H> {
+    /// A new session, to which nothing was submitted yet, over a transport whose peer's version line is this.
+    pub fn new(
+        alloc: Global,
+        config: Config,
+        remote_sshid: Octets,
+    ) -> Result<HandleState<H>, NoMemory>
+        ensures { IfOk result (λ s. s ≡ new_handle config remote_sshid) }
+    {
+        let Config {
+            client_id: _client_id,
+            window_size,
+            maximum_packet_size,
+            channel_buffer_size: _,
+            inactivity_timeout,
+            keepalive_interval,
+            keepalive_max,
+            anonymous,
+            nodelay: _,
+            max_events: _,
+            agent_asks: _,
+        } = config;
+        let settings = SessionSettings {
+            max_packet_size: maximum_packet_size,
+            keepalive_interval,
+            keepalive_max,
+        };
+        let opening = Settings {
+            window_size,
+            anonymous,
+            inactivity: inactivity_timeout.is_some(),
+        };
+        Ok(HandleState {
+            session: Session::new(alloc, settings, opening),
+            submitted: VecDeque::new(alloc),
+            tickets: Tickets::new(alloc),
+            prompts: None,
+            binding: None,
+            remote_sshid,
+            timers: Timers {
+                inactivity_timeout,
+                keepalive_interval,
+                heard: None,
+                beat: 0,
+            },
+            failed: false,
+            end: None,
+            of: PhantomData,
+        })
+    }
+
+    /// Submits that no user is left.
+    pub fn gone(&mut self) -> Result<(), Error>
+        ensures { SubmitsEvent Event.Gone self.old self.new result }
+    {
+        let _ticket = admitted(&self.end, &mut self.submitted, &mut self.tickets, false)?;
+        self.submitted.push_back_reserved(Event::Gone);
+        Ok(())
+    }
+
+    /// Submits a message. Where it asks for an answer, its ticket is one that is neither open nor named by a held record;
+    /// where none is left, that counts as out of memory. What is reported of a channel alone submits nothing.
+    pub fn submit(&mut self, msg: Msg) -> Result<Option<Ticket>, Error>
+        ensures { Submits msg self.old self.new result }
+    {
+        let asks = asks_answer(&msg);
+        match admitted(&self.end, &mut self.submitted, &mut self.tickets, asks) {
+            Ok(ticket) => {
+                let event = event_of(ticket.unwrap_or(Ticket(0)), msg);
+                add(&mut self.submitted, event);
+                Ok(ticket)
+            }
+            Err(e) => {
+                let_go(msg);
+                Err(e)
+            }
+        }
+    }
+
+    /// Submits a login with prompts (RFC 4256), whose ticket is the one that responses are for.
+    pub fn start_prompts(&mut self, user: Text, submethods: Text) -> Result<Option<Ticket>, Error>
+        ensures { PromptsAt user submethods self.old self.new result }
+    {
+        let begun = self.submit(Msg::Authenticate {
+            user,
+            method: Method::KeyboardInteractive { submethods },
+            ticket: Some(Ticket(0)),
+        });
+        self.keep_prompts(&begun);
+        begun
+    }
+
+    /// Keeps the ticket of a login with prompts that was begun.
+    fn keep_prompts(&mut self, begun: &Result<Option<Ticket>, Error>)
+        ensures { self.new ≡ kept_prompts begun.now self.old }
+    {
+        if let Ok(Some(ticket)) = begun {
+            self.prompts = Some(*ticket);
+        }
+    }
+
+    /// Submits responses to prompts (RFC 4256, section 3.4), for the login with prompts that was begun last, while its
+    /// ticket is open.
+    pub fn respond(&mut self, responses: List<Text>) -> Result<Ticket, Error>
+        ensures { Responds responses self.old self.new result }
+    {
+        let due = match self.prompts {
+            Some(ticket) if self.tickets.is_due(ticket.0) => ticket,
+            _ => {
+                return Err(if self.end.is_some() {
+                    Error::SendError
+                } else {
+                    Error::RecvError
+                });
+            }
+        };
+        let _none = admitted(&self.end, &mut self.submitted, &mut self.tickets, false)?;
+        self.submitted
+            .push_back_reserved(Event::AuthInfoResponse { responses });
+        Ok(due)
+    }
+
+    /// Takes the oldest record that is held for this ticket.
+    pub fn poll(&mut self, ticket: Ticket) -> Option<Record>
+        ensures taken { result ≡ first_of (is_of ticket.0) self.old.tickets.held }
+        ensures rest { self.new ≡ record self.old { tickets = record (self.old.tickets) { held = without_first (is_of ticket.0) self.old.tickets.held } } }
+    {
+        self.tickets.poll(ticket)
+    }
+
+    /// Takes the oldest record that is held of what happened on this channel. With its close the channel is marked closed,
+    /// until one of its number opens again.
+    pub fn poll_channel(&mut self, id: ChannelId) -> Option<Record>
+        ensures taken { result ≡ first_of (is_on id.0) self.old.tickets.held }
+        ensures rest { self.new ≡ record self.old { tickets = record (self.old.tickets) { held = without_first (is_on id.0) self.old.tickets.held; closed = closed_with result self.old.tickets.closed } } }
+    {
+        self.tickets.poll_channel(id)
+    }
+
+    /// Whether the close of this channel was taken.
+    pub fn is_channel_closed(&self, id: ChannelId) -> bool
+        ensures { result ≡ list_any (is_channel id.0) self.now.tickets.closed }
+    {
+        self.tickets.is_closed(id)
+    }
+
+    /// Whether an answer of the user is awaited, so that only what is submitted is taken.
+    pub fn awaits_answer(&self) -> bool
+        ensures { result ≡ is_awaiting self.now.session.opening.phase }
+    {
+        self.session.awaits_answer()
+    }
+
+    /// Whether the session has ended.
+    pub fn is_over(&self) -> bool
+        ensures { result ≡ is_some self.now.end }
+    {
+        self.end.is_some()
+    }
+
+    /// How the session has ended, where it has; `Disconnect` where it was refused.
+    pub fn ended(&self) -> Result<Option<Ended>, Error>
+        ensures { TellsEnd self.now.end result }
+    {
+        match &self.end {
+            None => Ok(None),
+            Some(End::Ended(ended)) => Ok(Some(ended_copied(ended)?)),
+            Some(End::Refused) => Err(Error::Disconnect),
+        }
+    }
+
+    /// The first exchange's host key, session id and signature, once it is done.
+    pub fn agent_session_binding(&self) -> Result<Option<AgentSessionBinding>, NoMemory>
+        ensures { IfOk result (λ b. b ≡ self.now.binding) }
+    {
+        match &self.binding {
+            Some(binding) => Ok(Some(binding.copy()?)),
+            None => Ok(None),
+        }
+    }
+
+    /// The peer's version line (RFC 4253, section 4.2).
+    pub fn remote_sshid(&self) -> &[u8]
+        ensures { result.now ≡ self.now.remote_sshid }
+    {
+        self.remote_sshid.as_slice()
+    }
+}

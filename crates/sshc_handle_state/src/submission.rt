@@ -1,0 +1,203 @@
+//! The event of a message that a user submits.
+
+ghost use Rattle.std.specs.Prelude.{◌≡◌};
+ghost use Rattle.sshc_handle_state.specs.Submission.{asks_answer, channel_event, event_of, is_reported, stamped, ticket_in};
+
+use sshc_client::Msg;
+use sshc_opening::{ChannelMsg, Event};
+use sshc_wire::{ChannelId, Ticket};
+
+/// Lets a value go whose kinds need not be told apart.
+pub(crate) fn let_go<T: Drop>(_value: T) {}
+
+/// The ticket that a message names, where it has one.
+fn ticket_in(msg: &Msg) -> Option<Ticket>
+    ensures { result ≡ ticket_in msg.now }
+{
+    match msg {
+        Msg::Authenticate { ticket, .. }
+        | Msg::ChannelOpenSession { ticket }
+        | Msg::ChannelOpenX11 { ticket, .. }
+        | Msg::ChannelOpenDirectTcpIp { ticket, .. }
+        | Msg::ChannelOpenDirectStreamLocal { ticket, .. }
+        | Msg::TcpIpForward { ticket, .. }
+        | Msg::CancelTcpIpForward { ticket, .. }
+        | Msg::StreamLocalForward { ticket, .. }
+        | Msg::CancelStreamLocalForward { ticket, .. }
+        | Msg::AwaitExtensionInfo { ticket, .. }
+        | Msg::GetServerSigAlgs { ticket }
+        | Msg::Ping { ticket }
+        | Msg::HostKeysProve { ticket, .. }
+        | Msg::SendGlobalRequest { ticket, .. } => *ticket,
+        _ => None,
+    }
+}
+
+/// Whether an answer is asked for.
+pub(crate) fn asks_answer(msg: &Msg) -> bool
+    ensures { result ≡ asks_answer msg.now }
+{
+    ticket_in(msg).is_some()
+}
+
+fn stamped(fresh: Ticket, asked: Option<Ticket>) -> Ticket
+    ensures { result ≡ stamped fresh asked }
+{
+    match asked {
+        Some(_) => fresh,
+        None => Ticket(0),
+    }
+}
+
+/// Whether the message is reported alone, and can't be asked.
+fn is_reported(msg: &ChannelMsg) -> bool
+    ensures { result ≡ is_reported msg.now }
+{
+    matches!(
+        msg,
+        ChannelMsg::Open { .. }
+            | ChannelMsg::OpenFailure(_)
+            | ChannelMsg::Success
+            | ChannelMsg::Failure
+            | ChannelMsg::XonXoff { .. }
+            | ChannelMsg::ExitStatus { .. }
+            | ChannelMsg::ExitSignal { .. }
+            | ChannelMsg::WindowAdjusted { .. }
+    )
+}
+
+fn channel_event(id: ChannelId, msg: ChannelMsg) -> Option<Event>
+    ensures { result ≡ channel_event id msg }
+{
+    if is_reported(&msg) {
+        let_go(msg);
+        None
+    } else {
+        Some(Event::Channel { id, msg })
+    }
+}
+
+/// The event of a message, with this ticket where an answer is asked for; none for what is reported alone.
+#[tactic(auto, unfolding(crate::specs::Submission::event_of))]
+pub(crate) fn event_of(fresh: Ticket, msg: Msg) -> Option<Event>
+    ensures { result ≡ event_of fresh msg }
+{
+    Some(match msg {
+        Msg::Authenticate {
+            user,
+            method,
+            ticket,
+        } => Event::Authenticate {
+            ticket: stamped(fresh, ticket),
+            user,
+            method,
+        },
+        Msg::AuthInfoResponse { responses } => Event::AuthInfoResponse { responses },
+        Msg::AuthGssapiToken { token } => Event::AuthGssapiToken { token },
+        Msg::AuthGssapiMic { token, mic } => Event::AuthGssapiMic { token, mic },
+        Msg::AuthGssapiExchangeComplete { token } => Event::AuthGssapiExchangeComplete { token },
+        Msg::Signed { body } => Event::Signed { body },
+        Msg::SignFailed => Event::SignFailed,
+        Msg::ChannelOpenSession { ticket } => Event::ChannelOpenSession {
+            ticket: stamped(fresh, ticket),
+        },
+        Msg::ChannelOpenX11 {
+            originator_address,
+            originator_port,
+            ticket,
+        } => Event::ChannelOpenX11 {
+            ticket: stamped(fresh, ticket),
+            originator_address,
+            originator_port,
+        },
+        Msg::ChannelOpenDirectTcpIp {
+            host_to_connect,
+            port_to_connect,
+            originator_address,
+            originator_port,
+            ticket,
+        } => Event::ChannelOpenDirectTcpIp {
+            ticket: stamped(fresh, ticket),
+            host_to_connect,
+            port_to_connect,
+            originator_address,
+            originator_port,
+        },
+        Msg::ChannelOpenDirectStreamLocal {
+            socket_path,
+            ticket,
+        } => Event::ChannelOpenDirectStreamLocal {
+            ticket: stamped(fresh, ticket),
+            socket_path,
+        },
+        Msg::TcpIpForward {
+            ticket,
+            address,
+            port,
+        } => Event::TcpIpForward {
+            ticket: stamped(fresh, ticket),
+            address,
+            port,
+        },
+        Msg::CancelTcpIpForward {
+            ticket,
+            address,
+            port,
+        } => Event::CancelTcpIpForward {
+            ticket: stamped(fresh, ticket),
+            address,
+            port,
+        },
+        Msg::StreamLocalForward {
+            ticket,
+            socket_path,
+        } => Event::StreamLocalForward {
+            ticket: stamped(fresh, ticket),
+            socket_path,
+        },
+        Msg::CancelStreamLocalForward {
+            ticket,
+            socket_path,
+        } => Event::CancelStreamLocalForward {
+            ticket: stamped(fresh, ticket),
+            socket_path,
+        },
+        Msg::Close { id } => Event::Close { id },
+        Msg::Disconnect {
+            reason,
+            description,
+            language_tag,
+        } => Event::Disconnect {
+            reason,
+            description,
+            language_tag,
+        },
+        Msg::Channel(id, msg) => return channel_event(id, msg),
+        Msg::ServerChannelOpenReply { id, result } => Event::ServerChannelOpenReply { id, result },
+        Msg::Rekey => Event::Rekey,
+        Msg::AwaitExtensionInfo {
+            extension_name,
+            ticket,
+        } => Event::AwaitExtensionInfo {
+            ticket: stamped(fresh, ticket),
+            extension_name,
+        },
+        Msg::GetServerSigAlgs { ticket } => Event::GetServerSigAlgs {
+            ticket: stamped(fresh, ticket),
+        },
+        Msg::Keepalive { want_reply } => Event::Keepalive { want_reply },
+        Msg::NoMoreSessions { want_reply } => Event::NoMoreSessions { want_reply },
+        Msg::Ping { ticket } => Event::Ping {
+            ticket: stamped(fresh, ticket),
+        },
+        Msg::HostKeysProve { ticket, keys } => Event::HostKeysProve {
+            ticket: stamped(fresh, ticket),
+            keys,
+        },
+        Msg::SendGlobalRequest { name, body, ticket } => Event::SendGlobalRequest {
+            ticket: stamped(fresh, ticket),
+            name,
+            body,
+        },
+    })
+}
