@@ -38,3 +38,7 @@ pub mod StandardEvents
 pub mod StandardLogin
 pub mod StandardLearned
 pub mod StandardRows
+mod ShortUsers
+mod RunPasswords
+mod RunSigned
+mod RunCalls

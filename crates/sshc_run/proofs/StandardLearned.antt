@@ -1,14 +1,15 @@
 -- A known hosts text in which the login's host key was learned accepts it, so that the login is valid there.
-use Rattle.std.proofs.Common.{◌≡◌, ℕ, Bool, true, false, List, [], ◌++◌, length, get_or, Some, None, Result, Ok, ltb, inl, inr, lit<, lit≤, refl, ap, ◌∙◌}
+use Rattle.std.proofs.Common.{◌≡◌, ℕ, Bool, true, false, List, [], ◌++◌, length, get_or, Some, None, Result, Ok, lit<, lit≤, refl, ap, ◌∙◌}
 use Rattle.std.specs.Prelude.{codes, not, ◌==◌}
 use Rattle.std.specs.List.{list_all}
-use Rattle.std.proofs.lemmas.Bool.{cases_lt, ltb-true}
-use Rattle.std.proofs.lemmas.List.{get_or_past}
 use Rattle.std.proofs.lemmas.List.Sums.{AllPass-from_list_all}
 use Rattle.sshc_wire.specs.Format.{faults_as}
-use Rattle.sshc_wire.specs.Wire.{IsBytes, u32_text, string_text}
+use Rattle.sshc_wire.specs.Wire.{u32_text, string_text}
+use Rattle.base64.proofs.OnLiterals.{base64_on_literals}
+use Rattle.sshc_key.specs.Algorithms.{key_base64}
 use Rattle.sshc_key.specs.KeyGrammar.{Key, key_text}
-use Rattle.sshc_key.specs.Nesting.{front_of, front_at, blob_key}
+use Rattle.sshc_key.specs.KeyText.{decoded_key}
+use Rattle.sshc_key.specs.Nesting.{front_of, front_at, blob_key, key_or_fault}
 use Rattle.sshc_key.specs.declared.error.Error.{Error as KeyError}
 use Rattle.sshc_key.specs.declared.error.Error.TheVariants as key_errors
 use Rattle.sshc_key.specs.declared.identity.PublicKeyOrCertificate.TheVariants.{PublicKey}
@@ -16,6 +17,7 @@ use Rattle.sshc_hosts.specs.HostText.{host_text}
 use Rattle.sshc_hosts.specs.Judgement.{known_keys, judged}
 use Rattle.sshc_hosts.specs.Learning.{Lacks, IsLearnable, IsLearnableKey, Learns, once_learned, learned}
 use Rattle.sshc_hosts.proofs.LearningLaws.{learns}
+use Rattle.sshc_hosts.proofs.StandardKey.{field_key, key_blob, key_field}
 use Rattle.sshc_packets.specs.HostKeyProof.{Accepts}
 use Rattle.sshc_opening.specs.declared.ended.Ended.TheVariants.{ScriptEnd}
 use Rattle.sshc_run.specs.Headline.{IsValidScript}
@@ -57,21 +59,22 @@ key_is_learnable : IsLearnableKey (login_key, [])
 unfolding string_text u32_text
 key_is_learnable = record { no_certificate = refl; fits = (tt, (lit< tt, refl)); nesting = lit≤ tt; one_line = lacks_from_test 10 [] refl }
 
-key_bytes_are_bytes : IsBytes (key_text login_key)
-unfolding string_text u32_text
-key_bytes_are_bytes = from_test (key_text login_key) refl
-  where
-    from_test : (xs : List ℕ) → list_all (λ b. ltb b 256) xs ≡ true → IsBytes xs
-    from_test xs small i =
-        elim (cases_lt i (length xs)) [
-          | inl within ↦ ltb-true _ _ (AllPass-from_list_all (λ b. ltb b 256) xs small i 0 within)
-          | inr past ↦ rw (get_or_past xs i 0 past) (lit< tt)
-        ]
-
 -- the key is read from its blob
 pub blob_is_read : blob_key (key_text login_key) ≡ Some login_key
 unfolding blob_key front_at string_text u32_text
 blob_is_read = ap (λ (r : Result (Key × List ℕ) KeyError). front_of (faults_as (λ e. key_errors.SshKey) r)) read_is
+
+-- the key's base64, and the key that is read from it
+base64_is : key_base64 login_key ≡ key_field
+unfolding base64_on_literals string_text u32_text
+base64_is = refl
+
+blob_same : key_blob ≡ key_text login_key
+unfolding string_text u32_text
+blob_same = refl
+
+read_again : decoded_key (key_base64 login_key) ≡ Ok login_key
+read_again = ap decoded_key base64_is ∙ field_key ∙ ap (λ (b : List ℕ). key_or_fault (blob_key b)) blob_same ∙ ap key_or_fault blob_is_read
 
 -- ---- the judgement
 
@@ -81,7 +84,7 @@ pub learned_accepts : (old : List ℕ) (accepted : Bool) → judged old localhos
 unfolding verdict
 learned_accepts old accepted before =
     let law : Learns old (learned old localhost (login_key, [])) localhost login_key =
-    learns old (codes "localhost") 13265 (login_key, []) (lit< tt) host_is_learnable key_is_learnable key_bytes_are_bytes blob_is_read in
+    learns old (codes "localhost") 13265 (login_key, []) (lit< tt) host_is_learnable key_is_learnable read_again in
     ap as_handler (law.accepted ∙ ap once_learned before)
 
 -- an empty text doesn't know the key

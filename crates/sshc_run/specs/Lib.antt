@@ -28,3 +28,5 @@ pub mod Part
 pub mod Askers
 pub mod OpeningFirst
 pub mod Product
+pub mod PasswordRuns
+pub mod SignedAlong

@@ -16,7 +16,9 @@ ghost use Rattle.sshc_run.specs.Outcome.{streams, Ends};
 ghost use Rattle.sshc_run.specs.ScriptRun.{script_run, answers_since, run, spot};
 ghost use Rattle.sshc_run.specs.Part.{own_answers};
 ghost use Rattle.sshc_run.specs.SessionPart.{session_own, IsAgentCause};
+ghost use Rattle.sshc_run.specs.SignedAlong.{AreSigned, CallsAreCounted};
 ghost use Rattle.sshc_run.specs.Ready.{IsReady};
+ghost use Rattle.sshc_run.specs.PasswordRuns.{PasswordsAreAsked};
 ghost use Rattle.sshc_run.specs.ReplyOrder.{AreInOrder};
 ghost use Rattle.sshc_run.specs.RunTurn.{kept, run_machine, run_turn};
 ghost use Rattle.sshc_run.specs.Turn.{opening_machine};
@@ -154,6 +156,17 @@ pub fn run_script<S: Source, K: Sink, G: LocalSigner, V: Verifier>(
     // The agent's records are those of one history of one agent that holds nothing at first: its inputs are those of
     // the agents' events, its locks hold, and each signature of it is permitted.
     ensures agents { HasOneHistory config.now.agent_asks config.now.max_events (script_run (run_machine (record { host = host_text host.now port; known = known.now }) (V.accepts verifier.now) (run_settings_of config.now)) config.now.max_events (answers_since (G.calls signer.old) (G.calls signer.new)))
+        (S.left source.old) }
+    // At each state that the session comes to, its session id is the first exchange's hash, and what it asks the signer, or
+    // hands out to be signed, is the signed text of that id and of a request that an earlier event asked for.
+    ensures signed { AreSigned (record { host = host_text host.now port; known = known.now }) (V.accepts verifier.now) (run_settings_of config.now) config.now.max_events
+        (own_answers session_own (since (G.calls signer.old) (G.calls signer.new))) (S.left source.old) }
+    // The session asks the signer at most once for each event that asks to authenticate by a key whose pair is at hand.
+    ensures calls { CallsAreCounted config.now.max_events (script_run (run_machine (record { host = host_text host.now port; known = known.now }) (V.accepts verifier.now) (run_settings_of config.now)) config.now.max_events (answers_since (G.calls signer.old) (G.calls signer.new)))
+        (S.left source.old) }
+    // For every user and password, the packet that asks for the user by the password is among the records at most as
+    // often as the session's events ask for it.
+    ensures passwords { PasswordsAreAsked config.now.max_events (script_run (run_machine (record { host = host_text host.now port; known = known.now }) (V.accepts verifier.now) (run_settings_of config.now)) config.now.max_events (answers_since (G.calls signer.old) (G.calls signer.new)))
         (S.left source.old) }
     // The session records that are written are a front of the opening table's outputs or, once that table opens the session, all of them
     // followed by more, whatever events of agents stand in between.

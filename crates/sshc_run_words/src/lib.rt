@@ -1,4 +1,4 @@
-//! The program's words that run scripts, and what is told of a run.
+//! The command-line arguments that run scripts, and what is told of a run.
 #![tactic(auto)]
 
 mod gen_words;

@@ -17,10 +17,13 @@ use Rattle.sshc_run.proofs.OpeningFirsts.{opening_first_of, opening_done_of, ope
 use Rattle.sshc_run.proofs.AgentEnds.{agent_ends_none}
 use Rattle.sshc_run.proofs.SessionPart.{IsUnopened, agent_stops, kept_in, session_continues, session_part}
 use Rattle.sshc_run.proofs.Promises.{none_ran, gate_of, prefix_of, done_of, kept_of, complete_of}
+use Rattle.sshc_run.proofs.RunCalls.{calls_counted}
 use Rattle.sshc_run.proofs.RunChannels.{accounted}
 use Rattle.sshc_run.proofs.RunHistories.{one_history}
 use Rattle.sshc_run.proofs.RunOpens.{opens_answered}
+use Rattle.sshc_run.proofs.RunPasswords.{passwords_asked}
 use Rattle.sshc_run.proofs.RunReplies.{replies_in_order}
+use Rattle.sshc_run.proofs.RunSigned.{signed_along}
 use Rattle.sshc_run.proofs.run.run_script.Goals as goal
 
 pub returns-in-Ok-clause-run : goal.returns-in-Ok-clause-run
@@ -126,3 +129,27 @@ returns-in-Ok-clause-agents g c =
 pub returns-in-Err-clause-agents : goal.returns-in-Err-clause-agents
 returns-in-Err-clause-agents g c =
     one_history (record { host = host_text c.args.host.now c.args.port; known = c.args.known.now }) (g.V.Verifier.accepts c.args.verifier.now) (run_settings_of c.args.config.now) c.args.config.now.max_events _ _
+
+pub returns-in-Ok-clause-passwords : goal.returns-in-Ok-clause-passwords
+returns-in-Ok-clause-passwords g c =
+    passwords_asked (record { host = host_text c.args.host.now c.args.port; known = c.args.known.now }) (g.V.Verifier.accepts c.args.verifier.now) (run_settings_of c.args.config.now) c.args.config.now.max_events _ _
+
+pub returns-in-Err-clause-passwords : goal.returns-in-Err-clause-passwords
+returns-in-Err-clause-passwords g c =
+    passwords_asked (record { host = host_text c.args.host.now c.args.port; known = c.args.known.now }) (g.V.Verifier.accepts c.args.verifier.now) (run_settings_of c.args.config.now) c.args.config.now.max_events _ _
+
+pub returns-in-Ok-clause-signed : goal.returns-in-Ok-clause-signed
+returns-in-Ok-clause-signed g c =
+    signed_along (record { host = host_text c.args.host.now c.args.port; known = c.args.known.now }) (g.V.Verifier.accepts c.args.verifier.now) (run_settings_of c.args.config.now) c.args.config.now.max_events _ _
+
+pub returns-in-Err-clause-signed : goal.returns-in-Err-clause-signed
+returns-in-Err-clause-signed g c =
+    signed_along (record { host = host_text c.args.host.now c.args.port; known = c.args.known.now }) (g.V.Verifier.accepts c.args.verifier.now) (run_settings_of c.args.config.now) c.args.config.now.max_events _ _
+
+pub returns-in-Ok-clause-calls : goal.returns-in-Ok-clause-calls
+returns-in-Ok-clause-calls g c =
+    calls_counted (record { host = host_text c.args.host.now c.args.port; known = c.args.known.now }) (g.V.Verifier.accepts c.args.verifier.now) (run_settings_of c.args.config.now) c.args.config.now.max_events _ _
+
+pub returns-in-Err-clause-calls : goal.returns-in-Err-clause-calls
+returns-in-Err-clause-calls g c =
+    calls_counted (record { host = host_text c.args.host.now c.args.port; known = c.args.known.now }) (g.V.Verifier.accepts c.args.verifier.now) (run_settings_of c.args.config.now) c.args.config.now.max_events _ _
