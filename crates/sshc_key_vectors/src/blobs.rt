@@ -2,8 +2,9 @@
 
 use crate::vector::{Vector, blob_of};
 use sshc_key::{
-    Error, KeyData, PublicKey, PublicKeyBase64, PublicKeyExt, Signature, parse_public_key,
-    parse_public_key_base64, parse_whole_public_key, read_key_pair, read_signature, write_key_pair,
+    EcdsaCurve, Error, KeyData, PublicKey, PublicKeyBase64, PublicKeyExt, Signature,
+    parse_public_key, parse_public_key_base64, parse_whole_public_key, read_key_pair,
+    read_signature, write_key_pair,
 };
 use sshc_wire::{Cursor, NoMemory, put_bytes, put_text, put_u32};
 use std::alloc::Global;
@@ -29,12 +30,62 @@ fn no_front_is_a_key(alloc: Global, blob: &[u8]) -> bool {
 
 fn is_certificate(key: &PublicKey) -> bool {
     match &key.key {
-        KeyData::Certificate(certificate) => {
-            let _ = &certificate.nonce;
-            true
-        }
+        KeyData::Certificate(certificate) => certificate.is_certificate(),
         _ => false,
     }
+}
+
+fn curve_name(curve: EcdsaCurve) -> &'static str {
+    match curve {
+        EcdsaCurve::NistP256 => "nistp256",
+        EcdsaCurve::NistP384 => "nistp384",
+        EcdsaCurve::NistP521 => "nistp521",
+    }
+}
+
+/// The kind of a key, and how many bytes its fields have.
+fn shape(alloc: Global, key: &KeyData) -> anyhow::Result<String> {
+    Ok(match key {
+        KeyData::Dsa { p, q, g, y } => format!(in alloc;
+            "dsa p {} q {} g {} y {}",
+            p.as_slice().len(),
+            q.as_slice().len(),
+            g.as_slice().len(),
+            y.as_slice().len()
+        )?,
+        KeyData::Ecdsa { curve, point } => format!(in alloc;
+            "ecdsa {} point {}",
+            curve_name(*curve),
+            point.as_slice().len()
+        )?,
+        KeyData::Ed25519 { public } => format!(in alloc;
+            "ed25519 public {}",
+            public.as_slice().len()
+        )?,
+        KeyData::Rsa { e, n } => {
+            format!(in alloc; "rsa e {} n {}", e.as_slice().len(), n.as_slice().len())?
+        }
+        KeyData::SkEcdsaSha2NistP256 { point, application } => format!(in alloc;
+            "sk-ecdsa point {} application {}",
+            point.as_slice().len(),
+            application.as_str()
+        )?,
+        KeyData::SkEd25519 {
+            public,
+            application,
+        } => format!(in alloc;
+            "sk-ed25519 public {} application {}",
+            public.as_slice().len(),
+            application.as_str()
+        )?,
+        KeyData::Other { name, body } => {
+            format!(in alloc; "{} body {}", name.as_str(), body.as_slice().len())?
+        }
+        KeyData::Certificate(certificate) => {
+            let _ = certificate.is_certificate();
+            format!(in alloc; "certificate")?
+        }
+    })
 }
 
 fn is_read_from_text(alloc: Global, key: &PublicKey, base64: &str) -> Result<bool, Error> {
@@ -75,7 +126,13 @@ pub fn key_verdict(
 ) -> anyhow::Result<Option<String>> {
     let blob = blob_of(alloc, vector.base64)?;
     if is_key_blob(alloc, &blob, vector.base64, certificate)? && no_front_is_a_key(alloc, &blob) {
-        said(alloc, &blob)
+        let key = parse_whole_public_key(alloc, &blob)?;
+        let text = format!(in alloc;
+            "{}; {} bytes are read and written back, and their fronts are refused",
+            shape(alloc, &key.key)?.as_str(),
+            blob.len()
+        )?;
+        Ok(Some(text))
     } else {
         Ok(None)
     }
