@@ -18,7 +18,7 @@ use Rattle.sshc_session_laws.specs.SessionRecords.{is_session_record}
 use Rattle.sshc_script.specs.declared.error.EventError.{EventError}
 use Rattle.sshc_script.specs.Script.{Frame}
 use Rattle.sshc_run.specs.AgentsTurn.{agent_read_turn, agents_turn, going_on, served_turn}
-use Rattle.sshc_run.specs.Comes.{StopsFor}
+use Rattle.sshc_run.specs.ReachedStates.{StopsFor}
 use Rattle.sshc_run.specs.Machine.{IsNoEnd, NeverAtEnd, TurnOf}
 use Rattle.sshc_run.specs.Part.{AsksBy, SaysBy}
 use Rattle.sshc_run.specs.SessionPart.{IsAgentCause, is_session_asker}

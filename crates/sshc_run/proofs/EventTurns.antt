@@ -26,8 +26,8 @@ use Rattle.sshc_run.specs.KnownHosts.{Hosts}
 use Rattle.sshc_run.specs.RecordLines.{lines}
 use Rattle.sshc_run.specs.SessionTurn.{read_turn, session_turn, step_turn}
 use Rattle.sshc_run.specs.Turn.{stops}
-use Rattle.sshc_run.specs.Turning.{Came, TakeGives}
-use Rattle.sshc_run.proofs.Taken.{unasked as none_taken, stops_turn, written_turn, cut_turn}
+use Rattle.sshc_run.specs.TurnContracts.{Came, TakeGives}
+use Rattle.sshc_run.proofs.TakenEvents.{unasked as none_taken, stops_turn, written_turn, cut_turn}
 
 -- how the reader of fields failed, as the run tells it
 abbrev pub error_by : ℕ → EventError → RunError

@@ -1,22 +1,22 @@
 -- Facts that the answers cite.
 pub mod Lines
-pub mod Answered
-pub mod Taken
-pub mod Turns
-pub mod Caused
-pub mod Unopened
+pub mod AnsweredQuestions
+pub mod TakenEvents
+pub mod OpeningSteps
+pub mod OpeningCauses
+pub mod UnopenedTurns
 pub mod SessionSteps
 pub mod SettingsKept
-pub mod SessionCaused
+pub mod TurnCauses
 pub mod RunReplies
 pub mod RunChannels
 pub mod RunOpens
-pub mod Going
-pub mod Coming
-pub mod Joined
-pub mod Continued
-pub mod OverRuns
-pub mod Parted
+pub mod RunUnfold
+pub mod RunLoop
+pub mod RunEqualsFold
+pub mod OpeningContinues
+pub mod RunLaws
+pub mod PartRuns
 pub mod Products
 pub mod ProductGate
 pub mod ProductTurns
@@ -26,13 +26,13 @@ pub mod AgentsTurns
 pub mod SessionPart
 pub mod AgentEnds
 pub mod EventTurns
-pub mod Through
+pub mod ProductRuns
 pub mod AskersLaws
-pub mod Gated
+pub mod HostKeyGate
 pub mod RunHistories
 pub mod Promises
-pub mod CausedRuns
-pub mod Longer
+pub mod RunCauses
+pub mod ScriptExtension
 pub mod StandardFacts
 pub mod StandardEvents
 pub mod StandardLogin
@@ -42,3 +42,5 @@ mod ShortUsers
 mod RunPasswords
 mod RunSigned
 mod RunCalls
+mod OpenedKeys
+pub mod KeptPromises

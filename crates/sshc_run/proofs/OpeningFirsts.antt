@@ -12,7 +12,7 @@ use Rattle.sshc_key.specs.Asking.{Answer, Asking, done, asks}
 use Rattle.sshc_key.specs.Signers.{since}
 use Rattle.sshc_run.specs.declared.error.RunError.{RunError}
 use Rattle.sshc_run.specs.declared.error.RunError.TheVariants as errors
-use Rattle.sshc_run.specs.Firsts.{IsFront}
+use Rattle.sshc_run.specs.Prefixes.{IsFront}
 use Rattle.sshc_run.specs.Machine.{RunStop, ended, unanswered_stop, Onward, goes_on, opened, stopped, TurnOf, Turns, Machine}
 use Rattle.sshc_run.specs.OpeningFirst.{opening_of, BeginsAs, ConcludesAs, IsOpeningFirst, IsOpeningDone, IsValidBy, IsOpeningComplete}
 use Rattle.sshc_run.specs.OpeningRun.{OpeningRun, OpeningStop, opens_before, stops_with, through, Continues, Prefixed}
@@ -20,12 +20,12 @@ use Rattle.sshc_run.specs.Outcome.{Streams, stop_as, IsExact, EndsBy, Ends}
 use Rattle.sshc_run.specs.Part.{Own, own_events, own_records, own_calls, own_answers, HasPart, StopsOthers, StoppedByOther, StopsElse, IsWholePart, PartOf}
 use Rattle.sshc_script.specs.Script.{Frame, ScriptStop, whole, bad, more as goes_further, taken, stop_of}
 use Rattle.sshc_run.specs.ScriptRun.{Run, at_end, at_first, run, events_run, script_run, run_on, asked_run, answers_of, answers_since}
-use Rattle.sshc_run.proofs.Answered.{answers_two}
-use Rattle.sshc_run.proofs.Continued.{prefixed}
-use Rattle.sshc_run.proofs.Joined.{joined}
+use Rattle.sshc_run.proofs.AnsweredQuestions.{answers_two}
+use Rattle.sshc_run.proofs.OpeningContinues.{prefixed}
+use Rattle.sshc_run.proofs.RunEqualsFold.{joined}
 use Rattle.sshc_run.proofs.Lines.{wrote_nothing}
-use Rattle.sshc_run.proofs.Longer.{begins}
-use Rattle.sshc_run.proofs.Parted.{parted}
+use Rattle.sshc_run.proofs.ScriptExtension.{begins}
+use Rattle.sshc_run.proofs.PartRuns.{parted}
 use Rattle.sshc_run.proofs.Promises.{since_is, prefix_of, same_table, with_answers, done_of}
 
 -- ---- two fronts of one list

@@ -6,7 +6,7 @@ use Rattle.sshc_key.specs.Asking.{Answer}
 use Rattle.sshc_script.specs.declared.event_kind.EventKind.{EventKind}
 use Rattle.sshc_script.specs.declared.event_kind.EventKind.TheVariants as kinds
 use Rattle.sshc_run.specs.declared.known_hosts_handler.HandlerError.{HandlerError}
-use Rattle.sshc_run.specs.Firsts.{IsFront}
+use Rattle.sshc_run.specs.Prefixes.{IsFront}
 use Rattle.sshc_opening.specs.GateLaw.{NonePayload}
 use Rattle.sshc_run.specs.Headline.{said_at, said_of_first, is_yes, is_accepted}
 use Rattle.sshc_run.specs.KnownHosts.{Hosts}
@@ -14,7 +14,7 @@ use Rattle.sshc_run.specs.Machine.{RunStop, Turns}
 use Rattle.sshc_run.specs.Part.{Own, own_events, own_records, own_answers, HasPart, StopsOthers, StopsElse, PartOf}
 use Rattle.sshc_script.specs.Script.{Frame, ScriptStop}
 use Rattle.sshc_run.specs.ScriptRun.{Run, events_run}
-use Rattle.sshc_run.proofs.Parted.{own_first, other_first, parted}
+use Rattle.sshc_run.proofs.PartRuns.{own_first, other_first, parted}
 
 -- ---- what holds of the part's records holds of the run's
 

@@ -13,7 +13,7 @@ use Rattle.sshc_run.specs.Part.{Own}
 use Rattle.sshc_run.specs.Product.{Both, in_one, in_other, both_turn}
 use Rattle.sshc_run.specs.RecordLines.{lines}
 use Rattle.sshc_script.specs.Script.{Frame}
-use Rattle.sshc_run.specs.Turning.{StopsBy, CutBy, TakeAs, TakeGives}
+use Rattle.sshc_run.specs.TurnContracts.{StopsBy, CutBy, TakeAs, TakeGives}
 
 module _ {A : Type 0} {B : Type 0} (f : TurnOf A → TurnOf B) (g : A → B) (keeps : (t : TurnOf A) → ((f t).records ≡ t.records) × ((f t).next ≡ t.next) × ((f t).state ≡ g t.state)) where
   stops_on : (asking : Asking (TurnOf A)) (gained : List SignCall) (held now : Option (List ℕ)) (answer : Result Ended RunError) → StopsBy asking gained held now answer → StopsBy (asked_on f asking) gained held now answer

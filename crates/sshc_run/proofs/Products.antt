@@ -4,12 +4,12 @@ use Rattle.sshc_wire.specs.declared.record.Record.{Record}
 use Rattle.sshc_key.specs.declared.signer.Asker.{Asker}
 use Rattle.sshc_key.specs.Asking.{Asking, done, asks, asked_on, Always}
 use Rattle.sshc_key.specs.AskingLaws.{always_on, always_also}
-use Rattle.sshc_run.specs.Comes.{StopsFor}
+use Rattle.sshc_run.specs.ReachedStates.{StopsFor}
 use Rattle.sshc_run.specs.Machine.{RunStop, TurnOf, Turns, IsNoEnd, NeverAtEnd}
 use Rattle.sshc_run.specs.Part.{Own, SaysBy, AsksBy, HasPart, StopsOthers}
 use Rattle.sshc_run.specs.Product.{Both, in_one, in_other, both_turn, Apart, others, BothCause}
 use Rattle.sshc_script.specs.Script.{Frame}
-use Rattle.sshc_run.proofs.Parted.{stops_also}
+use Rattle.sshc_run.proofs.PartRuns.{stops_also}
 
 pub asks_on : {A : Type 0} {B : Type 0} (test : Asker → Bool) (is : Bool) (f : A → B) (asking : Asking A) → AsksBy test is asking → AsksBy test is (asked_on f asking)
 asks_on test is f (done x) by = tt

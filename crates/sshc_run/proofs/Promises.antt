@@ -20,11 +20,11 @@ use Rattle.sshc_script.specs.Script.{taken, stop_of}
 use Rattle.sshc_run.specs.ScriptRun.{Run, at_first, run, script_run, answers_of, answers_since}
 use Rattle.sshc_run.specs.Configured.{RunSettings}
 use Rattle.sshc_run.specs.RunTurn.{run_machine}
-use Rattle.sshc_run.proofs.Gated.{gated}
-use Rattle.sshc_run.proofs.Going.{run_nothing, nothing_held}
-use Rattle.sshc_run.proofs.Joined.{joined}
+use Rattle.sshc_run.proofs.HostKeyGate.{gated}
+use Rattle.sshc_run.proofs.RunUnfold.{run_nothing, nothing_held}
+use Rattle.sshc_run.proofs.RunEqualsFold.{joined}
 use Rattle.sshc_run.proofs.Lines.{wrote_all, wrote_nothing}
-use Rattle.sshc_run.proofs.Longer.{begins, wrote_longer}
+use Rattle.sshc_run.proofs.ScriptExtension.{begins, wrote_longer}
 
 -- what was gained since
 pub since_is : (old new gained : List SignCall) → new ≡ old ++ gained → since old new ≡ gained

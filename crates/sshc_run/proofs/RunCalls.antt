@@ -40,10 +40,10 @@ use Rattle.sshc_run.specs.RunTurn.{RunState, run_machine, run_turn}
 use Rattle.sshc_run.specs.ScriptRun.{Run, asked_run, events_run, run_on, script_run}
 use Rattle.sshc_run.specs.SessionPart.{is_session_asker, session_own}
 use Rattle.sshc_run.specs.SessionTurn.{SessionTurn, in_session, read_turn, row_turn as open_turn, session_turn, step_turn}
-use Rattle.sshc_run.specs.SignedAlong.{CallsAreCounted, by_pair, pair_request, pair_request_by, pair_requests}
+use Rattle.sshc_run.specs.SignedRequests.{CallsAreCounted, by_pair, pair_request, pair_request_by, pair_requests}
 use Rattle.sshc_run.specs.Turn.{asked_turn, judged_turn, next_turn, row_turn, stops}
 use Rattle.sshc_run.proofs.AgentsTurns.{agents_ask}
-use Rattle.sshc_run.proofs.Parted.{other_first, own_first}
+use Rattle.sshc_run.proofs.PartRuns.{other_first, own_first}
 use Rattle.sshc_run.proofs.Products.{asks_on, one_takes, other_takes}
 use Rattle.sshc_run.proofs.SessionPart.{session_apart}
 

@@ -27,7 +27,7 @@ use Rattle.sshc_script.specs.Script.{Frame, ScriptStop, stop_of, taken}
 use Rattle.sshc_run.specs.AgentRuns.{Asked, HasOneHistory, asked_along, asked_at, asked_by_event, asked_in}
 use Rattle.sshc_run.specs.AgentsTurn.{agent_read_turn, agents_turn, going_on}
 use Rattle.sshc_run.specs.Configured.{RunSettings}
-use Rattle.sshc_run.specs.Firsts.{IsFront}
+use Rattle.sshc_run.specs.Prefixes.{IsFront}
 use Rattle.sshc_run.specs.KnownHosts.{Hosts}
 use Rattle.sshc_run.specs.Machine.{Onward, goes_on, opened, stopped, TurnOf, unanswered_stop}
 use Rattle.sshc_run.specs.Part.{SaysBy, own_events, own_records}
@@ -36,7 +36,7 @@ use Rattle.sshc_run.specs.RunTurn.{RunState, run_machine, run_turn}
 use Rattle.sshc_run.specs.ScriptRun.{Run, asked_run, events_run, run_on, script_run}
 use Rattle.sshc_run.specs.SessionPart.{session_own}
 use Rattle.sshc_run.specs.SessionTurn.{SessionTurn, session_turn}
-use Rattle.sshc_run.proofs.Parted.{own_first, other_first}
+use Rattle.sshc_run.proofs.PartRuns.{own_first, other_first}
 use Rattle.sshc_run.proofs.Products.{one_takes, other_takes}
 use Rattle.sshc_run.proofs.SessionPart.{session_apart, session_says}
 

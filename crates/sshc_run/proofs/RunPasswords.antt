@@ -46,7 +46,7 @@ use Rattle.sshc_run.specs.SessionPart.{session_own}
 use Rattle.sshc_run.specs.SessionTurn.{SessionTurn, emptied, in_session, onward, read_turn, said_by, session_turn, step_turn}
 use Rattle.sshc_run.specs.Turn.{Turn, asked_turn, judged_turn, next_turn, row_turn, stops}
 use Rattle.sshc_run.proofs.AgentsTurns.{agents_say}
-use Rattle.sshc_run.proofs.Parted.{other_first, own_first}
+use Rattle.sshc_run.proofs.PartRuns.{other_first, own_first}
 use Rattle.sshc_run.proofs.Products.{one_takes, other_takes}
 use Rattle.sshc_run.proofs.SessionPart.{session_apart}
 use Rattle.sshc_run.proofs.ShortUsers.{HasShortFields, events_short, user_of}

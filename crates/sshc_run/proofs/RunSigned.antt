@@ -44,7 +44,7 @@ use Rattle.sshc_run.specs.Machine.{Onward, TurnOf, goes_on, opened, stopped, sto
 use Rattle.sshc_run.specs.Part.{own_events}
 use Rattle.sshc_run.specs.SessionPart.{session_own}
 use Rattle.sshc_run.specs.SessionTurn.{SessionTurn, in_session, read_turn, row_turn as open_turn, session_turn, step_turn}
-use Rattle.sshc_run.specs.SignedAlong.{AreSigned, ComesBehind, IsSignedAt, behind, first_hash, or_hash}
+use Rattle.sshc_run.specs.SignedRequests.{AreSigned, ComesBehind, IsSignedAt, behind, first_hash, or_hash}
 use Rattle.sshc_run.specs.Turn.{asked_turn, judged_turn, next_turn, row_turn, stops}
 
 -- ---- what holds of a state, with the events before it

@@ -36,7 +36,7 @@ use Rattle.sshc_run.specs.Turn.{Turn, asked_turn, event_turn, opening_turn}
 use Rattle.sshc_run.proofs.AgentsTurns.{agents_ask, agents_say, agents_stop}
 use Rattle.sshc_run.proofs.Products.{one_part, one_takes, other_stops}
 use Rattle.sshc_run.proofs.SessionAsks.{session_asks}
-use Rattle.sshc_run.proofs.Unopened.{Leaves, TurnLeaves, asked_leaves, opening_leaves}
+use Rattle.sshc_run.proofs.UnopenedTurns.{Leaves, TurnLeaves, asked_leaves, opening_leaves}
 
 -- ---- what the session says is its own
 

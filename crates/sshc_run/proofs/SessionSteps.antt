@@ -32,15 +32,15 @@ use Rattle.sshc_session_laws.specs.OpenCauseLaws.{RowHolds, all_keep, open_why, 
 use Rattle.sshc_session_laws.specs.OpeningStays.{Stays, StaysNext, open_stays}
 use Rattle.sshc_run.specs.declared.known_hosts_handler.HandlerError.{HandlerError}
 use Rattle.sshc_run.specs.declared.known_hosts_handler.HandlerError.TheVariants.{Client}
-use Rattle.sshc_run.specs.Firsts.{IsFront}
+use Rattle.sshc_run.specs.Prefixes.{IsFront}
 use Rattle.sshc_run.specs.KnownHosts.{Hosts}
 use Rattle.sshc_run.specs.Machine.{stop_next}
 use Rattle.sshc_run.specs.Outcome.{stop_as}
 use Rattle.sshc_run.specs.Ready.{IsReady, IsReadyAfter, is_opened}
 use Rattle.sshc_run.specs.SessionTurn.{SessionTurn, emptied, in_session, onward, row_turn, step_turn}
 use Rattle.sshc_run.specs.Turn.{Turn, asked_turn, handler_error_of}
-use Rattle.sshc_run.specs.Turning.{step_answer, Took, Came}
-use Rattle.sshc_run.proofs.Turns.{hosts_gate, step_took}
+use Rattle.sshc_run.specs.TurnContracts.{step_answer, Took, Came}
+use Rattle.sshc_run.proofs.OpeningSteps.{hosts_gate, step_took}
 
 -- ---- before the session is open
 

@@ -1,7 +1,7 @@
 -- A gate that keeps what it judges by judges by the same host and the same known hosts text.
 use Rattle.std.proofs.Common.{◌≡◌, List, [], ◌∷◌, ℕ, ap, ◌∙◌}
 use Rattle.sshc_run.specs.Handled.{Handled}
-use Rattle.sshc_run.specs.Turning.{hosts_of}
+use Rattle.sshc_run.specs.TurnContracts.{hosts_of}
 
 pub hosts_kept : (old new : Handled) → new.host ∷ new.known ∷ [] ≡ old.host ∷ old.known ∷ [] → hosts_of new ≡ hosts_of old
 hosts_kept old new same =

@@ -15,7 +15,7 @@ use Rattle.sshc_agent_turns.specs.AgentTurns.{conn_of, event_bytes, event_inputs
 use Rattle.sshc_agent_turns.specs.TurnLaws.{reported}
 use Rattle.sshc_script.specs.declared.error.EventError.{EventError}
 use Rattle.sshc_script.specs.Script.{Frame, taken}
-use Rattle.sshc_run.specs.Firsts.{IsFront}
+use Rattle.sshc_run.specs.Prefixes.{IsFront}
 use Rattle.sshc_run.specs.Part.{own_events, own_records}
 use Rattle.sshc_run.specs.Product.{others}
 use Rattle.sshc_run.specs.ScriptRun.{Run}

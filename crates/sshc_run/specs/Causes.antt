@@ -20,7 +20,7 @@ use Rattle.sshc_run.specs.declared.error.RunError.{RunError}
 use Rattle.sshc_run.specs.declared.error.RunError.TheVariants as errors
 use Rattle.sshc_run.specs.declared.known_hosts_handler.HandlerError.{HandlerError}
 use Rattle.sshc_run.specs.declared.known_hosts_handler.HandlerError.TheVariants.{Key}
-use Rattle.sshc_run.specs.Comes.{CausedBy}
+use Rattle.sshc_run.specs.ReachedStates.{CausedBy}
 use Rattle.sshc_run.specs.Headline.{said_of_key, said_by}
 use Rattle.sshc_run.specs.KnownHosts.{Hosts}
 use Rattle.sshc_run.specs.Machine.{RunStop, ended, refused, unanswered_stop}

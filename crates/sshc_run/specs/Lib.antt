@@ -1,6 +1,6 @@
 pub mod Handled
 pub mod KnownHosts
-pub mod Firsts
+pub mod Prefixes
 pub mod Machine
 pub mod Configured
 pub mod SessionPart
@@ -14,10 +14,10 @@ pub mod OpeningRun
 pub mod RecordLines
 pub mod ScriptRun
 pub mod Outcome
-pub mod Turning
-pub mod Along
+pub mod TurnContracts
+pub mod LoopInvariant
 pub mod Headline
-pub mod Comes
+pub mod ReachedStates
 pub mod Causes
 pub mod ReplyOrder
 pub mod ChannelRuns
@@ -29,4 +29,7 @@ pub mod Askers
 pub mod OpeningFirst
 pub mod Product
 pub mod PasswordRuns
-pub mod SignedAlong
+pub mod SignedRequests
+pub mod OpenedKey
+pub mod RunOutside
+pub mod RunPromises

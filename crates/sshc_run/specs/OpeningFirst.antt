@@ -9,7 +9,7 @@ use Rattle.sshc_opening.specs.declared.ended.Ended.{Ended}
 use Rattle.sshc_opening.specs.declared.ended.Ended.TheVariants.{ScriptEnd}
 use Rattle.sshc_run.specs.declared.error.RunError.{RunError}
 use Rattle.sshc_run.specs.declared.error.RunError.TheVariants as errors
-use Rattle.sshc_run.specs.Firsts.{IsFront}
+use Rattle.sshc_run.specs.Prefixes.{IsFront}
 use Rattle.sshc_run.specs.Machine.{RunStop, ended, Machine}
 use Rattle.sshc_run.specs.OpeningRun.{OpeningRun, OpeningStop, opens_before, stops_with, through, opening}
 use Rattle.sshc_run.specs.Part.{Own, own_events, own_records, own_calls, own_answers, StoppedByOther}

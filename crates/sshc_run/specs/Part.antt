@@ -5,8 +5,8 @@ use Rattle.sshc_wire.specs.declared.record.Record.{Record}
 use Rattle.sshc_key.specs.Signers.{SignCall}
 use Rattle.sshc_key.specs.declared.signer.Asker.{Asker}
 use Rattle.sshc_key.specs.Asking.{Answer, Asking, done, asks, asked_on, Always}
-use Rattle.sshc_run.specs.Comes.{StopsFor}
-use Rattle.sshc_run.specs.Firsts.{IsFront}
+use Rattle.sshc_run.specs.ReachedStates.{StopsFor}
+use Rattle.sshc_run.specs.Prefixes.{IsFront}
 use Rattle.sshc_run.specs.Machine.{RunStop, unanswered_stop, TurnOf, Turns}
 use Rattle.sshc_script.specs.Script.{Frame}
 use Rattle.sshc_run.specs.ScriptRun.{Run, answers_of}

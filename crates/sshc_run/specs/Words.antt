@@ -15,10 +15,9 @@ use Rattle.sshc_run.specs.declared.error.RunError.TheVariants as errors
 use Rattle.sshc_words.specs.Adding.{Adds}
 use Rattle.sshc_words.specs.Port.{IsPort}
 use Rattle.sshc_run.specs.Configured.{RunSettings}
-use Rattle.sshc_run.specs.Outcome.{Streams, Ends}
-use Rattle.sshc_run.specs.RunFaults.{FaultCounts, FaultsAnswered}
-use Rattle.sshc_run.specs.ScriptRun.{Run, script_run}
-use Rattle.sshc_run.specs.RunTurn.{run_machine}
+use Rattle.sshc_run.specs.RunOutside.{RunOutside, SinkState}
+use Rattle.sshc_run.specs.RunPromises.{RunAsked, RunPromises, table_of}
+use Rattle.sshc_run.specs.ScriptRun.{Run}
 
 -- ---- the words
 
@@ -123,20 +122,38 @@ default_run = record { opening = default_settings; session = record { max_packet
 abbrev pub default_events : ℕ
 default_events = 8192
 
--- a run of a script by the table, and then the line that tells its answer; a fault is answered just where a count rose
-abbrev pub RunsBy : (List Answer → List ℕ → Run) → Streams → Streams → FaultCounts → FaultCounts → ℕ → Type 0
-RunsBy table before now was is status =
-    (answer : Result Ended RunError) × (mid : Option (List ℕ)) × (between : ℕ)
-    × Ends default_events 0 0 table before (record now { held = mid }) answer × FaultsAnswered was (record is { writes = between }) answer
-    × Tells answer mid now.held between is.writes status
+-- a run of a script, which keeps all promises of `run_script`, and then the line that tells its answer
+abbrev pub RunsBy : RunAsked → RunOutside → RunOutside → ℕ → Type 0
+RunsBy asked before now status =
+    (answer : Result Ended RunError) × (behind : SinkState)
+    × RunPromises asked before (record now { sink = behind }) answer
+    × Tells answer behind.held now.sink.held behind.faults now.sink.faults status
 
--- the table of a run by words
+-- what the run of the arguments is asked: the known hosts text of the file, the verifier's, and the default settings
+abbrev pub words_asked : Accepts → List ℕ → ℕ → List ℕ → RunAsked
+words_asked accepts host port known = record {
+  hosts = record { host = host_text host port; known = known };
+  accepts = accepts;
+  settings = default_run;
+  max_events = default_events;
+}
+
+-- the table of such a run
 abbrev pub words_table : Accepts → List ℕ → ℕ → List ℕ → List Answer → List ℕ → Run
-words_table accepts host port known = script_run (run_machine (record { host = host_text host port; known = known }) accepts default_run) default_events
+words_table accepts host port known = table_of (words_asked accepts host port known)
 
--- what the words `script HOST PORT KNOWN` give: the run over the known hosts text, or a line that tells why there is none
-abbrev pub ScriptGives : Accepts → List ℕ → ℕ → List ℕ → Option (List (List ℕ × List ℕ)) → Streams → Streams → FaultCounts → FaultCounts → ℕ → ℕ → ℕ → Type 0
-ScriptGives accepts host port path files before now was is fails fails' status =
-    ((known : List ℕ) × IsKnownText files path known × RunsBy (words_table accepts host port known) before now was is status)
-    ⊎ ((IsFound files path found.NotText ⊎ Rose fails fails') × (now.left ≡ before.left) × (is.reads ≡ was.reads) × Adds (codes "error known-file" ++ 10 ∷ []) 3 before.held now.held was.writes is.writes status)
-    ⊎ ((now.left ≡ before.left) × (is.reads ≡ was.reads) × Adds (answer_line (Err errors.NoMemory)) 20 before.held now.held was.writes is.writes status)
+-- nothing was read, and the signer wasn't asked; this line is added
+abbrev pub AddsOnly : List ℕ → ℕ → RunOutside → RunOutside → ℕ → Type 0
+AddsOnly line number before now status =
+    (now.source ≡ before.source) × (now.calls ≡ before.calls) × Adds line number before.sink.held now.sink.held before.sink.faults now.sink.faults status
+
+-- what a known hosts text gives: the run over it, or memory ran out before the run
+abbrev pub TextGives : RunAsked → RunOutside → RunOutside → ℕ → Type 0
+TextGives asked before now status = RunsBy asked before now status ⊎ AddsOnly (answer_line (Err errors.NoMemory)) 20 before now status
+
+-- what the arguments `script HOST PORT KNOWN` give: the run over the known hosts text, or a line that says why there is none
+abbrev pub ScriptGives : Accepts → List ℕ → ℕ → List ℕ → Option (List (List ℕ × List ℕ)) → RunOutside → RunOutside → ℕ → ℕ → ℕ → Type 0
+ScriptGives accepts host port path files before now fails fails' status =
+    ((known : List ℕ) × IsKnownText files path known × TextGives (words_asked accepts host port known) before now status)
+    ⊎ ((IsFound files path found.NotText ⊎ Rose fails fails') × AddsOnly (codes "error known-file" ++ 10 ∷ []) 3 before now status)
+    ⊎ AddsOnly (answer_line (Err errors.NoMemory)) 20 before now status

@@ -1,12 +1,11 @@
 //! One event of an agent's connection: it is taken by the agent, and its records are written.
 
-ghost use Rattle.std.specs.Prelude.{◌≡◌, ◌≢◌, ◌+◌, ◌++◌, ◌≤◌, Some, Err, IfNone};
-ghost use Rattle.sshc_wire.specs.Contents.{WritesMove, WritesFor};
-ghost use Rattle.sshc_wire.specs.Faults.{Rose};
+ghost use Rattle.std.specs.Prelude.{◌≡◌, ◌≢◌, ◌++◌, Some, Err};
 ghost use Rattle.sshc_key.specs.Signers.{since};
 ghost use Rattle.sshc_script.specs.Script.{frame_at};
 ghost use Rattle.sshc_run.specs.AgentsTurn.{agents_turn, served_turn};
-ghost use Rattle.sshc_run.specs.Turning.{TakeGives};
+ghost use Rattle.sshc_run.specs.RunOutside.{sink_state, SinkTaken};
+ghost use Rattle.sshc_run.specs.TurnContracts.{TakeGives};
 
 use crate::error::RunError;
 use crate::record_lines::write_lines;
@@ -30,13 +29,8 @@ fn serve_event<G: LocalSigner, K: Sink>(
     ensures gives { TakeGives (served_turn moment event.now agents.old)
         (since (G.calls signer.old) (G.calls signer.new)) agents.new (K.contents sink.old) (K.contents sink.new) result }
     ensures gained { G.calls signer.new ≡ G.calls signer.old ++ since (G.calls signer.old) (G.calls signer.new) }
-    ensures moving_writes { IfNone result (K.empty_writes sink.new ≡ K.empty_writes sink.old) }
-    ensures last_write { K.empty_writes sink.new ≤ K.empty_writes sink.old + 1 }
-    ensures moved_writes { IfNone result (WritesMove (K.contents sink.old) (K.contents sink.new) (K.writes sink.old) (K.writes sink.new)) }
-    ensures writes { WritesFor (K.contents sink.old) (K.contents sink.new) (K.writes sink.old) (K.writes sink.new) }
-    ensures write_later { K.faults sink.old ≤ K.faults sink.new }
-    ensures write_fault { result ≡ Some (Err RunError.WriteFault) → Rose (K.faults sink.old) (K.faults sink.new) }
-    ensures write_told { (result ≡ Some (Err RunError.WriteFault) → ⊥) → K.faults sink.new ≡ K.faults sink.old }
+    ensures sink { SinkTaken (sink_state (K.contents sink.old) (K.writes sink.old) (K.empty_writes sink.old) (K.faults sink.old))
+        (sink_state (K.contents sink.new) (K.writes sink.new) (K.empty_writes sink.new) (K.faults sink.new)) result }
     ensures no_read { result ≢ Some (Err RunError.ReadFault) }
 {
     match agents.take(moment, event, signer) {
@@ -60,13 +54,8 @@ pub fn take_agent_event<G: LocalSigner, K: Sink>(
     ensures gives { TakeGives (agents_turn agents.old (frame_at place event.now))
         (since (G.calls signer.old) (G.calls signer.new)) agents.new (K.contents sink.old) (K.contents sink.new) result }
     ensures gained { G.calls signer.new ≡ G.calls signer.old ++ since (G.calls signer.old) (G.calls signer.new) }
-    ensures moving_writes { IfNone result (K.empty_writes sink.new ≡ K.empty_writes sink.old) }
-    ensures last_write { K.empty_writes sink.new ≤ K.empty_writes sink.old + 1 }
-    ensures moved_writes { IfNone result (WritesMove (K.contents sink.old) (K.contents sink.new) (K.writes sink.old) (K.writes sink.new)) }
-    ensures writes { WritesFor (K.contents sink.old) (K.contents sink.new) (K.writes sink.old) (K.writes sink.new) }
-    ensures write_later { K.faults sink.old ≤ K.faults sink.new }
-    ensures write_fault { result ≡ Some (Err RunError.WriteFault) → Rose (K.faults sink.old) (K.faults sink.new) }
-    ensures write_told { (result ≡ Some (Err RunError.WriteFault) → ⊥) → K.faults sink.new ≡ K.faults sink.old }
+    ensures sink { SinkTaken (sink_state (K.contents sink.old) (K.writes sink.old) (K.empty_writes sink.old) (K.faults sink.old))
+        (sink_state (K.contents sink.new) (K.writes sink.new) (K.empty_writes sink.new) (K.faults sink.new)) result }
     ensures no_read { result ≢ Some (Err RunError.ReadFault) }
 {
     match read_agent_event(alloc, event.kind(), event.fields()) {

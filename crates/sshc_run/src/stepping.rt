@@ -7,7 +7,7 @@ ghost use Rattle.sshc_moves.specs.SessionTable.{session_row};
 ghost use Rattle.sshc_client.specs.Follows.{default_opinions};
 ghost use Rattle.sshc_run.specs.Ready.{IsReady, IsReadyAfter, is_opened};
 ghost use Rattle.sshc_run.specs.SessionTurn.{emptied, row_turn, step_turn};
-ghost use Rattle.sshc_run.specs.Turning.{hosts_of, Came};
+ghost use Rattle.sshc_run.specs.TurnContracts.{hosts_of, Came};
 
 use crate::known_hosts_handler::{HandlerError, KnownHostsHandler};
 use crate::point::Point;

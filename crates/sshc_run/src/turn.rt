@@ -1,18 +1,18 @@
 //! One event of a script: it is taken, and its records are written.
 
 ghost use Rattle.std.specs.Prelude.{◌≡◌, ◌≢◌, ◌+◌, ◌++◌, ◌<◌, ◌≤◌, ◌^◌, Some, None, Err, IfNone, true, false};
-ghost use Rattle.sshc_wire.specs.Contents.{WritesMove, WritesFor};
 ghost use Rattle.sshc_wire.specs.Faults.{Rose};
 ghost use Rattle.sshc_key.specs.Signers.{since};
 ghost use Rattle.sshc_run.specs.Outcome.{streams};
 ghost use Rattle.sshc_run.specs.Ready.{IsReady};
+ghost use Rattle.sshc_run.specs.RunOutside.{sink_state, source_state, SinkTaken, SourceTaken};
 ghost use Rattle.sshc_script.specs.Script.{frame_at, size_of};
 ghost use Rattle.sshc_run.specs.ScriptRun.{run, spot};
 ghost use Rattle.sshc_run.specs.RunTurn.{kept, run_turn};
 ghost use Rattle.sshc_run.specs.SessionPart.{is_session_kind};
 ghost use Rattle.sshc_run.specs.SessionTurn.{session_turn, step_turn};
 ghost use Rattle.sshc_run.specs.Turn.{error_of, handler_error_of};
-ghost use Rattle.sshc_run.specs.Turning.{hosts_of, step_answer, TakeGives, TurnGives, LimitGives};
+ghost use Rattle.sshc_run.specs.TurnContracts.{hosts_of, step_answer, TakeGives, TurnGives, LimitGives};
 
 use crate::error::RunError;
 use crate::known_hosts_handler::{HandlerError, KnownHostsHandler};
@@ -133,13 +133,8 @@ fn step_event<G: LocalSigner, V: Verifier, K: Sink>(
     ensures ready { IfNone result (IsReady at.new.opened at.new.session) }
     ensures same { hosts_of gate.new ≡ hosts_of gate.old }
     ensures gained { G.calls signer.new ≡ G.calls signer.old ++ since (G.calls signer.old) (G.calls signer.new) }
-    ensures moving_writes { IfNone result (K.empty_writes sink.new ≡ K.empty_writes sink.old) }
-    ensures last_write { K.empty_writes sink.new ≤ K.empty_writes sink.old + 1 }
-    ensures moved_writes { IfNone result (WritesMove (K.contents sink.old) (K.contents sink.new) (K.writes sink.old) (K.writes sink.new)) }
-    ensures writes { WritesFor (K.contents sink.old) (K.contents sink.new) (K.writes sink.old) (K.writes sink.new) }
-    ensures write_later { K.faults sink.old ≤ K.faults sink.new }
-    ensures write_fault { result ≡ Some (Err RunError.WriteFault) → Rose (K.faults sink.old) (K.faults sink.new) }
-    ensures write_told { (result ≡ Some (Err RunError.WriteFault) → ⊥) → K.faults sink.new ≡ K.faults sink.old }
+    ensures sink { SinkTaken (sink_state (K.contents sink.old) (K.writes sink.old) (K.empty_writes sink.old) (K.faults sink.old))
+        (sink_state (K.contents sink.new) (K.writes sink.new) (K.empty_writes sink.new) (K.faults sink.new)) result }
     ensures no_read { result ≢ Some (Err RunError.ReadFault) }
 {
     let step = step_session(at, event, gate, signer, verifier);
@@ -171,13 +166,8 @@ fn take_session_event<G: LocalSigner, V: Verifier, K: Sink>(
     ensures ready { IfNone result (IsReady at.new.opened at.new.session) }
     ensures same { hosts_of gate.new ≡ hosts_of gate.old }
     ensures gained { G.calls signer.new ≡ G.calls signer.old ++ since (G.calls signer.old) (G.calls signer.new) }
-    ensures moving_writes { IfNone result (K.empty_writes sink.new ≡ K.empty_writes sink.old) }
-    ensures last_write { K.empty_writes sink.new ≤ K.empty_writes sink.old + 1 }
-    ensures moved_writes { IfNone result (WritesMove (K.contents sink.old) (K.contents sink.new) (K.writes sink.old) (K.writes sink.new)) }
-    ensures writes { WritesFor (K.contents sink.old) (K.contents sink.new) (K.writes sink.old) (K.writes sink.new) }
-    ensures write_later { K.faults sink.old ≤ K.faults sink.new }
-    ensures write_fault { result ≡ Some (Err RunError.WriteFault) → Rose (K.faults sink.old) (K.faults sink.new) }
-    ensures write_told { (result ≡ Some (Err RunError.WriteFault) → ⊥) → K.faults sink.new ≡ K.faults sink.old }
+    ensures sink { SinkTaken (sink_state (K.contents sink.old) (K.writes sink.old) (K.empty_writes sink.old) (K.faults sink.old))
+        (sink_state (K.contents sink.new) (K.writes sink.new) (K.empty_writes sink.new) (K.faults sink.new)) result }
     ensures no_read { result ≢ Some (Err RunError.ReadFault) }
 {
     let place = at.place;
@@ -221,13 +211,8 @@ fn take_event<G: LocalSigner, V: Verifier, K: Sink>(
     ensures ready { IfNone result (IsReady at.new.opened at.new.session) }
     ensures same { hosts_of gate.new ≡ hosts_of gate.old }
     ensures gained { G.calls signer.new ≡ G.calls signer.old ++ since (G.calls signer.old) (G.calls signer.new) }
-    ensures moving_writes { IfNone result (K.empty_writes sink.new ≡ K.empty_writes sink.old) }
-    ensures last_write { K.empty_writes sink.new ≤ K.empty_writes sink.old + 1 }
-    ensures moved_writes { IfNone result (WritesMove (K.contents sink.old) (K.contents sink.new) (K.writes sink.old) (K.writes sink.new)) }
-    ensures writes { WritesFor (K.contents sink.old) (K.contents sink.new) (K.writes sink.old) (K.writes sink.new) }
-    ensures write_later { K.faults sink.old ≤ K.faults sink.new }
-    ensures write_fault { result ≡ Some (Err RunError.WriteFault) → Rose (K.faults sink.old) (K.faults sink.new) }
-    ensures write_told { (result ≡ Some (Err RunError.WriteFault) → ⊥) → K.faults sink.new ≡ K.faults sink.old }
+    ensures sink { SinkTaken (sink_state (K.contents sink.old) (K.writes sink.old) (K.empty_writes sink.old) (K.faults sink.old))
+        (sink_state (K.contents sink.new) (K.writes sink.new) (K.empty_writes sink.new) (K.faults sink.new)) result }
     ensures no_read { result ≢ Some (Err RunError.ReadFault) }
 {
     if is_session_kind(event.kind()) {
@@ -254,18 +239,10 @@ pub fn one_turn<S: Source, G: LocalSigner, V: Verifier, K: Sink>(
         (streams (S.left source.new) (K.contents sink.new) (S.reads source.new) (G.calls signer.new)) result }
     ensures ready { IfNone result (IsReady at.new.opened at.new.session) }
     ensures same { hosts_of gate.new ≡ hosts_of gate.old }
-    ensures read_later { S.faults source.old ≤ S.faults source.new }
-    ensures moving_writes { IfNone result (K.empty_writes sink.new ≡ K.empty_writes sink.old) }
-    ensures last_write { K.empty_writes sink.new ≤ K.empty_writes sink.old + 1 }
-    ensures moved_writes { IfNone result (WritesMove (K.contents sink.old) (K.contents sink.new) (K.writes sink.old) (K.writes sink.new)) }
-    ensures writes { WritesFor (K.contents sink.old) (K.contents sink.new) (K.writes sink.old) (K.writes sink.new) }
-    ensures moving { IfNone result (S.empty_reads source.new ≡ S.empty_reads source.old) }
-    ensures last { S.empty_reads source.new ≤ S.empty_reads source.old + 1 }
-    ensures write_later { K.faults sink.old ≤ K.faults sink.new }
-    ensures read_fault { result ≡ Some (Err RunError.ReadFault) → Rose (S.faults source.old) (S.faults source.new) }
-    ensures read_told { (result ≡ Some (Err RunError.ReadFault) → ⊥) → S.faults source.new ≡ S.faults source.old }
-    ensures write_fault { result ≡ Some (Err RunError.WriteFault) → Rose (K.faults sink.old) (K.faults sink.new) }
-    ensures write_told { (result ≡ Some (Err RunError.WriteFault) → ⊥) → K.faults sink.new ≡ K.faults sink.old }
+    ensures source { SourceTaken (source_state (S.left source.old) (S.reads source.old) (S.empty_reads source.old) (S.faults source.old))
+        (source_state (S.left source.new) (S.reads source.new) (S.empty_reads source.new) (S.faults source.new)) result }
+    ensures sink { SinkTaken (sink_state (K.contents sink.old) (K.writes sink.old) (K.empty_writes sink.old) (K.faults sink.old))
+        (sink_state (K.contents sink.new) (K.writes sink.new) (K.empty_writes sink.new) (K.faults sink.new)) result }
 {
     let event = match next_event(alloc, source, at.last) {
         Ok(Some(event)) => event,

@@ -1,19 +1,18 @@
-//! The words `script HOST PORT KNOWN`: a run of the script of the source, told.
+//! The arguments `script HOST PORT KNOWN`: a run of the script of the source, told.
 
 ghost use Rattle.std.specs.Prelude.{◌≡◌, ℕ, List, IfSome, IsNone};
-ghost use Rattle.sshc_run.specs.Outcome.{streams, Ends};
-ghost use Rattle.sshc_run.specs.RunFaults.{fault_counts, FaultsAnswered};
-ghost use Rattle.sshc_run.specs.Words.{IsScriptWords, default_events, RunsBy, words_table, ScriptGives};
+ghost use Rattle.sshc_run.specs.RunOutside.{run_outside, sink_state, source_state};
+ghost use Rattle.sshc_run.specs.RunPromises.{run_asked};
+ghost use Rattle.sshc_run.specs.Words.{IsScriptWords, RunsBy, TextGives, words_asked, ScriptGives};
 
 use crate::told::tell;
 use sshc_key::{LocalSigner, Verifier};
-use sshc_opening::Ended;
-use sshc_run::{Config, RunError, run_script};
+use sshc_run::{Config, run_script};
 use sshc_wire::{Failed, Files, Found, NoMemory, Sink, Source, Text};
 use sshc_words::{KNOWN_FILE_STATUS, NO_MEMORY_STATUS, add_line, port_of};
 use std::alloc::Global;
 
-/// The words `script HOST PORT KNOWN`.
+/// The arguments `script HOST PORT KNOWN`.
 #[derive(Clone, Copy, Debug)]
 pub(crate) struct ScriptWords<'a> {
     pub host: &'a str,
@@ -39,7 +38,31 @@ pub(crate) fn script_words<'a>(words: &'a [Text]) -> Option<ScriptWords<'a>>
     }
 }
 
-/// Runs a script by the default settings.
+/// Runs a script by these settings and a known hosts text, and prints the line of the answer.
+fn run_told<S: Source, K: Sink, G: LocalSigner, V: Verifier>(
+    alloc: Global,
+    config: &Config,
+    asked: &ScriptWords<'_>,
+    known: &str,
+    signer: &mut G,
+    verifier: &V,
+    source: &mut S,
+    sink: &mut K,
+) -> u8
+    ensures runs { RunsBy (run_asked asked.now.host.now asked.now.port known.now (V.accepts verifier.now) config.now)
+        (run_outside (source_state (S.left source.old) (S.reads source.old) (S.empty_reads source.old) (S.faults source.old))
+            (sink_state (K.contents sink.old) (K.writes sink.old) (K.empty_writes sink.old) (K.faults sink.old)) (G.calls signer.old))
+        (run_outside (source_state (S.left source.new) (S.reads source.new) (S.empty_reads source.new) (S.faults source.new))
+            (sink_state (K.contents sink.new) (K.writes sink.new) (K.empty_writes sink.new) (K.faults sink.new)) (G.calls signer.new))
+        result }
+{
+    let answer = run_script(
+        alloc, config, asked.host, asked.port, known, signer, verifier, source, sink,
+    );
+    tell(alloc, sink, &answer)
+}
+
+/// Runs a script by the default settings and a known hosts text, and prints the line of the answer.
 fn run_default<S: Source, K: Sink, G: LocalSigner, V: Verifier>(
     alloc: Global,
     asked: &ScriptWords<'_>,
@@ -48,40 +71,23 @@ fn run_default<S: Source, K: Sink, G: LocalSigner, V: Verifier>(
     verifier: &V,
     source: &mut S,
     sink: &mut K,
-) -> Result<Ended, RunError>
-    ensures run { Ends default_events 0 0 (words_table (V.accepts verifier.now) asked.now.host.now asked.now.port known.now)
-        (streams (S.left source.old) (K.contents sink.old) (S.reads source.old) (G.calls signer.old))
-        (streams (S.left source.new) (K.contents sink.new) (S.reads source.new) (G.calls signer.new)) result }
-    ensures faults { FaultsAnswered (fault_counts (S.faults source.old) (K.faults sink.old)) (fault_counts (S.faults source.new) (K.faults sink.new)) result }
+) -> u8
+    ensures gives { TextGives (words_asked (V.accepts verifier.now) asked.now.host.now asked.now.port known.now)
+        (run_outside (source_state (S.left source.old) (S.reads source.old) (S.empty_reads source.old) (S.faults source.old))
+            (sink_state (K.contents sink.old) (K.writes sink.old) (K.empty_writes sink.old) (K.faults sink.old)) (G.calls signer.old))
+        (run_outside (source_state (S.left source.new) (S.reads source.new) (S.empty_reads source.new) (S.faults source.new))
+            (sink_state (K.contents sink.new) (K.writes sink.new) (K.empty_writes sink.new) (K.faults sink.new)) (G.calls signer.new))
+        result }
 {
     match Config::default_in(alloc) {
-        Ok(config) => run_script(
-            alloc, &config, asked.host, asked.port, known, signer, verifier, source, sink,
+        Ok(config) => run_told(
+            alloc, &config, asked, known, signer, verifier, source, sink,
         ),
-        Err(NoMemory) => Err(RunError::NoMemory),
+        Err(NoMemory) => add_line(sink, "error no-memory\n", NO_MEMORY_STATUS),
     }
 }
 
-/// Runs a script by a known hosts text, and tells the answer.
-fn run_told<S: Source, K: Sink, G: LocalSigner, V: Verifier>(
-    alloc: Global,
-    asked: &ScriptWords<'_>,
-    known: &str,
-    signer: &mut G,
-    verifier: &V,
-    source: &mut S,
-    sink: &mut K,
-) -> u8
-    ensures runs { RunsBy (words_table (V.accepts verifier.now) asked.now.host.now asked.now.port known.now)
-        (streams (S.left source.old) (K.contents sink.old) (S.reads source.old) (G.calls signer.old))
-        (streams (S.left source.new) (K.contents sink.new) (S.reads source.new) (G.calls signer.new))
-        (fault_counts (S.faults source.old) (K.faults sink.old)) (fault_counts (S.faults source.new) (K.faults sink.new)) result }
-{
-    let answer = run_default(alloc, asked, known, signer, verifier, source, sink);
-    tell(alloc, sink, &answer)
-}
-
-/// Runs the words `script HOST PORT KNOWN`: the script of the source by the known hosts text of the file KNOWN, which
+/// Runs the arguments `script HOST PORT KNOWN`: the script of the source by the known hosts text of the file KNOWN, which
 /// is empty where it can't be opened.
 pub(crate) fn run_script_words<F: Files, S: Source, K: Sink, G: LocalSigner, V: Verifier>(
     alloc: Global,
@@ -93,14 +99,15 @@ pub(crate) fn run_script_words<F: Files, S: Source, K: Sink, G: LocalSigner, V: 
     sink: &mut K,
 ) -> u8
     ensures gives { ScriptGives (V.accepts verifier.now) asked.now.host.now asked.now.port asked.now.path.now (F.contents files.old)
-        (streams (S.left source.old) (K.contents sink.old) (S.reads source.old) (G.calls signer.old))
-        (streams (S.left source.new) (K.contents sink.new) (S.reads source.new) (G.calls signer.new))
-        (fault_counts (S.faults source.old) (K.faults sink.old)) (fault_counts (S.faults source.new) (K.faults sink.new))
+        (run_outside (source_state (S.left source.old) (S.reads source.old) (S.empty_reads source.old) (S.faults source.old))
+            (sink_state (K.contents sink.old) (K.writes sink.old) (K.empty_writes sink.old) (K.faults sink.old)) (G.calls signer.old))
+        (run_outside (source_state (S.left source.new) (S.reads source.new) (S.empty_reads source.new) (S.faults source.new))
+            (sink_state (K.contents sink.new) (K.writes sink.new) (K.empty_writes sink.new) (K.faults sink.new)) (G.calls signer.new))
         (F.read_faults files.old) (F.read_faults files.new) result }
     ensures kept { F.contents files.new ≡ F.contents files.old }
 {
     match files.read_text(asked.path) {
-        Ok(Found::Text(known)) => run_told(
+        Ok(Found::Text(known)) => run_default(
             alloc,
             asked,
             known.as_str(),
@@ -109,7 +116,7 @@ pub(crate) fn run_script_words<F: Files, S: Source, K: Sink, G: LocalSigner, V: 
             source,
             sink,
         ),
-        Ok(Found::NotOpened) => run_told(alloc, asked, "", signer, verifier, source, sink),
+        Ok(Found::NotOpened) => run_default(alloc, asked, "", signer, verifier, source, sink),
         Ok(Found::NotText) | Err(Failed::Fault) => add_line(
             sink,
             "error known-file\n",

@@ -1,8 +1,7 @@
-//! The program's words: which of them ask for what.
+//! The command-line arguments: which of them ask for what.
 
 ghost use Rattle.std.specs.Prelude.{◌≡◌, ℕ, List, codes, ◌++◌, ◌∷◌, []};
-ghost use Rattle.sshc_run.specs.Outcome.{streams};
-ghost use Rattle.sshc_run.specs.RunFaults.{fault_counts};
+ghost use Rattle.sshc_run.specs.RunOutside.{run_outside, sink_state, source_state};
 ghost use Rattle.sshc_run.specs.Words.{IsScriptWords, ScriptGives};
 ghost use Rattle.sshc_run_words.specs.GenWords.{IsGenWords, GenGives};
 ghost use Rattle.sshc_words.specs.Adding.{Adds};
@@ -47,12 +46,13 @@ pub fn run_words<F: Files, S: Source, K: Sink, G: LocalSigner, V: Verifier>(
     source: &mut S,
     sink: &mut K,
 ) -> u8
-    // `script HOST PORT KNOWN`: the run, and the line that tells its answer.
+    // `script HOST PORT KNOWN`: the run with all its promises, and the line that tells its answer.
     ensures script { (host : List ℕ) (port : ℕ) (path : List ℕ) → IsScriptWords words.now host port path →
         ScriptGives (V.accepts verifier.now) host port path (F.contents files.old)
-        (streams (S.left source.old) (K.contents sink.old) (S.reads source.old) (G.calls signer.old))
-        (streams (S.left source.new) (K.contents sink.new) (S.reads source.new) (G.calls signer.new))
-        (fault_counts (S.faults source.old) (K.faults sink.old)) (fault_counts (S.faults source.new) (K.faults sink.new))
+        (run_outside (source_state (S.left source.old) (S.reads source.old) (S.empty_reads source.old) (S.faults source.old))
+            (sink_state (K.contents sink.old) (K.writes sink.old) (K.empty_writes sink.old) (K.faults sink.old)) (G.calls signer.old))
+        (run_outside (source_state (S.left source.new) (S.reads source.new) (S.empty_reads source.new) (S.faults source.new))
+            (sink_state (K.contents sink.new) (K.writes sink.new) (K.empty_writes sink.new) (K.faults sink.new)) (G.calls signer.new))
         (F.read_faults files.old) (F.read_faults files.new) result }
     // The files are as they were: no script adds to a known hosts file.
     ensures kept { (host : List ℕ) (port : ℕ) (path : List ℕ) → IsScriptWords words.now host port path → F.contents files.new ≡ F.contents files.old }

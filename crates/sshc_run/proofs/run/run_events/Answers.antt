@@ -1,7 +1,7 @@
 use Rattle.std.proofs.Common.{refl}
 use Rattle.sshc_run.specs.Configured.{run_settings_of}
 use Rattle.sshc_run.specs.RunTurn.{run_machine}
-use Rattle.sshc_run.specs.Turning.{hosts_of}
+use Rattle.sshc_run.specs.TurnContracts.{hosts_of}
 use Rattle.sshc_run.proofs.Promises.{by_events}
 use Rattle.sshc_run.proofs.run.run_events.Goals as goal
 

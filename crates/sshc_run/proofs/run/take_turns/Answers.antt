@@ -3,9 +3,9 @@ use Rattle.sshc_wire.specs.Contents.{no_writes, writes_on, writes_end, moved_for
 use Rattle.sshc_run.specs.Outcome.{Streams, streams, Ends}
 use Rattle.sshc_run.specs.ScriptRun.{Spot, spot, run}
 use Rattle.sshc_run.specs.RunTurn.{RunState, kept, run_turn}
-use Rattle.sshc_run.specs.Turning.{hosts_of}
-use Rattle.sshc_run.proofs.Coming.{along_none, along_more, along_ends, turn_ends}
-use Rattle.sshc_run.proofs.Going.{limit_ends}
+use Rattle.sshc_run.specs.TurnContracts.{hosts_of}
+use Rattle.sshc_run.proofs.RunLoop.{along_none, along_more, along_ends, turn_ends}
+use Rattle.sshc_run.proofs.RunUnfold.{limit_ends}
 use Rattle.sshc_run.proofs.run.take_turns.Goals as goal
 
 pub loop-turn-init : goal.loop-turn-init
@@ -38,23 +38,17 @@ loop-turn-preserved g c =
       ready = c.in_default.ensures.ready;
       same = c.one_turn.ensures.same ∙ c.loop-turn.invariant.same;
       place = omega (arith, c.loop-turn.invariant.place, gives.4.within);
-      moving = c.in_default.ensures.moving ∙ c.loop-turn.invariant.moving;
-      moving_writes = c.in_default.ensures.moving_writes ∙ c.loop-turn.invariant.moving_writes;
-      reads = c.in_default.ensures.read_told (λ e. absurd cc) ∙ c.loop-turn.invariant.reads;
-      moved = writes_on _ _ _ _ _ _ c.loop-turn.invariant.moved (c.in_default.ensures.moved_writes);
-      writes = c.in_default.ensures.write_told (λ e. absurd cc) ∙ c.loop-turn.invariant.writes;
+      moving = c.in_default.ensures.source.moving ∙ c.loop-turn.invariant.moving;
+      moving_writes = c.in_default.ensures.sink.moving ∙ c.loop-turn.invariant.moving_writes;
+      reads = c.in_default.ensures.source.told (λ e. absurd cc) ∙ c.loop-turn.invariant.reads;
+      moved = writes_on _ _ _ _ _ _ c.loop-turn.invariant.moved (c.in_default.ensures.sink.moved);
+      writes = c.in_default.ensures.sink.told (λ e. absurd cc) ∙ c.loop-turn.invariant.writes;
     }
 
 pub returns-in-Some-clause-run : goal.returns-in-Some-clause-run
 returns-in-Some-clause-run g c =
     let gives = rw c.loop-turn.invariant.same at c.in-Some.ensures.gives in
     (turn_ends (run (run_turn (hosts_of c.args.gate.now) (g.V.Verifier.accepts c.args.verifier.now))) (spot c.args.at.now.place c.args.at.now.last (kept c.args.at.now.session c.args.at.now.agents)) c.args.max_events _ _ _ _ _ c.in-Some.answer c.loop-turn-test.true c.loop-turn.invariant.along gives)
-
-pub returns-in-Some-clause-read_fault : goal.returns-in-Some-clause-read_fault
-returns-in-Some-clause-read_fault g c = λ e. let rose = c.in-Some.ensures.read_fault (ap Some e) in omega (arith, rose, c.loop-turn.invariant.reads)
-
-pub returns-in-Some-clause-write_fault : goal.returns-in-Some-clause-write_fault
-returns-in-Some-clause-write_fault g c = λ e. let rose = c.in-Some.ensures.write_fault (ap Some e) in omega (arith, rose, c.loop-turn.invariant.writes)
 
 pub returns-clause-run : goal.returns-clause-run
 returns-clause-run g c =
@@ -65,8 +59,38 @@ returns-clause-run g c =
     (along_ends (run (run_turn (hosts_of c.args.gate.now) (g.V.Verifier.accepts c.args.verifier.now))) (spot c.args.at.now.place c.args.at.now.last (kept c.args.at.now.session c.args.at.now.agents)) c.args.max_events c.loop-turn.turn at _ now _ c.at_limit.result (omega (arith, c.loop-turn.invariant.turns)) c.loop-turn.invariant.along
     (subst (λ (n : ℕ). Ends n at.place at.last (run (run_turn (hosts_of c.args.gate.now) (g.V.Verifier.accepts c.args.verifier.now)) n at) now (record now { left = g.S.Source.left c.at_limit.new.source; reads = g.S.Source.reads c.at_limit.new.source }) c.at_limit.result) none ends))
 
-pub returns-in-Some-clause-writes : goal.returns-in-Some-clause-writes
-returns-in-Some-clause-writes g c = writes_end _ _ _ _ _ _ c.loop-turn.invariant.moved c.one_turn.ensures.writes
+pub returns-in-Some-clause-counts : goal.returns-in-Some-clause-counts
+returns-in-Some-clause-counts g c =
+    let so = c.loop-turn.invariant in
+    let turn = c.in-Some.ensures in
+    record {
+      last_read = omega (arith, turn.source.last, so.moving);
+      last_write = omega (arith, turn.sink.last, so.moving_writes);
+      writes = writes_end _ _ _ _ _ _ so.moved turn.sink.writes;
+      faults = record {
+        read_later = omega (arith, turn.source.later, so.reads);
+        write_later = omega (arith, turn.sink.later, so.writes);
+        read_fault = λ e. let rose = turn.source.fault (ap Some e) in omega (arith, rose, so.reads);
+        read_told = λ no. turn.source.told (λ e. no cc) ∙ so.reads;
+        write_fault = λ e. let rose = turn.sink.fault (ap Some e) in omega (arith, rose, so.writes);
+        write_told = λ no. turn.sink.told (λ e. no cc) ∙ so.writes;
+      };
+    }
 
-pub returns-clause-writes : goal.returns-clause-writes
-returns-clause-writes g c = moved_for _ _ _ _ c.loop-turn.invariant.moved
+pub returns-clause-counts : goal.returns-clause-counts
+returns-clause-counts g c =
+    let so = c.loop-turn.invariant in
+    let limit = c.at_limit.ensures in
+    record {
+      last_read = omega (arith, limit.last, so.moving);
+      last_write = omega (arith, so.moving_writes);
+      writes = moved_for _ _ _ _ so.moved;
+      faults = record {
+        read_later = omega (arith, limit.later, so.reads);
+        write_later = omega (arith, so.writes);
+        read_fault = λ e. let rose = limit.fault e in omega (arith, rose, so.reads);
+        read_told = λ no. limit.told no ∙ so.reads;
+        write_fault = λ e. absurd (rw e at limit.gives);
+        write_told = λ no. so.writes;
+      };
+    }

@@ -1,11 +1,11 @@
 use Rattle.std.proofs.Common.{◌≡◌, ◌*◌, ◌≤◌}
 use Rattle.sshc_wire.specs.Contents.{WritesMove}
-use Rattle.sshc_run.specs.Along.{IsAlong}
+use Rattle.sshc_run.specs.LoopInvariant.{IsAlong}
 use Rattle.sshc_run.specs.Outcome.{streams}
 use Rattle.sshc_run.specs.Ready.{IsReady}
 use Rattle.sshc_run.specs.ScriptRun.{run, spot}
 use Rattle.sshc_run.specs.RunTurn.{kept, run_turn}
-use Rattle.sshc_run.specs.Turning.{hosts_of}
+use Rattle.sshc_run.specs.TurnContracts.{hosts_of}
 use Rattle.sshc_run.proofs.run.take_turns.Given as goal
 
 abbrev pub invariant-loop-turn : goal.invariant-loop-turn

@@ -1,7 +1,7 @@
 use Rattle.std.proofs.Common.{[]}
 use Rattle.sshc_session.specs.OpeningStep.{Lent, lent_session}
 use Rattle.sshc_run.proofs.SessionSteps.{lives, opened_came, opened_ready}
-use Rattle.sshc_run.proofs.Taken.{unchanged}
+use Rattle.sshc_run.proofs.TakenEvents.{unchanged}
 use Rattle.sshc_run.proofs.stepping.step_opened.Goals as goal
 
 pub returns-clause-came : goal.returns-clause-came

@@ -1,6 +1,6 @@
 use Rattle.std.proofs.Common.{[], ◌∷◌}
 use Rattle.sshc_session.specs.OpeningStep.{Lent, lent_session}
-use Rattle.sshc_run.specs.Turning.{hosts_of}
+use Rattle.sshc_run.specs.TurnContracts.{hosts_of}
 use Rattle.sshc_run.proofs.SessionSteps.{unopened_came, unopened_ready, unopened_setting, unopened_gained}
 use Rattle.sshc_run.proofs.SettingsKept.{hosts_kept}
 use Rattle.sshc_run.proofs.stepping.step_unopened.Goals as goal

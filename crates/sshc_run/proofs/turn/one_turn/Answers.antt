@@ -1,10 +1,11 @@
-use Rattle.std.proofs.Common.{ap, ◌∙◌, ◌≡◌, ◌+◌, Some, None}
+use Rattle.std.proofs.Common.{ap, ◌∙◌, ◌≡◌, ◌+◌, Some, None, arith, refl}
+use Rattle.sshc_wire.specs.Contents.{moved_for, no_writes}
 use Rattle.sshc_key.specs.Signers.{since}
 use Rattle.sshc_run.specs.ScriptRun.{spot}
 use Rattle.sshc_run.specs.RunTurn.{kept, run_turn}
-use Rattle.sshc_run.specs.Turning.{hosts_of}
-use Rattle.sshc_run.proofs.SessionCaused.{never_at_end}
-use Rattle.sshc_run.proofs.Going.{end_ends, next_ends, taken_gives}
+use Rattle.sshc_run.specs.TurnContracts.{hosts_of}
+use Rattle.sshc_run.proofs.TurnCauses.{never_at_end}
+use Rattle.sshc_run.proofs.RunUnfold.{end_ends, next_ends, taken_gives}
 use Rattle.sshc_run.proofs.turn.one_turn.Goals as goal
 
 pub returns-in-Ok-None-clause-gives : goal.returns-in-Ok-None-clause-gives
@@ -28,3 +29,15 @@ returns-clause-gives g c =
     taken_gives (run_turn (hosts_of c.args.gate.now) (g.V.Verifier.accepts c.args.verifier.now)) (never_at_end (hosts_of c.args.gate.now) (g.V.Verifier.accepts c.args.verifier.now)) (spot c.args.at.now.place c.args.at.now.last (kept c.args.at.now.session c.args.at.now.agents)) _ c.in-Ok-Some.event _ _
     (since (g.G.LocalSigner.calls c.args.signer.now) (g.G.LocalSigner.calls c.take_event.new.signer)) None c.take_event.ensures.gained gives (rw none at c.take_event.ensures.gives)
     (ap (λ k. k + c.size.result) c.take_event.ensures.moved.0 ∙ ap (λ k. c.args.at.now.place + k) c.size.ensures.size, c.moment-at.ensures)
+
+-- at the script's end nothing is written
+pub returns-in-Ok-None-clause-sink : goal.returns-in-Ok-None-clause-sink
+returns-in-Ok-None-clause-sink g c = record {
+  moving = tt;
+  last = omega arith;
+  moved = tt;
+  writes = moved_for _ _ _ _ (no_writes _ _);
+  later = omega arith;
+  fault = λ e. absurd cc;
+  told = λ no. refl;
+}

@@ -1,4 +1,4 @@
-use Rattle.sshc_run.proofs.Taken.{written_turn, cut_turn}
+use Rattle.sshc_run.proofs.TakenEvents.{written_turn, cut_turn}
 use Rattle.sshc_run.proofs.turn.step_event.Goals as goal
 
 pub returns-in-Ok-clause-gives : goal.returns-in-Ok-clause-gives

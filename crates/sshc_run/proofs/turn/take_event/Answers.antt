@@ -4,7 +4,7 @@ use Rattle.sshc_run.specs.AgentsTurn.{agents_turn}
 use Rattle.sshc_run.specs.RunTurn.{kept}
 use Rattle.sshc_run.specs.SessionPart.{is_session_kind, session_own}
 use Rattle.sshc_run.specs.SessionTurn.{session_turn}
-use Rattle.sshc_run.specs.Turning.{hosts_of}
+use Rattle.sshc_run.specs.TurnContracts.{hosts_of}
 use Rattle.sshc_run.proofs.ProductTurns.{one_takes_so, other_takes_so}
 use Rattle.sshc_run.proofs.turn.take_event.Goals as goal
 

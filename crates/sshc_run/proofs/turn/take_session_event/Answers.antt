@@ -1,5 +1,5 @@
 use Rattle.sshc_script.specs.Script.{frame_at}
-use Rattle.sshc_run.specs.Turning.{hosts_of}
+use Rattle.sshc_run.specs.TurnContracts.{hosts_of}
 use Rattle.sshc_run.proofs.EventTurns.{unread_turn, event_taken}
 use Rattle.sshc_run.proofs.turn.take_session_event.Goals as goal
 

@@ -8,14 +8,14 @@ use Rattle.sshc_key.specs.Signers.{SignCall}
 use Rattle.sshc_key.specs.Asking.{Answer}
 use Rattle.sshc_opening.specs.declared.ended.Ended.{Ended}
 use Rattle.sshc_run.specs.declared.error.RunError.{RunError}
-use Rattle.sshc_run.specs.Along.{Along, IsAlong}
+use Rattle.sshc_run.specs.LoopInvariant.{Along, IsAlong}
 use Rattle.sshc_run.specs.Machine.{RunStop}
 use Rattle.sshc_run.specs.Outcome.{Streams, Moved, Ending, told, cut, unread, ending_of, IsCut, IsExact, EndsAs, HoldsAtMost, Ends}
 use Rattle.sshc_run.specs.RecordLines.{line, lines}
 use Rattle.sshc_script.specs.Script.{events}
 use Rattle.sshc_run.specs.ScriptRun.{Run, Spot, Table, after, answers_of}
-use Rattle.sshc_run.specs.Turning.{BringsOn}
-use Rattle.sshc_run.proofs.Answered.{answers_two}
+use Rattle.sshc_run.specs.TurnContracts.{BringsOn}
+use Rattle.sshc_run.proofs.AnsweredQuestions.{answers_two}
 
 -- ---- fronts of two lists in a row
 

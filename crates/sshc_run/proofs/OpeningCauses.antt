@@ -30,7 +30,7 @@ use Rattle.sshc_script.specs.Script.{Frame}
 use Rattle.sshc_run.specs.declared.known_hosts_handler.HandlerError.{HandlerError}
 use Rattle.sshc_run.specs.declared.known_hosts_handler.HandlerError.TheVariants.{Key}
 use Rattle.sshc_run.specs.Causes.{IsEventCause, IsSessionStop, SaysNo}
-use Rattle.sshc_run.specs.Comes.{StopsFor}
+use Rattle.sshc_run.specs.ReachedStates.{StopsFor}
 use Rattle.sshc_run.specs.Headline.{said_of_key}
 use Rattle.sshc_run.specs.KnownHosts.{Hosts, verdict, as_handler}
 use Rattle.sshc_run.specs.Machine.{stopped, ended, IsNoEnd}

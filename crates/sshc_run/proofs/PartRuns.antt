@@ -5,12 +5,12 @@ use Rattle.std.proofs.lemmas.List.Elements.{filter-append}
 use Rattle.sshc_wire.specs.declared.record.Record.{Record}
 use Rattle.sshc_key.specs.Asking.{SignRequest, Answer, Asking, done, asks, call_of, Always}
 use Rattle.sshc_key.specs.AskingLaws.{always_also}
-use Rattle.sshc_run.specs.Comes.{StopsFor}
+use Rattle.sshc_run.specs.ReachedStates.{StopsFor}
 use Rattle.sshc_run.specs.Machine.{RunStop, unanswered_stop, Onward, goes_on, opened, stopped, TurnOf, Turns}
 use Rattle.sshc_run.specs.Part.{Own, own_events, own_records, own_calls, own_answers, SaysBy, AsksBy, HasPart, StopsOthers, StopsElse, IsWholePart, PartOf}
 use Rattle.sshc_script.specs.Script.{Frame, ScriptStop}
 use Rattle.sshc_run.specs.ScriptRun.{Run, events_run, run_on, asked_run, after, stopped_with}
-use Rattle.sshc_run.proofs.Continued.{asked_mapped, front_before}
+use Rattle.sshc_run.proofs.OpeningContinues.{asked_mapped, front_before}
 
 -- ---- records of its own
 

@@ -8,8 +8,8 @@ use Rattle.sshc_run.specs.Part.{Own, own_events}
 use Rattle.sshc_run.specs.Product.{Both, in_one, in_other, both_turn, others}
 use Rattle.sshc_script.specs.Script.{Frame, ScriptStop}
 use Rattle.sshc_run.specs.ScriptRun.{Run, events_run, run_on, asked_run, answers_of}
-use Rattle.sshc_run.proofs.Answered.{asked_made}
-use Rattle.sshc_run.proofs.OverRuns.{CameTo, came_to}
+use Rattle.sshc_run.proofs.AnsweredQuestions.{asked_made}
+use Rattle.sshc_run.proofs.RunLaws.{CameTo, came_to}
 
 module _ {A : Type 0} {B : Type 0} (own : Own) (one : Turns A) (other : Turns B) (st : ScriptStop)
     (passes : (s : B) (frame : Frame) → own.event frame ≡ false → Always (λ (t : TurnOf B). stop_next t.next ≡ None) (other s frame)) where

@@ -20,7 +20,7 @@ use Rattle.sshc_script.specs.Script.{Frame}
 use Rattle.sshc_agent_turns.specs.AgentTurns.{Served}
 use Rattle.sshc_run.specs.AgentsTurn.{agents_turn}
 use Rattle.sshc_run.specs.Causes.{IsSessionStop, IsStopCause}
-use Rattle.sshc_run.specs.Comes.{StopsFor, GoesOnIn}
+use Rattle.sshc_run.specs.ReachedStates.{StopsFor, GoesOnIn}
 use Rattle.sshc_run.specs.KnownHosts.{Hosts}
 use Rattle.sshc_run.specs.Machine.{Onward, goes_on, opened, stopped, ended, IsNoEnd, NeverAtEnd, TurnOf}
 use Rattle.sshc_run.specs.Product.{both_turn, in_one, in_other}
@@ -28,12 +28,12 @@ use Rattle.sshc_run.specs.RunTurn.{RunState, run_turn}
 use Rattle.sshc_run.specs.SessionPart.{IsAgentCause, session_own}
 use Rattle.sshc_run.specs.SessionTurn.{SessionTurn, in_session, onward, row_turn, step_turn, read_turn, session_turn}
 use Rattle.sshc_run.specs.Turn.{Turn, asked_turn}
-use Rattle.sshc_run.proofs.Caused.{refusal_shows, event_shows, asked_never}
-use Rattle.sshc_run.proofs.OverRuns.{Shows}
+use Rattle.sshc_run.proofs.OpeningCauses.{refusal_shows, event_shows, asked_never}
+use Rattle.sshc_run.proofs.RunLaws.{Shows}
 use Rattle.sshc_run.proofs.AgentsTurns.{agents_never, agents_stop}
 use Rattle.sshc_run.proofs.Products.{both_never}
 use Rattle.sshc_run.proofs.SessionPart.{session_apart}
-use Rattle.sshc_run.proofs.Unopened.{Leaves, TurnLeaves, asked_leaves}
+use Rattle.sshc_run.proofs.UnopenedTurns.{Leaves, TurnLeaves, asked_leaves}
 
 always_two : {A : Type 0} (P Q : A → Type 0) (asking : Asking A) → Always P asking → Always Q asking → Always (λ (x : A). P x × Q x) asking
 always_two P Q (done x) one other = (one, other)

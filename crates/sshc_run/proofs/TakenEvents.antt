@@ -17,9 +17,9 @@ use Rattle.sshc_run.specs.declared.known_hosts_handler.HandlerError.{HandlerErro
 use Rattle.sshc_run.specs.Machine.{TurnOf, stop_next}
 use Rattle.sshc_run.specs.Outcome.{Ending, told, cut, unread, ending_of, stop_as}
 use Rattle.sshc_run.specs.RecordLines.{lines}
-use Rattle.sshc_run.specs.Turning.{step_answer, Came, CutBy, TakeAs, TakeGives}
+use Rattle.sshc_run.specs.TurnContracts.{step_answer, Came, CutBy, TakeAs, TakeGives}
 use Rattle.sshc_run.proofs.Lines.{wrote_all}
-use Rattle.sshc_run.proofs.Longer.{wrote_longer}
+use Rattle.sshc_run.proofs.ScriptExtension.{wrote_longer}
 
 front_none : (part rest : List ℕ) → [] ≡ part ++ rest → part ≡ []
 front_none [] rest h = refl

@@ -4,7 +4,7 @@ use Rattle.sshc_wire.specs.declared.record.Record.{Record}
 use Rattle.sshc_key.specs.Signers.{SignCall}
 use Rattle.sshc_key.specs.Asking.{SignRequest, Answer, Asking, done, asks, call_of, Makes, Always}
 use Rattle.sshc_key.specs.AskingLaws.{always_makes}
-use Rattle.sshc_run.specs.Comes.{CausedBy, StopsFor, GoesOnIn}
+use Rattle.sshc_run.specs.ReachedStates.{CausedBy, StopsFor, GoesOnIn}
 use Rattle.sshc_run.specs.Machine.{RunStop, unanswered_stop, Onward, goes_on, opened, stopped, TurnOf, Turns, stop_next}
 use Rattle.sshc_script.specs.Script.{Frame, ScriptStop}
 use Rattle.sshc_run.specs.ScriptRun.{Run, events_run, run_on, asked_run, after, answers_of}

@@ -5,7 +5,7 @@ use Rattle.sshc_wire.specs.declared.record.Record.{Record}
 use Rattle.sshc_wire.specs.declared.record.Record.TheVariants.{Payload}
 use Rattle.sshc_session_laws.specs.SessionRecords.{is_session_record}
 use Rattle.sshc_key.specs.declared.identity.PublicKeyOrCertificate.{PublicKeyOrCertificate}
-use Rattle.sshc_key.specs.Asking.{Answer, Asking, asked_on, Always}
+use Rattle.sshc_key.specs.Asking.{Answer, Asking, asked_on, Always, asks, done}
 use Rattle.sshc_key.specs.AskingLaws.{always_on}
 use Rattle.sshc_event.specs.HostKey.{host_key}
 use Rattle.sshc_event.specs.declared.event.Event.{Event}
@@ -34,15 +34,17 @@ use Rattle.sshc_script.specs.Script.{Frame, ScriptStop}
 use Rattle.sshc_run.specs.declared.known_hosts_handler.HandlerError.{HandlerError}
 use Rattle.sshc_run.specs.Headline.{said_of_key, said_by, said_at, said_of_first, is_yes, is_accepted}
 use Rattle.sshc_run.specs.KnownHosts.{Hosts, verdict}
-use Rattle.sshc_run.specs.Comes.{GoesOnIn}
-use Rattle.sshc_run.specs.Machine.{Onward, goes_on, opened, stopped}
-use Rattle.sshc_run.specs.ScriptRun.{events_run}
+use Rattle.sshc_run.specs.ReachedStates.{GoesOnIn}
+use Rattle.sshc_run.specs.Machine.{Onward, goes_on, opened, stopped, unanswered_stop}
+use Rattle.sshc_run.specs.OpenedKey.{OpensIt}
+use Rattle.sshc_run.specs.OpeningRun.{OpeningRun, OpeningStop, by_turn, opening, stops_with}
+use Rattle.sshc_run.specs.ScriptRun.{asked_run, events_run}
 use Rattle.sshc_run.specs.Part.{own_events}
 use Rattle.sshc_run.specs.RunTurn.{RunState, run_turn}
 use Rattle.sshc_run.specs.SessionPart.{IsAgentCause, session_own}
 use Rattle.sshc_run.specs.SessionTurn.{SessionTurn, in_session, step_turn, read_turn, session_turn}
-use Rattle.sshc_run.specs.Turn.{Turn, next_turn, row_turn, judged_turn, asked_turn}
-use Rattle.sshc_run.proofs.OverRuns.{records_hold}
+use Rattle.sshc_run.specs.Turn.{Turn, next_turn, row_turn, judged_turn, asked_turn, event_turn, opening_turn}
+use Rattle.sshc_run.proofs.RunLaws.{records_hold}
 use Rattle.sshc_run.proofs.ProductGate.{gated_whole}
 use Rattle.sshc_run.proofs.SessionPart.{agent_stops, session_part}
 
@@ -50,9 +52,15 @@ none_append : (a b : List Record) → NonePayload a → NonePayload b → NonePa
 none_append [] b p q = q
 none_append (said ∷ a) b p q = (p.0, none_append a b p.1 q)
 
+-- the run stops, or goes on in such a state, and the session isn't opened
+abbrev StaysIn : (OpeningState → Type 0) → OpeningState → Onward → Type 0
+StaysIn Holds s goes_on = Holds s
+StaysIn Holds s opened = ⊥
+StaysIn Holds s (stopped stop) = Unit {0}
+
 -- no payload is written, and the run stops or goes on before the first exchange
 abbrev StaysOut : (OpeningState → Type 0) → Asking Turn → Type 0
-StaysOut Holds asking = Always (λ (t : Turn). NonePayload t.records × GoesOnIn Holds t.state t.next) asking
+StaysOut Holds asking = Always (λ (t : Turn). NonePayload t.records × StaysIn Holds t.state t.next) asking
 
 -- ---- one event
 
@@ -90,7 +98,7 @@ module _ (hosts : Hosts) (s : OpeningState) (frame : Frame) (frames : List Frame
   -- ---- rows
 
   next_out : (row : Row) (next : Next) → NonePayload row.records → FirstNext event next →
-      NonePayload (next_turn frame.place s row next).records × GoesOnIn Behind (next_turn frame.place s row next).state (next_turn frame.place s row next).next
+      NonePayload (next_turn frame.place s row next).records × StaysIn Behind (next_turn frame.place s row next).state (next_turn frame.place s row next).next
   next_out row (stays to) payloads goes = (payloads, (goes.0, none_later goes.1))
   next_out row (opens to) payloads goes = absurd goes
   next_out row (ends_with e) payloads goes = (payloads, tt)
@@ -99,7 +107,7 @@ module _ (hosts : Hosts) (s : OpeningState) (frame : Frame) (frames : List Frame
   -- the rest of a row that isn't an accepted exchange's
   told_out : (told : Told) → (IsAccepted event told → ⊥) → StaysOut Behind (asked_on (row_turn frame.place s) (open_row s event told))
   told_out told denied =
-      always_on (StaysFirst event) (λ (t : Turn). NonePayload t.records × GoesOnIn Behind t.state t.next) (row_turn frame.place s) (open_row s event told)
+      always_on (StaysFirst event) (λ (t : Turn). NonePayload t.records × StaysIn Behind t.state t.next) (row_turn frame.place s) (open_row s event told)
       (λ row stays. next_out row row.next stays.0 stays.1) (first_law s event told first denied)
 
   no_yes : (e : Event) (told : Told) → (told ≡ telling.Went → ⊥) → IsAccepted e told → ⊥
@@ -114,7 +122,7 @@ module _ (hosts : Hosts) (s : OpeningState) (frame : Frame) (frames : List Frame
   judged_out key (Ok false) for is = told_out telling.No (no_yes event telling.No (λ same. absurd cc))
   judged_out key (Err e) for is = (tt, tt)
 
-  asked_out : (asks : Asks) → asked_of s event ≡ asks → IsKeyAtMost asks → StaysOut Behind (asked_turn hosts frame.place s event asks)
+  pub asked_out : (asks : Asks) → asked_of s event ≡ asks → IsKeyAtMost asks → StaysOut Behind (asked_turn hosts frame.place s event asks)
   asked_out wants.Nothing asked most = told_out telling.NotAsked (no_yes event telling.NotAsked (λ same. absurd cc))
   asked_out (wants.HostKey key) asked most = judged_out key (verdict hosts key) (asks_for s event key asked) refl
   asked_out wants.Exchange asked most = absurd most
@@ -130,10 +138,10 @@ IsBefore hosts w frames = IsFirst w.opening × (is_accepted hosts frames ≡ fal
 abbrev StaysOutSo : Hosts → List Frame → Asking SessionTurn → Type 0
 StaysOutSo hosts frames asking = Always (λ (t : SessionTurn). NonePayload t.records × GoesOnIn (λ (to : SessionState). IsBefore hosts to frames) t.state t.next) asking
 
-in_session_out : (hosts : Hosts) (frames : List Frame) (w : SessionState) (t : Turn) (next : Onward) → GoesOnIn (λ (to : OpeningState). IsFirst to × (is_accepted hosts frames ≡ false)) t.state next →
+in_session_out : (hosts : Hosts) (frames : List Frame) (w : SessionState) (t : Turn) (next : Onward) → StaysIn (λ (to : OpeningState). IsFirst to × (is_accepted hosts frames ≡ false)) t.state next →
     GoesOnIn (λ (to : SessionState). IsBefore hosts to frames) (in_session w t).state next
 in_session_out hosts frames w t goes_on on = on
-in_session_out hosts frames w t opened on = on
+in_session_out hosts frames w t opened on = absurd on
 in_session_out hosts frames w t (stopped stop) on = tt
 
 -- while the first exchange runs the session isn't open
@@ -144,7 +152,7 @@ step_out : (hosts : Hosts) (accepts : Accepts) (w : SessionState) (frame : Frame
     StaysOutSo hosts frames (step_turn b hosts accepts frame.place w event)
 step_out hosts accepts w frame frames event true is read (first, none) = let clash : true ≡ false = sym is ∙ first_unopened w first in absurd cc
 step_out hosts accepts w frame frames event false is read (first, none) =
-    always_on (λ (t : Turn). NonePayload t.records × GoesOnIn (λ (to : OpeningState). IsFirst to × (is_accepted hosts frames ≡ false)) t.state t.next)
+    always_on (λ (t : Turn). NonePayload t.records × StaysIn (λ (to : OpeningState). IsFirst to × (is_accepted hosts frames ≡ false)) t.state t.next)
     (λ (t : SessionTurn). NonePayload t.records × GoesOnIn (λ (to : SessionState). IsBefore hosts to frames) t.state t.next) (in_session w)
     (asked_turn hosts frame.place w.opening event (asked_of w.opening event)) (λ t out. (out.0, in_session_out hosts frames w t t.next out.1))
     (asked_out hosts w.opening frame frames first event read none (asked_of w.opening event) refl (first_at_most w.opening event first.exchanging))
@@ -166,7 +174,7 @@ session_gated hosts accepts frames w st answers first none =
     records_hold (session_turn hosts accepts) (IsBefore hosts) NonePayload tt none_append (λ x frame rest is. turn_out hosts accepts x frame rest is) frames w st answers (first, none)
 
 -- an exchange is the session's, and so is a payload
-exchange_own : (frame : Frame) → frame.kind ≡ kinds.ExchangeDone → session_own.event frame ≡ true
+pub exchange_own : (frame : Frame) → frame.kind ≡ kinds.ExchangeDone → session_own.event frame ≡ true
 exchange_own frame is = rw is refl
 
 payload_own : (said : Record) → IsPayload said → is_session_record said ≡ true
@@ -179,3 +187,40 @@ pub gated : (hosts : Hosts) (accepts : Accepts) (frames : List Frame) (s : RunSt
 gated hosts accepts frames s st answers first none =
     gated_whole session_own hosts exchange_own (run_turn hosts accepts) (session_turn hosts accepts) (λ (x : RunState). x.one) (session_part hosts accepts) IsAgentCause (agent_stops hosts accepts) payload_own st frames s answers
     (λ own_none replies. session_gated hosts accepts (own_events session_own frames) s.one st replies first own_none) none
+
+-- ---- the opening alone
+
+read_shut : (hosts : Hosts) (o : OpeningState) (frame : Frame) (frames : List Frame) (read : Result Event EventError) → event_of frame.kind frame.fields ≡ read → IsFirst o → is_accepted hosts (frame ∷ frames) ≡ false →
+    StaysOut (λ (to : OpeningState). IsFirst to × (is_accepted hosts frames ≡ false)) (event_turn hosts frame.place o read)
+read_shut hosts o frame frames (Ok event) is first none = asked_out hosts o frame frames first event is none (asked_of o event) refl (first_at_most o event first.exchanging)
+read_shut hosts o frame frames (Err reads.Bad) is first none = (tt, tt)
+read_shut hosts o frame frames (Err reads.NoMemory) is first none = (tt, tt)
+
+turn_shut : (hosts : Hosts) (o : OpeningState) (frame : Frame) (frames : List Frame) → IsFirst o → is_accepted hosts (frame ∷ frames) ≡ false →
+    StaysOut (λ (to : OpeningState). IsFirst to × (is_accepted hosts frames ≡ false)) (opening_turn hosts o frame)
+unfolding opening_turn
+turn_shut hosts o frame frames first none = read_shut hosts o frame frames (event_of frame.kind frame.fields) refl first none
+
+-- the opening run doesn't open the session
+abbrev pub IsShut : OpeningStop OpeningState → Type 0
+IsShut stop = OpensIt stop → ⊥
+
+shut_by_turn : (Holds : OpeningState → Type 0) (t : Turn) (next : Onward) (frames : List Frame) (left : List Answer) (later : OpeningRun OpeningState) → StaysIn Holds t.state next → (Holds t.state → IsShut later.stop) → IsShut (by_turn t next frames left later).stop
+shut_by_turn Holds t goes_on frames left later stays behind = behind stays
+shut_by_turn Holds t opened frames left later stays behind = absurd stays
+shut_by_turn Holds t (stopped stop) frames left later stays behind = λ opens. opens
+
+shut_asked : (Holds : OpeningState → Type 0) (asking : Asking Turn) (answers : List Answer) (later : Turn → List Answer → OpeningRun OpeningState) → StaysOut Holds asking →
+    ((t : Turn) (left : List Answer) → StaysIn Holds t.state t.next → IsShut (later t left).stop) → IsShut (asked_run (stops_with unanswered_stop) asking answers later).stop
+shut_asked Holds (done t) answers later stays each = each t answers stays.1
+shut_asked Holds (asks asked on) [] later stays each = λ opens. opens
+shut_asked Holds (asks asked on) (answer ∷ answers) later stays each = shut_asked Holds (on answer) answers later (stays answer) each
+
+-- where the events hold no exchange whose host key is accepted first, the opening doesn't open the session
+pub opening_shut : (hosts : Hosts) (frames : List Frame) (o : OpeningState) (answers : List Answer) → IsFirst o → is_accepted hosts frames ≡ false → IsShut (opening (opening_turn hosts) o frames answers).stop
+unfolding opening
+opening_shut hosts [] o answers first none = λ opens. opens
+opening_shut hosts (frame ∷ frames) o answers first none =
+    shut_asked (λ (to : OpeningState). IsFirst to × (is_accepted hosts frames ≡ false)) (opening_turn hosts o frame) answers (λ t left. by_turn t t.next frames left (opening (opening_turn hosts) t.state frames left))
+    (turn_shut hosts o frame frames first none)
+    (λ t left stays. shut_by_turn (λ (to : OpeningState). IsFirst to × (is_accepted hosts frames ≡ false)) t t.next frames left (opening (opening_turn hosts) t.state frames left) stays (λ on. opening_shut hosts frames t.state left on.0 on.1))

@@ -8,7 +8,7 @@ use Rattle.sshc_run.specs.Machine.{unanswered_stop, Onward, goes_on, opened, sto
 use Rattle.sshc_run.specs.OpeningRun.{OpeningRun, OpeningStop, opens_before, stops_with, through, opening, by_turn, Concluded}
 use Rattle.sshc_script.specs.Script.{Frame, Front, End, Bad, Whole, front, frame_at, ScriptStop, events, stop}
 use Rattle.sshc_run.specs.ScriptRun.{Run, Spot, spot_after, run, events_run, run_on, asked_run, after}
-use Rattle.sshc_run.proofs.Answered.{asked_same}
+use Rattle.sshc_run.proofs.AnsweredQuestions.{asked_same}
 
 module _ {S : Type 0} (turn : Turns S) where
   joined_front : (n : ℕ) (at : Spot S) (answers : List Answer) (bytes : List ℕ) (f : Front) → front at.last bytes ≡ f →

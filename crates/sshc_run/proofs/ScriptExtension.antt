@@ -9,12 +9,12 @@ use Rattle.sshc_wire.specs.Contents.{WroteFront}
 use Rattle.sshc_wire.specs.declared.record.Record.{Record}
 use Rattle.sshc_key.specs.Asking.{Answer, Asking, done, asks, call_of}
 use Rattle.sshc_script.specs.declared.error.EventError.{EventError}
-use Rattle.sshc_run.specs.Firsts.{IsFront}
+use Rattle.sshc_run.specs.Prefixes.{IsFront}
 use Rattle.sshc_run.specs.Machine.{Onward, goes_on, opened, stopped, unanswered_stop, TurnOf, Turns}
 use Rattle.sshc_run.specs.RecordLines.{line, lines}
 use Rattle.sshc_script.specs.Script.{Head, Front, End, Bad, Whole, whole_front, sized_front, front, frame_at, head_at}
 use Rattle.sshc_run.specs.ScriptRun.{Run, Spot, spot_after, run, run_on, asked_run, after}
-use Rattle.sshc_run.proofs.Continued.{front_before}
+use Rattle.sshc_run.proofs.OpeningContinues.{front_before}
 
 -- ---- a whole event stays the first of longer bytes
 

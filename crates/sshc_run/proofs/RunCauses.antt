@@ -8,7 +8,7 @@ use Rattle.sshc_packets.specs.HostKeyProof.{Accepts}
 use Rattle.sshc_run.specs.declared.error.RunError.{RunError}
 use Rattle.sshc_run.specs.declared.error.RunError.TheVariants as errors
 use Rattle.sshc_run.specs.Causes.{IsStopCause, IsCaused}
-use Rattle.sshc_run.specs.Comes.{CausedBy}
+use Rattle.sshc_run.specs.ReachedStates.{CausedBy}
 use Rattle.sshc_run.specs.KnownHosts.{Hosts}
 use Rattle.sshc_run.specs.Machine.{RunStop, unanswered_stop}
 use Rattle.sshc_run.specs.Outcome.{Streams, stop_as, IsExact, Ends}
@@ -16,8 +16,8 @@ use Rattle.sshc_script.specs.Script.{taken, stop_of}
 use Rattle.sshc_run.specs.ScriptRun.{Run, script_run, answers_of, answers_since}
 use Rattle.sshc_run.specs.Configured.{RunSettings}
 use Rattle.sshc_run.specs.RunTurn.{run_turn, run_machine}
-use Rattle.sshc_run.proofs.SessionCaused.{HasUnclosed, run_shows}
-use Rattle.sshc_run.proofs.OverRuns.{stops_caused}
+use Rattle.sshc_run.proofs.TurnCauses.{HasUnclosed, run_shows}
+use Rattle.sshc_run.proofs.RunLaws.{stops_caused}
 use Rattle.sshc_run.proofs.Promises.{same_table, with_answers}
 
 answered : (a : Result Ended RunError) → stop_as a ≡ unanswered_stop → ⊥

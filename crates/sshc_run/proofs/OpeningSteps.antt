@@ -28,7 +28,7 @@ use Rattle.sshc_run.specs.declared.known_hosts_handler.HandlerError.{HandlerErro
 use Rattle.sshc_run.specs.declared.known_hosts_handler.HandlerError.TheVariants.{Client, Key}
 use Rattle.sshc_run.specs.KnownHosts.{Hosts, verdict, Judges, AddsNothing}
 use Rattle.sshc_run.specs.Turn.{Turn, row_turn, judged_turn, asked_turn, stops, handler_error_of}
-use Rattle.sshc_run.specs.Turning.{Took}
+use Rattle.sshc_run.specs.TurnContracts.{Took}
 
 -- ---- a step
 

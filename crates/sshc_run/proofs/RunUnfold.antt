@@ -20,10 +20,10 @@ use Rattle.sshc_script.specs.Reading.{IsNoEvent, IsOneAtMost, IsBad, IsWhole, Ga
 use Rattle.sshc_run.specs.RecordLines.{line, lines}
 use Rattle.sshc_script.specs.Script.{Head, Front, End, Bad, Whole, front, frame_at, size_of, stop_at_most, events}
 use Rattle.sshc_run.specs.ScriptRun.{Run, Spot, spot_after, run, run_on, at_end, after, stopped_with, asked_run, answers_of}
-use Rattle.sshc_run.specs.Turning.{StopsBy, CutBy, TakeAs, TakeGives, BringsOn, TurnGives, LimitGives}
-use Rattle.sshc_run.proofs.Answered.{asked_made, asked_first}
+use Rattle.sshc_run.specs.TurnContracts.{StopsBy, CutBy, TakeAs, TakeGives, BringsOn, TurnGives, LimitGives}
+use Rattle.sshc_run.proofs.AnsweredQuestions.{asked_made, asked_first}
 use Rattle.sshc_script.specs.FrontLaws.{none_more, front_short}
-use Rattle.sshc_run.proofs.Longer.{front_more}
+use Rattle.sshc_run.proofs.ScriptExtension.{front_more}
 use Rattle.sshc_run.proofs.Lines.{wrote_nothing}
 
 front_nothing : (last : ℕ) → front last [] ≡ End

@@ -3,7 +3,7 @@ use Rattle.std.proofs.Common.{◌≡◌, List, [], ◌∷◌, ◌++◌, refl, ap
 use Rattle.sshc_wire.specs.declared.record.Record.{Record}
 use Rattle.sshc_key.specs.Signers.{SignCall}
 use Rattle.sshc_key.specs.Asking.{Always, Answer, Asking, done, asks, call_of, asked_on}
-use Rattle.sshc_run.specs.Firsts.{IsFront}
+use Rattle.sshc_run.specs.Prefixes.{IsFront}
 use Rattle.sshc_run.specs.Machine.{RunStop, unanswered_stop, Onward, goes_on, opened, stopped, TurnOf, Turns}
 use Rattle.sshc_run.specs.OpeningRun.{OpeningRun, OpeningStop, opens_before, stops_with, through, opening, by_turn, Continues, Prefixed}
 use Rattle.sshc_script.specs.Script.{Frame, ScriptStop}

@@ -1,0 +1,12 @@
+//! A client of an agent.
+
+use sshc_ask::AgentClient;
+use sshc_key::{AgentIdentity, Error};
+use sshc_wire::AgentStream;
+use std::alloc::Global;
+
+/// The keys that an agent at the other end of a stream holds.
+pub fn keys_of<S: AgentStream>(alloc: Global, stream: S) -> Result<Vec<AgentIdentity>, Error> {
+    let mut client = AgentClient::connect(alloc, stream);
+    client.request_identities()
+}

@@ -1,0 +1,23 @@
+//! Known hosts files.
+
+use sshc_hosts::{check_known_hosts_path, learn_known_hosts_path};
+use sshc_key::{Error, PublicKey};
+use sshc_wire::Files;
+use std::alloc::Global;
+
+/// Whether the host's key was known already; a key of a host that the file has no key of is added to it. A changed key, and a
+/// line for the host that can't be read, are errors.
+pub fn trust_on_first_use<F: Files>(
+    alloc: Global,
+    files: &mut F,
+    host: &str,
+    port: u16,
+    key: &PublicKey,
+    path: &str,
+) -> Result<bool, Error> {
+    if check_known_hosts_path(alloc, files, host, port, key, path)? {
+        return Ok(true);
+    }
+    learn_known_hosts_path(alloc, files, host, port, key, path)?;
+    Ok(false)
+}

@@ -1,0 +1,28 @@
+//! A few lines for each crate, as a caller writes them. The crates' READMEs quote them.
+#![tactic(auto)]
+
+mod agent;
+mod agent_client;
+mod auditor;
+mod channels;
+mod known_hosts;
+mod keys;
+mod logins;
+mod packets;
+mod runs;
+mod sessions;
+mod threads;
+mod wire;
+
+pub use agent::answer_frames;
+pub use agent_client::keys_of;
+pub use auditor::without_host;
+pub use channels::open_and_send;
+pub use keys::key_line;
+pub use known_hosts::trust_on_first_use;
+pub use logins::password_request;
+pub use packets::exec_packet;
+pub use runs::{login_lines, next_of};
+pub use sessions::{opens, step_all};
+pub use threads::ask_once;
+pub use wire::request_name;

@@ -1,0 +1,37 @@
+//! Scripts, their events and their runs.
+
+use sshc_opening::Ended;
+use sshc_run::{Config, RunError, ToySigner, ToyVerifier, run_script};
+use sshc_script::{NextError, RawEvent, next_event};
+use sshc_wire::{MemSink, MemSource, NoMemory, Source};
+use std::alloc::Global;
+
+/// The record lines of a script's run against `localhost` at port 13265, and how it ended.
+pub fn login_lines(
+    alloc: Global,
+    script: Vec<u8>,
+    known: &str,
+) -> Result<(MemSink, Result<Ended, RunError>), NoMemory> {
+    let config = Config::default_in(alloc)?;
+    let mut source = MemSource::new(script, Vec::new(alloc));
+    let mut sink = MemSink::new(Vec::new(alloc), Vec::new(alloc));
+    let mut signer = ToySigner::new(alloc);
+    let verifier = ToyVerifier::new(alloc);
+    let ended = run_script(
+        alloc,
+        &config,
+        "localhost",
+        13265,
+        known,
+        &mut signer,
+        &verifier,
+        &mut source,
+        &mut sink,
+    );
+    Ok((sink, ended))
+}
+
+/// The first event of a script, where it has one: its moment, its kind and its fields' bytes.
+pub fn next_of<S: Source>(alloc: Global, source: &mut S) -> Result<Option<RawEvent>, NextError> {
+    next_event(alloc, source, 0)
+}

@@ -1,0 +1,41 @@
+//! Openings and sessions, event by event.
+
+use sshc_client::{Handler, Session};
+use sshc_event::Event;
+use sshc_key::{LocalSigner, Verifier};
+use sshc_opening::{Gate, Opening, Step};
+use sshc_wire::Outbox;
+
+/// Whether one of these events opens the session. What is to be written is behind `out` then.
+pub fn opens<G: Gate, S: LocalSigner>(
+    opening: &mut Opening,
+    events: &[Event],
+    gate: &mut G,
+    signer: &mut S,
+    out: &mut Outbox,
+) -> bool {
+    for event in events {
+        if let Step::Opened = opening.step(event, gate, signer, out) {
+            return true;
+        }
+    }
+    false
+}
+
+/// Hands each of these events to a session, and returns all that is to be written; it stops at the first event that the session
+/// doesn't go on behind.
+pub fn step_all<H: Handler, S: LocalSigner, V: Verifier>(
+    session: &mut Session,
+    events: &[Event],
+    handler: &mut H,
+    signer: &mut S,
+    verifier: &V,
+) -> Outbox {
+    for event in events {
+        match session.step(event, handler, signer, verifier) {
+            Step::Went | Step::Opened => {}
+            _ => break,
+        }
+    }
+    session.take_records()
+}

@@ -1,0 +1,20 @@
+//! One agent for many threads.
+
+use sshc_agent::{AgentInput, AgentOutput};
+use sshc_key::LocalSigner;
+use sshc_shared::{AgentShared, CallRefused, Seat};
+use std::sync::Wait;
+use std::sync::ledger::Ledger;
+
+/// One input on a connection of its own. The seat has the call with its answer; `AgentShared::close` compares all seats with the
+/// agent's history.
+pub fn ask_once<L: Ledger, G: LocalSigner, R: Wait>(
+    rt: &R,
+    shared: &AgentShared<L>,
+    now: u64,
+    input: AgentInput,
+    signer: &mut G,
+) -> Result<(Seat<L>, Result<AgentOutput, CallRefused>), CallRefused> {
+    let seat = shared.connect(rt)?;
+    Ok(shared.call(rt, seat, now, input, signer))
+}
