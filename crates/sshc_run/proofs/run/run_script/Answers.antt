@@ -12,6 +12,7 @@ use Rattle.sshc_opening.specs.OpeningState.{OpeningState}
 use Rattle.sshc_key.specs.Signers.{since}
 use Rattle.sshc_packets.specs.HostKeyProof.{Accepts}
 use Rattle.sshc_run.proofs.CausedRuns.{caused_of}
+use Rattle.sshc_run.proofs.Going.{not_nothing}
 use Rattle.sshc_run.proofs.Lines.{wrote_nothing}
 use Rattle.sshc_run.proofs.OpeningFirsts.{opening_first_of, opening_done_of, opening_complete_of, none_first, none_since}
 use Rattle.sshc_run.proofs.AgentEnds.{agent_ends_none}
@@ -64,6 +65,9 @@ returns-in-Err-clause-gate g c = ([], sym (prepend-nothing _), λ denied. ([], t
 
 pub returns-in-Err-clause-prefix : goal.returns-in-Err-clause-prefix
 returns-in-Err-clause-prefix g c = λ bytes said. wrote_nothing _ _
+
+pub returns-in-Err-clause-kept : goal.returns-in-Err-clause-kept
+returns-in-Err-clause-kept g c = ([], sym (prepend-nothing _), λ front b more is. absurd (not_nothing front b more is))
 
 pub returns-in-Err-clause-causes : goal.returns-in-Err-clause-causes
 returns-in-Err-clause-causes g c = λ bytes said. tt
