@@ -14,14 +14,14 @@ use Rattle.sshc_run.specs.declared.error.RunError.TheVariants as errors
 use Rattle.sshc_run.specs.Headline.{IsGated, IsPrefix, IsDone, KeptBy, IsKept, IsComplete}
 use Rattle.sshc_run.specs.KnownHosts.{Hosts}
 use Rattle.sshc_run.specs.Machine.{ended, refused, Machine}
-use Rattle.sshc_run.specs.Outcome.{Streams, Ending, told, cut, unread, ending_of, IsExact, EndsAs, EndsBy, Ends}
+use Rattle.sshc_run.specs.Outcome.{Streams, Ending, told, cut, unread, ending_of, IsExact, EndsAs, EndsBy, Ends, HasEarlier, HasWritten}
 use Rattle.sshc_run.specs.RecordLines.{lines}
 use Rattle.sshc_script.specs.Script.{taken, stop_of}
 use Rattle.sshc_run.specs.ScriptRun.{Run, at_first, run, script_run, answers_of, answers_since}
 use Rattle.sshc_run.specs.Configured.{RunSettings}
 use Rattle.sshc_run.specs.RunTurn.{run_machine}
 use Rattle.sshc_run.proofs.HostKeyGate.{gated}
-use Rattle.sshc_run.proofs.RunUnfold.{run_nothing, nothing_held}
+use Rattle.sshc_run.proofs.RunUnfold.{not_nothing, run_nothing, nothing_held}
 use Rattle.sshc_run.proofs.RunEqualsFold.{joined}
 use Rattle.sshc_run.proofs.Lines.{wrote_all, wrote_nothing}
 use Rattle.sshc_run.proofs.ScriptExtension.{begins, wrote_longer}
@@ -61,6 +61,7 @@ module _ {S : Type 0} (m : Machine S) (max : ℕ) where
       asked = sym (append-nil before.calls);
       made = ap (λ (r : Run). r.calls) (sym (joined_at [] []) ∙ run_nothing m.turn max (at_first m.first) []);
       by = wrote_nothing before.held _;
+      early = λ later front b more is. absurd (not_nothing front b more is);
       count = omega arith;
       few = nothing_held max 0 0;
     },
@@ -126,15 +127,16 @@ done_of max table before now (Ok e) (given, gained, end) =
           (ap (λ (r : Run). r.stop) same ∙ end.by.stop, end.by.all ∙ ap (λ (r : Run). append before.held (lines r.records)) (sym same))),
     )
 
-kept_as : (ending : Ending) (table : List Answer → List ℕ → Run) (given : List ℕ) (gained : List SignCall) (before now : Streams) (e : RunError) → EndsAs ending table given gained before now (Err e) → KeptBy ending (table (answers_of gained)) given before.held now.held e
-kept_as told table given gained before now e by = (by.stop, by.all)
-kept_as cut table given gained before now e by = tt
-kept_as unread table given gained before now e by = by
+kept_as : (ending : Ending) (table : List Answer → List ℕ → Run) (given : List ℕ) (gained : List SignCall) (before now : Streams) (e : RunError) → EndsAs ending table given gained before now (Err e) → HasEarlier table given gained before.held now.held → KeptBy ending (table (answers_of gained)) given before.held now.held e
+kept_as told table given gained before now e by early = (by.stop, by.all)
+kept_as cut table given gained before now e by early = λ front b more is.
+    subst (λ (answers : List Answer). HasWritten before.held now.held (lines (table answers front).records)) (append-nil (answers_of gained)) (early [] front b more is)
+kept_as unread table given gained before now e by early = by
 
 pub kept_of : (max : ℕ) (table : List Answer → List ℕ → Run) (before now : Streams) (a : Result Ended RunError) → Ends max 0 0 table before now a → IsKept (table (answers_since before.calls now.calls)) before.left now.left before.held now.held a
 kept_of max table before now (Ok e) ends = tt
 kept_of max table before now (Err e) (given, gained, end) =
-    with_answers (λ (answers : List Answer). IsKept (table answers) before.left now.left before.held now.held (Err e)) before now gained end.asked (given, end.read, kept_as (ending_of (Err e)) table given gained before now e end.by)
+    with_answers (λ (answers : List Answer). IsKept (table answers) before.left now.left before.held now.held (Err e)) before now gained end.asked (given, end.read, kept_as (ending_of (Err e)) table given gained before now e end.by end.early)
 
 refused_not : (table : List Answer → List ℕ → Run) (given bytes : List ℕ) (gained : List SignCall) (before now : Streams) (e : Ended) (x : RunError) → before.left ≡ prepend given now.left → before.left ≡ Some bytes → (table (answers_of gained) bytes).stop ≡ ended e →
     IsExact table given gained before now (Err x) → ⊥

@@ -10,7 +10,8 @@ use Rattle.sshc_opening.specs.declared.ended.Ended.{Ended}
 use Rattle.sshc_run.specs.declared.error.RunError.{RunError}
 use Rattle.sshc_run.specs.LoopInvariant.{Along, IsAlong}
 use Rattle.sshc_run.specs.Machine.{RunStop}
-use Rattle.sshc_run.specs.Outcome.{Streams, Moved, Ending, told, cut, unread, ending_of, IsCut, IsExact, EndsAs, HoldsAtMost, Ends}
+use Rattle.sshc_run.specs.Prefixes.{IsFront}
+use Rattle.sshc_run.specs.Outcome.{Streams, Moved, Ending, told, cut, unread, ending_of, IsCut, IsExact, EndsAs, HasEarlier, HasWritten, HoldsAtMost, Ends}
 use Rattle.sshc_run.specs.RecordLines.{line, lines}
 use Rattle.sshc_script.specs.Script.{events}
 use Rattle.sshc_run.specs.ScriptRun.{Run, Spot, Table, after, answers_of}
@@ -81,6 +82,7 @@ module _ {S : Type 0} (table : Table S) (first : Spot S) (max : ℕ) where
           let same : length (events (0 + n) first.place first.last more) ≡ length (events n first.place first.last more) = ap (λ (m : ℕ). length (events m first.place first.last more)) none in
           let here : length (events n first.place first.last more) ≡ length (events n at.place at.last more) = ap (λ (x : Spot S). length (events n x.place x.last more)) (sym is) in
           omega (arith, same, here));
+      early = λ later front c more none. absurd (no_front front c more none);
       just = λ later front c more none. absurd (no_front front c more none);
     },
   )
@@ -96,6 +98,20 @@ module _ {S : Type 0} (table : Table S) (first : Spot S) (max : ℕ) where
         ap (λ (bytes : List ℕ). (table max first (answers_of gained ++ later) bytes).stop) is ∙ ap (λ (r : Run). r.stop) (so_far.on later part) ∙ ap (λ (m : ℕ). (table m at later part).stop) left
         in
         subst (λ (x : RunStop). IsCut x) (sym here) (just part c more behind)
+
+    -- and says no more than was written, as of one part more nothing is said on a shorter front
+    early_more : (given : List ℕ) (gained : List SignCall) (records : List Record) (given' : List ℕ) (records' : List Record) (n : ℕ) → max - turns ≡ n → (later : List Answer) (front : List ℕ) (c : ℕ) (more : List ℕ) →
+        Along table first max turns at before now given gained records → ((part : List ℕ) (b : ℕ) (rest : List ℕ) → given' ≡ part ++ b ∷ rest → (table n at later part).records ≡ []) →
+        FrontOfTwo given given' front c more → IsFront (table max first (answers_of gained ++ later) front).records (records ++ records')
+    early_more given gained records given' records' n left later front c more so_far quiet (inl (d, rest, is)) =
+        let earlier = so_far.early later front d rest is in
+        (earlier.0 ++ records', ap (λ (x : List Record). x ++ records') earlier.1 ∙ append_assoc (table max first (answers_of gained ++ later) front).records earlier.0 records')
+    early_more given gained records given' records' n left later front c more so_far quiet (inr (part, is, behind)) =
+        let here : (table max first (answers_of gained ++ later) front).records ≡ records =
+        ap (λ (bytes : List ℕ). (table max first (answers_of gained ++ later) bytes).records) is ∙ ap (λ (r : Run). r.records) (so_far.on later part) ∙ ap (λ (m : ℕ). records ++ (table m at later part).records) left
+        ∙ ap (λ (x : List Record). records ++ x) (quiet part c more behind) ∙ append-nil records
+        in
+        (records', ap (λ (x : List Record). x ++ records') (sym here))
 
     -- one event more is counted
     counts_more : (at' : Spot S) (given : List ℕ) (gained : List SignCall) (records : List Record) (given' : List ℕ) (n : ℕ) (more : List ℕ) → Along table first max turns at before now given gained records →
@@ -125,6 +141,10 @@ module _ {S : Type 0} (table : Table S) (first : Spot S) (max : ℕ) where
                 ∙ ap (λ (n : ℕ). after records gained (table n at (answers_of gained' ++ later) (given' ++ more))) one ∙ ap (λ (r : Run). after records gained r) (brings.on (max - (turns + 1)) later more)
                 ∙ after_two records records' gained gained' (table (max - (turns + 1)) at' later more);
             counts = λ n more. counts_more at' given gained records given' n more so_far brings.counts;
+            early = λ later front c more is.
+                subst (λ (answers : List Answer). IsFront (table max first answers front).records (records ++ records')) (sym (answers_three gained gained' later))
+                (early_more given gained records given' records' (suc (max - (turns + 1))) one (answers_of gained' ++ later) front c more so_far (λ part b rest parts. brings.quiet (max - (turns + 1)) (answers_of gained' ++ later) part b rest parts)
+                (front_of_two given given' front c more is));
             just = λ later front c more is.
                 subst (λ (answers : List Answer). IsCut (table max first answers front).stop) (sym (answers_three gained gained' later))
                 (cut_more given gained records given' (suc (max - (turns + 1))) one (answers_of gained' ++ later) front c more so_far (λ part b rest parts. brings.just (max - (turns + 1)) (answers_of gained' ++ later) part b rest parts)
@@ -179,6 +199,34 @@ module _ {S : Type 0} (table : Table S) (first : Spot S) (max : ℕ) where
     ends_as cut now' given gained records given' gained' a so_far by = cut_end now' given gained records given' gained' so_far by
     ends_as unread now' given gained records given' gained' a so_far by = unread_end now' given gained records given' gained' so_far by
 
+    -- behind what was written before, more was
+    held_more : (ending : Ending) (now' : Streams) (given' : List ℕ) (gained' : List SignCall) (a : Result Ended RunError) → EndsAs ending (table (max - turns) at) given' gained' now now' a → (part : List ℕ) × (now'.held ≡ append now.held part)
+    held_more told now' given' gained' a by = (lines (table (max - turns) at (answers_of gained') given').records, by.all)
+    held_more cut now' given' gained' a (part, others, due, wrote) = (part, wrote)
+    held_more unread now' given' gained' a by = (lines (table (max - turns) at (answers_of gained') given').records, by)
+
+    -- all records are written on a shorter front of what came before and of what ends it
+    early_end : (now' : Streams) (given : List ℕ) (gained : List SignCall) (records : List Record) (given' : List ℕ) (gained' : List SignCall) (later : List Answer) (front : List ℕ) (c : ℕ) (more : List ℕ) →
+        Along table first max turns at before now given gained records → HasEarlier (table (max - turns) at) given' gained' now.held now'.held → ((part : List ℕ) × (now'.held ≡ append now.held part)) →
+        FrontOfTwo given given' front c more → HasWritten before.held now'.held (lines (table max first (answers_of gained ++ (answers_of gained' ++ later)) front).records)
+    early_end now' given gained records given' gained' later front c more so_far early (last, wrote) (inl (d, rest, is)) =
+        let all : List Answer = answers_of gained ++ (answers_of gained' ++ later) in
+        let earlier = so_far.early (answers_of gained' ++ later) front d rest is in
+        let first_ones : List ℕ = lines (table max first all front).records in (
+          lines earlier.0 ++ last,
+          wrote ∙ ap (λ o. append o last) (so_far.moved.wrote ∙ ap (λ (r : List Record). append before.held (lines r)) earlier.1 ∙ ap (append before.held) (flat_map-append line (table max first all front).records earlier.0))
+              ∙ append-append before.held (first_ones ++ lines earlier.0) last ∙ ap (append before.held) (append_assoc first_ones (lines earlier.0) last),
+        )
+    early_end now' given gained records given' gained' later front c more so_far early (last, wrote) (inr (part, is, behind)) =
+        let all : List Answer = answers_of gained ++ (answers_of gained' ++ later) in
+        let r : List Record = (table (max - turns) at (answers_of gained' ++ later) part).records in
+        let here : (table max first all front).records ≡ records ++ r = ap (λ (bytes : List ℕ). (table max first all bytes).records) is ∙ ap (λ (x : Run). x.records) (so_far.on (answers_of gained' ++ later) part) in
+        let own = early later part c more behind in (
+          own.0,
+          own.1 ∙ ap (λ o. append o (lines r ++ own.0)) so_far.moved.wrote ∙ append-append before.held (lines records) (lines r ++ own.0)
+              ∙ ap (append before.held) (sym (append_assoc (lines records) (lines r) own.0) ∙ ap (λ (t : List ℕ). t ++ own.0) (sym (flat_map-append line records r) ∙ ap lines (sym here))),
+        )
+
     -- a turn's bytes hold at most the events that were left
     holds_more : (given : List ℕ) (gained : List SignCall) (records : List Record) (given' : List ℕ) → turns ≤ max → Along table first max turns at before now given gained records →
         HoldsAtMost (max - turns) at.place at.last given' → HoldsAtMost max first.place first.last (given ++ given')
@@ -199,6 +247,9 @@ module _ {S : Type 0} (table : Table S) (first : Spot S) (max : ℕ) where
         asked = end.asked ∙ ap (λ (x : List SignCall). x ++ gained') so_far.moved.asked ∙ append_assoc before.calls gained gained';
         made = ap (λ (r : Run). r.calls) (whole_on given gained records given' gained' so_far) ∙ ap (λ (x : List SignCall). gained ++ x) end.made;
         by = ends_as (ending_of a) now' given gained records given' gained' a so_far end.by;
+        early = λ later front c more is.
+            subst (λ (answers : List Answer). HasWritten before.held now'.held (lines (table max first answers front).records)) (sym (answers_three gained gained' later))
+            (early_end now' given gained records given' gained' later front c more so_far end.early (held_more (ending_of a) now' given' gained' a end.by) (front_of_two given given' front c more is));
         count = omega (arith, so_far.moved.count, end.count, length-append given given');
         few = holds_more given gained records given' le so_far end.few;
       },

@@ -3,7 +3,7 @@ use Rattle.std.proofs.Common.{◌≡◌, ℕ, zero, suc, ◌+◌, ◌≤◌, Lis
 use Rattle.std.specs.Option.{IfNone}
 use Rattle.std.proofs.lemmas.List.{append-nil}
 use Rattle.std.proofs.lemmas.List.Concat.{flat_map-append}
-use Rattle.sshc_wire.specs.Contents.{prepend, WroteFront, IsAtEnd, append-nothing, prepend-nothing}
+use Rattle.sshc_wire.specs.Contents.{append, prepend, WroteFront, IsAtEnd, append-nothing, prepend-nothing}
 use Rattle.sshc_wire.specs.declared.record.Record.{Record}
 use Rattle.sshc_key.specs.Signers.{SignCall}
 use Rattle.sshc_key.specs.Asking.{Answer, Makes, MakesFirst}
@@ -15,7 +15,7 @@ use Rattle.sshc_run.specs.declared.error.RunError.TheVariants as errors
 use Rattle.sshc_script.specs.declared.error.NextError.{NextError}
 use Rattle.sshc_script.specs.declared.error.NextError.TheVariants as nexts
 use Rattle.sshc_run.specs.Machine.{Onward, goes_on, opened, stopped, RunStop, ended, refused, unanswered_stop, TurnOf, Turns, stop_next, IsNoEnd, NeverAtEnd}
-use Rattle.sshc_run.specs.Outcome.{Streams, Ending, told, cut, unread, ending_of, stop_as, IsCut, IsExact, EndsAs, HoldsAtMost, Ends}
+use Rattle.sshc_run.specs.Outcome.{Streams, Ending, told, cut, unread, ending_of, stop_as, IsCut, IsExact, EndsAs, HasEarlier, HasWritten, HoldsAtMost, Ends}
 use Rattle.sshc_script.specs.Reading.{IsNoEvent, IsOneAtMost, IsBad, IsWhole, Gave, ReadFor, NextGives}
 use Rattle.sshc_run.specs.RecordLines.{line, lines}
 use Rattle.sshc_script.specs.Script.{Head, Front, End, Bad, Whole, front, frame_at, size_of, stop_at_most, events}
@@ -30,7 +30,7 @@ front_nothing : (last : ℕ) → front last [] ≡ End
 unfolding front
 front_nothing last = refl
 
-not_nothing : (part : List ℕ) (b : ℕ) (more : List ℕ) → [] ≡ part ++ b ∷ more → ⊥
+pub not_nothing : (part : List ℕ) (b : ℕ) (more : List ℕ) → [] ≡ part ++ b ∷ more → ⊥
 not_nothing [] b more is = cc
 not_nothing (c ∷ part) b more is = cc
 
@@ -57,6 +57,28 @@ none_by last bytes part b more (Whole h rest) f bad is =
 
 no_front : (last : ℕ) (bytes part : List ℕ) (b : ℕ) (more : List ℕ) → front last bytes ≡ Bad → bytes ≡ part ++ b ∷ more → IsNoEvent last part
 no_front last bytes part b more bad is = none_by last bytes part b more (front last part) refl bad is
+
+-- nor is one of bytes on which the script ends
+end_by : (last : ℕ) (bytes part : List ℕ) (b : ℕ) (more : List ℕ) (f : Front) → front last part ≡ f → front last bytes ≡ End → bytes ≡ part ++ b ∷ more → IsNoEvent last part
+end_by last bytes part b more End f nothing is = inl f
+end_by last bytes part b more Bad f nothing is = inr f
+end_by last bytes part b more (Whole h rest) f nothing is =
+    let clash : End ≡ Whole h (rest ++ b ∷ more) = sym nothing ∙ ap (front last) is ∙ front_more last part (b ∷ more) h rest f in absurd cc
+
+-- nor is a shorter one of one event
+one_by : (last : ℕ) (bytes part : List ℕ) (b : ℕ) (more : List ℕ) (head : Head) (f : Front) → front last part ≡ f → front last bytes ≡ Whole head [] → bytes ≡ part ++ b ∷ more → IsNoEvent last part
+one_by last bytes part b more head End f one is = inl f
+one_by last bytes part b more head Bad f one is = inr f
+one_by last bytes part b more head (Whole h rest) f one is =
+    let longer : Whole head [] ≡ Whole h (rest ++ b ∷ more) = sym one ∙ ap (front last) is ∙ front_more last part (b ∷ more) h rest f in
+    let nothing : [] ≡ rest ++ b ∷ more = cc in
+    absurd (not_nothing rest b more nothing)
+
+-- a shorter front of bytes that are at most one event is no event
+none_shorter : (last : ℕ) (bytes part : List ℕ) (b : ℕ) (more : List ℕ) → IsOneAtMost last bytes → bytes ≡ part ++ b ∷ more → IsNoEvent last part
+none_shorter last bytes part b more (inl (inl nothing)) is = end_by last bytes part b more (front last part) refl nothing is
+none_shorter last bytes part b more (inl (inr bad)) is = no_front last bytes part b more bad is
+none_shorter last bytes part b more (inr (head, one)) is = one_by last bytes part b more head (front last part) refl one is
 
 -- ---- how many events some bytes hold
 
@@ -87,6 +109,10 @@ one_held n place last bytes (inr (head, is)) =
 
 whole_held : (n place last : ℕ) (head : Head) (bytes : List ℕ) → IsWhole last head bytes → HoldsAtMost (suc n) place last bytes
 whole_held n place last head bytes whole = one_held n place last bytes (inr (head, ap (front last) (sym (append-nil bytes)) ∙ whole.is []))
+
+-- where nothing is said, nothing is left to write
+said_none : (held now : Option (List ℕ)) (records : List Record) (part : List ℕ) → records ≡ [] → now ≡ append held part → HasWritten held now (lines records)
+said_none held now records part none wrote = (part, wrote ∙ ap (λ (r : List Record). append held (lines r ++ part)) (sym none))
 
 -- ---- any machine
 
@@ -139,6 +165,14 @@ module _ {S : Type 0} (turn : Turns S) where
   none_cut : (n : ℕ) (at : Spot S) (answers : List Answer) (bytes : List ℕ) → IsNoEvent at.last bytes → IsCut (run turn (suc n) at answers bytes).stop
   none_cut n at answers bytes none = let is = none_is n at answers bytes none in rw is.1 is.2
 
+  none_said : (n : ℕ) (at : Spot S) (answers : List Answer) (bytes : List ℕ) → IsNoEvent at.last bytes → (run turn (suc n) at answers bytes).records ≡ []
+  none_said n at answers bytes none = let is = none_is n at answers bytes none in ap (λ (r : Run). r.records) is.1
+
+  -- before the one event that was given there is none
+  early_one : (n : ℕ) (at : Spot S) (gained : List SignCall) (bytes : List ℕ) (held now : Option (List ℕ)) (part : List ℕ) → IsOneAtMost at.last bytes → now ≡ append held part → HasEarlier (run turn (suc n) at) bytes gained held now
+  early_one n at gained bytes held now part one wrote = λ later front b more is.
+      said_none held now _ part (none_said n at (answers_of gained ++ later) front (none_shorter at.last bytes front b more one is)) wrote
+
   -- ---- a read that gives no event
 
   -- the script ends
@@ -159,6 +193,7 @@ module _ {S : Type 0} (turn : Turns S) where
             just = λ later part b more is. absurd (not_nothing part b more is);
             whole = λ done. end;
           };
+          early = early_one n at [] [] before.held before.held [] (inl (inl (front_nothing at.last))) (sym (append-nothing before.held));
           count = omega (arith, count);
           few = none_held (suc n) at.place at.last [] (inl (front_nothing at.last));
         },
@@ -181,8 +216,19 @@ module _ {S : Type 0} (turn : Turns S) where
       (a : Result Ended RunError) (n : ℕ) → EndsAs (ending_of a) (run turn (suc n) at) bytes [] before (record before { left = left; reads = reads }) a →
       Ends (suc n) at.place at.last (run turn (suc n) at) before (record before { left = left; reads = reads }) a
   unread_ends at before left reads bytes given none count a n by =
-      let is = none_is n at [] bytes none in
-      (bytes, [], record { read = given; asked = sym (append-nil before.calls); made = rw is.1 refl; by = by; count = count; few = none_held (suc n) at.place at.last bytes none })
+      let is = none_is n at [] bytes none in (
+        bytes,
+        [],
+        record {
+          read = given;
+          asked = sym (append-nil before.calls);
+          made = rw is.1 refl;
+          by = by;
+          early = early_one n at [] bytes before.held before.held [] (inl none) (sym (append-nothing before.held));
+          count = count;
+          few = none_held (suc n) at.place at.last bytes none;
+        },
+      )
 
   -- what a refused read means for the run
   pub next_ends : (at : Spot S) (before : Streams) (left : Option (List ℕ)) (reads : ℕ) (x : NextError) (e : RunError) → NextGives at.last before.left left before.reads reads (Err x) →
@@ -198,6 +244,7 @@ module _ {S : Type 0} (turn : Turns S) where
           asked = sym (append-nil before.calls);
           made = rw (run_whole n at [] bytes head [] one) (asked_first unanswered_stop (turn at.state (frame_at at.place head)) [] (behind n at head []) (λ t. quiet n at head t t.next) (none_first _));
           by = wrote_nothing before.held _;
+          early = early_one n at [] bytes before.held before.held [] (inr (head, one)) (sym (append-nothing before.held));
           count = count;
           few = one_held n at.place at.last bytes (inr (head, one));
         },
@@ -234,6 +281,7 @@ module _ {S : Type 0} (turn : Turns S) where
             ∙ asked_made unanswered_stop (turn at.state (frame_at at.place head)) gained t later (behind n at head more) makes
             ∙ ap (λ (r : Run). after [] gained r) (going_by t t.next _ on ∙ ap (λ (x : Spot S). after t.records [] (run turn n x later more)) (sym same));
         counts = λ n more. event_counted n at.place at.last (bytes ++ more) head more (whole.is more) ∙ ap (λ (x : Spot S). suc (length (events n x.place x.last more))) (sym same);
+        quiet = λ n answers part b more parts. none_said n at answers part (no_shorter at.last head bytes part b more whole parts);
         just = λ n answers part b more parts. none_cut n at answers part (no_shorter at.last head bytes part b more whole parts);
       }
 
@@ -308,6 +356,17 @@ module _ {S : Type 0} (turn : Turns S) where
   take_first cut at head held now gained a gives = cut_first at head held now gained gives
   take_first unread at head held now gained a (t, makes, stops, wrote) = all_first (turn at.state (frame_at at.place head)) gained t makes
 
+  -- what was written of it
+  take_wrote : (ending : Ending) (at : Spot S) (head : Head) (held now : Option (List ℕ)) (gained : List SignCall) (a : Result Ended RunError) → TakeAs ending (turn at.state (frame_at at.place head)) gained held now a → (part : List ℕ) × (now ≡ append held part)
+  take_wrote told at head held now gained a (t, makes, stops, wrote) = (lines t.records, wrote)
+  take_wrote cut at head held now gained a (inl (first, same)) = ([], same ∙ sym (append-nothing held))
+  take_wrote cut at head held now gained a (inr (t, makes, (part, others, due, wrote))) = (part, wrote)
+  take_wrote unread at head held now gained a (t, makes, stops, wrote) = (lines t.records, wrote)
+
+  -- the event's bytes are one event
+  one_is : (at : Spot S) (head : Head) (bytes : List ℕ) → IsWhole at.last head bytes → IsOneAtMost at.last bytes
+  one_is at head bytes whole = inr (head, ap (front at.last) (sym (append-nil bytes)) ∙ whole.is [])
+
   taken_ends : NeverAtEnd turn → (ending : Ending) (at : Spot S) (head : Head) (before now : Streams) (gained : List SignCall) (bytes : List ℕ) (a : Result Ended RunError) → IsWhole at.last head bytes →
       TakeAs ending (turn at.state (frame_at at.place head)) gained before.held now.held a → (n : ℕ) → EndsAs ending (run turn (suc n) at) bytes gained before now a
   taken_ends never told at head before now gained bytes a whole gives n = stops_exact never at head before now gained bytes a whole gives n
@@ -333,6 +392,9 @@ module _ {S : Type 0} (turn : Turns S) where
       asked = asked;
       made = taken_made n at head gained bytes (take_first (ending_of a) at head before.held now.held gained a gives) whole;
       by = taken_ends never (ending_of a) at head before now gained bytes a whole gives n;
+      early =
+          (let wrote = take_wrote (ending_of a) at head before.held now.held gained a gives in
+          early_one n at gained bytes before.held now.held wrote.0 (one_is at head bytes whole) wrote.1);
       count = omega (arith, count);
       few = whole_held n at.place at.last head bytes whole;
     },
@@ -348,6 +410,11 @@ module _ {S : Type 0} (turn : Turns S) where
   limit_front : (at : Spot S) (answers : List Answer) (b : ℕ) (part : List ℕ) (c : ℕ) (more : List ℕ) → b ∷ [] ≡ part ++ c ∷ more → IsCut (run turn 0 at answers part).stop
   limit_front at answers b [] c more is = inl (ap (λ (r : Run). r.stop) (run_limit at answers []))
   limit_front at answers b (x ∷ part) c more is = let nothing : [] ≡ part ++ c ∷ more = cc in absurd (not_nothing part c more nothing)
+
+  -- nothing is said there
+  early_limit : (at : Spot S) (gained : List SignCall) (given : List ℕ) (held : Option (List ℕ)) → HasEarlier (run turn 0 at) given gained held held
+  early_limit at gained given held = λ later front b more is.
+      said_none held held _ [] (ap (λ (r : Run). r.records) (run_limit at (answers_of gained ++ later) front)) (sym (append-nothing held))
 
   -- at the limit
   pub limit_ends : (at : Spot S) (before : Streams) (left : Option (List ℕ)) (reads : ℕ) (a : Result Ended RunError) → LimitGives before.left left a → reads ≤ before.reads + 1 →
@@ -367,6 +434,7 @@ module _ {S : Type 0} (turn : Turns S) where
         just = λ later part b more is. absurd (not_nothing part b more is);
         whole = λ done. end;
       };
+      early = early_limit at [] [] before.held;
       count = omega (arith, count);
       few = none_held 0 at.place at.last [] (inl (front_nothing at.last));
     },
@@ -388,6 +456,7 @@ module _ {S : Type 0} (turn : Turns S) where
         just = λ later part c more is. limit_front at later b part c more is;
         whole = λ done. absurd cc;
       };
+      early = early_limit at [] (b ∷ []) before.held;
       count = omega (arith, count);
       few = none_held 0 at.place at.last (b ∷ []) (front_short at.last (b ∷ []) (omega arith));
     },
@@ -400,6 +469,7 @@ module _ {S : Type 0} (turn : Turns S) where
       asked = sym (append-nil before.calls);
       made = refl;
       by = sym (append-nothing before.held);
+      early = early_limit at [] [] before.held;
       count = omega (arith, count);
       few = none_held 0 at.place at.last [] (inl (front_nothing at.last));
     },
@@ -412,6 +482,7 @@ module _ {S : Type 0} (turn : Turns S) where
       asked = sym (append-nil before.calls);
       made = refl;
       by = wrote_nothing before.held [];
+      early = early_limit at [] [] before.held;
       count = omega (arith, count);
       few = none_held 0 at.place at.last [] (inl (front_nothing at.last));
     },

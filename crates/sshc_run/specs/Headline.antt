@@ -1,5 +1,5 @@
 -- The promises of a whole run, over its table.
-use Rattle.std.specs.Prelude.{◌≡◌, ◌⊎◌, ℕ, Bool, false, List, [], ◌∷◌, Option, Some, None, Result, Ok, Err}
+use Rattle.std.specs.Prelude.{◌≡◌, ◌⊎◌, ℕ, Bool, false, List, [], ◌∷◌, ◌++◌, Option, Some, None, Result, Ok, Err}
 use Rattle.sshc_wire.specs.Contents.{prepend, append, WroteFront, IsAtEnd}
 use Rattle.sshc_wire.specs.Faults.{Rose}
 use Rattle.sshc_wire.specs.declared.record.Record.{Record}
@@ -18,7 +18,7 @@ use Rattle.sshc_script.specs.declared.event_kind.EventKind.TheVariants as kinds
 use Rattle.sshc_run.specs.declared.known_hosts_handler.HandlerError.{HandlerError}
 use Rattle.sshc_run.specs.KnownHosts.{Hosts, verdict}
 use Rattle.sshc_run.specs.Machine.{ended, refused}
-use Rattle.sshc_run.specs.Outcome.{Ending, told, cut, unread, ending_of}
+use Rattle.sshc_run.specs.Outcome.{Ending, told, cut, unread, ending_of, HasWritten}
 use Rattle.sshc_run.specs.RecordLines.{lines}
 use Rattle.sshc_script.specs.EventReading.{event_of}
 use Rattle.sshc_script.specs.Script.{Frame, taken}
@@ -74,11 +74,11 @@ IsDone table script left held written (Ok e) =
     × ((bytes : List ℕ) → script ≡ Some bytes → ((table bytes).stop ≡ ended e) × (written ≡ append held (lines (table bytes).records)))
 IsDone table script left held written (Err e) = Unit {0}
 
--- a cut write leaves less; every other error has all records of the events before it and those that its own row gives first,
--- and is the table's over the bytes that were given, but for a failed read
+-- a cut write leaves all records of the events before the last that was given, whole or begun; every other error has those that its
+-- own row gives first too, and is the table's over the bytes that were given, but for a failed read
 abbrev pub KeptBy : Ending → (List ℕ → Run) → List ℕ → Option (List ℕ) → Option (List ℕ) → RunError → Type 0
 KeptBy told table given held written e = ((table given).stop ≡ refused e) × (written ≡ append held (lines (table given).records))
-KeptBy cut table given held written e = Unit {0}
+KeptBy cut table given held written e = (front : List ℕ) (b : ℕ) (more : List ℕ) → given ≡ front ++ b ∷ more → HasWritten held written (lines (table front).records)
 KeptBy unread table given held written e = written ≡ append held (lines (table given).records)
 
 abbrev pub IsKept : (List ℕ → Run) → Option (List ℕ) → Option (List ℕ) → Option (List ℕ) → Option (List ℕ) → Result Ended RunError → Type 0

@@ -73,6 +73,15 @@ EndsAs told table given gained before now answer = IsExact table given gained be
 EndsAs cut table given gained before now answer = WroteFront before.held now.held (lines (table (answers_of gained) given).records)
 EndsAs unread table given gained before now answer = now.held ≡ append before.held (lines (table (answers_of gained) given).records)
 
+-- this text was written, and maybe more behind it
+abbrev pub HasWritten : Option (List ℕ) → Option (List ℕ) → List ℕ → Type 0
+HasWritten held now text = (more : List ℕ) × (now ≡ append held (text ++ more))
+
+-- however the run ends, on each shorter front of the bytes that were given all records are written: those of every event before the last
+abbrev pub HasEarlier : (List Answer → List ℕ → Run) → List ℕ → List SignCall → Option (List ℕ) → Option (List ℕ) → Type 0
+HasEarlier table given gained held now =
+    (later : List Answer) (front : List ℕ) (b : ℕ) (more : List ℕ) → given ≡ front ++ b ∷ more → HasWritten held now (lines (table (answers_of gained ++ later) front).records)
+
 -- the bytes hold at most so many whole events, from a place and a moment
 abbrev pub HoldsAtMost : ℕ → ℕ → ℕ → List ℕ → Type 0
 HoldsAtMost n place last bytes = length (events (suc n) place last bytes) ≤ n
@@ -83,6 +92,7 @@ pub record EndsBy (n place last : ℕ) (table : List Answer → List ℕ → Run
   pub asked : now.calls ≡ before.calls ++ gained
   pub made : (table (answers_of gained) given).calls ≡ gained
   pub by : EndsAs (ending_of answer) table given gained before now answer
+  pub early : HasEarlier table given gained before.held now.held
   pub count : ReadFor before.reads now.reads given
   pub few : HoldsAtMost n place last given
 

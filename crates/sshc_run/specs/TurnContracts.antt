@@ -70,11 +70,12 @@ TakeGives {S = S} asking gained s held now None = (t : TurnOf S) × Makes asking
 TakeGives asking gained s held now (Some answer) = TakeAs (ending_of answer) asking gained held now answer
 
 -- these bytes are one event and, with these calls, bring the run on: whatever follows them, and whatever the signer answers then, the
--- run gives these records and goes on from the new spot; on each front of them it goes to its end
+-- run gives these records and goes on from the new spot; on each shorter front of them it says nothing and goes to its end
 pub record BringsOn {S : Type 0} (table : Table S) (at at' : Spot S) (given : List ℕ) (gained : List SignCall) (records : List Record) : Type 0 where
   pub within : at'.place ≤ at.place + 262148
   pub on : (n : ℕ) (later : List Answer) (more : List ℕ) → table (suc n) at (answers_of gained ++ later) (given ++ more) ≡ after records gained (table n at' later more)
   pub counts : (n : ℕ) (more : List ℕ) → length (events (suc n) at.place at.last (given ++ more)) ≡ suc (length (events n at'.place at'.last more))
+  pub quiet : (n : ℕ) (answers : List Answer) (front : List ℕ) (b : ℕ) (more : List ℕ) → given ≡ front ++ b ∷ more → (table (suc n) at answers front).records ≡ []
   pub just : (n : ℕ) (answers : List Answer) (front : List ℕ) (b : ℕ) (more : List ℕ) → given ≡ front ++ b ∷ more → IsCut (table (suc n) at answers front).stop
 
 -- one turn, by its answer: the run goes on, or ends as its table says
