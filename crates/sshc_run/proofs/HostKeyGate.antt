@@ -206,21 +206,21 @@ abbrev pub IsShut : OpeningStop OpeningState → Type 0
 IsShut stop = OpensIt stop → ⊥
 
 shut_by_turn : (Holds : OpeningState → Type 0) (t : Turn) (next : Onward) (frames : List Frame) (left : List Answer) (later : OpeningRun OpeningState) → StaysIn Holds t.state next → (Holds t.state → IsShut later.stop) → IsShut (by_turn t next frames left later).stop
-shut_by_turn Holds t goes_on frames left later stays behind = behind stays
-shut_by_turn Holds t opened frames left later stays behind = absurd stays
-shut_by_turn Holds t (stopped stop) frames left later stays behind = λ opens. opens
+shut_by_turn Holds t goes_on frames left later out behind = behind out
+shut_by_turn Holds t opened frames left later out behind = absurd out
+shut_by_turn Holds t (stopped stop) frames left later out behind = λ it. it
 
 shut_asked : (Holds : OpeningState → Type 0) (asking : Asking Turn) (answers : List Answer) (later : Turn → List Answer → OpeningRun OpeningState) → StaysOut Holds asking →
     ((t : Turn) (left : List Answer) → StaysIn Holds t.state t.next → IsShut (later t left).stop) → IsShut (asked_run (stops_with unanswered_stop) asking answers later).stop
-shut_asked Holds (done t) answers later stays each = each t answers stays.1
-shut_asked Holds (asks asked on) [] later stays each = λ opens. opens
-shut_asked Holds (asks asked on) (answer ∷ answers) later stays each = shut_asked Holds (on answer) answers later (stays answer) each
+shut_asked Holds (done t) answers later out each = each t answers out.1
+shut_asked Holds (asks asked on) [] later out each = λ it. it
+shut_asked Holds (asks asked on) (answer ∷ answers) later out each = shut_asked Holds (on answer) answers later (out answer) each
 
 -- where the events hold no exchange whose host key is accepted first, the opening doesn't open the session
 pub opening_shut : (hosts : Hosts) (frames : List Frame) (o : OpeningState) (answers : List Answer) → IsFirst o → is_accepted hosts frames ≡ false → IsShut (opening (opening_turn hosts) o frames answers).stop
 unfolding opening
-opening_shut hosts [] o answers first none = λ opens. opens
+opening_shut hosts [] o answers first none = λ it. it
 opening_shut hosts (frame ∷ frames) o answers first none =
     shut_asked (λ (to : OpeningState). IsFirst to × (is_accepted hosts frames ≡ false)) (opening_turn hosts o frame) answers (λ t left. by_turn t t.next frames left (opening (opening_turn hosts) t.state frames left))
     (turn_shut hosts o frame frames first none)
-    (λ t left stays. shut_by_turn (λ (to : OpeningState). IsFirst to × (is_accepted hosts frames ≡ false)) t t.next frames left (opening (opening_turn hosts) t.state frames left) stays (λ on. opening_shut hosts frames t.state left on.0 on.1))
+    (λ t left out. shut_by_turn (λ (to : OpeningState). IsFirst to × (is_accepted hosts frames ≡ false)) t t.next frames left (opening (opening_turn hosts) t.state frames left) out (λ on. opening_shut hosts frames t.state left on.0 on.1))

@@ -32,36 +32,36 @@ use Rattle.sshc_run.proofs.ProductGate.{said_of_own}
 -- ---- what an accepting judgement says
 
 by_judgement : (hosts : Hosts) (key : Key) (r : Result Bool KeyError) → judged hosts.known hosts.host key ≡ r → is_yes (Some (as_handler r)) ≡ true → IsAcceptedBy hosts.known hosts.host key
-by_judgement hosts key (Ok true) is yes = (accepted_just hosts.known hosts.host key).0 is
-by_judgement hosts key (Ok false) is yes = absurd cc
-by_judgement hosts key (Err e) is yes = absurd cc
+by_judgement hosts key (Ok true) is agreed = (accepted_just hosts.known hosts.host key).0 is
+by_judgement hosts key (Ok false) is agreed = absurd cc
+by_judgement hosts key (Err e) is agreed = absurd cc
 
 by_verdict : (hosts : Hosts) (key : PublicKeyOrCertificate) → is_yes (Some (verdict hosts key)) ≡ true → HasAcceptedKey hosts (Some key)
 unfolding verdict
-by_verdict hosts (PublicKey key hash) yes = by_judgement hosts key.0 (judged hosts.known hosts.host key.0) refl yes
-by_verdict hosts (Certificate key) yes = absurd cc
+by_verdict hosts (PublicKey key hash) agreed = by_judgement hosts key.0 (judged hosts.known hosts.host key.0) refl agreed
+by_verdict hosts (Certificate key) agreed = absurd cc
 
 by_key : (hosts : Hosts) (key : Option PublicKeyOrCertificate) → is_yes (Some (said_of_key hosts key)) ≡ true → HasAcceptedKey hosts key
-by_key hosts None yes = absurd cc
-by_key hosts (Some key) yes = by_verdict hosts key yes
+by_key hosts None agreed = absurd cc
+by_key hosts (Some key) agreed = by_verdict hosts key agreed
 
 by_event : (hosts : Hosts) (event : Event) → is_yes (said_by hosts (Ok event)) ≡ true → HasAcceptedKey hosts (key_by (Ok event))
-by_event hosts (events.ExchangeDone x) yes = by_key hosts (host_key x.key) yes
-by_event hosts event yes = absurd cc
+by_event hosts (events.ExchangeDone x) agreed = by_key hosts (host_key x.key) agreed
+by_event hosts event agreed = absurd cc
 
 by_read : (hosts : Hosts) (read : Result Event EventError) → is_yes (said_by hosts read) ≡ true → HasAcceptedKey hosts (key_by read)
-by_read hosts (Ok event) yes = by_event hosts event yes
-by_read hosts (Err e) yes = absurd cc
+by_read hosts (Ok event) agreed = by_event hosts event agreed
+by_read hosts (Err e) agreed = absurd cc
 
 by_kind : (hosts : Hosts) (kind : EventKind) (fields : List ℕ) (said : Option (Result Bool HandlerError)) (key : Option PublicKeyOrCertificate) → (is_yes said ≡ true → HasAcceptedKey hosts key) → is_yes (said_at kind hosts fields said) ≡ true → HasAcceptedKey hosts (key_at kind fields key)
-by_kind hosts kinds.ExchangeDone fields said key later yes = by_read hosts (event_of kinds.ExchangeDone fields) yes
-by_kind hosts kind fields said key later yes = later yes
+by_kind hosts kinds.ExchangeDone fields said key later agreed = by_read hosts (event_of kinds.ExchangeDone fields) agreed
+by_kind hosts kind fields said key later agreed = later agreed
 
 -- where the first exchange is accepted, the text says so of its key
 pub accepted_key : (hosts : Hosts) (frames : List Frame) → is_accepted hosts frames ≡ true → HasAcceptedKey hosts (first_key frames)
 unfolding said_of_first first_key
-accepted_key hosts [] yes = absurd cc
-accepted_key hosts (frame ∷ frames) yes = by_kind hosts frame.kind frame.fields (said_of_first hosts frames) (first_key frames) (accepted_key hosts frames) yes
+accepted_key hosts [] agreed = absurd cc
+accepted_key hosts (frame ∷ frames) agreed = by_kind hosts frame.kind frame.fields (said_of_first hosts frames) (first_key frames) (accepted_key hosts frames) agreed
 
 -- ---- the law
 

@@ -75,64 +75,46 @@ answered_table asked before now = table_of asked (answers_of (calls_since before
 pub record RunPromises (asked : RunAsked) (before now : RunOutside) (answer : Result Ended RunError) : Type 0 where
   -- what was given, what was written, what the signer was asked and what is answered, by the tables over the script's events
   pub run : Ends asked.max_events 0 0 (table_of asked) (streams_of before) (streams_of now) answer
-
   -- no payload is written, not even in part, unless the known hosts text accepts the host key of the first exchange
   pub gate : IsGated asked.hosts asked.max_events before.source.left now.source.left before.sink.held now.sink.held
-
   -- what is written is a front of the lines of the whole script's records, however the run ends
   pub prefix : IsPrefix (answered_table asked before now) before.source.left before.sink.held now.sink.held
-
   -- Ok is the end of the whole script by the tables, and all its records are written
   pub done : IsDone (answered_table asked before now) before.source.left now.source.left before.sink.held now.sink.held answer
-
   -- every error but WriteFault and NoMemory has all records of the events before it, and those of its own row
   pub kept : IsKept (answered_table asked before now) before.source.left now.source.left before.sink.held now.sink.held answer
-
   -- a script whose every event the tables accept is answered by its end or by out of memory, where no count of faults rises
   pub complete : IsComplete (answered_table asked before now) before.source.left before.source.faults now.source.faults before.sink.faults now.sink.faults answer
-
   -- each end and each error comes by its cause: a state that the tables come to and the event there, or what is behind the events
   pub causes : IsCaused asked.hosts asked.accepts asked.settings asked.max_events (answers_of (calls_since before now)) before.source.left answer
-
   -- the session records that are written are a front of the opening table's outputs or, once that table opens the session, all of them
   -- followed by more, whatever events of agents are in between
   pub opening : IsOpeningFirst (opening_table asked) session_own asked.max_events (calls_since before now) before.source.left before.sink.held now.sink.held
-
   -- where that table opens the session, the first exchange has a plain host key that the known hosts text accepts in its own words: all its lines
   -- for the host can be read, none contradicts the key, and one has it
   pub accepted : IsOpenedByAccepted asked.hosts (opening_table asked) session_own asked.max_events (calls_since before now) before.source.left
-
   -- where that table opens the session, Ok has all of its outputs written; else it has exactly these, and it is the table's end
   pub opening_done : IsOpeningDone (opening_table asked) session_own asked.max_events (calls_since before now) before.source.left before.sink.held now.sink.held answer
-
   -- a valid script of whose agents' events none stops the run gives its end or out of memory, where no count of faults rises
   pub opening_complete : IsOpeningComplete (opening_table asked) session_own IsAgentCause asked.max_events (calls_since before now)
       before.source.left before.source.faults now.source.faults before.sink.faults now.sink.faults answer
-
   -- at each state that the session comes to, our global requests that were answered are the first of those written, in order
   pub replies : AreInOrder asked.hosts asked.accepts asked.settings asked.max_events (session_answers before now) before.source.left
-
   -- at each state that the session comes to, each channel has its account: the channels are where the calls of the rows lead, and the
   -- packets of channels that the open session writes are those of these calls
   pub channels : AreAccounted asked.hosts asked.accepts asked.settings asked.max_events (session_answers before now) before.source.left
-
   -- an open of ours is answered where it waits, with its own ticket, and waits no more
   pub opens : OpensAreAnswered asked.hosts asked.accepts asked.settings asked.max_events (session_answers before now) before.source.left
-
   -- at each state that the session comes to, its session id is the first exchange's hash, and what it asks the signer, or hands out
   -- to be signed, is the signed text of that id and of a request that an earlier event asked for
   pub signed : AreSigned asked.hosts asked.accepts asked.settings asked.max_events (session_answers before now) before.source.left
-
   -- the session asks the signer at most once for each event that asks to authenticate by a key whose pair is at hand
   pub calls : CallsAreCounted asked.max_events (answered_table asked before now) before.source.left
-
   -- for every user and password, the packet that asks for the user by the password is among the records at most as often as the
   -- session's events ask for it
   pub passwords : PasswordsAreAsked asked.max_events (answered_table asked before now) before.source.left
-
   -- the agent's records are those of one history of one agent that holds nothing at first: its inputs are those of the agents'
   -- events, its locks hold, and each signature of it is permitted
   pub agents : HasOneHistory asked.settings.agent_asks asked.max_events (answered_table asked before now) before.source.left
-
   -- how the counts of the source and the sink moved, and that a fault is answered just where its count rose
   pub counts : CountsMoved before now answer

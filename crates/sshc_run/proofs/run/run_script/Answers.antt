@@ -15,7 +15,7 @@ returns-in-Ok g c =
       legal = c.account.ensures.legal;
     } in
     let asked : RunAsked = run_asked c.args.host.now c.args.port c.args.known.now (g.V.Verifier.accepts c.args.verifier.now) c.args.config.now in
-    promised laws asked _ _ c.run_events.result (rw c.in-Ok.ensures at c.run_events.ensures.run) c.run_events.ensures.counts
+    record { promises = promised laws asked _ _ c.run_events.result (rw c.in-Ok.ensures at c.run_events.ensures.run) c.run_events.ensures.counts }
 
 pub returns-in-Err : goal.returns-in-Err
 returns-in-Err g c =
@@ -27,4 +27,4 @@ returns-in-Err g c =
       legal = c.account.ensures.legal;
     } in
     let asked : RunAsked = run_asked c.args.host.now c.args.port c.args.known.now (g.V.Verifier.accepts c.args.verifier.now) c.args.config.now in
-    none_promised laws asked _
+    record { promises = none_promised laws asked _ }

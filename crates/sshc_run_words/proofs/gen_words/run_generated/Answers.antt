@@ -15,5 +15,5 @@ returns c =
     (ap (λ (s : HeldSource). s.calls) c.new-source.ensures)
     (ap (λ (s : KeptCalls). s.calls) c.new-signer.ensures)
     (ap Some (sym c.contents.ensures))
-    c.run_script-answer.ensures.run
+    c.run_script-answer.ensures.promises.run
     in (c.events-events.ensures, (c.contents.result.now, c.summary_of.ensures, gives))
