@@ -35,7 +35,9 @@ pub trait Opener {
     fn open(&mut self, path: &str) -> Result<Self::Stream, OpenFailed>
         ensures asked { paths self.new ≡ and_path (paths self.old) path.now }
         ensures not_found { Counts OpenFailed.NotFound (missing self.old) (missing self.new) result }
-        ensures other { Counts OpenFailed.Other (failures self.old) (failures self.new) result };
+        ensures other { Counts OpenFailed.Other (failures self.old) (failures self.new) result }
+        // What was opened has been neither read nor written to.
+        ensures unused { IfOk result (λ s. (Self.Stream.reads s ≡ 0) × (Self.Stream.writes s ≡ 0)) };
 }
 
 /// A client of the agent at this path, which is opened once.
@@ -49,6 +51,8 @@ pub fn connect_uds<O: Opener>(
     ensures not_found { Counts Error.BadAuthSock (O.missing opener.old) (O.missing opener.new) result }
     ensures other { Counts Error.ReadFault (O.failures opener.old) (O.failures opener.new) result }
     ensures errors { IfErr result (λ e. (e ≡ Error.BadAuthSock) ⊎ ((e ≡ Error.ReadFault) ⊎ (e ≡ Error.NoMemory))) }
+    // Nothing was asked of the agent yet.
+    ensures unused { IfOk result (λ client. (client.reads ≡ 0) × (client.writes ≡ 0)) }
 {
     match opener.open(path) {
         Ok(stream) => Ok(AgentClient::connect(alloc, stream)),
@@ -71,6 +75,7 @@ pub fn connect_env<O: Opener>(
     ensures not_found { Counts Error.BadAuthSock (O.missing opener.old) (O.missing opener.new) result }
     ensures other { Counts Error.ReadFault (O.failures opener.old) (O.failures opener.new) result }
     ensures errors { IfErr result (λ e. (e ≡ Error.EnvVar) ⊎ ((e ≡ Error.BadAuthSock) ⊎ ((e ≡ Error.ReadFault) ⊎ (e ≡ Error.NoMemory)))) }
+    ensures unused { IfOk result (λ client. (client.reads ≡ 0) × (client.writes ≡ 0)) }
 {
     match var {
         Some(path) => connect_uds(alloc, path, opener),

@@ -1,6 +1,6 @@
 //! Unix sockets, which tell no contents. The opener is proved against its trait; that a real socket behaves so is not.
 
-ghost use Rattle.std.specs.Prelude.{None, ◌≡◌};
+ghost use Rattle.std.specs.Prelude.{IfOk, None, ◌≡◌};
 ghost use Rattle.sshc_ask.specs.Opens.{CountsFault};
 
 use crate::duplex::Duplex;
@@ -45,7 +45,9 @@ impl<'a, R: Net + AllocGlobal> UnixOpener<'a, R> {
         }
     }
 
-    fn connected(&self, path: &str) -> io::Result<UnixAgentStream> {
+    fn connected(&self, path: &str) -> io::Result<UnixAgentStream>
+        ensures unused { IfOk result (λ s. (s.source.calls ≡ 0) × (s.sink.calls ≡ 0)) }
+    {
         let reading = UnixStream::connect(self.system, path)?;
         let writing = reading.try_clone()?;
         match StdSource::new(self.alloc, reading) {

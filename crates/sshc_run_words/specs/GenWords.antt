@@ -1,6 +1,6 @@
 -- The words `gen SEED N`: a run of a generated script, and what is told of it.
 -- One equation on the list of words, and the run by its table; the code keeps the script and the lines in memory.
-use Rattle.std.specs.Prelude.{◌≡◌, ◌⊎◌, ℕ, ◌≤◌, ◌<◌, ◌^◌, List, [], ◌∷◌, ◌++◌, Option, Some, Result, Err, codes}
+use Rattle.std.specs.Prelude.{◌≡◌, ◌⊎◌, ℕ, ◌≤◌, ◌<◌, ◌^◌, Bool, true, false, List, [], ◌∷◌, ◌++◌, Option, Some, Result, Err, codes}
 use Rattle.std.specs.Str.Parse.{IsNumeral, digits_value}
 use Rattle.sshc_hosts.specs.HostText.{host_text}
 use Rattle.sshc_toy.specs.ToyPair.{toy_accepts}
@@ -50,10 +50,16 @@ gen_events = 300000
 abbrev pub gen_table : List Answer → List ℕ → Run
 gen_table = script_run (run_machine gen_hosts toy_accepts default_run) gen_events
 
--- a run of these bytes over memory gives this answer and this text
+-- a read or a write failed
+abbrev pub is_fault : Result Ended RunError → Bool
+is_fault (Err errors.ReadFault) = true
+is_fault (Err errors.WriteFault) = true
+is_fault answer = false
+
+-- a run of these bytes over memory, of which no read and no write fails, gives this answer and this text
 abbrev pub RunGives : List ℕ → Result Ended RunError → List ℕ → Type 0
 RunGives script answer text =
-    (left : Option (List ℕ)) × (reads : ℕ) × (calls : List SignCall)
+    (left : Option (List ℕ)) × (reads : ℕ) × (calls : List SignCall) × (is_fault answer ≡ false)
     × Ends gen_events 0 0 gen_table (streams (Some script) (Some []) 0 []) (streams left (Some text) reads calls) answer
 
 -- the events of the script, and a run of it whose text has this summary

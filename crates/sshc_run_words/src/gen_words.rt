@@ -4,7 +4,7 @@ ghost use Rattle.std.specs.Prelude.{◌≡◌, ◌≤◌, ◌++◌, ℕ, IfOk, I
 ghost use Rattle.sshc_gen.specs.Blocks.{generated};
 ghost use Rattle.sshc_run.specs.Words.{answer_line, status_of};
 ghost use Rattle.sshc_words.specs.Adding.{Adds};
-ghost use Rattle.sshc_run_words.specs.GenWords.{IsSeed, IsBlockCount, IsGenWords, IsRunOf, GenGives};
+ghost use Rattle.sshc_run_words.specs.GenWords.{IsSeed, IsBlockCount, IsGenWords, IsRunOf, GenGives, is_fault};
 ghost use Rattle.sshc_run_words.specs.Summary.{summary_lines};
 
 use crate::summary::{Summary, summary_lines, summary_of};
@@ -82,6 +82,13 @@ struct GeneratedRun {
     summary: Summary,
 }
 
+/// Whether a read or a write of a run failed.
+fn is_fault(answer: &Result<Ended, RunError>) -> bool
+    ensures { result ≡ is_fault answer.now }
+{
+    matches!(answer, Err(RunError::ReadFault | RunError::WriteFault))
+}
+
 /// Runs a generated script over memory.
 fn run_generated(alloc: Global, script: Generated) -> Result<GeneratedRun, NoMemory>
     ensures { IfOk result (λ run. IsRunOf script run.events run.summary run.answer) }
@@ -104,6 +111,10 @@ fn run_generated(alloc: Global, script: Generated) -> Result<GeneratedRun, NoMem
         &mut source,
         &mut sink,
     );
+    // Memory fails at no call but those that it is told to, of which there are none here.
+    if is_fault(&answer) {
+        return Err(NoMemory);
+    }
     Ok(GeneratedRun {
         events,
         answer,

@@ -63,6 +63,9 @@ pub fn run_words<F: Files, S: Source, K: Sink, G: LocalSigner, V: Verifier>(
     ensures hosts { (asked : Asked) → Asks words.now asked → (S.left source.new ≡ S.left source.old) × AskedGives asked
         (outside (F.contents files.old) (F.read_faults files.old) (F.append_faults files.old) (K.contents sink.old) (K.faults sink.old))
         (outside (F.contents files.new) (F.read_faults files.new) (F.append_faults files.new) (K.contents sink.new) (K.faults sink.new)) result }
+    // No words but those of a script read from the source or ask the signer.
+    ensures untouched { ((host : List ℕ) (port : ℕ) (path : List ℕ) → IsScriptWords words.now host port path → ⊥) →
+        (S.left source.new ≡ S.left source.old) × (S.reads source.new ≡ S.reads source.old) × (G.calls signer.new ≡ G.calls signer.old) }
     // Other words: nothing is read, and the files stay as they were.
     ensures other { ((host : List ℕ) (port : ℕ) (path : List ℕ) → IsScriptWords words.now host port path → ⊥) →
         ((seed : ℕ) (count : ℕ) → IsGenWords words.now seed count → ⊥) → ((asked : Asked) → Asks words.now asked → ⊥) →

@@ -15,5 +15,6 @@ returns c =
     (ap (λ (s : HeldSource). s.calls) c.new-source.ensures)
     (ap (λ (s : KeptCalls). s.calls) c.new-signer.ensures)
     (ap Some (sym c.contents.ensures))
+    (sym c.is_fault.ensures ∙ c.if-is_fault.false)
     c.run_script-answer.ensures.promises.run
     in (c.events-events.ensures, (c.contents.result.now, c.summary_of.ensures, gives))

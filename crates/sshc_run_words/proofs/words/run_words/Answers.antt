@@ -4,6 +4,9 @@ use Rattle.sshc_run_words.proofs.words.run_words.Goals as goal
 pub returns-in-Some-clause-other : goal.returns-in-Some-clause-other
 returns-in-Some-clause-other g c = λ none. absurd (none _ _ _ c.in-Some.ensures.some)
 
+pub returns-in-Some-clause-untouched : goal.returns-in-Some-clause-untouched
+returns-in-Some-clause-untouched g c = λ none. absurd (none _ _ _ c.in-Some.ensures.some)
+
 pub returns-in-Some-gen_words-clause-other : goal.returns-in-Some-gen_words-clause-other
 returns-in-Some-gen_words-clause-other g c = λ no_script none. absurd (none _ _ c.in-Some-gen_words.ensures.some)
 
