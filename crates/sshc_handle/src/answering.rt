@@ -1,0 +1,127 @@
+//! How a call reads its answer, one type a reader.
+
+ghost use Rattle.std.specs.Prelude.{◌≡◌, Option, Result};
+ghost use Rattle.sshc_wire.specs.declared.record.Record.{Record as Said};
+ghost use Rattle.sshc_opening.specs.declared.error.Error.{Error as Refusal};
+
+use sshc_opening::Error;
+use sshc_tickets::{
+    AuthResult, KeyboardInteractiveAuthResponse, algs_answer, auth_answer, done_answer,
+    open_answer, port_answer, prompt_answer, reply_answer,
+};
+use sshc_wire::{ChannelId, HashAlg, Octets, Record};
+
+/// Reads an answer from a record of its ticket; none where the record isn't one that it reads.
+pub(crate) trait Reader {
+    type Answer;
+
+    ghost reads: { Said → Option (Result Self.Answer Refusal) };
+
+    fn read(said: Record) -> Option<Result<Self::Answer, Error>>
+        ensures { result ≡ reads said };
+}
+
+/// What a login comes to.
+pub(crate) struct Login;
+
+impl Reader for Login {
+    type Answer = AuthResult;
+
+    ghost use Rattle.sshc_tickets.specs.Answers.{auth_answer};
+
+    ghost reads = { auth_answer };
+
+    fn read(said: Record) -> Option<Result<AuthResult, Error>> {
+        auth_answer(said)
+    }
+}
+
+/// What a login with prompts comes to, or its next prompts.
+pub(crate) struct Prompted;
+
+impl Reader for Prompted {
+    type Answer = KeyboardInteractiveAuthResponse;
+
+    ghost use Rattle.sshc_tickets.specs.Answers.{prompt_answer};
+
+    ghost reads = { prompt_answer };
+
+    fn read(said: Record) -> Option<Result<KeyboardInteractiveAuthResponse, Error>> {
+        prompt_answer(said)
+    }
+}
+
+/// The number of a channel that was opened.
+pub(crate) struct Opened;
+
+impl Reader for Opened {
+    type Answer = ChannelId;
+
+    ghost use Rattle.sshc_tickets.specs.Answers.{open_answer};
+
+    ghost reads = { open_answer };
+
+    fn read(said: Record) -> Option<Result<ChannelId, Error>> {
+        open_answer(said)
+    }
+}
+
+/// That a request was granted.
+pub(crate) struct Done;
+
+impl Reader for Done {
+    type Answer = ();
+
+    ghost use Rattle.sshc_tickets.specs.Answers.{done_answer};
+
+    ghost reads = { done_answer };
+
+    fn read(said: Record) -> Option<Result<(), Error>> {
+        done_answer(said)
+    }
+}
+
+/// The port at which the server listens.
+pub(crate) struct Port;
+
+impl Reader for Port {
+    type Answer = u32;
+
+    ghost use Rattle.sshc_tickets.specs.Answers.{port_answer};
+
+    ghost reads = { port_answer };
+
+    fn read(said: Record) -> Option<Result<u32, Error>> {
+        port_answer(said)
+    }
+}
+
+/// The bytes of a reply.
+pub(crate) struct Reply;
+
+impl Reader for Reply {
+    type Answer = Octets;
+
+    ghost use Rattle.sshc_tickets.specs.Answers.{reply_answer};
+
+    ghost reads = { reply_answer };
+
+    fn read(said: Record) -> Option<Result<Octets, Error>> {
+        reply_answer(said)
+    }
+}
+
+/// The best hash for RSA.
+pub(crate) struct Algs;
+
+impl Reader for Algs {
+    type Answer = Option<Option<HashAlg>>;
+
+    ghost use Rattle.sshc_tickets.specs.Answers.{algs_answer};
+
+    ghost reads = { algs_answer };
+
+    fn read(said: Record) -> Option<Result<Option<Option<HashAlg>>, Error>> {
+        algs_answer(said)
+    }
+}

@@ -1,0 +1,86 @@
+//! The handle of a session.
+
+ghost use Rattle.std.specs.Prelude.{◌≡◌, Err, IfErr, IfOk, IfSome, OnErr, true};
+ghost use Rattle.sshc_tickets.specs.Tickets.{is_of};
+ghost use Rattle.sshc_handle_state.specs.Submission.{asks_answer};
+ghost use Rattle.sshc_handle.specs.Answering.{Given, IsDeclined, IsEndError};
+
+use crate::channel::Channel;
+use crate::shared::Shared;
+use sshc_client::{Handler, Msg};
+use sshc_key::AgentSessionBinding;
+use sshc_opening::{Ended, Error};
+use sshc_wire::{ChannelId, NoMemory, Record, Ticket};
+use std::alloc::Global;
+use std::sync::{Arc, Wait};
+
+/// A session that a runner takes turns with. Threads share it by reference; each call submits what it asks, and waits for its
+/// answer alone.
+#[derive(Drop)]
+pub struct Handle<H: Handler> {
+    pub(crate) shared: Arc<Shared<H>, Global>,
+}
+
+impl<H: Handler> Handle<H> {
+    /// Submits a message, and gives the ticket of its answer, if it asks for one. `SendError` where the session has ended.
+    pub fn submit<R: Wait>(&self, rt: &R, msg: Msg) -> Result<Option<Ticket>, Error>
+        ensures { Given (asks_answer msg) result }
+    {
+        self.shared.submit(rt, msg)
+    }
+
+    /// Takes the oldest record that is held for this ticket, if there is one now.
+    #[tactic(auto, using(crate::proofs::AnsweringLemmas::first_passes))]
+    pub fn poll_ticket<R: Wait>(&self, rt: &R, ticket: Ticket) -> Option<Record>
+        ensures { IfSome result (λ said. is_of ticket.0 said ≡ true) }
+    {
+        self.shared.state.lock(rt).poll(ticket)
+    }
+
+    /// No user is left.
+    #[tactic(auto, using(crate::proofs::AnsweringLemmas::event_declined))]
+    pub fn gone<R: Wait>(self, rt: &R) -> Result<(), Error>
+        ensures { IfErr result IsDeclined }
+    {
+        let submitted = self.shared.state.lock(rt).gone();
+        self.shared.wake_runner();
+        submitted
+    }
+
+    /// Waits until the session has ended, and tells how. `Disconnect` where it was refused.
+    #[tactic(auto, using(crate::proofs::AnsweringLemmas::told_end))]
+    pub fn wait_closed<R: Wait>(&self, rt: &R) -> Result<Ended, Error>
+        ensures { IfErr result IsEndError }
+    {
+        let mut state = self.shared.state.lock(rt);
+        for _ in rt.forever() {
+            if let Some(ended) = state.ended()? {
+                return Ok(ended);
+            }
+            state = self.shared.wait(rt, state);
+        }
+        unreachable!()
+    }
+
+    /// Whether the runner has come to its end.
+    pub fn is_closed(&self) -> bool {
+        self.shared.is_closed()
+    }
+
+    /// The channel of this number, as for one that the server opened.
+    pub fn channel(&self, id: ChannelId) -> Result<Channel<H>, NoMemory>
+        ensures { IfOk result (λ c. c ≡ id) }
+    {
+        Ok(Channel::over(Arc::try_clone(&self.shared)?, id))
+    }
+
+    /// The first exchange's host key, session id and signature; none before it is done.
+    pub fn agent_session_binding<R: Wait>(
+        &self,
+        rt: &R,
+    ) -> Result<Option<AgentSessionBinding>, Error>
+        ensures { OnErr result (result ≡ Err Error.NoMemory) }
+    {
+        Ok(self.shared.state.lock(rt).agent_session_binding()?)
+    }
+}

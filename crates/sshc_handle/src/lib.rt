@@ -1,0 +1,24 @@
+//! A session for programs with threads: calls that submit and wait, and the runner that takes turns.
+#![tactic(auto)]
+
+mod answering;
+mod channel;
+mod channels;
+mod connecting;
+mod handle;
+mod logins;
+mod requests;
+mod runner;
+mod shared;
+mod signing;
+
+pub use channel::Channel;
+pub use connecting::{Maker, connect, connect_stream};
+pub use handle::Handle;
+pub use runner::{Clock, Runner};
+pub use sshc_handle_messages::WithError;
+pub use sshc_handle_state::{End, HandleState, Timers, Turn};
+pub use sshc_tickets::{
+    AuthResult, KeyboardInteractiveAuthResponse, algs_answer, auth_answer, done_answer,
+    open_answer, port_answer, prompt_answer, reply_answer,
+};
