@@ -1,7 +1,6 @@
 -- A run that ends by its table keeps each promise: the laws of whole runs, gathered.
-use Rattle.std.proofs.Common.{◌≡◌, ℕ, List, Result, Err, refl, arith}
+use Rattle.std.proofs.Common.{Result, Err, refl, arith}
 use Rattle.sshc_wire.specs.Contents.{no_writes, moved_for}
-use Rattle.sshc_key.specs.Signers.{since}
 use Rattle.sshc_mux.specs.ChannelAccount.{EachLifeHasItsAccount, LegalStays}
 use Rattle.sshc_moves.specs.OpensOnce.{OpensAreAnsweredOnce}
 use Rattle.sshc_moves.specs.ReplyQueue.{RepliesAreInOrder}

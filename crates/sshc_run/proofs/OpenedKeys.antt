@@ -1,5 +1,5 @@
 -- A session is opened only by a host key that the known hosts text accepts.
-use Rattle.std.proofs.Common.{◌≡◌, ℕ, Bool, true, false, List, [], ◌∷◌, Option, Some, None, Result, Ok, Err, refl, ap, sym, ◌∙◌}
+use Rattle.std.proofs.Common.{◌≡◌, ℕ, Bool, true, false, List, [], ◌∷◌, Option, Some, None, Result, Ok, Err, refl, ap, ◌∙◌}
 use Rattle.sshc_key.specs.KeyGrammar.{Key}
 use Rattle.sshc_key.specs.Signers.{SignCall}
 use Rattle.sshc_key.specs.declared.error.Error.{Error as KeyError}
@@ -11,7 +11,6 @@ use Rattle.sshc_event.specs.HostKey.{host_key}
 use Rattle.sshc_event.specs.declared.event.Event.{Event}
 use Rattle.sshc_event.specs.declared.event.Event.TheVariants as events
 use Rattle.sshc_opening.specs.declared.opening.Settings.{Settings}
-use Rattle.sshc_opening.specs.OpeningState.{OpeningState}
 use Rattle.sshc_opening.specs.SessionWords.{IsFirst}
 use Rattle.sshc_script.specs.declared.error.EventError.{EventError}
 use Rattle.sshc_script.specs.declared.event_kind.EventKind.{EventKind}
@@ -21,8 +20,7 @@ use Rattle.sshc_script.specs.Script.{Frame, taken}
 use Rattle.sshc_run.specs.declared.known_hosts_handler.HandlerError.{HandlerError}
 use Rattle.sshc_run.specs.Headline.{said_of_key, said_by, said_at, said_of_first, is_yes, is_accepted}
 use Rattle.sshc_run.specs.KnownHosts.{Hosts, as_handler, verdict}
-use Rattle.sshc_run.specs.OpenedKey.{key_by, key_at, first_key, HasAcceptedKey, OpensIt, IsOpenedByAccepted}
-use Rattle.sshc_run.specs.OpeningFirst.{opening_of}
+use Rattle.sshc_run.specs.OpenedKey.{key_by, key_at, first_key, HasAcceptedKey, IsOpenedByAccepted}
 use Rattle.sshc_run.specs.Part.{own_answers, own_events}
 use Rattle.sshc_run.specs.SessionPart.{session_own}
 use Rattle.sshc_run.specs.Turn.{opening_machine}

@@ -1,5 +1,5 @@
 -- Along a run the session asks the signer at most once for each request by a key at hand: a call is for the stored request, which is stored no more then.
-use Rattle.std.proofs.Common.{◌≡◌, ◌⊎◌, ◌≤◌, ◌+◌, inl, inr, ℕ, Bool, true, false, List, [], ◌∷◌, ◌++◌, length, length-append, Option, Some, None, Result, Ok, Err, refl, ap, sym, ◌∙◌, subst, arith}
+use Rattle.std.proofs.Common.{◌≡◌, ◌≤◌, ◌+◌, inl, inr, ℕ, Bool, true, false, List, [], ◌∷◌, ◌++◌, length, length-append, Option, Some, None, Result, Ok, Err, refl, ap, sym, ◌∙◌, subst, arith}
 use Rattle.std.proofs.lemmas.List.Elements.{filter-append}
 use Rattle.sshc_key.specs.Signers.{SignCall}
 use Rattle.sshc_key.specs.Asking.{Answer, Asking, Makes, MakesFirst, done, asks, asked_on, call_of}
@@ -12,7 +12,7 @@ use Rattle.sshc_opening.specs.declared.step.Asks.{Asks}
 use Rattle.sshc_opening.specs.declared.step.Asks.TheVariants as asking
 use Rattle.sshc_opening.specs.declared.step.Told.{Told}
 use Rattle.sshc_opening.specs.declared.step.Told.TheVariants as telling
-use Rattle.sshc_opening.specs.KeepLaws.{Keeps, KeepsAsked, KeepsAsking, KeepsNext, SettledNext, open_keeps}
+use Rattle.sshc_opening.specs.KeepLaws.{KeepsAsked, KeepsAsking, KeepsNext, SettledNext, open_keeps}
 use Rattle.sshc_opening.specs.OpeningState.{OpeningState}
 use Rattle.sshc_opening.specs.OpeningTable.{asked_of, open_row}
 use Rattle.sshc_opening.specs.Row.{Next, Row, ends, opens, refuses, stays}
@@ -26,7 +26,6 @@ use Rattle.sshc_script.specs.declared.error.EventError.{EventError}
 use Rattle.sshc_script.specs.declared.error.EventError.TheVariants as reads
 use Rattle.sshc_script.specs.EventReading.{event_of}
 use Rattle.sshc_script.specs.Script.{Frame, ScriptStop, stop_of, taken}
-use Rattle.sshc_agent_turns.specs.AgentTurns.{Served}
 use Rattle.sshc_agent_turns.specs.TurnLaws.{on_made}
 use Rattle.sshc_run.specs.AgentsTurn.{agents_turn}
 use Rattle.sshc_run.specs.Configured.{RunSettings}

@@ -1,22 +1,21 @@
 -- Over a whole run a password is written at most as often as the session's events asked for it: each event of the session writes it as the
 -- opening's row does, an open session writes no request, and an agent writes no packet.
-use Rattle.std.proofs.Common.{◌≡◌, ◌≤◌, ◌+◌, inl, inr, ℕ, Bool, true, false, not, List, [], ◌∷◌, ◌++◌, length, Option, Some, None, Result, Ok, Err, refl, ap, sym, ◌∙◌, subst, arith}
-use Rattle.std.specs.Prelude.{if◌then◌else◌}
+use Rattle.std.proofs.Common.{◌≡◌, ◌≤◌, ◌+◌, ℕ, Bool, true, false, List, [], ◌∷◌, Option, Result, Ok, Err, refl, ap, sym, subst, arith}
 use Rattle.std.specs.List.{AllByRecursion}
 use Rattle.sshc_wire.specs.Wire.{IsShort}
 use Rattle.sshc_wire.specs.declared.record.Record.{Record}
 use Rattle.sshc_wire.specs.declared.record.Record.TheVariants as records
-use Rattle.sshc_key.specs.Asking.{Answer, Asking, Always, done, asks, asked_on, call_of}
+use Rattle.sshc_key.specs.Asking.{Answer, Asking, Always, done, asks, asked_on}
 use Rattle.sshc_key.specs.AskingLaws.{always_on}
 use Rattle.sshc_event.specs.declared.event.Event.{Event}
 use Rattle.sshc_opening.specs.declared.step.Asks.{Asks}
 use Rattle.sshc_opening.specs.declared.step.Asks.TheVariants as asking
 use Rattle.sshc_opening.specs.declared.step.Told.{Told}
 use Rattle.sshc_opening.specs.declared.step.Told.TheVariants as telling
-use Rattle.sshc_opening.specs.OpeningState.{OpeningState, shut, start}
+use Rattle.sshc_opening.specs.OpeningState.{OpeningState}
 use Rattle.sshc_opening.specs.OpeningTable.{asked_of, open_row}
 use Rattle.sshc_opening.specs.PasswordLaw.{Sound, open_sound, written_two}
-use Rattle.sshc_opening.specs.Passwords.{FitsRequest, HasShortUser, password_packet, times_asked, times_waiting, times_waiting_in, times_written}
+use Rattle.sshc_opening.specs.Passwords.{FitsRequest, HasShortUser, password_packet, times_asked, times_waiting, times_written}
 use Rattle.sshc_opening.specs.Row.{Next, Row, ends, opens, refuses, stays}
 use Rattle.sshc_request.specs.RequestTexts.{request}
 use Rattle.sshc_packets.specs.HostKeyProof.{Accepts}
@@ -44,7 +43,7 @@ use Rattle.sshc_run.specs.RunTurn.{RunState, run_machine, run_turn}
 use Rattle.sshc_run.specs.ScriptRun.{Run, asked_run, events_run, run_on, script_run}
 use Rattle.sshc_run.specs.SessionPart.{session_own}
 use Rattle.sshc_run.specs.SessionTurn.{SessionTurn, emptied, in_session, onward, read_turn, said_by, session_turn, step_turn}
-use Rattle.sshc_run.specs.Turn.{Turn, asked_turn, judged_turn, next_turn, row_turn, stops}
+use Rattle.sshc_run.specs.Turn.{asked_turn, judged_turn, next_turn, row_turn}
 use Rattle.sshc_run.proofs.AgentsTurns.{agents_say}
 use Rattle.sshc_run.proofs.PartRuns.{other_first, own_first}
 use Rattle.sshc_run.proofs.Products.{one_takes, other_takes}

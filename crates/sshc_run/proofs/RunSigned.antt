@@ -1,15 +1,12 @@
 -- Along a run the session signs what it was asked for: what each step keeps to, joined over the events.
-use Rattle.std.proofs.Common.{◌≡◌, ◌≢◌, ◌⊎◌, inl, inr, ℕ, ◌+◌, Bool, true, false, List, [], ◌∷◌, ◌++◌, Option, Some, None, Result, Ok, Err, refl, ap, sym, ◌∙◌, subst}
+use Rattle.std.proofs.Common.{◌≡◌, ◌≢◌, ◌⊎◌, inl, inr, ℕ, Bool, true, false, List, [], ◌∷◌, Option, Some, None, Result, Ok, Err, refl, ap, sym, ◌∙◌, subst}
 use Rattle.std.specs.Prelude.{if◌then◌else◌}
 use Rattle.std.specs.List.{AllByRecursion}
-use Rattle.sshc_wire.specs.declared.record.Record.{Record}
 use Rattle.sshc_key.specs.Signers.{SignCall}
-use Rattle.sshc_key.specs.Asking.{Answer, Asking, Always, Makes, done, asks, asked_on, call_of}
+use Rattle.sshc_key.specs.Asking.{Answer, Asking, Always, Makes, done, asks, asked_on}
 use Rattle.sshc_key.specs.AskingLaws.{always_makes}
-use Rattle.sshc_key.specs.declared.signer.Asker.TheVariants.{Session}
 use Rattle.sshc_event.specs.declared.event.Event.{Event}
 use Rattle.sshc_event.specs.declared.event.Event.TheVariants as events
-use Rattle.sshc_transport.specs.declared.exchange.ExchangeFlag.TheVariants as flags
 use Rattle.sshc_transport.specs.declared.exchange.ExchangeResult.{ExchangeResult}
 use Rattle.sshc_opening.specs.declared.opening.Phase.{Phase}
 use Rattle.sshc_opening.specs.declared.opening.Phase.TheVariants as phases
@@ -19,12 +16,12 @@ use Rattle.sshc_opening.specs.declared.step.Told.{Told}
 use Rattle.sshc_opening.specs.declared.step.Told.TheVariants as telling
 use Rattle.sshc_opening.specs.GateLaw.{FirstNext, IsNoExchange, StaysFirst, first_law}
 use Rattle.sshc_opening.specs.KeepLaws.{Keeps, KeepsAsked, KeepsAsking, KeepsNext, KeepsState, open_keeps}
-use Rattle.sshc_opening.specs.OpeningState.{OpeningState, is_awaiting, shut, start}
-use Rattle.sshc_opening.specs.OpeningTable.{asked_of, event_row, open_row, plain_row, turn_row}
+use Rattle.sshc_opening.specs.OpeningState.{OpeningState, is_awaiting, shut}
+use Rattle.sshc_opening.specs.OpeningTable.{asked_of, open_row, plain_row, turn_row}
 use Rattle.sshc_opening.specs.OpeningTable.Exchange.{accepted_row, exchange_done_row, exchange_row_in}
 use Rattle.sshc_opening.specs.OpeningTable.Order.{is_out_of_turn}
 use Rattle.sshc_opening.specs.Row.{Next, Row, ends, opens, refuses, stays}
-use Rattle.sshc_opening.specs.SessionWords.{AsksOnce, HandsStored, IsFirst, Kept, KeepsRequest, KeepsSession, SignsStored, kept_of}
+use Rattle.sshc_opening.specs.SessionWords.{AsksOnce, IsFirst, Kept, SignsStored, kept_of}
 use Rattle.sshc_opening.specs.SignedRuns.{IsAskedFor, IsHandedFor, IsSignedFor, asked_next, calls_for, handed_for}
 use Rattle.sshc_packets.specs.HostKeyProof.{Accepts}
 use Rattle.sshc_moves.specs.SessionState.{SessionState, is_open}
@@ -40,12 +37,12 @@ use Rattle.sshc_agent_turns.specs.TurnLaws.{on_made}
 use Rattle.sshc_run.specs.Configured.{RunSettings}
 use Rattle.sshc_run.specs.declared.known_hosts_handler.HandlerError.{HandlerError}
 use Rattle.sshc_run.specs.KnownHosts.{Hosts, verdict}
-use Rattle.sshc_run.specs.Machine.{Onward, TurnOf, goes_on, opened, stopped, stop_next}
+use Rattle.sshc_run.specs.Machine.{TurnOf, stop_next}
 use Rattle.sshc_run.specs.Part.{own_events}
 use Rattle.sshc_run.specs.SessionPart.{session_own}
-use Rattle.sshc_run.specs.SessionTurn.{SessionTurn, in_session, read_turn, row_turn as open_turn, session_turn, step_turn}
-use Rattle.sshc_run.specs.SignedRequests.{AreSigned, ComesBehind, IsSignedAt, behind, first_hash, or_hash}
-use Rattle.sshc_run.specs.Turn.{asked_turn, judged_turn, next_turn, row_turn, stops}
+use Rattle.sshc_run.specs.SessionTurn.{SessionTurn, in_session, read_turn, session_turn, step_turn}
+use Rattle.sshc_run.specs.SignedRequests.{AreSigned, ComesBehind, behind, first_hash, or_hash}
+use Rattle.sshc_run.specs.Turn.{asked_turn, judged_turn, next_turn, row_turn}
 
 -- ---- what holds of a state, with the events before it
 

@@ -1,5 +1,5 @@
 -- A known hosts text in which the login's host key was learned accepts it, so that the login is valid there.
-use Rattle.std.proofs.Common.{◌≡◌, ℕ, Bool, true, false, List, [], ◌++◌, length, get_or, Some, None, Result, Ok, lit<, lit≤, refl, ap, ◌∙◌}
+use Rattle.std.proofs.Common.{◌≡◌, ℕ, Bool, true, false, List, [], ◌++◌, get_or, Some, None, Result, Ok, lit<, lit≤, refl, ap, ◌∙◌}
 use Rattle.std.specs.Prelude.{codes, not, ◌==◌}
 use Rattle.std.specs.List.{list_all}
 use Rattle.std.proofs.lemmas.List.Sums.{AllPass-from_list_all}

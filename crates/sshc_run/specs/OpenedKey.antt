@@ -1,6 +1,6 @@
 -- By which host key a session is opened, in the words of the known hosts text (sshd(8), SSH_KNOWN_HOSTS FILE FORMAT) and not of the judgement: its lines
 -- for the host can all be read, none has another key of the same algorithm, and one has the key.
-use Rattle.std.specs.Prelude.{◌≡◌, ℕ, List, [], ◌∷◌, Option, Some, None, Result, Ok, Err}
+use Rattle.std.specs.Prelude.{◌≡◌, ℕ, List, [], ◌∷◌, Option, Some, None, Result, Ok}
 use Rattle.sshc_key.specs.Signers.{SignCall}
 use Rattle.sshc_key.specs.declared.identity.PublicKeyOrCertificate.{PublicKeyOrCertificate}
 use Rattle.sshc_key.specs.declared.identity.PublicKeyOrCertificate.TheVariants.{PublicKey, Certificate}

@@ -1,3 +1,4 @@
 mod WordLists
 mod TextLines
 mod GeneratedRuns
+mod ScriptArguments

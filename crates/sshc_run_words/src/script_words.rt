@@ -51,9 +51,9 @@ fn run_told<S: Source, K: Sink, G: LocalSigner, V: Verifier>(
 ) -> u8
     ensures runs { RunsBy (run_asked asked.now.host.now asked.now.port known.now (V.accepts verifier.now) config.now)
         (run_outside (source_state (S.left source.old) (S.reads source.old) (S.empty_reads source.old) (S.faults source.old))
-            (sink_state (K.contents sink.old) (K.writes sink.old) (K.empty_writes sink.old) (K.faults sink.old)) (G.calls signer.old))
+        (sink_state (K.contents sink.old) (K.writes sink.old) (K.empty_writes sink.old) (K.faults sink.old)) (G.calls signer.old))
         (run_outside (source_state (S.left source.new) (S.reads source.new) (S.empty_reads source.new) (S.faults source.new))
-            (sink_state (K.contents sink.new) (K.writes sink.new) (K.empty_writes sink.new) (K.faults sink.new)) (G.calls signer.new))
+        (sink_state (K.contents sink.new) (K.writes sink.new) (K.empty_writes sink.new) (K.faults sink.new)) (G.calls signer.new))
         result }
 {
     let answer = run_script(
@@ -74,15 +74,13 @@ fn run_default<S: Source, K: Sink, G: LocalSigner, V: Verifier>(
 ) -> u8
     ensures gives { TextGives (words_asked (V.accepts verifier.now) asked.now.host.now asked.now.port known.now)
         (run_outside (source_state (S.left source.old) (S.reads source.old) (S.empty_reads source.old) (S.faults source.old))
-            (sink_state (K.contents sink.old) (K.writes sink.old) (K.empty_writes sink.old) (K.faults sink.old)) (G.calls signer.old))
+        (sink_state (K.contents sink.old) (K.writes sink.old) (K.empty_writes sink.old) (K.faults sink.old)) (G.calls signer.old))
         (run_outside (source_state (S.left source.new) (S.reads source.new) (S.empty_reads source.new) (S.faults source.new))
-            (sink_state (K.contents sink.new) (K.writes sink.new) (K.empty_writes sink.new) (K.faults sink.new)) (G.calls signer.new))
+        (sink_state (K.contents sink.new) (K.writes sink.new) (K.empty_writes sink.new) (K.faults sink.new)) (G.calls signer.new))
         result }
 {
     match Config::default_in(alloc) {
-        Ok(config) => run_told(
-            alloc, &config, asked, known, signer, verifier, source, sink,
-        ),
+        Ok(config) => run_told(alloc, &config, asked, known, signer, verifier, source, sink),
         Err(NoMemory) => add_line(sink, "error no-memory\n", NO_MEMORY_STATUS),
     }
 }
@@ -100,9 +98,9 @@ pub(crate) fn run_script_words<F: Files, S: Source, K: Sink, G: LocalSigner, V: 
 ) -> u8
     ensures gives { ScriptGives (V.accepts verifier.now) asked.now.host.now asked.now.port asked.now.path.now (F.contents files.old)
         (run_outside (source_state (S.left source.old) (S.reads source.old) (S.empty_reads source.old) (S.faults source.old))
-            (sink_state (K.contents sink.old) (K.writes sink.old) (K.empty_writes sink.old) (K.faults sink.old)) (G.calls signer.old))
+        (sink_state (K.contents sink.old) (K.writes sink.old) (K.empty_writes sink.old) (K.faults sink.old)) (G.calls signer.old))
         (run_outside (source_state (S.left source.new) (S.reads source.new) (S.empty_reads source.new) (S.faults source.new))
-            (sink_state (K.contents sink.new) (K.writes sink.new) (K.empty_writes sink.new) (K.faults sink.new)) (G.calls signer.new))
+        (sink_state (K.contents sink.new) (K.writes sink.new) (K.empty_writes sink.new) (K.faults sink.new)) (G.calls signer.new))
         (F.read_faults files.old) (F.read_faults files.new) result }
     ensures kept { F.contents files.new ≡ F.contents files.old }
 {

@@ -50,9 +50,9 @@ pub fn run_words<F: Files, S: Source, K: Sink, G: LocalSigner, V: Verifier>(
     ensures script { (host : List ℕ) (port : ℕ) (path : List ℕ) → IsScriptWords words.now host port path →
         ScriptGives (V.accepts verifier.now) host port path (F.contents files.old)
         (run_outside (source_state (S.left source.old) (S.reads source.old) (S.empty_reads source.old) (S.faults source.old))
-            (sink_state (K.contents sink.old) (K.writes sink.old) (K.empty_writes sink.old) (K.faults sink.old)) (G.calls signer.old))
+        (sink_state (K.contents sink.old) (K.writes sink.old) (K.empty_writes sink.old) (K.faults sink.old)) (G.calls signer.old))
         (run_outside (source_state (S.left source.new) (S.reads source.new) (S.empty_reads source.new) (S.faults source.new))
-            (sink_state (K.contents sink.new) (K.writes sink.new) (K.empty_writes sink.new) (K.faults sink.new)) (G.calls signer.new))
+        (sink_state (K.contents sink.new) (K.writes sink.new) (K.empty_writes sink.new) (K.faults sink.new)) (G.calls signer.new))
         (F.read_faults files.old) (F.read_faults files.new) result }
     // The files are as they were: no script adds to a known hosts file.
     ensures kept { (host : List ℕ) (port : ℕ) (path : List ℕ) → IsScriptWords words.now host port path → F.contents files.new ≡ F.contents files.old }

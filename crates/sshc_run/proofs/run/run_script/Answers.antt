@@ -1,6 +1,3 @@
-use Rattle.sshc_hosts.specs.HostText.{host_text}
-use Rattle.sshc_run.specs.KnownHosts.{Hosts}
-use Rattle.sshc_run.specs.RunOutside.{RunOutside, run_outside, sink_state, source_state}
 use Rattle.sshc_run.specs.RunPromises.{RunAsked, run_asked}
 use Rattle.sshc_run.proofs.KeptPromises.{SessionLaws, none_promised, promised}
 use Rattle.sshc_run.proofs.run.run_script.Goals as goal

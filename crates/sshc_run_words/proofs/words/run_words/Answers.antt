@@ -1,5 +1,11 @@
 use Rattle.std.proofs.Common.{refl}
+use Rattle.sshc_run_words.proofs.ScriptArguments.{one_script}
 use Rattle.sshc_run_words.proofs.words.run_words.Goals as goal
+
+pub returns-in-Some-clause-script : goal.returns-in-Some-clause-script
+returns-in-Some-clause-script g c = λ host port path is.
+    let same = one_script c.args.words.now _ host _ port _ path c.in-Some.ensures.some is in
+    rw (same.0, same.1, same.2) c.run_script_words.ensures.gives
 
 pub returns-in-Some-clause-other : goal.returns-in-Some-clause-other
 returns-in-Some-clause-other g c = λ none. absurd (none _ _ _ c.in-Some.ensures.some)
