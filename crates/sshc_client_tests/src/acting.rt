@@ -1,0 +1,58 @@
+//! What is done to a session that is lent.
+
+ghost use Rattle.sshc_moves.specs.Grown.{Grown};
+
+use crate::gave::gave_line;
+use crate::methods::call_method;
+use crate::plan::{behind, put_line};
+use sshc_client::Session;
+use sshc_wire::NoMemory;
+use std::alloc::Global;
+
+/// Calls a method, and notes what it returned.
+pub fn act(
+    alloc: Global,
+    session: &mut Session,
+    method: &str,
+    heard: &mut String,
+) -> Result<(), NoMemory>
+    ensures { Grown session.old session.new }
+{
+    let gave = call_method(alloc, session, method);
+    let line = gave_line(alloc, gave)?;
+    put_line(heard, line.as_str())
+}
+
+/// Does what a line of the plan says of a call.
+#[tactic(auto, using(sshc_moves::specs::GrownLaws::grown_same))]
+fn follow_line(
+    alloc: Global,
+    session: &mut Session,
+    line: &str,
+    call: &str,
+    heard: &mut String,
+) -> Result<(), NoMemory>
+    ensures { Grown session.old session.new }
+{
+    match behind(line, call, "does") {
+        Some(method) => act(alloc, session, method, heard),
+        None => Ok(()),
+    }
+}
+
+/// Does what the plan says of a call.
+#[tactic(auto, using(sshc_moves::specs::GrownLaws::grown_same, sshc_moves::specs::GrownLaws::grown_next))]
+pub fn follow(
+    alloc: Global,
+    session: &mut Session,
+    plan: &str,
+    call: &str,
+    heard: &mut String,
+) -> Result<(), NoMemory>
+    ensures { Grown session.old session.new }
+{
+    for line in plan.lines() {
+        follow_line(alloc, session, line, call, heard)?;
+    }
+    Ok(())
+}

@@ -1,0 +1,214 @@
+//! A handler that keeps the list of its calls, and does in each and answers what its plan says.
+
+ghost use Rattle.std.specs.Prelude.{◌≡◌, ◌≤◌, [], Ok, OnErr};
+ghost use Rattle.sshc_wire.specs.Faults.{Rose};
+ghost use Rattle.sshc_moves.specs.Grown.{Grown};
+ghost use Rattle.sshc_client.specs.Handling.{Handles, handler_at};
+
+mod callbacks;
+
+use crate::acting::follow;
+use crate::plan::{answer, put_line};
+use crate::values::Values;
+use sshc_client::{Error, OpenAnswer, Session};
+use sshc_wire::{ChannelOpenFailure, NoMemory};
+use std::alloc::{AllocError, Global};
+use std::marker::Model;
+use thiserror::Error as StdError;
+
+/// Why the handler refuses.
+#[derive(Clone, Copy, Debug, PartialEq, Eq, StdError)]
+pub enum Refused {
+    /// An error of the session.
+    #[error("session {0}")]
+    Client(Error),
+    /// The plan says so.
+    #[error("handler")]
+    Planned,
+    /// The list of calls found no memory.
+    #[error("NoMemory")]
+    NoMemory,
+}
+
+impl From<NoMemory> for Refused {
+    fn from(_error: NoMemory) -> Refused {
+        Refused::NoMemory
+    }
+}
+
+impl From<AllocError> for Refused {
+    fn from(_error: AllocError) -> Refused {
+        Refused::NoMemory
+    }
+}
+
+/// Keeps its calls, which contracts see as how often it refused.
+#[derive(Debug, Drop)]
+pub struct Listening {
+    alloc: Global,
+    /// A line a call, and a line for what each method returned that was called meanwhile.
+    heard: String,
+    /// What is to be done and answered, in lines.
+    plan: String,
+    refusals: u64,
+}
+
+impl Model for Listening {
+    ghost use Rattle.std.specs.Prelude.{ℕ};
+
+    ghost Value = { ℕ };
+
+    ghost view = { λ h. h.refusals };
+}
+
+impl Listening {
+    /// A handler that has heard nothing and plans nothing.
+    pub fn new(alloc: Global) -> Listening {
+        Listening {
+            alloc,
+            heard: String::new(alloc),
+            plan: String::new(alloc),
+            refusals: 0,
+        }
+    }
+
+    /// What it heard.
+    pub fn heard(&self) -> &str {
+        self.heard.as_str()
+    }
+
+    /// What it heard, to which lines may be added.
+    pub fn heard_mut(&mut self) -> &mut String {
+        &mut self.heard
+    }
+
+    /// Forgets what it heard and what was planned.
+    pub fn forget(&mut self) {
+        self.heard = String::new(self.alloc);
+        self.plan_nothing();
+    }
+
+    /// Plans a line.
+    pub fn plan(&mut self, line: &str) -> Result<(), NoMemory> {
+        put_line(&mut self.plan, line)
+    }
+
+    pub fn plan_nothing(&mut self) {
+        self.plan = String::new(self.alloc);
+    }
+
+    /// Notes a call with its values.
+    fn note(&mut self, call: &str, values: &Values) -> Result<(), NoMemory>
+        ensures { self.new ≡ self.old }
+    {
+        let values = values.as_str()?;
+        let line = format!(in self.alloc; "call {call}{values}")?;
+        put_line(&mut self.heard, line.as_str())
+    }
+
+    /// Notes a call that can't refuse.
+    fn hear_alone(&mut self, call: &str, values: &Values)
+        ensures { self.new ≡ self.old }
+    {
+        let _ = self.note(call, values);
+    }
+
+    /// Notes a call, and does what is planned for it.
+    #[tactic(auto, using(sshc_moves::specs::GrownLaws::grown_same))]
+    fn called(&mut self, call: &str, values: &Values, session: &mut Session) -> Result<(), NoMemory>
+        ensures same { self.new ≡ self.old }
+        ensures grown { Grown session.old session.new }
+    {
+        self.note(call, values)?;
+        follow(
+            self.alloc,
+            session,
+            self.plan.as_str(),
+            call,
+            &mut self.heard,
+        )
+    }
+
+    /// Counts a refusal.
+    fn refuse(&mut self, why: Refused) -> Refused
+        ensures rose { Rose self.old self.new }
+        ensures later { self.old ≤ self.new }
+    {
+        self.refusals = self.refusals.saturating_add(1);
+        why
+    }
+
+    /// The answer to a call that answers nothing.
+    fn answered(&mut self, call: &str, called: Result<(), NoMemory>) -> Result<(), Refused>
+        ensures later { self.old ≤ self.new }
+        ensures cause { OnErr result (Rose self.old self.new) }
+    {
+        match called {
+            Ok(()) => match answer(self.plan.as_str(), call) {
+                Some(_) => Err(self.refuse(Refused::Planned)),
+                None => Ok(()),
+            },
+            Err(NoMemory) => Err(self.refuse(Refused::NoMemory)),
+        }
+    }
+
+    /// The answer to a call about a channel that the server opens. Where nothing is planned it is accepted.
+    fn open_answered(
+        &mut self,
+        call: &str,
+        called: Result<(), NoMemory>,
+    ) -> Result<OpenAnswer, Refused>
+        ensures later { self.old ≤ self.new }
+        ensures cause { OnErr result (Rose self.old self.new) }
+    {
+        match called {
+            Ok(()) => match open_answer(answer(self.plan.as_str(), call)) {
+                Some(answer) => Ok(answer),
+                None => Err(self.refuse(Refused::Planned)),
+            },
+            Err(NoMemory) => Err(self.refuse(Refused::NoMemory)),
+        }
+    }
+
+    /// A call that answers nothing.
+    #[tactic(auto, using(crate::proofs::HeardLemmas::handles))]
+    fn hear(&mut self, call: &str, values: &Values, session: &mut Session) -> Result<(), Refused>
+        ensures { Handles ⊥ (Ok tt) (handler_at self.old []) (handler_at self.new [])
+            session.old session.new result }
+    {
+        let called = self.called(call, values, session);
+        self.answered(call, called)
+    }
+
+    /// A call about a channel that the server opens.
+    #[tactic(auto, using(crate::proofs::HeardLemmas::handles))]
+    fn hear_open(
+        &mut self,
+        call: &str,
+        values: &Values,
+        session: &mut Session,
+    ) -> Result<OpenAnswer, Refused>
+        ensures { Handles ⊥ (Ok OpenAnswer.Accept) (handler_at self.old []) (handler_at self.new [])
+            session.old session.new result }
+    {
+        let called = self.called(call, values, session);
+        self.open_answered(call, called)
+    }
+}
+
+/// An answer to a channel that the server opens, by a word: `later`, `refuse` (none), or a reason's number, which
+/// rejects it.
+fn open_answer(planned: Option<&str>) -> Option<OpenAnswer> {
+    match planned {
+        None => Some(OpenAnswer::Accept),
+        Some("later") => Some(OpenAnswer::Later),
+        Some("refuse") => None,
+        Some(reason) => {
+            let code = reason.parse::<u32>().unwrap_or(0);
+            match ChannelOpenFailure::from_u32(code) {
+                Some(reason) => Some(OpenAnswer::Reject(reason)),
+                None => None,
+            }
+        }
+    }
+}

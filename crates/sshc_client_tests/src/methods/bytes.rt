@@ -1,0 +1,72 @@
+//! Bytes and ends on a channel, exchanges, the end of a session, and what a session tells of itself.
+
+ghost use Rattle.sshc_moves.specs.Grown.{Grown};
+
+use super::{nothing, requests};
+use crate::gave::Gave;
+use crate::words::Words;
+use sshc_client::{Error, Session};
+use sshc_wire::Disconnect;
+use std::alloc::Global;
+
+/// The session's end: the reason's number, a description and a language.
+fn disconnect(session: &mut Session, words: &mut Words<'_>) -> Result<Gave, Error>
+    ensures { Grown session.old session.new }
+{
+    let reason = Disconnect::from_u32(words.number()).unwrap_or(Disconnect::Reserved);
+    let (description, language) = (words.text(), words.text());
+    nothing(session.disconnect(reason, description, language))
+}
+
+/// What a session tells of itself; none where this is no such question.
+fn told(session: &Session, name: &str, words: &mut Words<'_>) -> Option<Gave> {
+    match name {
+        "awaits_answer" => Some(Gave::Flag(session.awaits_answer())),
+        "wants_user_events" => Some(Gave::Flag(session.wants_user_events())),
+        "has_pending_data" => Some(Gave::Flag(session.has_pending_data(words.id()))),
+        "sender_window_size" => Some(Gave::Number(session.sender_window_size(words.id()) as u64)),
+        _ => None,
+    }
+}
+
+/// Asks the session, or else calls a method on requests.
+#[tactic(auto, using(sshc_moves::specs::GrownLaws::grown_same))]
+fn ask(
+    alloc: Global,
+    session: &mut Session,
+    name: &str,
+    words: &mut Words<'_>,
+) -> Result<Gave, Error>
+    ensures { Grown session.old session.new }
+{
+    match told(session, name, words) {
+        Some(gave) => Ok(gave),
+        None => requests::call(alloc, session, name, words),
+    }
+}
+
+/// Sends bytes or ends; another method is looked for among those that ask.
+pub(super) fn call(
+    alloc: Global,
+    session: &mut Session,
+    name: &str,
+    words: &mut Words<'_>,
+) -> Result<Gave, Error>
+    ensures { Grown session.old session.new }
+{
+    match name {
+        "data" => {
+            let (id, body) = (words.id(), words.text());
+            nothing(session.data(id, body.as_bytes()))
+        }
+        "extended_data" => {
+            let (id, ext, body) = (words.id(), words.number(), words.text());
+            nothing(session.extended_data(id, ext, body.as_bytes()))
+        }
+        "eof" => nothing(session.eof(words.id())),
+        "close" => nothing(session.close(words.id())),
+        "initiate_rekey" => nothing(session.initiate_rekey()),
+        "disconnect" => disconnect(session, words),
+        _ => ask(alloc, session, name, words),
+    }
+}

@@ -1,0 +1,31 @@
+//! What a handler of the tests is to do in a call and to answer to it, as lines: `CALL does METHOD WORDS` and
+//! `CALL answers WORDS`.
+
+use sshc_wire::NoMemory;
+
+/// What stands behind the call and the verb, in a line that begins with them.
+pub fn behind<'a>(line: &'a str, call: &str, verb: &str) -> Option<&'a str> {
+    let (first, rest) = line.split_once(' ')?;
+    let (second, rest) = rest.split_once(' ')?;
+    if first == call && second == verb {
+        Some(rest)
+    } else {
+        None
+    }
+}
+
+/// What is to be answered to a call, if the plan says so.
+pub fn answer<'a>(plan: &'a str, call: &str) -> Option<&'a str> {
+    for line in plan.lines() {
+        if let Some(rest) = behind(line, call, "answers") {
+            return Some(rest);
+        }
+    }
+    None
+}
+
+/// Adds a line.
+pub fn put_line(text: &mut String, line: &str) -> Result<(), NoMemory> {
+    text.push_str(line)?;
+    Ok(text.push('\n')?)
+}
