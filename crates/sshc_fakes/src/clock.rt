@@ -1,0 +1,27 @@
+//! Clocks that need no system.
+
+use sshc_handle::Clock;
+
+/// Always tells the same moment.
+#[derive(Clone, Copy, Debug, PartialEq, Eq)]
+pub struct StillClock(pub u64);
+
+impl Clock for StillClock {
+    fn now(&mut self) -> u64 {
+        self.0
+    }
+}
+
+/// Tells a moment that is later by its step each time.
+#[derive(Clone, Copy, Debug, PartialEq, Eq)]
+pub struct TickingClock {
+    pub now: u64,
+    pub step: u64,
+}
+
+impl Clock for TickingClock {
+    fn now(&mut self) -> u64 {
+        self.now = self.now.saturating_add(self.step);
+        self.now
+    }
+}

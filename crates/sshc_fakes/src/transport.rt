@@ -1,0 +1,143 @@
+//! A transport over memory.
+
+ghost use Rattle.std.specs.Prelude.{◌≤◌, IfSome, IsTrue, IsSome, ◌↔◌, length, ◌≡◌, true, None};
+ghost use Rattle.sshc_transport.specs.Transports.{AreShortNames, IsShortEvent, IsShortExchange, IsShortKey, IsShortPart};
+
+use crate::server::{Coming, Server};
+use sshc_transport::{ExchangeKey, ExchangeResult, NamesChosen, Transport, TransportEvent};
+use sshc_wire::{Failed, NoMemory};
+use std::alloc::Global;
+
+/// The most bytes of one part.
+const LONGEST: usize = 262_144;
+
+/// A transport whose server lives in memory. It tells nothing of what it was handed.
+#[derive(Drop)]
+pub struct FakeTransport<P: Server + Drop> {
+    server: P,
+    coming: Coming,
+    /// How many calls of `hand` go well; the ones behind fail.
+    good: u64,
+    faults: u64,
+}
+
+impl<P: Server + Drop> FakeTransport<P> {
+    /// With what comes at first, and so many packets taken before a call fails.
+    pub fn new(server: P, coming: Coming, good: u64) -> FakeTransport<P> {
+        FakeTransport {
+            server,
+            coming,
+            good,
+            faults: 0,
+        }
+    }
+
+    /// The server sends this packet.
+    pub fn comes(&mut self, packet: &[u8]) -> Result<(), NoMemory> {
+        self.coming.packet(packet)
+    }
+
+    /// The server closes the stream behind what it sent.
+    pub fn ends(&mut self) {
+        self.coming.end();
+    }
+}
+
+fn is_short_key(key: &ExchangeKey) -> bool
+    ensures { result ≡ true → IsShortKey key.now }
+{
+    match key {
+        ExchangeKey::Missing => true,
+        ExchangeKey::Key(blob) => blob.as_slice().len() <= LONGEST,
+        ExchangeKey::Certificate(blob) => blob.as_slice().len() <= LONGEST,
+    }
+}
+
+fn are_short(names: &NamesChosen) -> bool
+    ensures { result ≡ true → AreShortNames names.now }
+{
+    names.kex.as_str().len() <= LONGEST
+        && names.key.as_str().len() <= LONGEST
+        && names.cipher.as_str().len() <= LONGEST
+        && names.client_mac.as_str().len() <= LONGEST
+        && names.server_mac.as_str().len() <= LONGEST
+}
+
+fn is_short_exchange(exchange: &ExchangeResult) -> bool
+    ensures { result ≡ true → IsShortExchange exchange.now }
+{
+    let secret = match &exchange.secret {
+        Some(secret) => secret.as_slice().len() <= LONGEST,
+        None => true,
+    };
+    secret
+        && is_short_key(&exchange.key)
+        && exchange.session_hash.as_slice().len() <= LONGEST
+        && exchange.signature.as_slice().len() <= LONGEST
+        && are_short(&exchange.names)
+}
+
+fn is_short(event: &TransportEvent) -> bool
+    ensures { result ≡ true → IsShortEvent event.now }
+{
+    match event {
+        TransportEvent::Done(exchange) => is_short_exchange(exchange),
+        TransportEvent::Payload(packet) => packet.as_slice().len() <= LONGEST,
+        TransportEvent::PeerKexinit
+        | TransportEvent::Failed
+        | TransportEvent::RekeyLimit
+        | TransportEvent::Quiet => true,
+    }
+}
+
+impl<P: Server + Drop> Transport for FakeTransport<P> {
+    ghost use Rattle.std.specs.Prelude.{None};
+
+    ghost answers = { λ _. None };
+
+    ghost handed = { λ _. None };
+
+    ghost faults = { λ t. t.faults };
+
+    fn next(&mut self) -> Result<Option<TransportEvent>, Failed> {
+        match self.coming.next() {
+            Some(event) => {
+                if is_short(&event) {
+                    Ok(Some(event))
+                } else {
+                    Ok(Some(TransportEvent::Failed))
+                }
+            }
+            None => {
+                if self.coming.is_over() {
+                    Ok(None)
+                } else {
+                    Ok(Some(TransportEvent::Quiet))
+                }
+            }
+        }
+    }
+
+    fn hand(&mut self, packet: &[u8]) -> Result<(), Failed> {
+        if self.good == 0 {
+            self.faults = self.faults.saturating_add(1);
+            return Err(Failed::Fault);
+        }
+        self.good -= 1;
+        match self.server.hear(packet, &mut self.coming) {
+            Ok(()) => Ok(()),
+            Err(NoMemory) => Err(Failed::NoMemory),
+        }
+    }
+
+    fn begin_exchange(&mut self) -> Result<(), Failed> {
+        match self.server.exchange(&mut self.coming) {
+            Ok(()) => Ok(()),
+            Err(NoMemory) => Err(Failed::NoMemory),
+        }
+    }
+
+    fn remote_sshid(&self) -> &[u8] {
+        b"SSH-2.0-fake"
+    }
+}
