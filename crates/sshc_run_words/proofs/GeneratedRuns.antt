@@ -1,5 +1,5 @@
 -- A run over memory by the default settings, but for the events that it takes.
-use Rattle.std.proofs.Common.{◌≡◌, ℕ, false, List, [], Option, Some, Result, refl}
+use Rattle.std.proofs.Common.{◌≡◌, ℕ, false, List, [], Option, Some, Result}
 use Rattle.sshc_key.specs.Signers.{SignCall}
 use Rattle.sshc_opening.specs.declared.ended.Ended.{Ended}
 use Rattle.sshc_toy.specs.ToyPair.{toy_accepts}

@@ -1,4 +1,4 @@
-use Rattle.std.proofs.Common.{◌≡◌, ◌∙◌, Some, refl, ap, sym}
+use Rattle.std.proofs.Common.{◌∙◌, Some, refl, ap, sym}
 use Rattle.sshc_toy.specs.Keeping.{KeptCalls}
 use Rattle.sshc_wire.specs.Memory.{HeldSource, HeldSink}
 use Rattle.sshc_run_words.proofs.GeneratedRuns.{settings_same, run_gives}
