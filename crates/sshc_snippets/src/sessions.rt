@@ -13,7 +13,10 @@ pub fn opens<G: Gate, S: LocalSigner>(
     gate: &mut G,
     signer: &mut S,
     out: &mut Outbox,
-) -> bool {
+) -> bool
+where
+    G::Error: Drop,
+{
     for event in events {
         if let Step::Opened = opening.step(event, gate, signer, out) {
             return true;
@@ -30,7 +33,10 @@ pub fn step_all<H: Handler, S: LocalSigner, V: Verifier>(
     handler: &mut H,
     signer: &mut S,
     verifier: &V,
-) -> Outbox {
+) -> Outbox
+where
+    H::Error: Drop,
+{
     for event in events {
         match session.step(event, handler, signer, verifier) {
             Step::Went | Step::Opened => {}
