@@ -3,23 +3,20 @@
 use sshc_agent::{AgentCore, AgentOutput, Frames};
 use sshc_key::LocalSigner;
 use sshc_wire::NoMemory;
-use std::alloc::Global;
 
-/// What an agent answers to the whole frames among some bytes of one connection, at a moment in milliseconds. The bytes may
-/// come in any pieces.
-pub fn answer_frames<G: LocalSigner>(
-    alloc: Global,
+/// What an agent answers, at a moment in milliseconds, to the next whole frame of one connection, once these bytes came; none
+/// while no frame is whole. The bytes may come in any pieces.
+pub fn answer_frame<G: LocalSigner>(
     agent: &mut AgentCore,
     frames: &mut Frames,
     now: u64,
     conn: u32,
     bytes: &[u8],
     signer: &mut G,
-) -> Result<Vec<AgentOutput>, NoMemory> {
+) -> Result<Option<AgentOutput>, NoMemory> {
     frames.push(bytes)?;
-    let mut answers = Vec::new(alloc);
-    while let Some(input) = frames.next()? {
-        answers.push(agent.step(now, conn, &input, signer))?;
+    match frames.next()? {
+        Some(input) => Ok(Some(agent.step(now, conn, &input, signer))),
+        None => Ok(None),
     }
-    Ok(answers)
 }

@@ -5,8 +5,9 @@ use sshc_key::{AgentIdentity, Error};
 use sshc_wire::AgentStream;
 use std::alloc::Global;
 
-/// The keys that an agent at the other end of a stream holds.
-pub fn keys_of<S: AgentStream>(alloc: Global, stream: S) -> Result<Vec<AgentIdentity>, Error> {
+/// The keys that an agent at the other end of a stream holds, and the stream, on which more can be asked.
+pub fn keys_of<S: AgentStream>(alloc: Global, stream: S) -> (S, Result<Vec<AgentIdentity>, Error>) {
     let mut client = AgentClient::connect(alloc, stream);
-    client.request_identities()
+    let found = client.request_identities();
+    (client.into_inner(), found)
 }
