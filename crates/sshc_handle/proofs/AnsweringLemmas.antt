@@ -21,8 +21,8 @@ use Rattle.sshc_handle.specs.Answering.{Answers, AnswersPrompts, CannotRespond, 
 
 -- ---- records of a ticket
 
-passes_by : {A : Type 0} (test : A → Bool) (y x : A) (rest : Option A) (b : Bool) → test y ≡ b → (rest ≡ Some x → test x ≡ true)
-    → (if b then Some y else rest) ≡ Some x → test x ≡ true
+passes_by : {A : Type 0} (test : A → Bool) (y x : A) (rest : Option A) (b : Bool)
+    → test y ≡ b → (rest ≡ Some x → test x ≡ true) → (if b then Some y else rest) ≡ Some x → test x ≡ true
 passes_by test y x rest true is later found = cc
 passes_by test y x rest false is later found = later found
 
@@ -42,20 +42,24 @@ declined old new SendError h = tt
 declined old new NoMemory h = tt
 declined old new e h = absurd h
 
-pub given : (msg : Msg) (old new : HandleAt) (result : Result (Option Ticket) Error) → Submits msg old new result → Given (asks_answer msg) result
+pub given : (msg : Msg) (old new : HandleAt) (result : Result (Option Ticket) Error)
+    → Submits msg old new result → Given (asks_answer msg) result
 given msg old new (Ok (Some ticket)) h = sym h.1
 given msg old new (Ok None) h = sym h.1
 given msg old new (Err e) h = declined old new e h
 
-pub prompts_given : (user submethods : List ℕ) (old new : HandleAt) (result : Result (Option Ticket) Error) → PromptsAt user submethods old new result → Given true result
+pub prompts_given : (user submethods : List ℕ) (old new : HandleAt) (result : Result (Option Ticket) Error)
+    → PromptsAt user submethods old new result → Given true result
 prompts_given user submethods old new result h =
     given (Authenticate user (KeyboardInteractive submethods) (Some (record { 0 = 0 }))) old h.mid result h.submits
 
-pub event_declined : (event : Event) (old new : HandleAt) (result : Result (Unit {0}) Error) → SubmitsEvent event old new result → IfErr result IsDeclined
+pub event_declined : (event : Event) (old new : HandleAt) (result : Result (Unit {0}) Error)
+    → SubmitsEvent event old new result → IfErr result IsDeclined
 event_declined event old new (Ok u) h = tt
 event_declined event old new (Err e) h = declined old new e h
 
-pub responded : (responses : List (List ℕ)) (old new : HandleAt) (result : Result Ticket Error) → Responds responses old new result → IfErr result CannotRespond
+pub responded : (responses : List (List ℕ)) (old new : HandleAt) (result : Result Ticket Error)
+    → Responds responses old new result → IfErr result CannotRespond
 responded responses old new (Ok ticket) h = tt
 responded responses old new (Err RecvError) h = tt
 responded responses old new (Err SendError) h = tt
@@ -64,12 +68,14 @@ responded responses old new (Err e) h = absurd h
 
 -- ---- answers
 
-pub answered : {A : Type 0} (reads : Record → Option (Result A Error)) (ticket : Ticket) (answer : Result A Error) → IsRead reads ticket answer → Answers reads answer
+pub answered : {A : Type 0} (reads : Record → Option (Result A Error)) (ticket : Ticket) (answer : Result A Error)
+    → IsRead reads ticket answer → Answers reads answer
 answered reads ticket (Err NoMemory) h = tt
 answered reads ticket (Err SendError) h = tt
 answered reads ticket answer h = (ticket, h)
 
-pub prompts_answered : {A : Type 0} (reads : Record → Option (Result A Error)) (ticket : Ticket) (answer : Result A Error) → IsRead reads ticket answer → AnswersPrompts reads answer
+pub prompts_answered : {A : Type 0} (reads : Record → Option (Result A Error)) (ticket : Ticket) (answer : Result A Error)
+    → IsRead reads ticket answer → AnswersPrompts reads answer
 prompts_answered reads ticket (Err RecvError) h = tt
 prompts_answered reads ticket answer h = answered reads ticket answer h
 

@@ -1,5 +1,5 @@
--- What a call of a handle can say of its answer without the value under the lock, which others change meanwhile: that it was read
--- from a record of one ticket, or that nothing was submitted.
+-- What a call of a handle can say of its answer without the value under the lock, which others change meanwhile: that
+-- it was read from a record of one ticket, or that nothing was submitted.
 use Rattle.std.specs.Prelude.{◌≡◌, ℕ, Bool, true, false, List, is_some, Option, Some, None, Result, Ok, Err}
 use Rattle.sshc_wire.specs.Faults.{Rose}
 use Rattle.sshc_wire.specs.declared.channel_id.ChannelId.{ChannelId}

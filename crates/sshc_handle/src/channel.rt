@@ -15,8 +15,8 @@ use std::alloc::Global;
 use std::marker::Model;
 use std::sync::{Arc, Wait};
 
-/// A channel (RFC 4254, section 5), which contracts see as its number. What is asked of it is submitted, and waits for nobody; what
-/// happens on it is given in order.
+/// A channel (RFC 4254, section 5), which contracts see as its number. What is asked of it is submitted, and waits
+/// for nobody; what happens on it is given in order.
 #[derive(Drop)]
 pub struct Channel<H: Handler> {
     shared: Arc<Shared<H>, Global>,
@@ -45,8 +45,8 @@ impl<H: Handler> Channel<H> {
         self.id
     }
 
-    /// What happened next on the channel, which it waits for. None once its close was given, and where the session has ended
-    /// and nothing more is held.
+    /// What happened next on the channel, which it waits for. None once its close was given, and where the session
+    /// has ended and nothing more is held.
     pub fn wait<R: Wait>(&mut self, rt: &R) -> Option<ChannelMsg>
         ensures reported { IfSome result (λ msg. IsReported self.old msg) }
         ensures same { self.new ≡ self.old }

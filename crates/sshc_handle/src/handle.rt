@@ -14,15 +14,16 @@ use sshc_wire::{ChannelId, NoMemory, Record, Ticket};
 use std::alloc::Global;
 use std::sync::{Arc, Wait};
 
-/// A session that a runner takes turns with. Threads share it by reference; each call submits what it asks, and waits for its
-/// answer alone.
+/// A session that a runner takes turns with. Threads share it by reference; each call submits what it asks, and waits
+/// for its answer alone.
 #[derive(Drop)]
 pub struct Handle<H: Handler> {
     pub(crate) shared: Arc<Shared<H>, Global>,
 }
 
 impl<H: Handler> Handle<H> {
-    /// Submits a message, and gives the ticket of its answer, if it asks for one. `SendError` where the session has ended.
+    /// Submits a message, and gives the ticket of its answer, if it asks for one. `SendError` where the session has
+    /// ended.
     pub fn submit<R: Wait>(&self, rt: &R, msg: Msg) -> Result<Option<Ticket>, Error>
         ensures { Given (asks_answer msg) result }
     {

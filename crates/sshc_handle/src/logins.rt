@@ -84,8 +84,8 @@ impl<H: Handler> Handle<H> {
         }
     }
 
-    /// Answers the prompts (RFC 4256, section 3.4) of the login with prompts that was begun last, and waits for what comes of it.
-    /// `RecvError` where no such login is open.
+    /// Answers the prompts (RFC 4256, section 3.4) of the login with prompts that was begun last, and waits for what
+    /// comes of it. `RecvError` where no such login is open.
     #[tactic(auto, using(crate::proofs::AnsweringLemmas::prompts_answered))]
     pub fn authenticate_keyboard_interactive_respond<R: Wait>(
         &self,

@@ -117,8 +117,8 @@ impl<H: Handler> Handle<H> {
         self.shared.ask::<Done, R>(rt, msg)
     }
 
-    /// Sends a global request of the user's own (RFC 4254, section 4). Where an answer is asked it gives the bytes behind the
-    /// answer's number.
+    /// Sends a global request of the user's own (RFC 4254, section 4). Where an answer is asked it gives the bytes
+    /// behind the answer's number.
     pub fn send_global_request<R: Wait>(
         &self,
         rt: &R,
@@ -144,7 +144,8 @@ impl<H: Handler> Handle<H> {
         self.shared.ask::<Reply, R>(rt, msg)
     }
 
-    /// The best hash for RSA by the names that the server announced (RFC 8308, section 3.1); none where it announced none.
+    /// The best hash for RSA by the names that the server announced (RFC 8308, section 3.1); none where it announced
+    /// none.
     pub fn best_supported_rsa_hash<R: Wait>(&self, rt: &R) -> Result<Option<Option<HashAlg>>, Error>
         ensures { Answers algs_answer result }
     {

@@ -83,8 +83,8 @@ impl<
     V: Verifier + Drop,
     C: Clock + Drop,
 > Runner<H, T, S, V, C> {
-    /// Takes turns until the session has ended, tells the handler how, and answers what that answers. The handler's callbacks are
-    /// called under the handle's lock, so they may not call the handle.
+    /// Takes turns until the session has ended, tells the handler how, and answers what that answers. The handler's
+    /// callbacks are called under the handle's lock, so they may not call the handle.
     pub fn run<R: Wait + time::Clock>(self, rt: &R) -> Result<(), H::Error> {
         let Runner {
             shared,

@@ -68,8 +68,8 @@ impl<H: Handler> Shared<H> {
         self.told.wait(rt, state)
     }
 
-    /// Lets others go on where there was nothing to take: until something is submitted, and for a millisecond at most where the
-    /// transport may have something too.
+    /// Lets others go on where there was nothing to take: until something is submitted, and for a millisecond at most
+    /// where the transport may have something too.
     pub(crate) fn rest<R: Wait + Clock>(&self, rt: &R, state: MutexGuard<'_, HandleState<H>>) {
         if state.awaits_answer() {
             let _state = self.submitted.wait(rt, state);
@@ -115,8 +115,8 @@ impl<H: Handler> Shared<H> {
         responded
     }
 
-    /// The next record of this ticket, which it waits for. Where the session has ended and nothing is held for the ticket, it
-    /// counts as dropped.
+    /// The next record of this ticket, which it waits for. Where the session has ended and nothing is held for the
+    /// ticket, it counts as dropped.
     #[tactic(auto, using(crate::proofs::AnsweringLemmas::first_passes, crate::proofs::AnsweringLemmas::own_number))]
     pub(crate) fn record<R: Wait>(&self, rt: &R, ticket: Ticket) -> Record
         ensures { is_of ticket.0 result ≡ true }

@@ -116,8 +116,8 @@ impl<H: Handler> Handle<H> {
         unreachable!()
     }
 
-    /// Logs in by GSSAPI with one of these mechanisms (RFC 4462, section 3). What the authenticator refuses is answered as
-    /// `Signer`, and nothing is submitted for it.
+    /// Logs in by GSSAPI with one of these mechanisms (RFC 4462, section 3). What the authenticator refuses is
+    /// answered as `Signer`, and nothing is submitted for it.
     pub fn authenticate_gssapi_with_mic<G: GssapiAuthenticator, R: Wait>(
         &self,
         rt: &R,

@@ -1,5 +1,5 @@
--- A login whose signatures or steps the caller's own signer or authenticator makes: what is asked of it, and what its answers submit.
--- By cases on the record and on the answer.
+-- A login whose signatures or steps the caller's own signer or authenticator makes: what is asked of it, and what its
+-- answers submit. By cases on the record and on the answer.
 use Rattle.std.specs.Prelude.{◌≡◌, ℕ, List, Option, Some, None, Result, Ok, Err}
 use Rattle.sshc_wire.specs.Faults.{Rose}
 use Rattle.sshc_wire.specs.declared.auth_record.AuthRecord.TheVariants as asks

@@ -20,7 +20,8 @@ pub fn x11(alloc: Global, address: &str, port: u32) -> Result<Msg, NoMemory>
     })
 }
 
-/// A connection from the server to a host and a port, for one that came from an address and a port (RFC 4254, section 7.2).
+/// A connection from the server to a host and a port, for one that came from an address and a port (RFC 4254, section
+/// 7.2).
 pub fn direct_tcpip(
     alloc: Global,
     host: &str,

@@ -93,7 +93,8 @@ fn stepped<G: GssapiAuthenticator>(
     Ok(Some(step_msg(authenticator.gssapi_step(mechanism, token, mic_data)?)))
 }
 
-/// What is submitted once the authenticator heard what the server said: its step, or nothing where an error was reported.
+/// What is submitted once the authenticator heard what the server said: its step, or nothing where an error was
+/// reported.
 pub fn authenticated<G: GssapiAuthenticator>(
     authenticator: &mut G,
     said: GssapiRecord,
