@@ -1,4 +1,5 @@
 pub mod Hmac
+pub mod Entries
 pub mod HostText
 pub mod MatchingLines
 pub mod Judgement

@@ -1,10 +1,13 @@
 //! The lines of a known hosts text that speak of a host.
 
-ghost use Rattle.std.specs.Prelude.{◌≡◌, IfOk, map, option_copied};
-ghost use Rattle.sshc_hosts.specs.MatchingLines.{field_matches, is_comment, line_key, matching};
+ghost use Rattle.std.specs.Prelude.{◌≡◌, ◌<◌, ◌==◌, All, IfNone, IfOk, IfSome, false, length, map, option_copied};
+ghost use Rattle.memchr.specs.Find.{IsFirstByte, is_byte2};
+ghost use Rattle.sshc_hosts.specs.Entries.{CutsEntry, key_behind, second};
+ghost use Rattle.sshc_hosts.specs.MatchingLines.{field_matches, is_comment, line_key, matching, parts_at, third_field};
 
 use crate::cutting::cut;
 use crate::entry::is_host;
+use memchr::memchr2;
 use sshc_wire::NoMemory;
 use std::alloc::Global;
 
@@ -35,6 +38,56 @@ pub fn is_comment(line: &str) -> bool
     }
 }
 
+/// The place of the first comma or space.
+fn first_end(text: &str) -> Option<usize>
+    ensures { IsFirstByte (is_byte2 44 32) text.now result }
+{
+    memchr2(b',', b' ', text.as_bytes())
+}
+
+/// The text up to its first comma or space, that character, and what is behind it.
+fn cut_entry(text: &str) -> Option<(&str, u8, &str)>
+    ensures none { IfNone result (All (λ b. (b == 32) ≡ false) text.now) }
+    ensures some { IfSome result (λ cut. CutsEntry text.now cut.0.now cut.1 cut.2.now) }
+    ensures shorter { IfSome result (λ cut. length cut.2.now < length text.now) }
+{
+    match first_end(text) {
+        None => None,
+        Some(i) => Some((&text[..i], text.as_bytes()[i], &text[i + 1..])),
+    }
+}
+
+/// What is behind the first field of a line, where that field has the host and a space ends it.
+/// One search finds the end of an entry and that of the field: a search in the whole line takes vectors, where one in a
+/// short field would go byte by byte.
+fn behind_host<'a>(alloc: Global, host: &str, line: &'a str) -> Result<Option<&'a str>, NoMemory>
+    ensures { IfOk result (λ rest. key_behind (option_copied rest) ≡ third_field host.now (parts_at 32 line.now)) }
+{
+    let mut left = line;
+    'entries: loop {
+        let Some((entry, mark, rest)) = cut_entry(left) else {
+            return Ok(None);
+        };
+        let is_last = mark == b' ';
+        match (is_host(alloc, host, entry)?, is_last) {
+            (true, true) => return Ok(Some(rest)),
+            (true, false) => return Ok(cut(rest, b' ').1),
+            (false, true) => return Ok(None),
+            (false, false) => left = rest,
+        }
+    }
+}
+
+/// The second field of a text that has two.
+fn second_field(text: &str) -> Option<&str>
+    ensures { option_copied result ≡ second (parts_at 32 text.now) }
+{
+    let (_name, Some(rest)) = cut(text, b' ') else {
+        return None;
+    };
+    Some(cut(rest, b' ').0)
+}
+
 /// The third field of a line whose first field has the host.
 fn key_of<'a>(alloc: Global, host: &str, line: &'a str) -> Result<Option<&'a str>, NoMemory>
     ensures { IfOk result (λ key. option_copied key ≡ line_key host.now line.now) }
@@ -42,17 +95,10 @@ fn key_of<'a>(alloc: Global, host: &str, line: &'a str) -> Result<Option<&'a str
     if is_comment(line) {
         return Ok(None);
     }
-    let (field, Some(rest)) = cut(line, b' ') else {
-        return Ok(None);
-    };
-    if !has_host(alloc, host, field)? {
-        return Ok(None);
+    match behind_host(alloc, host, line)? {
+        Some(rest) => Ok(second_field(rest)),
+        None => Ok(None),
     }
-    let (_name, Some(rest)) = cut(rest, b' ') else {
-        return Ok(None);
-    };
-    let (key, _later) = cut(rest, b' ');
-    Ok(Some(key))
 }
 
 /// The matching lines, by their numbers from 1, and their third fields.
