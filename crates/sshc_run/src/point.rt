@@ -6,14 +6,15 @@ ghost use Rattle.sshc_agent_turns.specs.AgentTurns.{idle};
 ghost use Rattle.sshc_run.specs.Configured.{run_settings_of};
 
 use crate::config::Config;
+use crate::record_lines::LineBuffer;
 use sshc_agent_turns::ServedAgent;
 use sshc_client::Session;
 use sshc_moves::SessionSettings;
 use sshc_opening::Settings;
 use std::alloc::Global;
 
-/// Where a run stands: the session, whether it is open, the agent with the bytes of its connections, the place of the next
-/// event and the last moment.
+/// Where a run is: the session, whether it is open, the agent with the bytes of its connections, the place of the next
+/// event, the last moment, and the memory in which lines are made.
 #[derive(Debug, Drop)]
 pub struct Point {
     pub session: Session,
@@ -21,6 +22,7 @@ pub struct Point {
     pub agents: ServedAgent,
     pub place: u64,
     pub last: u64,
+    pub lines: LineBuffer,
 }
 
 impl Point {
@@ -48,6 +50,7 @@ impl Point {
             agents: ServedAgent::new(alloc, config.agent_asks),
             place: 0,
             last: 0,
+            lines: LineBuffer::new(alloc),
         }
     }
 }

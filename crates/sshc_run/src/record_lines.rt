@@ -1,6 +1,6 @@
 //! Writes records as lines.
 
-ghost use Rattle.std.specs.Prelude.{◌≡◌, ◌+◌, ◌≤◌, IfOk, OnOk, OnErr, length, slice_get, string_bytes};
+ghost use Rattle.std.specs.Prelude.{◌≡◌, ◌+◌, ◌≤◌, OnOk, OnErr, slice_get};
 ghost use Rattle.sshc_wire.specs.Contents.{append, WroteFront, WritesMove, WritesFor};
 ghost use Rattle.sshc_wire.specs.Outgoing.{text_in};
 ghost use Rattle.sshc_wire.specs.Faults.{HasCause};
@@ -9,19 +9,53 @@ ghost use Rattle.sshc_run.specs.RecordLines.{text_line, lines};
 use sshc_wire::{Failed, NoMemory, Outbox, Sink, write_whole};
 use std::alloc::Global;
 
-/// The line of the record at a place: its number and fields in hexadecimal digits, and a line feed.
-fn line_of(alloc: Global, out: &Outbox, at: usize) -> Result<String, NoMemory>
-    ensures { IfOk result (λ text. string_bytes text ≡ text_line (text_in (slice_get out.now.records at))) }
+/// Where lines are made: a record's bytes and its line. The memory is kept from one line to the next.
+#[derive(Debug, Drop)]
+pub struct LineBuffer {
+    bytes: Vec<u8>,
+    line: Vec<u8>,
+}
+
+impl LineBuffer {
+    /// A buffer without memory.
+    pub fn new(alloc: Global) -> LineBuffer {
+        LineBuffer {
+            bytes: Vec::new(alloc),
+            line: Vec::new(alloc),
+        }
+    }
+}
+
+/// Writes bytes as lower-case hexadecimal digits in place of what the line held, and a line feed.
+fn put_digits(line: &mut Vec<u8>, bytes: &[u8]) -> Result<(), NoMemory>
+    ensures { OnOk result (line.new.items ≡ text_line bytes.now) }
 {
-    let mut bytes = Vec::new(alloc);
-    out.put_text(at, &mut bytes)?;
-    let mut text = hex::encode(alloc, bytes)?;
-    text.push('\n')?;
-    Ok(text)
+    line.clear();
+    line.resize(2 * bytes.len(), b'0')?;
+    match hex::encode_to_slice(bytes, line.as_mut_slice()) {
+        Ok(()) => {}
+        Err(_) => unreachable!(),
+    }
+    line.push(b'\n')?;
+    Ok(())
+}
+
+/// Makes the line of the record at a place: its number and fields in hexadecimal digits, and a line feed.
+fn make_line(buffer: &mut LineBuffer, out: &Outbox, at: usize) -> Result<(), NoMemory>
+    ensures { OnOk result (buffer.new.line.items ≡ text_line (text_in (slice_get out.now.records at))) }
+{
+    buffer.bytes.clear();
+    out.put_text(at, &mut buffer.bytes)?;
+    put_digits(&mut buffer.line, buffer.bytes.as_slice())
 }
 
 /// Writes the line of the record at a place, or a front of it.
-fn write_line<K: Sink>(alloc: Global, sink: &mut K, out: &Outbox, at: usize) -> Result<(), Failed>
+fn write_line<K: Sink>(
+    buffer: &mut LineBuffer,
+    sink: &mut K,
+    out: &Outbox,
+    at: usize,
+) -> Result<(), Failed>
     ensures whole { OnOk result (K.contents sink.new ≡ append (K.contents sink.old) (text_line (text_in (slice_get out.now.records at)))) }
     ensures cut { OnErr result (WroteFront (K.contents sink.old) (K.contents sink.new) (text_line (text_in (slice_get out.now.records at)))) }
     ensures moved { OnOk result (WritesMove (K.contents sink.old) (K.contents sink.new) (K.writes sink.old) (K.writes sink.new)) }
@@ -30,14 +64,18 @@ fn write_line<K: Sink>(alloc: Global, sink: &mut K, out: &Outbox, at: usize) -> 
     ensures moving { OnOk result (K.empty_writes sink.new ≡ K.empty_writes sink.old) }
     ensures last { K.empty_writes sink.new ≤ K.empty_writes sink.old + 1 }
 {
-    match line_of(alloc, out, at) {
-        Ok(text) => write_whole(sink, text.as_bytes()),
+    match make_line(buffer, out, at) {
+        Ok(()) => write_whole(sink, buffer.line.as_slice()),
         Err(NoMemory) => Err(Failed::NoMemory),
     }
 }
 
 /// Writes the lines of the records, or a front of them. Each line is one piece for the sink.
-pub fn write_lines<K: Sink>(alloc: Global, sink: &mut K, out: &Outbox) -> Result<(), Failed>
+pub fn write_lines<K: Sink>(
+    buffer: &mut LineBuffer,
+    sink: &mut K,
+    out: &Outbox,
+) -> Result<(), Failed>
     ensures whole { OnOk result (K.contents sink.new ≡ append (K.contents sink.old) (lines out.now.records)) }
     ensures cut { OnErr result (WroteFront (K.contents sink.old) (K.contents sink.new) (lines out.now.records)) }
     ensures moved { OnOk result (WritesMove (K.contents sink.old) (K.contents sink.new) (K.writes sink.old) (K.writes sink.new)) }
@@ -47,7 +85,7 @@ pub fn write_lines<K: Sink>(alloc: Global, sink: &mut K, out: &Outbox) -> Result
     ensures last { K.empty_writes sink.new ≤ K.empty_writes sink.old + 1 }
 {
     for at in 0..out.len() {
-        write_line(alloc, sink, out, at)?;
+        write_line(buffer, sink, out, at)?;
     }
     Ok(())
 }

@@ -8,7 +8,7 @@ ghost use Rattle.sshc_run.specs.RunOutside.{sink_state, SinkTaken};
 ghost use Rattle.sshc_run.specs.TurnContracts.{TakeGives};
 
 use crate::error::RunError;
-use crate::record_lines::write_lines;
+use crate::record_lines::{LineBuffer, write_lines};
 use crate::turn::{event_error_at, write_failed};
 use sshc_agent_turns::{AgentEvent, ServedAgent, read_agent_event};
 use sshc_key::LocalSigner;
@@ -19,7 +19,7 @@ use std::alloc::Global;
 
 /// Serves an event at a moment in milliseconds, and writes the records.
 fn serve_event<G: LocalSigner, K: Sink>(
-    alloc: Global,
+    lines: &mut LineBuffer,
     agents: &mut ServedAgent,
     moment: u64,
     event: &AgentEvent,
@@ -34,7 +34,7 @@ fn serve_event<G: LocalSigner, K: Sink>(
     ensures no_read { result ≢ Some (Err RunError.ReadFault) }
 {
     match agents.take(moment, event, signer) {
-        Ok(said) => match write_lines(alloc, sink, &said) {
+        Ok(said) => match write_lines(lines, sink, &said) {
             Ok(()) => None,
             Err(failed) => Some(Err(write_failed(failed))),
         },
@@ -45,6 +45,7 @@ fn serve_event<G: LocalSigner, K: Sink>(
 /// Takes an event of an agent at its place, and writes its records.
 pub fn take_agent_event<G: LocalSigner, K: Sink>(
     alloc: Global,
+    lines: &mut LineBuffer,
     agents: &mut ServedAgent,
     place: u64,
     event: &RawEvent,
@@ -59,7 +60,7 @@ pub fn take_agent_event<G: LocalSigner, K: Sink>(
     ensures no_read { result ≢ Some (Err RunError.ReadFault) }
 {
     match read_agent_event(alloc, event.kind(), event.fields()) {
-        Ok(read) => serve_event(alloc, agents, event.moment(), &read, signer, sink),
+        Ok(read) => serve_event(lines, agents, event.moment(), &read, signer, sink),
         Err(e) => Some(Err(event_error_at(place, e))),
     }
 }

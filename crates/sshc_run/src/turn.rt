@@ -117,7 +117,6 @@ fn stop_at(place: u64, step: Step<HandlerError>) -> Option<Result<Ended, RunErro
 
 /// Steps the session, and writes the records.
 fn step_event<G: LocalSigner, V: Verifier, K: Sink>(
-    alloc: Global,
     at: &mut Point,
     event: &Event,
     gate: &mut KnownHostsHandler,
@@ -139,7 +138,7 @@ fn step_event<G: LocalSigner, V: Verifier, K: Sink>(
 {
     let step = step_session(at, event, gate, signer, verifier);
     let said = at.session.take_records();
-    match write_lines(alloc, sink, &said) {
+    match write_lines(&mut at.lines, sink, &said) {
         Ok(()) => stop_at(at.place, step),
         Err(failed) => Some(Err(write_failed(failed))),
     }
@@ -173,7 +172,7 @@ fn take_session_event<G: LocalSigner, V: Verifier, K: Sink>(
     let place = at.place;
     match read_event(alloc, event.kind(), event.fields()) {
         Ok(event) => {
-            let answer = step_event(alloc, at, &event, gate, signer, verifier, sink);
+            let answer = step_event(at, &event, gate, signer, verifier, sink);
             let_go(event);
             answer
         }
@@ -218,7 +217,15 @@ fn take_event<G: LocalSigner, V: Verifier, K: Sink>(
     if is_session_kind(event.kind()) {
         take_session_event(alloc, at, event, gate, signer, verifier, sink)
     } else {
-        take_agent_event(alloc, &mut at.agents, at.place, event, signer, sink)
+        take_agent_event(
+            alloc,
+            &mut at.lines,
+            &mut at.agents,
+            at.place,
+            event,
+            signer,
+            sink,
+        )
     }
 }
 
