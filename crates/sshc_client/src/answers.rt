@@ -1,7 +1,6 @@
-//! What a user is answered at the end of a session, and by a login with prompts.
+//! What a handler is told at the end of a session.
 
 use sshc_opening::RemoteDisconnectInfo;
-use sshc_wire::{List, MethodSet, Prompt, Text};
 
 /// Why a session has ended.
 #[derive(Debug, Drop)]
@@ -10,21 +9,4 @@ pub enum DisconnectReason<E> {
     ReceivedDisconnect(RemoteDisconnectInfo),
     /// The session was refused, or ended by its user.
     Error(E),
-}
-
-/// What a login with prompts has come to (RFC 4256).
-#[derive(Debug, Drop)]
-pub enum KeyboardInteractiveAuthResponse {
-    Success,
-    /// The methods that may go on, and whether this one was accepted as one of several.
-    Failure {
-        remaining_methods: MethodSet,
-        partial_success: bool,
-    },
-    /// The server asks, and awaits as many answers.
-    InfoRequest {
-        name: Text,
-        instructions: Text,
-        prompts: List<Prompt>,
-    },
 }

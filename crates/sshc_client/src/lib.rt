@@ -9,13 +9,14 @@ mod session;
 mod stop;
 mod verdict;
 
-pub use answers::{DisconnectReason, KeyboardInteractiveAuthResponse};
+pub use answers::DisconnectReason;
 pub use config::Config;
 pub use handler::Handler;
 pub use message::Msg;
 pub use session::Session;
 pub use sshc_moves::{OpenAnswer, SessionSettings};
 pub use sshc_opening::{
-    ChannelMsg, Ended, Error, Event, Method, RemoteDisconnectInfo, Settings, Step,
+    ChannelMsg, Ended, Error, Event, KeyboardInteractiveAuthResponse, Method, RemoteDisconnectInfo,
+    Settings, Step,
 };
 pub use sshc_wire::{Outbox, Prompt, Record, Resolution, Ticket};

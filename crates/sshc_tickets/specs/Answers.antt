@@ -16,8 +16,8 @@ use Rattle.sshc_opening.specs.declared.error.Error.{Error}
 use Rattle.sshc_opening.specs.declared.error.Error.TheVariants as errors
 use Rattle.sshc_tickets.specs.declared.auth_answers.AuthResult.{AuthResult}
 use Rattle.sshc_tickets.specs.declared.auth_answers.AuthResult.TheVariants as results
-use Rattle.sshc_tickets.specs.declared.auth_answers.KeyboardInteractiveAuthResponse.{KeyboardInteractiveAuthResponse}
-use Rattle.sshc_tickets.specs.declared.auth_answers.KeyboardInteractiveAuthResponse.TheVariants as responses
+use Rattle.sshc_opening.specs.declared.keyboard_interactive.KeyboardInteractiveAuthResponse.{KeyboardInteractiveAuthResponse}
+use Rattle.sshc_opening.specs.declared.keyboard_interactive.KeyboardInteractiveAuthResponse.TheVariants as responses
 
 -- an answer, or none where the record isn't one of these
 abbrev pub Answer : Type 0 → Type 0

@@ -4,8 +4,8 @@
 ghost use Rattle.std.specs.Prelude.{◌≡◌};
 ghost use Rattle.sshc_tickets.specs.Answers.{algs_answer, auth_answer, best_hash, done_answer, has_name, open_answer, port_answer, prompt_answer, prompt_said, proof_error, reply_answer, resolution_in};
 
-use crate::auth_answers::{AuthResult, KeyboardInteractiveAuthResponse};
-use sshc_opening::Error;
+use crate::auth_answers::AuthResult;
+use sshc_opening::{Error, KeyboardInteractiveAuthResponse};
 use sshc_wire::{AuthRecord, ChannelId, HashAlg, HostKeysFault, Octets, Record, Resolution, Text};
 
 fn resolution_of(r: Record) -> Option<Resolution>

@@ -1,6 +1,6 @@
 //! What a request to log in comes to.
 
-use sshc_wire::{List, MethodSet, Prompt, Text};
+use sshc_wire::MethodSet;
 
 /// What a request to log in comes to (RFC 4252, section 5.1).
 #[derive(Debug, PartialEq, Eq, Drop)]
@@ -10,21 +10,5 @@ pub enum AuthResult {
     Failure {
         remaining_methods: MethodSet,
         partial_success: bool,
-    },
-}
-
-/// What a request to log in by prompts comes to (RFC 4256, section 3).
-#[derive(Debug, PartialEq, Eq, Drop)]
-pub enum KeyboardInteractiveAuthResponse {
-    Success,
-    Failure {
-        remaining_methods: MethodSet,
-        partial_success: bool,
-    },
-    /// The server asks; one answer for each prompt is due.
-    InfoRequest {
-        name: Text,
-        instructions: Text,
-        prompts: List<Prompt>,
     },
 }

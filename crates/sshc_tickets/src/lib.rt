@@ -8,5 +8,6 @@ mod tickets;
 pub use answers::{
     algs_answer, auth_answer, done_answer, open_answer, port_answer, prompt_answer, reply_answer,
 };
-pub use auth_answers::{AuthResult, KeyboardInteractiveAuthResponse};
+pub use auth_answers::AuthResult;
+pub use sshc_opening::KeyboardInteractiveAuthResponse;
 pub use tickets::Tickets;
