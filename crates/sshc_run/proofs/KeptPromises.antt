@@ -25,6 +25,7 @@ use Rattle.sshc_run.proofs.Promises.{none_ran, gate_of, prefix_of, done_of, kept
 use Rattle.sshc_run.proofs.RunCalls.{calls_counted}
 use Rattle.sshc_run.proofs.RunChannels.{accounted}
 use Rattle.sshc_run.proofs.RunHistories.{one_history}
+use Rattle.sshc_run.proofs.RunOpenCounts.{counted}
 use Rattle.sshc_run.proofs.RunOpens.{opens_answered}
 use Rattle.sshc_run.proofs.RunPasswords.{passwords_asked}
 use Rattle.sshc_run.proofs.RunReplies.{replies_in_order}
@@ -65,6 +66,7 @@ module _ (laws : SessionLaws) (asked : RunAsked) (before now : RunOutside) (a : 
     replies = replies_in_order laws.replies asked.hosts asked.accepts asked.settings asked.max_events (session_answers before now) before.source.left;
     channels = accounted laws.accounted asked.hosts asked.accepts laws.account asked.settings asked.max_events (session_answers before now) before.source.left;
     opens = opens_answered laws.opens laws.accounted laws.account laws.legal asked.hosts asked.accepts asked.settings asked.max_events (session_answers before now) before.source.left;
+    opens_once = counted laws.opens laws.legal asked.hosts asked.accepts asked.settings asked.max_events (session_answers before now) before.source.left;
     signed = signed_along asked.hosts asked.accepts asked.settings asked.max_events (session_answers before now) before.source.left;
     calls = calls_counted asked.hosts asked.accepts asked.settings asked.max_events (answers_of (calls_since before now)) before.source.left;
     passwords = passwords_asked asked.hosts asked.accepts asked.settings asked.max_events (answers_of (calls_since before now)) before.source.left;

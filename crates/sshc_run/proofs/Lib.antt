@@ -10,6 +10,7 @@ pub mod SettingsKept
 pub mod TurnCauses
 pub mod RunReplies
 pub mod RunChannels
+pub mod RunOpenCounts
 pub mod RunOpens
 pub mod RunUnfold
 pub mod RunLoop

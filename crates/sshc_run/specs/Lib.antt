@@ -21,6 +21,7 @@ pub mod ReachedStates
 pub mod Causes
 pub mod ReplyOrder
 pub mod ChannelRuns
+pub mod OpenCounts
 pub mod OpenAnswers
 pub mod RunFaults
 pub mod Words

@@ -1,5 +1,5 @@
 -- Over a whole run an open of ours is answered where it waits for its answer, with its own ticket, and waits no more until another open takes
--- its number (RFC 4254, section 5.1). Said of each move of each event's row; so an open is answered at most once.
+-- its number (RFC 4254, section 5.1). Said of each move of each event's row; with the count of OpenCounts an open is answered at most once.
 use Rattle.std.specs.Prelude.{◌≡◌, ◌⊎◌, ℕ, Bool, true, false, List, [], ◌∷◌, ◌++◌, Option, Some, None, Result, Ok, Err}
 use Rattle.std.specs.List.{AllByRecursion}
 use Rattle.sshc_wire.specs.declared.record.Record.{Record}

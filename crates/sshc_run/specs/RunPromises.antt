@@ -17,6 +17,7 @@ use Rattle.sshc_run.specs.Headline.{IsGated, IsPrefix, IsDone, IsKept, IsComplet
 use Rattle.sshc_run.specs.KnownHosts.{Hosts}
 use Rattle.sshc_run.specs.Machine.{Machine}
 use Rattle.sshc_run.specs.OpenAnswers.{OpensAreAnswered}
+use Rattle.sshc_run.specs.OpenCounts.{OpensAreCounted}
 use Rattle.sshc_run.specs.OpenedKey.{IsOpenedByAccepted}
 use Rattle.sshc_run.specs.OpeningFirst.{IsOpeningFirst, IsOpeningDone, IsOpeningComplete}
 use Rattle.sshc_run.specs.Outcome.{Ends}
@@ -105,6 +106,8 @@ pub record RunPromises (asked : RunAsked) (before now : RunOutside) (answer : Re
   pub channels : AreAccounted asked.hosts asked.accepts asked.settings asked.max_events (session_answers before now) before.source.left
   -- an open of ours is answered where it waits, with its own ticket, and waits no more
   pub opens : OpensAreAnswered asked.hosts asked.accepts asked.settings asked.max_events (session_answers before now) before.source.left
+  -- at each state that the session comes to, no more opens of ours were answered than were asked for
+  pub opens_once : OpensAreCounted asked.hosts asked.accepts asked.settings asked.max_events (session_answers before now) before.source.left
   -- at each state that the session comes to, its session id is the first exchange's hash, and what it asks the signer, or hands out
   -- to be signed, is the signed text of that id and of a request that an earlier event asked for
   pub signed : AreSigned asked.hosts asked.accepts asked.settings asked.max_events (session_answers before now) before.source.left
