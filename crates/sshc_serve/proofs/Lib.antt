@@ -1,4 +1,5 @@
 mod Talking
+mod Ticking
 mod Quiet
 mod Reading
 pub mod Sending

@@ -13,7 +13,7 @@ use Rattle.sshc_agent.specs.FrameLaws.{gives_more, gives_on, pushed_on}
 use Rattle.sshc_shared.specs.declared.call.Call.{Call}
 use Rattle.sshc_shared.specs.Kept.{SeatState}
 use Rattle.sshc_serve.specs.declared.turn.Next.TheVariants as steps
-use Rattle.sshc_serve.specs.Talk.{Allows, Closes, ClosesLast, Confirms, Ending, Fetched, FitsQuestion, Follows, IsCall, IsClose, IsClosed, IsRefused, NoneCloses, Opens, Question, RanOut, Serves, Serving, StreamSeen, Turned, closed, framed, framed_in, key, question, read_failed, refused, replies_of, reply, request, starved, whole, write_failed}
+use Rattle.sshc_serve.specs.Talk.{AllGoOn, Allows, Closes, Confirms, Ending, EndsLast, Fetched, FitsQuestion, Follows, GoesOn, IsCall, IsClose, IsClosed, IsRefused, Last, EndsWith, Opens, Question, RanOut, Serves, Serving, StreamSeen, Turned, closed, framed, framed_in, key, question, read_failed, refused, replies_of, reply, request, starved, whole, write_failed}
 
 -- ---- bytes
 
@@ -35,19 +35,19 @@ follows_push : (allows : Allows) (confirms : Confirms) (asked : Option Question)
 follows_push allows confirms asked [] c after f fits = (subst (λ (a : Option Question). FitsQuestion allows confirms a c.input) f fits, refl)
 follows_push allows confirms asked (x ∷ calls) c after f fits = (f.0, follows_push allows confirms (question x.output) calls c after f.1 fits)
 
-none_push : (calls : List Call) (c : Call) → NoneCloses calls → (IsClose c.input → ⊥) → NoneCloses (calls ++ c ∷ [])
-none_push [] c n is = (is, tt)
-none_push (x ∷ calls) c n is = (n.0, none_push calls c n.1 is)
+going_push : (calls : List Call) (c : Call) → AllGoOn calls → GoesOn c → AllGoOn (calls ++ c ∷ [])
+going_push [] c all is = (is, tt)
+going_push (x ∷ calls) c all is = (all.0, going_push calls c all.1 is)
 
-none_last : (calls : List Call) → NoneCloses calls → ClosesLast calls
-none_last [] n = tt
-none_last (x ∷ []) n = tt
-none_last (x ∷ y ∷ calls) n = (n.0, none_last (y ∷ calls) n.1)
+going_last : (calls : List Call) → AllGoOn calls → EndsLast calls
+going_last [] all = tt
+going_last (x ∷ []) all = tt
+going_last (x ∷ y ∷ calls) all = (all.0, going_last (y ∷ calls) all.1)
 
-closes_last : (calls : List Call) (c : Call) → NoneCloses calls → ClosesLast (calls ++ c ∷ [])
-closes_last [] c n = tt
-closes_last (x ∷ []) c n = (n.0, tt)
-closes_last (x ∷ y ∷ calls) c n = (n.0, closes_last (y ∷ calls) c n.1)
+ends_last : (calls : List Call) (c : Call) → AllGoOn calls → EndsLast (calls ++ c ∷ [])
+ends_last [] c all = tt
+ends_last (x ∷ []) c all = (all.0, tt)
+ends_last (x ∷ y ∷ calls) c all = (all.0, ends_last (y ∷ calls) c all.1)
 
 -- ---- inputs
 
@@ -95,6 +95,13 @@ by_output (outputs.AskRequest message) is = absurd is
 by_output (outputs.AskKey blob) is = absurd is
 by_output outputs.Nothing is = absurd is
 
+asks_open : (output : AgentOutput) (q : Question) → question output ≡ Some q → IsClosed output → ⊥
+asks_open (outputs.Closed cause) q asks is = cc
+asks_open (outputs.Answer frame) q asks is = absurd is
+asks_open (outputs.AskRequest message) q asks is = absurd is
+asks_open (outputs.AskKey blob) q asks is = absurd is
+asks_open outputs.Nothing q asks is = absurd is
+
 -- ---- a connection
 
 module _ (allows : Allows) (confirms : Confirms) (before : StreamSeen) (seat0 : SeatState) where
@@ -111,7 +118,7 @@ module _ (allows : Allows) (confirms : Confirms) (before : StreamSeen) (seat0 : 
         asked = None;
         questions = refl;
         opens = tt;
-        none_closes = tt;
+        going = tt;
         held = nothing_written before.held;
         read_later = omega arith;
         write_later = omega arith;
@@ -132,7 +139,7 @@ module _ (allows : Allows) (confirms : Confirms) (before : StreamSeen) (seat0 : 
     pub questions : Follows allows confirms None added asked
     pub fits : FitsQuestion allows confirms asked input
     pub opens : (IsClose input → ⊥)
-    pub none_closes : NoneCloses added
+    pub going : AllGoOn added
     pub held : now.held ≡ append before.held (replies_of added)
     pub read_later : before.read_faults ≤ now.read_faults
     pub write_later : before.write_faults ≤ now.write_faults
@@ -173,7 +180,7 @@ module _ (allows : Allows) (confirms : Confirms) (before : StreamSeen) (seat0 : 
             questions = s.questions;
             fits = subst (λ (a : Option Question). FitsQuestion allows confirms a input) (sym none) (framed_fits allows confirms input f.2);
             opens = framed_closes input f.2;
-            none_closes = s.none_closes;
+            going = s.going;
             held = held ∙ s.held;
             read_later = omega (arith, s.read_later, later);
             write_later = omega (arith, s.write_later, same);
@@ -201,7 +208,7 @@ module _ (allows : Allows) (confirms : Confirms) (before : StreamSeen) (seat0 : 
             questions = s.questions;
             fits = subst (λ (x : Option Question). FitsQuestion allows confirms x input) (sym is) fits;
             opens = answer_closes allows confirms q input fits;
-            none_closes = s.none_closes;
+            going = s.going;
             held = held ∙ s.held;
             read_later = omega (arith, s.read_later, later);
             write_later = omega (arith, s.write_later, same);
@@ -225,11 +232,11 @@ module _ (allows : Allows) (confirms : Confirms) (before : StreamSeen) (seat0 : 
       questions_are : Follows allows confirms None (t.added ++ c ∷ []) (question c.output)
       questions_are = follows_push allows confirms None t.added c t.asked t.questions (subst (FitsQuestion allows confirms t.asked) (sym is.given) t.fits)
 
-      none_are : NoneCloses (t.added ++ c ∷ [])
-      none_are = none_push t.added c t.none_closes (λ x. t.opens (subst IsClose is.given x))
+      going_are : (IsClosed c.output → ⊥) → AllGoOn (t.added ++ c ∷ [])
+      going_are unclosed = going_push t.added c t.going (record { unclosing = λ x. t.opens (subst IsClose is.given x); unclosed = unclosed })
 
-      pub goes_on : (answer : Option AgentInput) → Opens allows confirms (question c.output) answer → next.held ≡ append now.held (reply c.output) → Serving allows confirms before next seat0 seat' frames answer
-      goes_on answer opens wrote =
+      pub goes_on : (answer : Option AgentInput) → (IsClosed c.output → ⊥) → Opens allows confirms (question c.output) answer → next.held ≡ append now.held (reply c.output) → Serving allows confirms before next seat0 seat' frames answer
+      goes_on answer unclosed opens wrote =
           record {
             added = t.added ++ c ∷ [];
             calls = calls_are;
@@ -240,12 +247,16 @@ module _ (allows : Allows) (confirms : Confirms) (before : StreamSeen) (seat0 : 
             asked = question c.output;
             questions = questions_are;
             opens = opens;
-            none_closes = none_are;
+            going = going_are unclosed;
             held = wrote ∙ (ap (λ (x : Option (List ℕ)). append x (reply c.output)) t.held ∙ (append-append before.held (replies_of t.added) (reply c.output) ∙ ap (append before.held) (sym (replies_push t.added c))));
             read_later = omega (arith, t.read_later, reads);
             write_later = omega (arith, t.write_later, later);
             unrefused = is.unrefused ∙ t.unrefused;
           }
+
+      cut_at : (front rest : List ℕ) {T : Type 0} → reply c.output ≡ front ++ rest → (rest ≡ []) ⊎ T → (rest ≡ []) ⊎ (Last (λ call. EndsWith (reply call.output) rest) (t.added ++ c ∷ []) × T)
+      cut_at front rest parts (inl none) = inl none
+      cut_at front rest parts (inr why) = inr ((t.added, c, refl, (front, parts)), why)
 
       -- it was the last one
       pub stops : (result : Result (Unit {0}) NoMemory) → question c.output ≡ None
@@ -265,12 +276,12 @@ module _ (allows : Allows) (confirms : Confirms) (before : StreamSeen) (seat0 : 
             asked = question c.output;
             questions = questions_are;
             unanswered = inl none;
-            closes = none_last (t.added ++ c ∷ []) none_are;
+            ends = ends_last t.added c t.going;
             written = replies_of t.added ++ front;
             unwritten = rest;
             held = wrote ∙ (ap (λ (x : Option (List ℕ)). append x front) t.held ∙ append-append before.held (replies_of t.added) front);
             output = replies_push t.added c ∙ (ap (λ (x : List ℕ). replies_of t.added ++ x) parts ∙ sym (append_assoc (replies_of t.added) front rest));
-            cut = cut;
+            cut = cut_at front rest parts cut;
             ending = ending;
           }
 
@@ -289,7 +300,7 @@ module _ (allows : Allows) (confirms : Confirms) (before : StreamSeen) (seat0 : 
           asked = t.asked;
           questions = t.questions;
           unanswered = inr (inl counted);
-          closes = none_last t.added t.none_closes;
+          ends = going_last t.added t.going;
           written = replies_of t.added;
           unwritten = [];
           held = same ∙ t.held;
@@ -308,9 +319,9 @@ module _ (allows : Allows) (confirms : Confirms) (before : StreamSeen) (seat0 : 
   risen a b c le rose = omega (arith, le, rose)
 
   why : (now next : StreamSeen) (seat : SeatState) (added : List Call) (rest : FrameBytes) → before.read_faults ≤ now.read_faults
-      → next_in rest ≡ None → Rose now.read_faults next.read_faults ⊎ IsAtEnd next.left → Ending before next seat0 seat added rest (Ok tt)
-  why now next seat added rest later none (inl rose) = read_failed (risen before.read_faults now.read_faults next.read_faults later rose)
-  why now next seat added rest later none (inr end) = whole none end
+      → next_in rest ≡ None → Rose now.read_faults next.read_faults ⊎ IsAtEnd next.left → Last (λ call. IsClose call.input) added → Ending before next seat0 seat added rest (Ok tt)
+  why now next seat added rest later none (inl rose) last = read_failed (risen before.read_faults now.read_faults next.read_faults later rose) last
+  why now next seat added rest later none (inr end) last = whole none end last
 
   pub gone : (now next : StreamSeen) (seat seat' : SeatState) (frames frames' : FrameBytes) (answer : Option AgentInput)
       → Serving allows confirms before now seat0 seat frames answer → Fetched answer frames frames' now next (Ok None)
@@ -333,13 +344,13 @@ module _ (allows : Allows) (confirms : Confirms) (before : StreamSeen) (seat0 : 
         questions = follows_push allows confirms None s.added c s.asked s.questions
             (subst (λ (a : Option Question). FitsQuestion allows confirms a c.input) (sym no_question) (subst (λ (x : AgentInput). FitsQuestion allows confirms None x) (sym is.given) tt));
         unanswered = inl silent;
-        closes = closes_last s.added c s.none_closes;
+        ends = ends_last s.added c s.going;
         written = replies_of s.added;
         unwritten = [];
         held = held ∙ s.held;
         output = replies_push s.added c ∙ ap (λ (x : List ℕ). replies_of s.added ++ x) unsaid;
         cut = inl refl;
-        ending = why now next seat' (s.added ++ c ∷ []) frames' s.read_later none end;
+        ending = why now next seat' (s.added ++ c ∷ []) frames' s.read_later none end (s.added, c, refl, subst IsClose (sym is.given) tt);
       }
   gone now next seat seat' frames frames' None s (more, left, pushed_is, none, end) held (inr is) =
       let earlier : Gives (pushed no_bytes (s.given ++ more)) (framed_in s.added) frames' = subst (λ (t : FrameBytes). Gives (pushed no_bytes (s.given ++ more)) (framed_in s.added) t) (sym pushed_is) (more_given s.given more (framed_in s.added) frames s.inputs) in
@@ -354,7 +365,7 @@ module _ (allows : Allows) (confirms : Confirms) (before : StreamSeen) (seat0 : 
         asked = s.asked;
         questions = s.questions;
         unanswered = inl (none_open s.asked s.opens);
-        closes = none_last s.added s.none_closes;
+        ends = going_last s.added s.going;
         written = replies_of s.added;
         unwritten = [];
         held = held ∙ s.held;
@@ -381,7 +392,7 @@ module _ (allows : Allows) (confirms : Confirms) (before : StreamSeen) (seat0 : 
         asked = s.asked;
         questions = s.questions;
         unanswered = inl (none_open s.asked s.opens);
-        closes = none_last s.added s.none_closes;
+        ends = going_last s.added s.going;
         written = replies_of s.added;
         unwritten = [];
         held = held ∙ s.held;
@@ -399,14 +410,14 @@ module _ (allows : Allows) (confirms : Confirms) (before : StreamSeen) (seat0 : 
     taking : Taking mid seat frames' input
     taking = taken now mid seat frames frames' answer input s f unwritten.0 read unwritten.1
 
-    pub round_goes : (c : Call) → IsCall seat seat' input c → question c.output ≡ None → next.held ≡ append mid.held (reply c.output) → Serving allows confirms before next seat0 seat' frames' None
-    round_goes c is none wrote =
-        goes_on mid next seat seat' frames' input taking unread.0 unread.1 write c is None (subst (λ (q : Option Question). Opens allows confirms q None) (sym none) tt) wrote
+    pub round_goes : (c : Call) → IsCall seat seat' input c → (IsClosed c.output → ⊥) → question c.output ≡ None → next.held ≡ append mid.held (reply c.output) → Serving allows confirms before next seat0 seat' frames' None
+    round_goes c is unclosed none wrote =
+        goes_on mid next seat seat' frames' input taking unread.0 unread.1 write c is None unclosed (subst (λ (q : Option Question). Opens allows confirms q None) (sym none) tt) wrote
 
     pub round_asks : (given : AgentInput) (c : Call) (q : Question) → IsCall seat seat' input c → question c.output ≡ Some q → FitsQuestion allows confirms (Some q) given → reply c.output ≡ [] → next.held ≡ mid.held
         → Serving allows confirms before next seat0 seat' frames' (Some given)
     round_asks given c q is asks fits silent same =
-        goes_on mid next seat seat' frames' input taking unread.0 unread.1 write c is (Some given) (subst (λ (x : Option Question). Opens allows confirms x (Some given)) (sym asks) fits)
+        goes_on mid next seat seat' frames' input taking unread.0 unread.1 write c is (Some given) (asks_open c.output q asks) (subst (λ (x : Option Question). Opens allows confirms x (Some given)) (sym asks) fits)
         (same ∙ (nothing_written mid.held ∙ ap (append mid.held) (sym silent)))
 
     pub round_refused : IsRefused seat seat' → next.held ≡ mid.held → Serves allows confirms before next seat0 seat' (Ok tt)
@@ -418,7 +429,7 @@ module _ (allows : Allows) (confirms : Confirms) (before : StreamSeen) (seat0 : 
     pub round_closed : (c : Call) → IsCall seat seat' input c → IsClosed c.output → next.held ≡ mid.held → Serves allows confirms before next seat0 seat' (Ok tt)
     round_closed c is shut same =
         let quiet = closed_asks c shut in
-        stops mid next seat seat' frames' input taking unread.0 unread.1 write c is (Ok tt) quiet.0 [] [] quiet.1 (same ∙ nothing_written mid.held) (inl refl) (closed taking.added c refl shut)
+        stops mid next seat seat' frames' input taking unread.0 unread.1 write c is (Ok tt) quiet.0 [] [] quiet.1 (same ∙ nothing_written mid.held) (inl refl) (closed (taking.added, c, refl, shut))
 
     pub round_write_failed : (c : Call) → IsCall seat seat' input c → question c.output ≡ None → (front rest : List ℕ) → reply c.output ≡ front ++ rest → next.held ≡ append mid.held front
         → Rose mid.write_faults next.write_faults → Serves allows confirms before next seat0 seat' (Ok tt)
@@ -432,7 +443,7 @@ module _ (allows : Allows) (confirms : Confirms) (before : StreamSeen) (seat0 : 
         stops mid next seat seat' frames' input taking unread.0 unread.1 write c is (Err e) none front rest parts wrote (inr (inr tt)) (starved tt)
 
     pub goes_turn : Turned allows confirms input mid next seat seat' steps.Goes → Serving allows confirms before next seat0 seat' frames' None
-    goes_turn (c, is, (none, wrote)) = round_goes c is none wrote
+    goes_turn (c, is, (unclosed, none, wrote)) = round_goes c is unclosed none wrote
 
     pub asks_turn : (given : AgentInput) → Turned allows confirms input mid next seat seat' (steps.Asks given) → Serving allows confirms before next seat0 seat' frames' (Some given)
     asks_turn given (c, is, (q, asks, fits, silent, same)) = round_asks given c q is asks fits silent same

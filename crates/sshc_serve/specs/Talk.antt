@@ -75,21 +75,34 @@ abbrev pub IsClose : AgentInput → Type 0
 IsClose inputs.Close = Unit {0}
 IsClose input = ⊥
 
--- the connection isn't closed by one of these calls
-abbrev pub NoneCloses : List Call → Type 0
-NoneCloses [] = Unit {0}
-NoneCloses (call ∷ calls) = (IsClose call.input → ⊥) × NoneCloses calls
-
--- only the last call may close it
-abbrev pub ClosesLast : List Call → Type 0
-ClosesLast [] = Unit {0}
-ClosesLast (call ∷ []) = Unit {0}
-ClosesLast (call ∷ next ∷ calls) = (IsClose call.input → ⊥) × ClosesLast (next ∷ calls)
-
 -- the agent closed the connection
 abbrev pub IsClosed : AgentOutput → Type 0
 IsClosed (outputs.Closed cause) = Unit {0}
 IsClosed output = ⊥
+
+-- the connection goes on behind this call: it isn't Close, and its answer doesn't close the connection
+pub record GoesOn (call : Call) : Type 0 where
+  pub unclosing : IsClose call.input → ⊥
+  pub unclosed : IsClosed call.output → ⊥
+
+-- it does behind each of these calls
+abbrev pub AllGoOn : List Call → Type 0
+AllGoOn [] = Unit {0}
+AllGoOn (call ∷ calls) = GoesOn call × AllGoOn calls
+
+-- it does behind each but the last
+abbrev pub EndsLast : List Call → Type 0
+EndsLast [] = Unit {0}
+EndsLast (call ∷ []) = Unit {0}
+EndsLast (call ∷ next ∷ calls) = GoesOn call × EndsLast (next ∷ calls)
+
+-- the rest is the end of the whole
+abbrev pub EndsWith : List ℕ → List ℕ → Type 0
+EndsWith whole rest = (front : List ℕ) × (whole ≡ front ++ rest)
+
+-- there is a last call, and it is so
+abbrev pub Last : (Call → Type 0) → List Call → Type 0
+Last is calls = (earlier : List Call) × (call : Call) × (calls ≡ earlier ++ call ∷ []) × is call
 
 -- ---- a connection
 
@@ -110,14 +123,15 @@ RanOut (Err e) = Unit {0}
 -- why a connection's calls end
 pub data Ending (before after : StreamSeen) (seat seat' : SeatState) (added : List Call) (rest : FrameBytes) (result : Result (Unit {0}) NoMemory) : Type 0 where
   starved : RanOut result → Ending before after seat seat' added rest result
-  read_failed : Rose before.read_faults after.read_faults → Ending before after seat seat' added rest result
+  -- the source failed, and the last call is Close
+  read_failed : Rose before.read_faults after.read_faults → Last (λ call. IsClose call.input) added → Ending before after seat seat' added rest result
   write_failed : Rose before.write_faults after.write_faults → Ending before after seat seat' added rest result
   -- a call was refused
   refused : Rose seat.refused seat'.refused → Ending before after seat seat' added rest result
   -- the agent closed the connection by the last answer
-  closed : (calls : List Call) (last : Call) → added ≡ calls ++ last ∷ [] → IsClosed last.output → Ending before after seat seat' added rest result
-  -- the source was read to its end, and all that its bytes give was taken
-  whole : next_in rest ≡ None → IsAtEnd after.left → Ending before after seat seat' added rest result
+  closed : Last (λ call. IsClosed call.output) added → Ending before after seat seat' added rest result
+  -- the source was read to its end, all that its bytes give was taken, and the last call is Close
+  whole : next_in rest ≡ None → IsAtEnd after.left → Last (λ call. IsClose call.input) added → Ending before after seat seat' added rest result
 
 -- what the calls of a connection are
 pub record Serves (allows : Allows) (confirms : Confirms) (before after : StreamSeen) (seat seat' : SeatState) (result : Result (Unit {0}) NoMemory) : Type 0 where
@@ -133,13 +147,14 @@ pub record Serves (allows : Allows) (confirms : Confirms) (before after : Stream
   pub asked : Option Question
   pub questions : Follows allows confirms None added asked
   pub unanswered : (asked ≡ None) ⊎ (Rose seat.refused seat'.refused ⊎ RanOut result)
-  pub closes : ClosesLast added
-  -- what is written is the answers in order; or a front of them where a write failed or memory ran out
+  -- only the last call may be Close, and only its answer may close the connection
+  pub ends : EndsLast added
+  -- what is written is the answers in order; where a write failed or memory ran out, the end of the last one may be missing
   pub written : List ℕ
   pub unwritten : List ℕ
   pub held : after.held ≡ append before.held written
   pub output : replies_of added ≡ written ++ unwritten
-  pub cut : (unwritten ≡ []) ⊎ (Rose before.write_faults after.write_faults ⊎ RanOut result)
+  pub cut : (unwritten ≡ []) ⊎ (Last (λ call. EndsWith (reply call.output) unwritten) added × (Rose before.write_faults after.write_faults ⊎ RanOut result))
   pub ending : Ending before after seat seat' added rest result
 
 -- ---- on the way
@@ -161,7 +176,7 @@ pub record Serving (allows : Allows) (confirms : Confirms) (before now : StreamS
   pub asked : Option Question
   pub questions : Follows allows confirms None added asked
   pub opens : Opens allows confirms asked answer
-  pub none_closes : NoneCloses added
+  pub going : AllGoOn added
   pub held : now.held ≡ append before.held (replies_of added)
   pub read_later : before.read_faults ≤ now.read_faults
   pub write_later : before.write_faults ≤ now.write_faults
@@ -204,7 +219,7 @@ WroteFront before after piece = (written rest : List ℕ) × (piece ≡ written 
 
 -- what follows an answer
 abbrev pub Answered : Allows → Confirms → StreamSeen → StreamSeen → AgentOutput → Next → Type 0
-Answered allows confirms before after output steps.Goes = (question output ≡ None) × (after.held ≡ append before.held (reply output))
+Answered allows confirms before after output steps.Goes = (IsClosed output → ⊥) × (question output ≡ None) × (after.held ≡ append before.held (reply output))
 Answered allows confirms before after output (steps.Asks answer) =
     (asked : Question) × (question output ≡ Some asked) × FitsQuestion allows confirms (Some asked) answer × (reply output ≡ []) × (after.held ≡ before.held)
 Answered allows confirms before after output steps.Refused = ⊥

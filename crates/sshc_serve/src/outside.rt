@@ -1,6 +1,7 @@
 //! What a server is given: who answers questions, where streams come from, the clock, and a pause for tests.
 
-ghost use Rattle.std.specs.Prelude.{◌≡◌, ℕ, Bool, List, true};
+ghost use Rattle.std.specs.Prelude.{◌≡◌, ◌∷◌, ℕ, [], Bool, List, Option, true};
+ghost use Rattle.sshc_wire.specs.Contents.{append};
 ghost use Rattle.sshc_wire.specs.Faults.{HasCause};
 ghost use Rattle.sshc_wire.specs.declared.message_type.MessageType.{MessageType as Kind};
 
@@ -60,5 +61,10 @@ impl Pause for () {
 
 /// Tells moments in milliseconds.
 pub trait Clock {
-    fn now(&mut self) -> u64;
+    /// The moments that it has returned, in their order, where it keeps them.
+    ghost told: { Self → Option (List ℕ) };
+
+    /// The moment now, which is the last of these from then on.
+    fn now(&mut self) -> u64
+        ensures told { told self.new ≡ append (told self.old) (result ∷ []) };
 }

@@ -1,5 +1,6 @@
 //! Serves one connection.
 
+ghost use Rattle.sshc_serve.specs.Moments.{Timed};
 ghost use Rattle.sshc_serve.specs.Talk.{Serves, seen};
 
 use crate::fetching::fetch;
@@ -28,6 +29,8 @@ pub fn serve_one<L: Ledger, S: AgentStream, A: Agent, G: LocalSigner, P: Pause, 
 ) -> (Seat<L>, Result<(), NoMemory>)
     ensures serves { Serves (A.allows agent.now) (A.confirms agent.now) (seen (S.left stream.old) (S.contents stream.old) (S.Source.faults stream.old) (S.Sink.faults stream.old))
         (seen (S.left stream.new) (S.contents stream.new) (S.Source.faults stream.new) (S.Sink.faults stream.new)) seat result.0 result.1 }
+    // Each call is made at a moment that the clock returned for it.
+    ensures moments { Timed (C.told clock.old) (C.told clock.new) seat result.0 }
 {
     let mut frames = Frames::new(alloc);
     let mut seat = seat;

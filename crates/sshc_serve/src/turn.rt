@@ -4,6 +4,7 @@ ghost use Rattle.std.specs.Prelude.{◌≡◌, ◌≤◌, IfOk, OnErr, OnOk};
 ghost use Rattle.sshc_wire.specs.Contents.{WroteFront, append};
 ghost use Rattle.sshc_wire.specs.Faults.{HasCause};
 ghost use Rattle.sshc_shared.specs.declared.call.Call.{Call as Kept};
+ghost use Rattle.sshc_serve.specs.Moments.{IsTick};
 ghost use Rattle.sshc_serve.specs.Talk.{Answered, Closes, IsCall, IsRefused, Turned, seen};
 
 use crate::outside::{Agent, Clock, Pause};
@@ -83,6 +84,7 @@ fn called<L: Ledger, G: LocalSigner, P: Pause, C: Clock, R: Wait>(
 ) -> (Seat<L>, Result<AgentOutput, CallRefused>)
     ensures call { IfOk result.1 (λ out. (call : Kept) × IsCall seat result.0 input call × (call.output ≡ out)) }
     ensures refused { OnErr result.1 (IsRefused seat result.0) }
+    ensures tick { IsTick (C.told clock.old) (C.told clock.new) seat result.0 }
 {
     pause.before(seat.conn(), next_number(&seat));
     let now = clock.now();
@@ -113,6 +115,7 @@ pub(crate) fn turn<
         (seen (S.left stream.new) (S.contents stream.new) (S.Source.faults stream.new) (S.Sink.faults stream.new)) seat result.0 result.1 }
     ensures unread { (S.left stream.new ≡ S.left stream.old) × (S.Source.faults stream.new ≡ S.Source.faults stream.old) }
     ensures later { S.Sink.faults stream.old ≤ S.Sink.faults stream.new }
+    ensures tick { IsTick (C.told clock.old) (C.told clock.new) seat result.0 }
 {
     let (seat, answer) = called(rt, shared, seat, input, signer, pause, clock);
     match answer {
@@ -133,7 +136,8 @@ pub(crate) fn close<L: Ledger, G: LocalSigner, P: Pause, C: Clock, R: Wait>(
     pause: &P,
     clock: &mut C,
 ) -> Seat<L>
-    ensures { Closes seat result }
+    ensures closes { Closes seat result }
+    ensures tick { IsTick (C.told clock.old) (C.told clock.new) seat result }
 {
     pause.before(seat.conn(), next_number(&seat));
     let now = clock.now();

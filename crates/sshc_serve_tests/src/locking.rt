@@ -1,5 +1,7 @@
 //! A lock on one connection while another waits for its user.
 
+ghost use Rattle.std.specs.Prelude.{None};
+
 use crate::flags::Flags;
 use crate::frames::{put_add, put_lock, put_sign};
 use crate::listener::{Streams, stream};
@@ -17,6 +19,8 @@ use std::thread::Threads;
 struct Standstill;
 
 impl Clock for Standstill {
+    ghost told = { λ s. None };
+
     fn now(&mut self) -> u64 {
         0
     }

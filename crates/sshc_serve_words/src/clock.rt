@@ -1,5 +1,7 @@
 //! The system's clock.
 
+ghost use Rattle.std.specs.Prelude.{None};
+
 use sshc_serve::Clock;
 use std::alloc::AllocError;
 use std::time::Clock as SystemTime;
@@ -26,6 +28,8 @@ impl<'a, R> Clone for SystemClock<'a, R> {
 }
 
 impl<'a, R: SystemTime> Clock for SystemClock<'a, R> {
+    ghost told = { λ s. None };
+
     fn now(&mut self) -> u64 {
         match self.system.monotonic() {
             Ok(since) => u64::try_from(since.as_millis()).unwrap_or(u64::MAX),

@@ -1,9 +1,10 @@
 use Rattle.sshc_serve.specs.Talk.{seen}
 use Rattle.sshc_serve.proofs.Talking.{asks_turn, begun, closed_turn, goes_turn, gone, refused_turn, starved_turn, unfetched, write_failed_turn}
+use Rattle.sshc_serve.proofs.Ticking.{called_last, closed_last, no_call, one_more, refused_last, stopped}
 use Rattle.sshc_serve.proofs.serving.serve_one.Goals as goal
 
 pub loop-init : goal.loop-init
-loop-init g c = (tt, tt, rw c.new-frames.ensures (begun _ _ _ _))
+loop-init g c = (tt, tt, rw c.new-frames.ensures (begun _ _ _ _), no_call _ _)
 
 pub returns-in-Err : goal.returns-in-Err
 returns-in-Err g c =
@@ -12,6 +13,7 @@ returns-in-Err g c =
           unfetched _ _ _ _ (seen (g.S.Source.left c.loop.stream) (g.S.Sink.contents c.loop.stream) (g.S.Source.faults c.loop.stream) (g.S.Sink.faults c.loop.stream))
           (seen (g.S.Source.left c.fetch.new.stream) (g.S.Sink.contents c.fetch.new.stream) (g.S.Source.faults c.fetch.new.stream) (g.S.Sink.faults c.fetch.new.stream))
           _ c.loop.frames c.fetch.new.frames c.loop.answer _ c.loop.invariant.2 c.in-Err.ensures.fetched c.fetch.ensures.unwritten.0;
+      moments = stopped _ _ _ _ c.loop.invariant.3;
     }
 
 pub returns-in-Ok-None : goal.returns-in-Ok-None
@@ -21,7 +23,8 @@ returns-in-Ok-None g c =
       serves =
           gone _ _ _ _ (seen (g.S.Source.left c.loop.stream) (g.S.Sink.contents c.loop.stream) (g.S.Source.faults c.loop.stream) (g.S.Sink.faults c.loop.stream))
           (seen (g.S.Source.left c.fetch.new.stream) (g.S.Sink.contents c.fetch.new.stream) (g.S.Source.faults c.fetch.new.stream) (g.S.Sink.faults c.fetch.new.stream))
-          _ c.close.result c.loop.frames c.fetch.new.frames c.loop.answer c.loop.invariant.2 f c.fetch.ensures.unwritten.0 c.close.ensures;
+          _ c.close.result c.loop.frames c.fetch.new.frames c.loop.answer c.loop.invariant.2 f c.fetch.ensures.unwritten.0 c.close.ensures.closes;
+      moments = closed_last _ _ _ _ _ _ c.loop.invariant.3 c.close.ensures.tick c.close.ensures.closes;
     }
 
 pub loop-preserved-in-Goes : goal.loop-preserved-in-Goes
@@ -34,6 +37,7 @@ loop-preserved-in-Goes g c =
           (seen (g.S.Source.left c.fetch.new.stream) (g.S.Sink.contents c.fetch.new.stream) (g.S.Source.faults c.fetch.new.stream) (g.S.Sink.faults c.fetch.new.stream))
           (seen (g.S.Source.left c.turn-next_seat.new.stream) (g.S.Sink.contents c.turn-next_seat.new.stream) (g.S.Source.faults c.turn-next_seat.new.stream) (g.S.Sink.faults c.turn-next_seat.new.stream))
           _ _ c.loop.frames c.fetch.new.frames c.loop.answer c.in-Ok-Some.input c.loop.invariant.2 f c.fetch.ensures.later c.fetch.ensures.unwritten c.turn-next_seat.ensures.unread c.turn-next_seat.ensures.later t,
+      one_more _ _ _ _ _ _ c.loop.invariant.3 c.turn-next_seat.ensures.tick _ t.0 t.1,
     )
 
 pub loop-preserved : goal.loop-preserved
@@ -46,6 +50,7 @@ loop-preserved g c =
           (seen (g.S.Source.left c.fetch.new.stream) (g.S.Sink.contents c.fetch.new.stream) (g.S.Source.faults c.fetch.new.stream) (g.S.Sink.faults c.fetch.new.stream))
           (seen (g.S.Source.left c.turn-next_seat.new.stream) (g.S.Sink.contents c.turn-next_seat.new.stream) (g.S.Source.faults c.turn-next_seat.new.stream) (g.S.Sink.faults c.turn-next_seat.new.stream))
           _ _ c.loop.frames c.fetch.new.frames c.loop.answer c.in-Ok-Some.input c.loop.invariant.2 f c.fetch.ensures.later c.fetch.ensures.unwritten c.turn-next_seat.ensures.unread c.turn-next_seat.ensures.later c.in-Asks.input t,
+      one_more _ _ _ _ _ _ c.loop.invariant.3 c.turn-next_seat.ensures.tick _ t.0 t.1,
     )
 
 pub returns-in-Refused : goal.returns-in-Refused
@@ -58,6 +63,7 @@ returns-in-Refused g c =
           (seen (g.S.Source.left c.fetch.new.stream) (g.S.Sink.contents c.fetch.new.stream) (g.S.Source.faults c.fetch.new.stream) (g.S.Sink.faults c.fetch.new.stream))
           (seen (g.S.Source.left c.turn-next_seat.new.stream) (g.S.Sink.contents c.turn-next_seat.new.stream) (g.S.Source.faults c.turn-next_seat.new.stream) (g.S.Sink.faults c.turn-next_seat.new.stream))
           _ _ c.loop.frames c.fetch.new.frames c.loop.answer c.in-Ok-Some.input c.loop.invariant.2 f c.fetch.ensures.later c.fetch.ensures.unwritten c.turn-next_seat.ensures.unread c.turn-next_seat.ensures.later t;
+      moments = refused_last _ _ _ _ _ _ c.loop.invariant.3 c.turn-next_seat.ensures.tick t.0;
     }
 
 pub returns-in-Closed : goal.returns-in-Closed
@@ -70,6 +76,7 @@ returns-in-Closed g c =
           (seen (g.S.Source.left c.fetch.new.stream) (g.S.Sink.contents c.fetch.new.stream) (g.S.Source.faults c.fetch.new.stream) (g.S.Sink.faults c.fetch.new.stream))
           (seen (g.S.Source.left c.turn-next_seat.new.stream) (g.S.Sink.contents c.turn-next_seat.new.stream) (g.S.Source.faults c.turn-next_seat.new.stream) (g.S.Sink.faults c.turn-next_seat.new.stream))
           _ _ c.loop.frames c.fetch.new.frames c.loop.answer c.in-Ok-Some.input c.loop.invariant.2 f c.fetch.ensures.later c.fetch.ensures.unwritten c.turn-next_seat.ensures.unread c.turn-next_seat.ensures.later t;
+      moments = called_last _ _ _ _ _ _ c.loop.invariant.3 c.turn-next_seat.ensures.tick _ t.0 t.1;
     }
 
 pub returns-in-WriteFailed : goal.returns-in-WriteFailed
@@ -82,6 +89,7 @@ returns-in-WriteFailed g c =
           (seen (g.S.Source.left c.fetch.new.stream) (g.S.Sink.contents c.fetch.new.stream) (g.S.Source.faults c.fetch.new.stream) (g.S.Sink.faults c.fetch.new.stream))
           (seen (g.S.Source.left c.turn-next_seat.new.stream) (g.S.Sink.contents c.turn-next_seat.new.stream) (g.S.Source.faults c.turn-next_seat.new.stream) (g.S.Sink.faults c.turn-next_seat.new.stream))
           _ _ c.loop.frames c.fetch.new.frames c.loop.answer c.in-Ok-Some.input c.loop.invariant.2 f c.fetch.ensures.later c.fetch.ensures.unwritten c.turn-next_seat.ensures.unread c.turn-next_seat.ensures.later t;
+      moments = called_last _ _ _ _ _ _ c.loop.invariant.3 c.turn-next_seat.ensures.tick _ t.0 t.1;
     }
 
 pub returns-in-Starved : goal.returns-in-Starved
@@ -94,4 +102,5 @@ returns-in-Starved g c =
           (seen (g.S.Source.left c.fetch.new.stream) (g.S.Sink.contents c.fetch.new.stream) (g.S.Source.faults c.fetch.new.stream) (g.S.Sink.faults c.fetch.new.stream))
           (seen (g.S.Source.left c.turn-next_seat.new.stream) (g.S.Sink.contents c.turn-next_seat.new.stream) (g.S.Source.faults c.turn-next_seat.new.stream) (g.S.Sink.faults c.turn-next_seat.new.stream))
           _ _ c.loop.frames c.fetch.new.frames c.loop.answer c.in-Ok-Some.input c.loop.invariant.2 f c.fetch.ensures.later c.fetch.ensures.unwritten c.turn-next_seat.ensures.unread c.turn-next_seat.ensures.later _ t;
+      moments = called_last _ _ _ _ _ _ c.loop.invariant.3 c.turn-next_seat.ensures.tick _ t.0 t.1;
     }
