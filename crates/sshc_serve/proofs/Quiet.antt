@@ -5,18 +5,18 @@ use Rattle.sshc_key.specs.Signers.{SignCall}
 use Rattle.sshc_key.specs.Asking.{Asking, Makes, asks, done}
 use Rattle.sshc_agent.specs.declared.connections.Standing.{Standing}
 use Rattle.sshc_agent.specs.declared.connections.Standing.TheVariants as standings
-use Rattle.sshc_agent.specs.declared.entry.Entry.{Entry}
+use Rattle.sshc_shared.specs.declared.call.Call.{Call}
 use Rattle.sshc_agent.specs.declared.input.AgentInput.{AgentInput}
 use Rattle.sshc_agent.specs.declared.input.AgentInput.TheVariants as inputs
 use Rattle.sshc_agent.specs.declared.input.AgentOutput.{AgentOutput}
-use Rattle.sshc_agent.specs.AgentHistory.{IsEntry, Leads, stands_in}
+use Rattle.sshc_agent.specs.AgentHistory.{stands_in}
 use Rattle.sshc_agent.specs.AgentList.{AgentList, aged, seen}
 use Rattle.sshc_agent.specs.AgentTable.{Steps, agent_row, seen_row, standing_row}
 use Rattle.sshc_agent.specs.Turn.{Outcome}
 use Rattle.sshc_shared.specs.declared.error.CallRefused.{CallRefused}
 use Rattle.sshc_shared.specs.Calls.{call_of}
 use Rattle.sshc_shared.specs.Closing.{Tells}
-use Rattle.sshc_shared.specs.Kept.{SeatState, next_entry, refused_once}
+use Rattle.sshc_shared.specs.Kept.{SeatState, refused_once}
 use Rattle.sshc_serve.specs.Talk.{Closes, IsCall, IsRefused, question, reply}
 
 abbrev Silent : AgentOutput → Type 0
@@ -46,18 +46,11 @@ step_quiet : (now conn : ℕ) (before after : AgentList) (gained : List SignCall
 step_quiet now conn before after gained output (inl makes) = makes_quiet (agent_row now conn inputs.Close before) gained (record { next = after; output = output }) (row_quiet now conn before) makes
 step_quiet now conn before after gained output (inr starves) = subst Silent (sym starves.closed) (refl, refl)
 
--- the last entry is a step
-last_entry : (entries : List Entry) (before after : AgentList) (e : Entry) → Leads before (entries ++ e ∷ []) after → (mid : AgentList) × IsEntry mid e after
-last_entry [] before after e (mid, is, same) = (before, subst (λ (l : AgentList). IsEntry before e l) same is)
-last_entry (x ∷ entries) before after e (mid, is, leads) = last_entry entries mid after e leads
+told_quiet : (seat seat' : SeatState) (now : ℕ) (output : AgentOutput) (gained : List SignCall) → Tells seat seat' (call_of now inputs.Close output) gained → Silent output
+told_quiet seat seat' now output gained t = step_quiet now seat.conn t.step.legal.last t.step.next gained output t.step.step
 
-told_quiet : (seat seat' : SeatState) (now : ℕ) (output : AgentOutput) → Tells seat seat' now inputs.Close output → Silent output
-told_quiet seat seat' now output t =
-    let last = last_entry t.earlier _ t.legal.last (next_entry seat now inputs.Close output) t.legal.leads in
-    step_quiet now seat.conn last.0 t.legal.last last.1.gained output last.1.step
-
-pub told_call : (seat seat' : SeatState) (now : ℕ) (input : AgentInput) (output : AgentOutput) → Tells seat seat' now input output → IsCall seat seat' input (call_of now input output)
-told_call seat seat' now input output t =
+pub told_call : (seat seat' : SeatState) (call : Call) (gained : List SignCall) → Tells seat seat' call gained → IsCall seat seat' call.input call
+told_call seat seat' call gained t =
     record {
       given = refl;
       calls = ap (λ (s : SeatState). s.calls) t.added;
@@ -73,11 +66,11 @@ told_refused seat seat' is =
       counted = subst (λ (n : ℕ). Rose seat.refused n) (sym (ap (λ (s : SeatState). s.refused) is)) (omega arith);
     }
 
-pub told_close : (seat seat' : SeatState) (now : ℕ) (r : Result AgentOutput CallRefused) → IfOk r (λ out. Tells seat seat' now inputs.Close out) → OnErr r (seat' ≡ refused_once seat) → Closes seat seat'
-told_close seat seat' now (Ok output) tells refused =
-    let quiet = told_quiet seat seat' now output tells in
-    inl (call_of now inputs.Close output, told_call seat seat' now inputs.Close output tells, quiet.0, quiet.1)
-told_close seat seat' now (Err e) tells refused = inr (told_refused seat seat' refused)
+pub told_close : (seat seat' : SeatState) (now : ℕ) (gained : List SignCall) (r : Result AgentOutput CallRefused) → IfOk r (λ out. Tells seat seat' (call_of now inputs.Close out) gained) → OnErr r (seat' ≡ refused_once seat) → Closes seat seat'
+told_close seat seat' now gained (Ok output) tells refused =
+    let quiet = told_quiet seat seat' now output gained tells in
+    inl (call_of now inputs.Close output, told_call seat seat' (call_of now inputs.Close output) gained tells, quiet.0, quiet.1)
+told_close seat seat' now gained (Err e) tells refused = inr (told_refused seat seat' refused)
 
 pub refused_from : (seat seat' : SeatState) (r : Result AgentOutput CallRefused) → OnErr r (seat' ≡ refused_once seat) → OnErr r (IsRefused seat seat')
 refused_from seat seat' (Ok output) refused = tt

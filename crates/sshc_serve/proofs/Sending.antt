@@ -4,6 +4,7 @@ use denote.Ref.{NamedLft}
 use denote.Param.Send.{IsSend, IsSync, sendable}
 use denote.Param.SendFields.{FieldsHave, as_row_sync, declared_sync}
 use Rattle.std.specs.declared.sync.ledger.Ledger.{Ghosts}
+use Rattle.sshc_shared.specs.declared.settings.Settings.{Ghosts as Named}
 use Rattle.std.proofs.Crossing.{crosses, sync}
 use Rattle.std.proofs.MapsCrossing as maps
 use Rattle.std.proofs.sync.ledger.Book.TheSendSync as book
@@ -51,31 +52,32 @@ core_send = let k = keys_send in search (connections.the_send, octets.the_send, 
 rooms_send : IsSend (Rooms.the_field).row
 rooms_send = search (sendable, crosses) depth 20 fits 20000
 
-module _ (L : RattleType) (g : Ghosts L.Denot) (l : IsSend L) where
-  state_send : IsSend (AgentState.the_row L g)
+module _ (L : RattleType) (n : Named L.Denot) (g : Ghosts L.Denot) (l : IsSend L) where
+  state_send : IsSend (AgentState.the_row L n g)
   state_send = let c = core_send in let r = rooms_send in search (book.the_send, share.the_send, entry.the_field_send, sendable, crosses, maps.crosses) depth 24 fits 20000
 
-  pub shared_sync : IsSync (AgentShared.the_row L g)
+  pub shared_sync : IsSync (AgentShared.the_row L n g)
   shared_sync = let s = state_send in search (sendable, crosses) depth 20 fits 20000
 
+module _ (L : RattleType) (g : Ghosts L.Denot) (l : IsSend L) where
   pub seat_send : IsSend (Seat.the_row L g)
   seat_send = search (share.the_send, call.the_field_send, sendable, crosses) depth 20 fits 20000
 
   seats_send : IsSend (Seats.the_field L g).row
   seats_send = let s = seat_send in search (sendable, crosses) depth 20 fits 20000
 
-module _ (κ : NamedLft) (L A P : RattleType) (g : Ghosts L.Denot) where
-  pub server_sync : IsSend L → IsSync A → IsSync P → IsSync (Server.the_row κ L A P g)
+module _ (κ : NamedLft) (L A P : RattleType) (n : Named L.Denot) (g : Ghosts L.Denot) where
+  pub server_sync : IsSend L → IsSync A → IsSync P → IsSync (Server.the_row κ L A P n g)
   server_sync l a p =
-      let h = shared_sync L g l in let s = seats_send L g l in
-      let parts : FieldsHave IsSync (Server.the_type κ L A P g).parts = (
+      let h = shared_sync L n g l in let s = seats_send L g l in
+      let parts : FieldsHave IsSync (Server.the_type κ L A P n g).parts = (
         search (sync, sendable) depth 12 fits 20000,
         (
           search (sendable, crosses) depth 12 fits 20000,
           (search (as_row_sync, sendable, crosses) depth 13 fits 20000, (search sendable depth 14 fits 20000, (search sendable depth 15 fits 20000, tt))),
         ),
       ) in
-      declared_sync (Server.the_type κ L A P g) parts
+      declared_sync (Server.the_type κ L A P n g) parts
 
 module _ (L S G C : RattleType) (g : Ghosts L.Denot) where
   pub connection_send : IsSend L → IsSend S → IsSend G → IsSend C → IsSend (Connection.the_row L S G C g)

@@ -4,6 +4,7 @@ use Rattle.std.proofs.lemmas.List.{append-nil, append_cancel_left, map-append}
 use Rattle.sshc_wire.specs.declared.error.NoMemory.{NoMemory}
 use Rattle.sshc_wire.specs.Contents.{append, append-append, append-nothing}
 use Rattle.sshc_wire.specs.Faults.{Rose}
+use Rattle.sshc_key.specs.Signers.{SignCall}
 use Rattle.sshc_agent.specs.declared.input.AgentInput.{AgentInput}
 use Rattle.sshc_agent.specs.declared.input.AgentInput.TheVariants as inputs
 use Rattle.sshc_agent.specs.declared.input.AgentOutput.{AgentOutput}
@@ -28,15 +29,15 @@ one_added calls a b same = same_call a b (append_cancel_left calls (a ∷ []) (b
 none_added : (calls : List Call) (a : Call) → calls ≡ calls ++ a ∷ [] → ⊥
 none_added calls a same = absurd (omega (arith, ap (length {A = Call}) same, length-append calls (a ∷ [])))
 
-pub ticked : (told told' : Option (List ℕ)) (seat seat' : SeatState) (now : ℕ) (input : AgentInput) (r : Result AgentOutput CallRefused)
-    → told' ≡ append told (now ∷ []) → IfOk r (λ out. Tells seat seat' now input out) → OnErr r (seat' ≡ refused_once seat) → IsTick told told' seat seat'
-ticked told told' seat seat' now input (Ok output) tick tells refused =
+pub ticked : (told told' : Option (List ℕ)) (seat seat' : SeatState) (now : ℕ) (input : AgentInput) (gained : List SignCall) (r : Result AgentOutput CallRefused)
+    → told' ≡ append told (now ∷ []) → IfOk r (λ out. Tells seat seat' (call_of now input out) gained) → OnErr r (seat' ≡ refused_once seat) → IsTick told told' seat seat'
+ticked told told' seat seat' now input gained (Ok output) tick tells refused =
     record {
       now = now;
       tick = tick;
       taken = λ call is. ap (λ (c : Call). c.moment) (one_added seat.calls call (call_of now input output) (sym is ∙ ap (λ (s : SeatState). s.calls) tells.added));
     }
-ticked told told' seat seat' now input (Err e) tick tells refused =
+ticked told told' seat seat' now input gained (Err e) tick tells refused =
     record {
       now = now;
       tick = tick;

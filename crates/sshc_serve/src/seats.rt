@@ -1,6 +1,6 @@
 //! The seats of a server's connections.
 
-use sshc_shared::{AgentShared, Seat};
+use sshc_shared::{AgentShared, Seat, Settings};
 use std::alloc::Global;
 use std::sync::Wait;
 use std::sync::ledger::Ledger;
@@ -13,7 +13,7 @@ pub(crate) struct Seats<L: Ledger> {
     out: usize,
 }
 
-impl<L: Ledger> Seats<L> {
+impl<L: Settings> Seats<L> {
     pub(crate) fn new(alloc: Global) -> Seats<L> {
         Seats {
             back: Vec::new(alloc),

@@ -1,9 +1,10 @@
 //! Serves many connections beside one another, each in a thread of its own.
 
-ghost use Rattle.std.specs.Prelude.{◌≡◌, IfErr, IfOk, OnOk};
+ghost use Rattle.std.specs.Prelude.{◌≡◌, ◌≤◌, IfErr, IfOk, OnOk, true};
 ghost use Rattle.std.specs.Thread.{IsSend, IsSync};
-ghost use Rattle.sshc_agent.specs.AgentHistory.{IsLegal};
 ghost use Rattle.sshc_agent.specs.LockLaw.{LocksHold};
+ghost use Rattle.sshc_shared.specs.Calls.{journal_weight};
+ghost use Rattle.sshc_shared.specs.Closing.{IsLegalBy};
 ghost use Rattle.sshc_wire.specs.Faults.{Rose};
 ghost use Rattle.sshc_serve.specs.Ends.{Differs};
 
@@ -12,7 +13,7 @@ use crate::seats::Seats;
 use crate::serving::serve_one;
 use sshc_agent::Entry;
 use sshc_key::LocalSigner;
-use sshc_shared::{AgentShared, CloseError, Seat};
+use sshc_shared::{AgentShared, CloseError, Seat, Settings};
 use sshc_wire::{AgentStream, Failed, NoMemory};
 use std::alloc::Global;
 use std::marker::Brand;
@@ -35,7 +36,7 @@ struct Connection<L: Ledger, S: AgentStream + Drop, G: LocalSigner + Drop, C: Cl
 
 /// What all connections share: the agent with its user, and the seats.
 #[derive(Drop)]
-struct Server<'a, L: Ledger, A: Agent, P: Pause> {
+struct Server<'a, L: Settings, A: Agent, P: Pause> {
     alloc: Global,
     shared: AgentShared<L>,
     seats: Mutex<Seats<L>>,
@@ -43,7 +44,7 @@ struct Server<'a, L: Ledger, A: Agent, P: Pause> {
     pause: &'a P,
 }
 
-impl<'a, L: Ledger, A: Agent, P: Pause> Server<'a, L, A, P> {
+impl<'a, L: Settings, A: Agent, P: Pause> Server<'a, L, A, P> {
     /// Gives the stream a seat, and a signer and a clock of its own. A stream for which one of them can't be had is
     /// closed.
     fn seated<S: AgentStream + Drop, G: LocalSigner + Clone, C: Clock + Clone, R: Wait>(
@@ -100,7 +101,7 @@ impl<'a, L: Ledger, A: Agent, P: Pause> Server<'a, L, A, P> {
 /// listener fails or finds no memory. It returns once all connections have ended, and hands the listener back.
 fn serve_all<
     'l,
-    L: Ledger + Send,
+    L: Settings + Send,
     I: Listener,
     A: Agent,
     G: LocalSigner + Clone + Send,
@@ -148,7 +149,7 @@ fn serve_all<
 /// The server over the ledger of one agent.
 fn serve_by<
     'a,
-    L: Ledger + Send,
+    L: Settings + Send,
     I: Listener,
     A: Agent,
     G: LocalSigner + Clone + Send,
@@ -168,8 +169,10 @@ fn serve_by<
 ) -> Result<Vec<Entry>, CloseError>
     requires parts { blank.parts ≡ 67108864 }
     requires ledger { (blank.name ≡ L.name) × (blank.parts ≡ L.parts) }
+    requires settings { (L.asks ≡ true) × (L.limit ≡ journal_limit) }
     ensures fault { OnOk result (Rose (I.faults listener.old) (I.faults listener.new)) }
-    ensures legal { IfOk result (λ h. IsLegal h.items) }
+    ensures legal { IfOk result (λ h. IsLegalBy true h.items) }
+    ensures within { IfOk result (λ h. journal_weight 0 h.items ≤ journal_limit) }
     ensures locks { IfOk result (λ h. LocksHold h.items) }
     ensures differs { IfErr result (λ e. Differs e) }
 {
@@ -217,7 +220,9 @@ pub fn serve<
 ) -> Result<Vec<Entry>, CloseError>
     // The history comes only where the listener failed.
     ensures fault { OnOk result (Rose (I.faults listener.old) (I.faults listener.new)) }
-    ensures legal { IfOk result (λ h. IsLegal h.items) }
+    // It is one of an agent that asks, and weighs no more than it may.
+    ensures legal { IfOk result (λ h. IsLegalBy true h.items) }
+    ensures within { IfOk result (λ h. journal_weight 0 h.items ≤ journal_limit) }
     ensures locks { IfOk result (λ h. LocksHold h.items) }
     ensures differs { IfErr result (λ e. Differs e) }
 {

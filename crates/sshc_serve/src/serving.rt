@@ -1,6 +1,7 @@
 //! Serves one connection.
 
 ghost use Rattle.sshc_serve.specs.Moments.{Timed};
+ghost use Rattle.sshc_serve.specs.Signing.{Signs};
 ghost use Rattle.sshc_serve.specs.Talk.{Serves, seen};
 
 use crate::fetching::fetch;
@@ -8,15 +9,22 @@ use crate::outside::{Agent, Clock, Pause};
 use crate::turn::{Next, close, turn};
 use sshc_agent::{AgentInput, Frames};
 use sshc_key::LocalSigner;
-use sshc_shared::{AgentShared, Seat};
+use sshc_shared::{AgentShared, Seat, Settings};
 use sshc_wire::{AgentStream, NoMemory};
 use std::alloc::Global;
 use std::sync::Wait;
-use std::sync::ledger::Ledger;
 
 /// Serves a connection until its stream ends or fails, the agent closes it, a call is refused or memory runs out. Where the
 /// stream's source ends or fails, the last call is Close.
-pub fn serve_one<L: Ledger, S: AgentStream, A: Agent, G: LocalSigner, P: Pause, C: Clock, R: Wait>(
+pub fn serve_one<
+    L: Settings,
+    S: AgentStream,
+    A: Agent,
+    G: LocalSigner,
+    P: Pause,
+    C: Clock,
+    R: Wait,
+>(
     rt: &R,
     alloc: Global,
     shared: &AgentShared<L>,
@@ -31,6 +39,8 @@ pub fn serve_one<L: Ledger, S: AgentStream, A: Agent, G: LocalSigner, P: Pause, 
         (seen (S.left stream.new) (S.contents stream.new) (S.Source.faults stream.new) (S.Sink.faults stream.new)) seat result.0 result.1 }
     // Each call is made at a moment that the clock returned for it.
     ensures moments { Timed (C.told clock.old) (C.told clock.new) seat result.0 }
+    // The signer is asked just what the steps of the calls ask.
+    ensures signs { Signs (G.calls signer.old) (G.calls signer.new) seat result.0 }
 {
     let mut frames = Frames::new(alloc);
     let mut seat = seat;

@@ -5,12 +5,13 @@ ghost use Rattle.sshc_wire.specs.Contents.{WroteFront, append};
 ghost use Rattle.sshc_wire.specs.Faults.{HasCause};
 ghost use Rattle.sshc_shared.specs.declared.call.Call.{Call as Kept};
 ghost use Rattle.sshc_serve.specs.Moments.{IsTick};
+ghost use Rattle.sshc_serve.specs.Signing.{Signs};
 ghost use Rattle.sshc_serve.specs.Talk.{Answered, Closes, IsCall, IsRefused, Turned, seen};
 
 use crate::outside::{Agent, Clock, Pause};
 use sshc_agent::{AgentInput, AgentOutput};
 use sshc_key::LocalSigner;
-use sshc_shared::{AgentShared, CallRefused, Seat};
+use sshc_shared::{AgentShared, CallRefused, Seat, Settings};
 use sshc_wire::{AgentStream, Failed, write_whole};
 use std::sync::Wait;
 use std::sync::ledger::Ledger;
@@ -73,7 +74,7 @@ fn next_number<L: Ledger>(seat: &Seat<L>) -> u32 {
 }
 
 /// A call of the agent at the clock's moment.
-fn called<L: Ledger, G: LocalSigner, P: Pause, C: Clock, R: Wait>(
+fn called<L: Settings, G: LocalSigner, P: Pause, C: Clock, R: Wait>(
     rt: &R,
     shared: &AgentShared<L>,
     seat: Seat<L>,
@@ -85,6 +86,7 @@ fn called<L: Ledger, G: LocalSigner, P: Pause, C: Clock, R: Wait>(
     ensures call { IfOk result.1 (λ out. (call : Kept) × IsCall seat result.0 input call × (call.output ≡ out)) }
     ensures refused { OnErr result.1 (IsRefused seat result.0) }
     ensures tick { IsTick (C.told clock.old) (C.told clock.new) seat result.0 }
+    ensures signs { Signs (G.calls signer.old) (G.calls signer.new) seat result.0 }
 {
     pause.before(seat.conn(), next_number(&seat));
     let now = clock.now();
@@ -93,7 +95,7 @@ fn called<L: Ledger, G: LocalSigner, P: Pause, C: Clock, R: Wait>(
 
 /// A call of the agent, and what follows its answer.
 pub(crate) fn turn<
-    L: Ledger,
+    L: Settings,
     S: AgentStream,
     A: Agent,
     G: LocalSigner,
@@ -116,6 +118,7 @@ pub(crate) fn turn<
     ensures unread { (S.left stream.new ≡ S.left stream.old) × (S.Source.faults stream.new ≡ S.Source.faults stream.old) }
     ensures later { S.Sink.faults stream.old ≤ S.Sink.faults stream.new }
     ensures tick { IsTick (C.told clock.old) (C.told clock.new) seat result.0 }
+    ensures signs { Signs (G.calls signer.old) (G.calls signer.new) seat result.0 }
 {
     let (seat, answer) = called(rt, shared, seat, input, signer, pause, clock);
     match answer {
@@ -128,7 +131,7 @@ pub(crate) fn turn<
 }
 
 /// The last call of a connection, whose client went away.
-pub(crate) fn close<L: Ledger, G: LocalSigner, P: Pause, C: Clock, R: Wait>(
+pub(crate) fn close<L: Settings, G: LocalSigner, P: Pause, C: Clock, R: Wait>(
     rt: &R,
     shared: &AgentShared<L>,
     seat: Seat<L>,
@@ -138,6 +141,7 @@ pub(crate) fn close<L: Ledger, G: LocalSigner, P: Pause, C: Clock, R: Wait>(
 ) -> Seat<L>
     ensures closes { Closes seat result }
     ensures tick { IsTick (C.told clock.old) (C.told clock.new) seat result }
+    ensures signs { Signs (G.calls signer.old) (G.calls signer.new) seat result }
 {
     pause.before(seat.conn(), next_number(&seat));
     let now = clock.now();

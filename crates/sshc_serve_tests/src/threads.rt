@@ -1,21 +1,21 @@
 //! Calls of two threads.
 
-ghost use Rattle.std.specs.Prelude.{◌≡◌};
+ghost use Rattle.std.specs.Prelude.{◌≡◌, false};
 
 use crate::frames::lists;
 use sshc_agent::Entry;
-use sshc_shared::{AgentShared, Seat};
+use sshc_shared::{AgentShared, Seat, Settings};
 use sshc_toy::ToySigner;
 use std::alloc::Global;
 use std::marker::Brand;
 use std::sync::Wait;
-use std::sync::ledger::{Blank, Ledger};
+use std::sync::ledger::Blank;
 use std::test::*;
 use std::thread;
 use std::thread::Threads;
 
 /// A hundred listings of one seat.
-fn hundred<L: Ledger, R: Wait>(
+fn hundred<L: Settings, R: Wait>(
     rt: &R,
     alloc: Global,
     shared: &AgentShared<L>,
@@ -32,13 +32,14 @@ fn hundred<L: Ledger, R: Wait>(
 }
 
 /// The history of two threads with a seat each.
-fn two_threads<L: Ledger + Send, R: Threads + Wait + Sync>(
+fn two_threads<L: Settings + Send, R: Threads + Wait + Sync>(
     rt: &R,
     alloc: Global,
     blank: Blank,
 ) -> Option<Vec<Entry>>
     requires parts { blank.parts ≡ 67108864 }
     requires ledger { (blank.name ≡ L.name) × (blank.parts ≡ L.parts) }
+    requires settings { (L.asks ≡ false) × (L.limit ≡ 1000000) }
 {
     let shared = AgentShared::<L>::new(alloc, blank, false, 1_000_000).ok()?;
     let one = shared.connect(rt).ok()?;

@@ -4,7 +4,7 @@ use Rattle.std.proofs.lemmas.List.{append-nil}
 use Rattle.std.proofs.lemmas.List.Sums.{sum_by_push, sum_by-cons}
 use Rattle.std.proofs.lemmas.List.Elements.{filter-append}
 use Rattle.sshc_agent.specs.declared.entry.Entry.{Entry}
-use Rattle.sshc_agent.specs.AgentHistory.{AreNumbered, IsEntry, IsLegal, Leads, count_of}
+use Rattle.sshc_agent.specs.AgentHistory.{AreNumbered, IsEntry, Leads, count_of}
 use Rattle.sshc_agent.specs.AgentList.{AgentList}
 use Rattle.sshc_shared.specs.Calls.{entry_weight, journal_weight}
 use Rattle.sshc_shared.specs.Kept.{IsHistoryOf}
@@ -21,9 +21,6 @@ numbers_push earlier (x ∷ entries) e numbers number =
 pub history_push : (asks : Bool) (journal : List Entry) (list list' : AgentList) (e : Entry) → IsHistoryOf asks journal list → IsEntry list e list' → e.number ≡ count_of e.conn journal → IsHistoryOf asks (journal ++ e ∷ []) list'
 history_push asks journal list list' e history entry number =
     record { leads = leads_push journal _ list list' e history.leads entry; numbers = numbers_push [] journal e history.numbers number }
-
-pub legal_of : (asks : Bool) (journal : List Entry) (list : AgentList) → IsHistoryOf asks journal list → IsLegal journal
-legal_of asks journal list history = record { asks = asks; last = list; leads = history.leads; numbers = history.numbers }
 
 one_or_none : (b : Bool) (e : Entry) → length (cond b (e ∷ []) []) ≡ cond b 1 0
 one_or_none true e = refl

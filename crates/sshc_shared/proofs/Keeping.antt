@@ -6,15 +6,15 @@ use Rattle.sshc_key.specs.Signers.{SignCall}
 use Rattle.sshc_agent.specs.declared.entry.Entry.{Entry}
 use Rattle.sshc_agent.specs.declared.input.AgentInput.{AgentInput}
 use Rattle.sshc_agent.specs.declared.input.AgentOutput.{AgentOutput}
-use Rattle.sshc_agent.specs.AgentHistory.{IsLegal, count_of}
+use Rattle.sshc_agent.specs.AgentHistory.{count_of}
 use Rattle.sshc_agent.specs.AgentList.{AgentList}
 use Rattle.sshc_agent.specs.AgentTable.{Steps}
 use Rattle.sshc_shared.specs.declared.counts.Counts.{Counts}
-use Rattle.sshc_shared.specs.Calls.{entry_of, entry_weight, journal_weight}
+use Rattle.sshc_shared.specs.Calls.{call_of, entry_of, entry_weight, journal_weight}
 use Rattle.sshc_shared.specs.Closing.{Tells}
 use Rattle.sshc_shared.specs.Counting.{count_in}
 use Rattle.sshc_shared.specs.Kept.{Adds, IsHistoryOf, IsKept, SeatState, SharedState, due, weight_of}
-use Rattle.sshc_shared.proofs.Histories.{count_push, entries_weigh, history_push, legal_of, weight_push}
+use Rattle.sshc_shared.proofs.Histories.{count_push, entries_weigh, history_push, weight_push}
 use Rattle.sshc_shared.proofs.SignatureLemmas.{entry_is}
 
 pub kept_same :
@@ -68,11 +68,10 @@ pub journal_short : (asks : Bool) (list : AgentList) (h : List Entry) (counts : 
 journal_short asks list h counts total amount parts made weight limit k = omega (arith, k.weighs, k.within, k.small, entries_weigh made h)
 
 -- what the caller of a call that was answered is told
-pub tells_from : (old new : SharedState) (before after : SeatState) (now : ℕ) (input : AgentInput) (gained : List SignCall) (output : AgentOutput) → Adds old new before after now input gained output → IsHistoryOf new.asks new.journal new.list → Tells before after now input output
+pub tells_from : (old new : SharedState) (before after : SeatState) (now : ℕ) (input : AgentInput) (gained : List SignCall) (output : AgentOutput) → Adds old new before after now input gained output → IsHistoryOf old.asks old.journal old.list → Tells before after (call_of now input output) gained
 tells_from old new before after now input gained output adds history =
     record {
-      earlier = old.journal;
-      legal = subst IsLegal adds.journal (legal_of new.asks new.journal new.list history);
+      step = record { earlier = old.journal; legal = record { asks = old.asks; last = old.list; leads = history.leads; numbers = history.numbers }; next = new.list; step = adds.step };
       numbered = adds.numbered;
       added = adds.seat;
     }

@@ -1,22 +1,29 @@
 -- When a shared agent may be closed, and why not; and what a caller sees of a call.
-use Rattle.std.specs.Prelude.{◌≡◌, ◌≢◌, ℕ, List, [], ◌∷◌, ◌++◌, length, Option, slice_get, All, Contains, sum_by}
+use Rattle.std.specs.Prelude.{◌≡◌, ◌≢◌, ◌≤◌, ℕ, Bool, List, [], ◌∷◌, ◌++◌, length, Option, slice_get, All, Contains, sum_by}
 use Rattle.sshc_agent.specs.declared.entry.Entry.{Entry}
-use Rattle.sshc_agent.specs.declared.input.AgentInput.{AgentInput}
-use Rattle.sshc_agent.specs.declared.input.AgentOutput.{AgentOutput}
 use Rattle.sshc_agent.specs.AgentHistory.{IsLegal, count_of}
+use Rattle.sshc_agent.specs.AgentList.{AgentList}
+use Rattle.sshc_agent.specs.AgentTable.{Steps}
+use Rattle.sshc_key.specs.Signers.{SignCall}
 use Rattle.sshc_shared.specs.declared.call.Call.{Call}
 use Rattle.sshc_shared.specs.declared.error.CallRefused.{CallRefused}
 use Rattle.sshc_shared.specs.declared.error.CallRefused.TheVariants.{JournalFull, NoMemory, Miscounted}
 use Rattle.sshc_shared.specs.declared.error.CloseError.{CloseError}
 use Rattle.sshc_shared.specs.declared.error.CloseError.TheVariants.{NoMemory as NoRoom, SeatsOut, Torn}
-use Rattle.sshc_shared.specs.Calls.{call_of, calls_of}
-use Rattle.sshc_shared.specs.Kept.{SeatState, SharedState, next_entry, with_call}
+use Rattle.sshc_shared.specs.Calls.{calls_of, journal_weight}
+use Rattle.sshc_shared.specs.Kept.{SeatState, SharedState, with_call}
 
--- the history is legal, has each seat's calls in its order, each once, and no others
-pub record Accounts (history : List Entry) (seats : List SeatState) : Type 0 where
+-- the history is a legal one of an agent that asks, or of one that doesn't
+pub record IsLegalBy (asks : Bool) (history : List Entry) : Type 0 where
   pub legal : IsLegal history
+  pub asks_is : legal.asks ≡ asks
+
+-- the history is legal, has each seat's calls in its order, each once, and no others, and weighs no more than it may
+pub record Accounts (asks : Bool) (limit : ℕ) (history : List Entry) (seats : List SeatState) : Type 0 where
+  pub legal : IsLegalBy asks history
   pub each : All (λ seat. calls_of seat.conn history ≡ seat.calls) seats
   pub together : length history ≡ sum_by (λ seat. length seat.calls) seats
+  pub within : journal_weight (length seats) history ≤ limit
 
 -- the seat's call at a place differs from another
 pub record IsTorn (seat : SeatState) (conn at : ℕ) (got kept : Option Call) : Type 0 where
@@ -37,12 +44,18 @@ LockedCause s seats (SeatsOut made given) = (made ≡ s.made) × (made ≢ given
 LockedCause s seats (Torn conn at got kept) =
     ((seat : SeatState) × Contains seats seat × IsTorn seat conn at got kept) × (kept ≡ slice_get (calls_of conn s.journal) at)
 
--- the answer is the last of a legal history, in which the connection has just as many earlier entries as the seat has earlier calls
-pub record Tells (before after : SeatState) (now : ℕ) (input : AgentInput) (output : AgentOutput) : Type 0 where
+-- a call is a step of an agent to which some legal history leads, and the signer is asked what that step asks
+pub record IsStep (conn : ℕ) (call : Call) (gained : List SignCall) : Type 0 where
   pub earlier : List Entry
-  pub legal : IsLegal (earlier ++ next_entry before now input output ∷ [])
-  pub numbered : length before.calls ≡ count_of before.conn earlier
-  pub added : after ≡ with_call before (call_of now input output)
+  pub legal : IsLegal earlier
+  pub next : AgentList
+  pub step : Steps call.moment conn call.input legal.last next gained call.output
+
+-- the call is such a step, behind just as many entries of its connection as the seat has earlier calls, and the seat has it then
+pub record Tells (before after : SeatState) (call : Call) (gained : List SignCall) : Type 0 where
+  pub step : IsStep before.conn call gained
+  pub numbered : length before.calls ≡ count_of before.conn step.earlier
+  pub added : after ≡ with_call before call
 
 -- what the caller can see of a refusal
 abbrev pub RefusalSeen : SeatState → CallRefused → Type 0

@@ -1,23 +1,22 @@
 //! Closing a shared agent: all seats are back, and their calls are the journal's.
 
-ghost use Rattle.std.specs.Prelude.{◌≡◌, All, IfErr, IfOk, MatchOption, length, sum_by};
-ghost use Rattle.sshc_agent.specs.AgentHistory.{IsLegal};
-ghost use Rattle.sshc_shared.specs.Calls.{calls_of};
-ghost use Rattle.sshc_shared.specs.Closing.{Accounts, LockedCause};
+ghost use Rattle.std.specs.Prelude.{◌≡◌, ◌≤◌, All, IfErr, IfOk, MatchOption, length, sum_by};
+ghost use Rattle.sshc_shared.specs.Calls.{calls_of, journal_weight};
+ghost use Rattle.sshc_shared.specs.Closing.{Accounts, IsLegalBy, LockedCause};
 ghost use Rattle.sshc_agent.specs.LockLaw.{LocksHold};
 
 use crate::error::CloseError;
 use crate::seat::Seat;
+use crate::settings::Settings;
 use crate::state::AgentState;
 use crate::tear::first_tear;
 use sshc_agent::Entry;
 use sshc_wire::NoMemory;
-use std::sync::ledger::Ledger;
 
 /// The ledger's parts, of which each seat has one.
 const PARTS: usize = 67_108_864;
 
-impl<L: Ledger> AgentState<L> {
+impl<L: Settings> AgentState<L> {
     /// The first place at which a seat and the journal differ.
     fn torn(&self, seats: &[Seat<L>]) -> Result<Option<CloseError>, NoMemory>
         ensures { IfOk result (λ r. MatchOption r (All (λ p. calls_of p.conn self.now.journal ≡ p.calls) seats.now) (λ e. LockedCause self.now seats.now e)) }
@@ -67,7 +66,8 @@ impl<L: Ledger> AgentState<L> {
     fn settle(self, seats: Vec<Seat<L>>) -> Vec<Entry>
         requires { length seats.items ≡ self.made }
         ensures journal { result.items ≡ self.journal }
-        ensures legal { IsLegal result.items }
+        ensures legal { IsLegalBy L.asks result.items }
+        ensures within { journal_weight self.made result.items ≤ L.limit }
         ensures together { length result.items ≡ sum_by (λ p. length p.calls) seats.items }
     {
         let AgentState {
@@ -93,7 +93,7 @@ impl<L: Ledger> AgentState<L> {
         seats: Vec<Seat<L>>,
     ) -> Result<Vec<Entry>, (AgentState<L>, Vec<Seat<L>>, CloseError)>
         ensures journal { IfOk result (λ h. h.items ≡ self.journal) }
-        ensures accounts { IfOk result (λ h. Accounts h.items seats.items) }
+        ensures accounts { IfOk result (λ h. Accounts L.asks L.limit h.items seats.items) }
         // From each acknowledged lock to the unlock with its passphrase nothing is signed, listed or acknowledged.
         ensures locks { IfOk result (λ h. LocksHold h.items) }
         ensures same { IfErr result (λ r. (r.0 ≡ self) × (r.1.items ≡ seats.items)) }

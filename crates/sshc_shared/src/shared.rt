@@ -1,27 +1,30 @@
 //! The agent that threads share.
 
-ghost use Rattle.std.specs.Prelude.{◌≡◌, [], IfErr, IfOk, OnErr};
+ghost use Rattle.std.specs.Prelude.{◌≡◌, ◌++◌, [], IfErr, IfOk, OnErr, OnOk};
+ghost use Rattle.sshc_key.specs.Signers.{since};
+ghost use Rattle.sshc_shared.specs.Calls.{call_of};
 ghost use Rattle.sshc_shared.specs.Kept.{refused_once};
 ghost use Rattle.sshc_shared.specs.Closing.{Accounts, CloseCause, RefusalSeen, Tells};
 ghost use Rattle.sshc_agent.specs.LockLaw.{LocksHold};
 
 use crate::error::{CallRefused, CloseError};
 use crate::seat::Seat;
+use crate::settings::Settings;
 use crate::state::AgentState;
 use sshc_agent::{AgentInput, AgentOutput, Entry};
 use sshc_key::LocalSigner;
 use sshc_wire::NoMemory;
 use std::alloc::Global;
-use std::sync::ledger::{Blank, Ledger};
+use std::sync::ledger::Blank;
 use std::sync::{Mutex, Wait};
 
 /// One agent for all connections, under one lock.
 #[derive(Drop)]
-pub struct AgentShared<L: Ledger> {
+pub struct AgentShared<L: Settings> {
     state: Mutex<AgentState<L>>,
 }
 
-impl<L: Ledger> AgentShared<L> {
+impl<L: Settings> AgentShared<L> {
     /// An agent that nothing was called of yet. Where it asks, the user is asked about each request. Its journal weighs at most
     /// so much: 64 for each seat and entry, and the bytes of an entry's frame. The ledger has 2^26 parts.
     pub fn new(
@@ -32,6 +35,7 @@ impl<L: Ledger> AgentShared<L> {
     ) -> Result<AgentShared<L>, NoMemory>
         requires parts { blank.parts ≡ 67108864 }
         requires ledger { (blank.name ≡ L.name) × (blank.parts ≡ L.parts) }
+        requires settings { (asks ≡ L.asks) × (journal_limit ≡ L.limit) }
     {
         Ok(AgentShared {
             state: Mutex::new(AgentState::new(alloc, blank, asks, journal_limit)),
@@ -55,23 +59,23 @@ impl<L: Ledger> AgentShared<L> {
         input: AgentInput,
         signer: &mut G,
     ) -> (Seat<L>, Result<AgentOutput, CallRefused>)
-        ensures tells { IfOk result.1 (λ out. Tells seat result.0 now input out) }
+        ensures tells { IfOk result.1 (λ out. Tells seat result.0 (call_of now input out) (since (G.calls signer.old) (G.calls signer.new))) }
         ensures refused { OnErr result.1 (result.0 ≡ refused_once seat) }
         ensures seen { IfErr result.1 (λ e. RefusalSeen seat e) }
+        // The signer's list gains what the step asks; nothing where the call is refused.
+        ensures asked { OnOk result.1 (G.calls signer.new ≡ G.calls signer.old ++ since (G.calls signer.old) (G.calls signer.new)) }
+        ensures unasked { OnErr result.1 (G.calls signer.new ≡ G.calls signer.old) }
     {
-        let mut state = self.state.lock(rt);
-        let (seat, result) = state.call(seat, now, input, signer);
-        state.is_legal();
-        (seat, result)
+        self.state.lock(rt).call(seat, now, input, signer)
     }
 
-    /// The history of all calls, where all seats are back and their calls stand in it, in their order and with the answers
-    /// that they got. Else all is handed back with what is wrong.
+    /// The history of all calls of an agent with the settings of its name, where all seats are back and their calls stand in
+    /// it, in their order and with the answers that they got. Else all is handed back with what is wrong.
     pub fn close(
         self,
         seats: Vec<Seat<L>>,
     ) -> Result<Vec<Entry>, (AgentShared<L>, Vec<Seat<L>>, CloseError)>
-        ensures accounts { IfOk result (λ h. Accounts h.items seats.items) }
+        ensures accounts { IfOk result (λ h. Accounts L.asks L.limit h.items seats.items) }
         // From each acknowledged lock to the unlock with its passphrase nothing is signed, listed or acknowledged.
         ensures locks { IfOk result (λ h. LocksHold h.items) }
         ensures same { IfErr result (λ r. r.1.items ≡ seats.items) }

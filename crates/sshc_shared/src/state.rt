@@ -1,8 +1,10 @@
 //! What lies under the lock: the agent, the journal of all calls, a count for each connection, and the ledger.
 
-ghost use Rattle.std.specs.Prelude.{◌≡◌, ◌≤◌, ◌+◌, ◌<◌, [], IfErr, IfOk, MatchOption, OnErr};
+ghost use Rattle.std.specs.Prelude.{◌≡◌, ◌≤◌, ◌+◌, ◌++◌, ◌<◌, [], IfErr, IfOk, MatchOption, OnErr, OnOk};
 ghost use Rattle.sshc_agent.specs.AgentList.{empty_list};
 ghost use Rattle.sshc_key.specs.Signers.{since};
+ghost use Rattle.sshc_shared.specs.Calls.{call_of};
+ghost use Rattle.sshc_shared.specs.Closing.{Tells};
 ghost use Rattle.sshc_shared.specs.Kept.{Adds, IsHistoryOf, due, new_seat, refused_once, weight_of};
 
 use crate::call::frame_length;
@@ -10,6 +12,7 @@ use crate::counts::Counts;
 use crate::error::CallRefused;
 use crate::room::Rooms;
 use crate::seat::Seat;
+use crate::settings::{Given, Settings};
 use sshc_agent::{AgentCore, AgentInput, AgentOutput, Entry};
 use sshc_key::LocalSigner;
 use sshc_wire::NoMemory;
@@ -29,22 +32,21 @@ pub(crate) struct Whole<L: Ledger> {
 
 /// An agent with the history of all its calls. What lies under the lock of a shared agent.
 #[derive(Drop)]
-pub struct AgentState<L: Ledger> {
+pub struct AgentState<L: Settings> {
     pub(crate) alloc: Global,
-    pub(crate) asks: bool,
+    pub(crate) given: Given<L>,
     pub(crate) agent: AgentCore,
     pub(crate) journal: Vec<Entry>,
     pub(crate) counts: Counts,
     pub(crate) made: u32,
     pub(crate) weight: u64,
-    pub(crate) limit: u32,
     pub(crate) book: Book<L>,
     pub(crate) spare: Share<L>,
     pub(crate) whole: Whole<L>,
     pub(crate) rooms: Rooms,
 }
 
-impl<L: Ledger> Model for AgentState<L> {
+impl<L: Settings> Model for AgentState<L> {
     ghost use Rattle.std.specs.Coded.{codes};
     ghost use Rattle.sshc_key.specs.PairCode.{key_pair_code};
     ghost use Rattle.sshc_shared.specs.Kept.{IsKept, SharedState};
@@ -53,28 +55,32 @@ impl<L: Ledger> Model for AgentState<L> {
 
     ghost coded = { Prim.hlevel (codes, key_pair_code) };
 
-    ghost view = { λ s. record { asks = s.asks; list = s.agent; journal = s.journal.items; made = s.made; limit = s.limit } };
+    ghost view = { λ s. record { asks = s.given.asks; list = s.agent; journal = s.journal.items; made = s.made; limit = s.given.limit } };
 
-    ghost invariant = { λ s. IsKept s.asks s.agent s.journal.items s.counts s.book.total s.spare.amount s.spare.parts s.made s.weight s.limit };
+    ghost invariant = { λ s. IsKept s.given.asks s.agent s.journal.items s.counts s.book.total s.spare.amount s.spare.parts s.made s.weight s.given.limit };
 }
 
-impl<L: Ledger> AgentState<L> {
+impl<L: Settings> AgentState<L> {
     /// Nothing was called yet. Where it asks, the user is asked about each request. The ledger has 2^26 parts.
     pub fn new(alloc: Global, blank: Blank, asks: bool, journal_limit: u32) -> AgentState<L>
         requires parts { blank.parts ≡ 67108864 }
         requires ledger { (blank.name ≡ L.name) × (blank.parts ≡ L.parts) }
+        requires settings { (asks ≡ L.asks) × (journal_limit ≡ L.limit) }
         ensures { result ≡ record { asks = asks; list = empty_list asks; journal = []; made = 0; limit = journal_limit } }
     {
         let (book, spare) = blank.open::<L>();
         AgentState {
             alloc,
-            asks,
+            given: Given {
+                asks,
+                limit: journal_limit,
+                of: PhantomData,
+            },
             agent: AgentCore::new(alloc, asks),
             journal: Vec::new(alloc),
             counts: Counts::new(alloc),
             made: 0,
             weight: 0,
-            limit: journal_limit,
             book,
             spare,
             whole: Whole { of: PhantomData },
@@ -89,6 +95,14 @@ impl<L: Ledger> AgentState<L> {
         let _journal = &self.journal;
     }
 
+    /// It asks and is limited as its name says.
+    pub fn is_as_named(&self)
+        ensures asks { self.now.asks ≡ L.asks }
+        ensures limit { self.now.limit ≡ L.limit }
+    {
+        let _given = &self.given;
+    }
+
     /// Makes the seat of the next connection. Connections are numbered from 1.
     pub fn seat(&mut self) -> Result<Seat<L>, CallRefused>
         ensures seat { IfOk result (λ s. s ≡ new_seat (self.old.made + 1)) }
@@ -98,7 +112,7 @@ impl<L: Ledger> AgentState<L> {
         ensures full { IfErr result (λ e. (e ≡ CallRefused.JournalFull) × (self.old.limit < weight_of self.old + 64)) }
         ensures same { OnErr result (self.new ≡ self.old) }
     {
-        if self.weight + ENTRY_WEIGHT > self.limit as u64 {
+        if self.weight + ENTRY_WEIGHT > self.given.limit as u64 {
             return Err(CallRefused::JournalFull);
         }
         let part = self.spare.split_off(1, 0);
@@ -123,6 +137,7 @@ impl<L: Ledger> AgentState<L> {
         ensures ok { IfOk result (λ out. Adds self.old self.new seat.old seat.new now input (since (G.calls signer.old) (G.calls signer.new)) out) }
         ensures err { OnErr result ((self.new ≡ self.old) × (seat.new ≡ seat.old)) }
         ensures due { MatchOption (due self.old seat.old input) (IfErr result (λ e. e ≡ CallRefused.NoMemory)) (λ e. result ≡ Err e) }
+        ensures asked { OnOk result (G.calls signer.new ≡ G.calls signer.old ++ since (G.calls signer.old) (G.calls signer.new)) }
         ensures unasked { OnErr result (G.calls signer.new ≡ G.calls signer.old) }
     {
         let conn = seat.conn;
@@ -135,7 +150,7 @@ impl<L: Ledger> AgentState<L> {
                 kept,
             });
         }
-        let left = self.limit as u64 - self.weight;
+        let left = self.given.limit as u64 - self.weight;
         let heavy = frame_length(&input) as u64;
         if left < heavy || left - heavy < ENTRY_WEIGHT {
             return Err(CallRefused::JournalFull);
@@ -162,6 +177,7 @@ impl<L: Ledger> AgentState<L> {
 
     /// Takes an input of the seat's connection at a moment in milliseconds: one step of the agent, with its entry in the
     /// journal and its call in the seat. A refused call changes nothing but the seat's count of such calls.
+    #[tactic(auto, using(crate::proofs::Keeping::tells_from))]
     pub fn call<G: LocalSigner>(
         &mut self,
         seat: Seat<L>,
@@ -170,11 +186,16 @@ impl<L: Ledger> AgentState<L> {
         signer: &mut G,
     ) -> (Seat<L>, Result<AgentOutput, CallRefused>)
         ensures adds { IfOk result.1 (λ out. Adds self.old self.new seat result.0 now input (since (G.calls signer.old) (G.calls signer.new)) out) }
+        // So the answer is that of a step behind a legal history.
+        ensures tells { IfOk result.1 (λ out. Tells seat result.0 (call_of now input out) (since (G.calls signer.old) (G.calls signer.new))) }
         ensures same { OnErr result.1 ((self.new ≡ self.old) × (result.0 ≡ refused_once seat)) }
         // Miscounted and JournalFull come just where they are due; else only out of memory refuses.
         ensures due { MatchOption (due self.old seat input) (IfErr result.1 (λ e. e ≡ CallRefused.NoMemory)) (λ e. result.1 ≡ Err e) }
+        // The signer's list gains what the step asks; nothing where the call is refused.
+        ensures asked { OnOk result.1 (G.calls signer.new ≡ G.calls signer.old ++ since (G.calls signer.old) (G.calls signer.new)) }
         ensures unasked { OnErr result.1 (G.calls signer.new ≡ G.calls signer.old) }
     {
+        self.is_legal();
         let mut seat = seat;
         match self.try_call(&mut seat, now, input, signer) {
             Ok(output) => (seat, Ok(output)),

@@ -1,22 +1,22 @@
 //! Calls by hand on seats of one thread.
 
-ghost use Rattle.std.specs.Prelude.{◌≡◌};
+ghost use Rattle.std.specs.Prelude.{◌≡◌, false};
 
 use crate::frames::{adds, asks_to_sign, lists, locks};
 use sshc_agent::{AgentInput, AgentOutput, Entry};
-use sshc_shared::{AgentShared, CallRefused, CloseError, Seat};
+use sshc_shared::{AgentShared, CallRefused, CloseError, Seat, Settings};
 use sshc_toy::ToySigner;
 use std::alloc::Global;
 use std::marker::Brand;
 use std::sync::Wait;
-use std::sync::ledger::{Blank, Ledger};
+use std::sync::ledger::Blank;
 use std::test::*;
 
 /// The ledger's parts.
 const PARTS: u64 = 67_108_864;
 
 /// A call whose answer is one of the agent's.
-fn answered<L: Ledger, R: Wait>(
+fn answered<L: Settings, R: Wait>(
     rt: &R,
     alloc: Global,
     shared: &AgentShared<L>,
@@ -28,13 +28,14 @@ fn answered<L: Ledger, R: Wait>(
 }
 
 /// Two listings where the journal has room for one.
-fn one_of_two<L: Ledger, R: Wait>(
+fn one_of_two<L: Settings, R: Wait>(
     rt: &R,
     alloc: Global,
     blank: Blank,
 ) -> Option<(Option<CallRefused>, Vec<Entry>)>
     requires parts { blank.parts ≡ 67108864 }
     requires ledger { (blank.name ≡ L.name) × (blank.parts ≡ L.parts) }
+    requires settings { (L.asks ≡ false) × (L.limit ≡ 193) }
 {
     let shared = AgentShared::<L>::new(alloc, blank, false, 193).ok()?;
     let seat = shared.connect(rt).ok()?;
@@ -58,13 +59,14 @@ fn the_journal_is_full(rt: HostRuntime) -> Result<(), Fail> {
 }
 
 /// Whether a second seat is refused where the journal has room for one.
-fn second_seat<L: Ledger, R: Wait>(
+fn second_seat<L: Settings, R: Wait>(
     rt: &R,
     alloc: Global,
     blank: Blank,
 ) -> Option<Option<CallRefused>>
     requires parts { blank.parts ≡ 67108864 }
     requires ledger { (blank.name ≡ L.name) × (blank.parts ≡ L.parts) }
+    requires settings { (L.asks ≡ false) × (L.limit ≡ 64) }
 {
     let shared = AgentShared::<L>::new(alloc, blank, false, 64).ok()?;
     let _first = shared.connect(rt).ok()?;
@@ -79,9 +81,10 @@ fn seats_weigh_too(rt: HostRuntime) -> Result<(), Fail> {
 }
 
 /// What is wrong where the one seat isn't handed in.
-fn seat_out<L: Ledger, R: Wait>(rt: &R, alloc: Global, blank: Blank) -> Option<CloseError>
+fn seat_out<L: Settings, R: Wait>(rt: &R, alloc: Global, blank: Blank) -> Option<CloseError>
     requires parts { blank.parts ≡ 67108864 }
     requires ledger { (blank.name ≡ L.name) × (blank.parts ≡ L.parts) }
+    requires settings { (L.asks ≡ false) × (L.limit ≡ 1000000) }
 {
     let shared = AgentShared::<L>::new(alloc, blank, false, 1_000_000).ok()?;
     let _seat = shared.connect(rt).ok()?;
@@ -99,9 +102,10 @@ fn a_seat_is_out(rt: HostRuntime) -> Result<(), Fail> {
 }
 
 /// Seat 1 adds a key, seat 2 lists and locks, and seat 1 asks for a signature.
-fn four_calls<L: Ledger, R: Wait>(rt: &R, alloc: Global, blank: Blank) -> Option<Vec<Entry>>
+fn four_calls<L: Settings, R: Wait>(rt: &R, alloc: Global, blank: Blank) -> Option<Vec<Entry>>
     requires parts { blank.parts ≡ 67108864 }
     requires ledger { (blank.name ≡ L.name) × (blank.parts ≡ L.parts) }
+    requires settings { (L.asks ≡ false) × (L.limit ≡ 1000000) }
 {
     let shared = AgentShared::<L>::new(alloc, blank, false, 1_000_000).ok()?;
     let one = shared.connect(rt).ok()?;

@@ -2,13 +2,12 @@
 
 use sshc_agent::{AgentInput, AgentOutput};
 use sshc_key::LocalSigner;
-use sshc_shared::{AgentShared, CallRefused, Seat};
+use sshc_shared::{AgentShared, CallRefused, Seat, Settings};
 use std::sync::Wait;
-use std::sync::ledger::Ledger;
 
 /// One input on a connection of its own. The seat has the call with its answer; `AgentShared::close` compares all seats with the
 /// agent's history.
-pub fn ask_once<L: Ledger, G: LocalSigner, R: Wait>(
+pub fn ask_once<L: Settings, G: LocalSigner, R: Wait>(
     rt: &R,
     shared: &AgentShared<L>,
     now: u64,

@@ -1,10 +1,11 @@
 use Rattle.sshc_serve.specs.Talk.{seen}
 use Rattle.sshc_serve.proofs.Talking.{asks_turn, begun, closed_turn, goes_turn, gone, refused_turn, starved_turn, unfetched, write_failed_turn}
 use Rattle.sshc_serve.proofs.Ticking.{called_last, closed_last, no_call, one_more, refused_last, stopped}
+use Rattle.sshc_serve.proofs.Signed.{signs_nothing, signs_on}
 use Rattle.sshc_serve.proofs.serving.serve_one.Goals as goal
 
 pub loop-init : goal.loop-init
-loop-init g c = (tt, tt, rw c.new-frames.ensures (begun _ _ _ _), no_call _ _)
+loop-init g c = (tt, tt, rw c.new-frames.ensures (begun _ _ _ _), no_call _ _, signs_nothing _ _)
 
 pub returns-in-Err : goal.returns-in-Err
 returns-in-Err g c =
@@ -14,6 +15,7 @@ returns-in-Err g c =
           (seen (g.S.Source.left c.fetch.new.stream) (g.S.Sink.contents c.fetch.new.stream) (g.S.Source.faults c.fetch.new.stream) (g.S.Sink.faults c.fetch.new.stream))
           _ c.loop.frames c.fetch.new.frames c.loop.answer _ c.loop.invariant.2 c.in-Err.ensures.fetched c.fetch.ensures.unwritten.0;
       moments = stopped _ _ _ _ c.loop.invariant.3;
+      signs = c.loop.invariant.4;
     }
 
 pub returns-in-Ok-None : goal.returns-in-Ok-None
@@ -25,6 +27,7 @@ returns-in-Ok-None g c =
           (seen (g.S.Source.left c.fetch.new.stream) (g.S.Sink.contents c.fetch.new.stream) (g.S.Source.faults c.fetch.new.stream) (g.S.Sink.faults c.fetch.new.stream))
           _ c.close.result c.loop.frames c.fetch.new.frames c.loop.answer c.loop.invariant.2 f c.fetch.ensures.unwritten.0 c.close.ensures.closes;
       moments = closed_last _ _ _ _ _ _ c.loop.invariant.3 c.close.ensures.tick c.close.ensures.closes;
+      signs = signs_on _ _ _ _ _ _ c.loop.invariant.4 c.close.ensures.signs;
     }
 
 pub loop-preserved-in-Goes : goal.loop-preserved-in-Goes
@@ -38,6 +41,7 @@ loop-preserved-in-Goes g c =
           (seen (g.S.Source.left c.turn-next_seat.new.stream) (g.S.Sink.contents c.turn-next_seat.new.stream) (g.S.Source.faults c.turn-next_seat.new.stream) (g.S.Sink.faults c.turn-next_seat.new.stream))
           _ _ c.loop.frames c.fetch.new.frames c.loop.answer c.in-Ok-Some.input c.loop.invariant.2 f c.fetch.ensures.later c.fetch.ensures.unwritten c.turn-next_seat.ensures.unread c.turn-next_seat.ensures.later t,
       one_more _ _ _ _ _ _ c.loop.invariant.3 c.turn-next_seat.ensures.tick _ t.0 t.1,
+      signs_on _ _ _ _ _ _ c.loop.invariant.4 c.turn-next_seat.ensures.signs,
     )
 
 pub loop-preserved : goal.loop-preserved
@@ -51,6 +55,7 @@ loop-preserved g c =
           (seen (g.S.Source.left c.turn-next_seat.new.stream) (g.S.Sink.contents c.turn-next_seat.new.stream) (g.S.Source.faults c.turn-next_seat.new.stream) (g.S.Sink.faults c.turn-next_seat.new.stream))
           _ _ c.loop.frames c.fetch.new.frames c.loop.answer c.in-Ok-Some.input c.loop.invariant.2 f c.fetch.ensures.later c.fetch.ensures.unwritten c.turn-next_seat.ensures.unread c.turn-next_seat.ensures.later c.in-Asks.input t,
       one_more _ _ _ _ _ _ c.loop.invariant.3 c.turn-next_seat.ensures.tick _ t.0 t.1,
+      signs_on _ _ _ _ _ _ c.loop.invariant.4 c.turn-next_seat.ensures.signs,
     )
 
 pub returns-in-Refused : goal.returns-in-Refused
@@ -64,6 +69,7 @@ returns-in-Refused g c =
           (seen (g.S.Source.left c.turn-next_seat.new.stream) (g.S.Sink.contents c.turn-next_seat.new.stream) (g.S.Source.faults c.turn-next_seat.new.stream) (g.S.Sink.faults c.turn-next_seat.new.stream))
           _ _ c.loop.frames c.fetch.new.frames c.loop.answer c.in-Ok-Some.input c.loop.invariant.2 f c.fetch.ensures.later c.fetch.ensures.unwritten c.turn-next_seat.ensures.unread c.turn-next_seat.ensures.later t;
       moments = refused_last _ _ _ _ _ _ c.loop.invariant.3 c.turn-next_seat.ensures.tick t.0;
+      signs = signs_on _ _ _ _ _ _ c.loop.invariant.4 c.turn-next_seat.ensures.signs;
     }
 
 pub returns-in-Closed : goal.returns-in-Closed
@@ -77,6 +83,7 @@ returns-in-Closed g c =
           (seen (g.S.Source.left c.turn-next_seat.new.stream) (g.S.Sink.contents c.turn-next_seat.new.stream) (g.S.Source.faults c.turn-next_seat.new.stream) (g.S.Sink.faults c.turn-next_seat.new.stream))
           _ _ c.loop.frames c.fetch.new.frames c.loop.answer c.in-Ok-Some.input c.loop.invariant.2 f c.fetch.ensures.later c.fetch.ensures.unwritten c.turn-next_seat.ensures.unread c.turn-next_seat.ensures.later t;
       moments = called_last _ _ _ _ _ _ c.loop.invariant.3 c.turn-next_seat.ensures.tick _ t.0 t.1;
+      signs = signs_on _ _ _ _ _ _ c.loop.invariant.4 c.turn-next_seat.ensures.signs;
     }
 
 pub returns-in-WriteFailed : goal.returns-in-WriteFailed
@@ -90,6 +97,7 @@ returns-in-WriteFailed g c =
           (seen (g.S.Source.left c.turn-next_seat.new.stream) (g.S.Sink.contents c.turn-next_seat.new.stream) (g.S.Source.faults c.turn-next_seat.new.stream) (g.S.Sink.faults c.turn-next_seat.new.stream))
           _ _ c.loop.frames c.fetch.new.frames c.loop.answer c.in-Ok-Some.input c.loop.invariant.2 f c.fetch.ensures.later c.fetch.ensures.unwritten c.turn-next_seat.ensures.unread c.turn-next_seat.ensures.later t;
       moments = called_last _ _ _ _ _ _ c.loop.invariant.3 c.turn-next_seat.ensures.tick _ t.0 t.1;
+      signs = signs_on _ _ _ _ _ _ c.loop.invariant.4 c.turn-next_seat.ensures.signs;
     }
 
 pub returns-in-Starved : goal.returns-in-Starved
@@ -103,4 +111,5 @@ returns-in-Starved g c =
           (seen (g.S.Source.left c.turn-next_seat.new.stream) (g.S.Sink.contents c.turn-next_seat.new.stream) (g.S.Source.faults c.turn-next_seat.new.stream) (g.S.Sink.faults c.turn-next_seat.new.stream))
           _ _ c.loop.frames c.fetch.new.frames c.loop.answer c.in-Ok-Some.input c.loop.invariant.2 f c.fetch.ensures.later c.fetch.ensures.unwritten c.turn-next_seat.ensures.unread c.turn-next_seat.ensures.later _ t;
       moments = called_last _ _ _ _ _ _ c.loop.invariant.3 c.turn-next_seat.ensures.tick _ t.0 t.1;
+      signs = signs_on _ _ _ _ _ _ c.loop.invariant.4 c.turn-next_seat.ensures.signs;
     }

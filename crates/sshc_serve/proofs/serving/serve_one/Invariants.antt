@@ -1,4 +1,5 @@
 use Rattle.sshc_serve.specs.Moments.{TimedSoFar}
+use Rattle.sshc_serve.specs.Signing.{Signs}
 use Rattle.sshc_serve.specs.Talk.{Serving, seen}
 use Rattle.sshc_serve.proofs.serving.serve_one.Given as goal
 
@@ -10,3 +11,4 @@ invariant-loop g l =
     (seen (g.S.Source.left l.stream) (g.S.Sink.contents l.stream) (g.S.Source.faults l.stream) (g.S.Sink.faults l.stream))
     l.initial.seat l.seat l.frames l.answer
     × TimedSoFar (g.C.Clock.told l.initial.clock) (g.C.Clock.told l.clock) l.initial.seat l.seat
+    × Signs (g.G.LocalSigner.calls l.initial.signer) (g.G.LocalSigner.calls l.signer) l.initial.seat l.seat
