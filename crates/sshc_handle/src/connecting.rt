@@ -1,7 +1,9 @@
 //! How a handle and its runner are made.
 
-ghost use Rattle.std.specs.Prelude.{◌≡◌, ℕ, IfErr};
+ghost use Rattle.std.specs.Prelude.{◌≡◌, ℕ, IfErr, List, Option};
+ghost use Rattle.std.specs.declared.net.socket_addr.SocketAddr.{SocketAddr as Address};
 ghost use Rattle.sshc_wire.specs.Faults.{HasCause};
+ghost use Rattle.sshc_handle.specs.Making.{and_address};
 ghost use Rattle.sshc_handle.specs.Refused.{IsMakers};
 
 use crate::handle::Handle;
@@ -21,9 +23,14 @@ use std::sync::Arc;
 pub trait Maker {
     type T: Transport + Drop;
 
+    /// The addresses that it was asked for, in order, where it tells them.
+    ghost addresses: { Self → Option (List Address) };
+
+    /// How often it failed.
     ghost faults: { Self → ℕ };
 
     fn make(&mut self, addr: SocketAddr) -> Result<Self::T, Failed>
+        ensures asked { addresses self.new ≡ and_address (addresses self.old) addr }
         ensures cause { HasCause (faults self.old) (faults self.new) result };
 }
 
@@ -74,7 +81,8 @@ pub fn connect_stream<
     }
 }
 
-/// The same over a transport that the maker makes at an address. `TransportFailed` where the maker counted a fault.
+/// The same over a transport that the maker makes at an address, for which it is asked once. `TransportFailed` where the
+/// maker counted a fault.
 pub fn connect<
     H: Handler + Drop,
     M: Maker,
@@ -91,7 +99,8 @@ pub fn connect<
     verifier: V,
     clock: C,
 ) -> Result<(Handle<H>, Runner<H, M::T, S, V, C>), Error>
-    ensures { IfErr result (λ e. IsMakers (M.faults maker.old) (M.faults maker.new) e) }
+    ensures asked { M.addresses maker.new ≡ and_address (M.addresses maker.old) addr }
+    ensures cause { IfErr result (λ e. IsMakers (M.faults maker.old) (M.faults maker.new) e) }
 {
     match maker.make(addr) {
         Ok(transport) => connect_stream(alloc, config, transport, handler, signer, verifier, clock),

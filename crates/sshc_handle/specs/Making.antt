@@ -1,0 +1,8 @@
+-- Which addresses a maker of transports is asked for.
+use Rattle.std.specs.Prelude.{List, [], ◌∷◌, ◌++◌, Option}
+use Rattle.std.specs.Option.{option_map}
+use Rattle.std.specs.declared.net.socket_addr.SocketAddr.{SocketAddr}
+
+-- one address more, where the maker tells which it was asked for
+abbrev pub and_address : Option (List SocketAddr) → SocketAddr → Option (List SocketAddr)
+and_address addresses addr = option_map (λ earlier. earlier ++ addr ∷ []) addresses
