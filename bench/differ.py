@@ -1,0 +1,92 @@
+#!/usr/bin/env python3
+"""Runs two programs over many scripts that are made from numbers (mixed_script.py), each with a known hosts text, and compares
+their lines, last lines and statuses. Of each difference it prints the first event at which the two differ, and it keeps the
+script and the known hosts text. At the end it prints how the scripts ended.
+
+Usage: bench/differ.py FIRST SECOND FROM TO [FOLDER]
+The programs are called with the words script, host, port and known hosts file. FOLDER is where differing scripts are kept.
+"""
+import collections
+import os
+import random
+import subprocess
+import sys
+import tempfile
+
+from mixed_script import Writer, known_text
+
+
+class Pair:
+    def __init__(self, programs, folder):
+        self.programs = programs
+        self.known = os.path.join(folder, "known")
+
+    def outcomes(self, script):
+        """The status and what was written, of each program."""
+        words = ["script", "localhost", "13265", self.known]
+        runs = [subprocess.run([program, *words], input=script, stdout=subprocess.PIPE, check=False) for program in self.programs]
+        return [(run.returncode, run.stdout) for run in runs]
+
+    def first_event(self, events):
+        """The number of the first event at which the outcomes differ."""
+        low, high = 0, len(events)
+        while high - low > 1:
+            middle = (low + high) // 2
+            first, second = self.outcomes(b"".join(events[:middle]))
+            low, high = (low, middle) if first != second else (middle, high)
+        return high - 1
+
+    def report(self, seed, events):
+        at = self.first_event(events)
+        outcomes = self.outcomes(b"".join(events[:at + 1]))
+        place = sum(map(len, events[:at]))
+        print(f"seed {seed}: the two differ at event {at}, place {place}: {events[at].hex()[:2000]}")
+        lines = [told.split(b"\n") for _, told in outcomes]
+        same = next((n for n, (a, b) in enumerate(zip(*lines)) if a != b), 0)
+        for program, (status, _), told in zip(self.programs, outcomes, lines):
+            print(f"  {os.path.basename(program)}: status {status}, lines from {same}: {b' '.join(told[same:same + 4]).decode()[:600]}")
+
+
+def made(seed):
+    """A script's events and a known hosts text."""
+    rng = random.Random(seed)
+    writer = Writer(seed, rng.choice((b"session-id", b"", b"\xff" * 64)))
+    if seed % 50 == 0:
+        writer.mixed(rng.choice((300, 1500)))
+        return writer.out, None
+    writer.walk()
+    return writer.out, known_text(rng)
+
+
+def main():
+    first, last = int(sys.argv[3]), int(sys.argv[4])
+    keep = sys.argv[5] if len(sys.argv) > 5 else None
+    ends, events_run, differing = collections.Counter(), 0, 0
+    with open(os.path.join(os.path.dirname(__file__), "../examples/password-login/known_hosts"), encoding="utf-8") as file:
+        accepting = file.read()
+    with tempfile.TemporaryDirectory() as folder:
+        both = Pair(sys.argv[1:3], folder)
+        for seed in range(first, last):
+            events, known = made(seed)
+            with open(both.known, "w", encoding="utf-8", newline="") as file:
+                file.write(known or accepting)
+            script = b"".join(events)
+            one, other = both.outcomes(script)
+            ends[b" ".join(one[1].split(b"\n")[-2].split(b" ")[:2]).decode()] += 1
+            events_run += len(events)
+            if one == other:
+                continue
+            differing += 1
+            both.report(seed, events)
+            if keep:
+                for name, body in (("script", script), ("known", (known or accepting).encode())):
+                    with open(os.path.join(keep, f"{seed}.{name}"), "wb") as file:
+                        file.write(body)
+    for end, count in ends.most_common():
+        print(f"{count:8} {end}")
+    print(f"{last - first} scripts of {events_run} events, {differing} differ")
+    return differing > 0
+
+
+if __name__ == "__main__":
+    sys.exit(main())
