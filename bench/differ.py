@@ -15,6 +15,8 @@ import tempfile
 
 from mixed_script import Writer, known_text
 
+EDGES = 28
+
 
 class Pair:
     def __init__(self, programs, folder):
@@ -51,6 +53,9 @@ def made(seed):
     """A script's events and a known hosts text."""
     rng = random.Random(seed)
     writer = Writer(seed, rng.choice((b"session-id", b"", b"\xff" * 64)))
+    if seed < EDGES:
+        writer.edge(seed)
+        return writer.out, None
     if seed % 50 == 0:
         writer.mixed(rng.choice((300, 1500)))
         return writer.out, None

@@ -5,8 +5,9 @@ examples/password-login, whose known hosts text accepts it.
 Usage: bench/mixed_script.py logins METHOD COUNT   so many requests by this method, each answered, and then one that succeeds
        bench/mixed_script.py mixed SEED COUNT      so many events of an open session, none of which ends it
        bench/mixed_script.py bytes MIB             so many MiB up and as many down on one channel
-       bench/mixed_script.py channels COUNT        so many channels, with bytes up and down on each
+       bench/mixed_script.py channels COUNT EVENTS so many channels, and bytes up and down on each in turn
        bench/mixed_script.py walk SEED             any events, also broken ones and ones out of turn
+       bench/mixed_script.py edge NUMBER           a limit, on either side of it: 0 to 27
 METHOD is none, password, pair, pair-certificate, key, certificate, prompts or gssapi.
 """
 import random
@@ -19,7 +20,10 @@ from wire_parts import (
 KEY = string(b"ssh-ed25519") + string(bytes.fromhex("9743ef2dda2eae39e325817702d66e2794d5e6f3f7f72eeff4045e7f4e21e649"))
 METHODS = ["none", "password", "pair", "pair-certificate", "key", "certificate", "prompts", "gssapi"]
 CLASSES = dict(zip(METHODS, ["plain", "plain", "key", "key", "key", "key", "prompts", "gssapi"]))
+NUMBERS = [1, 2, 5, 6, 7, 50, 51, 52, 53, 60, 61, 64, 65, 66, 79, *range(80, 102)]
 WINDOW = 2_097_152
+MOST_EVENTS = 8192
+LONGEST = 262_144
 NAMES = [b"", b"x", b"alice", "gr\u00fc\u00dfe".encode(), b"a" * 300]
 OPENED = [b"session", b"x11", b"direct-tcpip", b"direct-streamlocal@openssh.com", b"forwarded-tcpip",
           b"forwarded-streamlocal@openssh.com", b"auth-agent@openssh.com", b"foo"]
@@ -51,6 +55,7 @@ class Writer:
         self.channels = {}
         self.replies = []
         self.held = 0
+        self.spoiled = 0.0
         self.agent_keys = []
 
     def put(self, kind, fields=b""):
@@ -66,6 +71,8 @@ class Writer:
         return u32(self.rng.randrange(5))
 
     def text(self):
+        if self.rng.random() < self.spoiled:
+            return string(self.body(4))
         return string(self.rng.choice(NAMES))
 
     def flag_byte(self):
@@ -434,7 +441,7 @@ class Writer:
         if len(self.out) == before:
             return
         last = bytearray(self.out[-1])
-        change = rng.randrange(8)
+        change = rng.randrange(11)
         if change == 0:
             last[rng.randrange(len(last))] = rng.randrange(256)
         elif change == 1 and len(last) > 13:
@@ -451,6 +458,12 @@ class Writer:
             last = bytearray(event(0x20, u32(rng.randrange(17)) + self.text() + self.text(), self.moment))
         elif change == 6:
             last = bytearray(event(0x03, b"\1" + u32(rng.randrange(17)) + self.text() + self.text() + self.body(4), self.moment))
+        elif change == 7:
+            last = bytearray(event(0x03, bytes([rng.choice(NUMBERS)]) + self.body(14), self.moment))
+        elif change == 8:
+            last = bytearray(event(0x03, b"\x33" + string(rng.choice((b"", b"foo", b",", b"none"))) + self.flag_byte(), self.moment))
+        elif change == 9:
+            last = last * 2
         else:
             last = bytearray(rng.choice((event(0x2f, b"", self.moment), event(0x04, b"", self.moment), event(0x24, b"", self.moment),
                                          event(0x01, b"", self.moment), bytes(last[:rng.randrange(len(last))]))))
@@ -460,6 +473,7 @@ class Writer:
         rng = self.rng
         length = rng.choice((5, 15, 40, 120))
         broken = rng.choice((0.0, 0.01, 0.05, 0.2))
+        self.spoiled = broken / 20
         if rng.random() < 0.6:
             self.log_in()
         while self.count < length:
@@ -469,6 +483,105 @@ class Writer:
                 self.open_event()
             else:
                 self.opening_event()
+
+    # ---- limits
+
+    def edge(self, number):
+        acts = [
+            lambda: self.as_many(MOST_EVENTS), lambda: self.as_many(MOST_EVENTS, b"\0"), lambda: self.as_many(MOST_EVENTS + 1),
+            lambda: self.much_held(0), lambda: self.much_held(1), lambda: self.passed_packet(LONGEST - 9), lambda: self.passed_packet(LONGEST - 8),
+            lambda: self.out.append(string(bytes(8))), lambda: self.out.append(u32(9)), lambda: self.out.append(b"\0\0"),
+            lambda: self.out.append(string(bytes(8) + b"\x08")), self.many_agent_keys, lambda: self.granted(2**32 - 1),
+            lambda: self.granted(2**32 - 2), lambda: self.long_data(7), lambda: self.long_data(2**32 - 1), self.last_moment,
+            lambda: self.nested(8), lambda: self.nested(9), lambda: self.named(64), lambda: self.named(65), lambda: self.certified(64),
+            lambda: self.certified(65), lambda: self.confirmed_in_exchange(0x21, b"\2"), lambda: self.confirmed_in_exchange(0x1f),
+            lambda: self.awaited_in_exchange(0x16), lambda: self.awaited_in_exchange(0x24), lambda: self.awaited_in_exchange(0x2f),
+        ]
+        acts[number]()
+
+    def as_many(self, count, more=b""):
+        self.exchange()
+        while self.count < count:
+            self.put(0x08)
+        self.out.append(more)
+
+    def much_held(self, more):
+        """Twice the window in packets, and so many bytes more, while an exchange of ours runs."""
+        self.log_in()
+        self.put(0x24)
+        self.flag = "ours"
+        for _ in range(32):
+            self.packet(255, bytes(2 * WINDOW // 32 - 1))
+        if more:
+            self.packet(100 + more, b"")
+        self.exchange()
+
+    def passed_packet(self, length):
+        self.exchange()
+        self.put(0x03, b"\2" + bytes(length - 1))
+
+    def many_agent_keys(self):
+        """Keys until a listing is as long as it may be; one key more isn't taken."""
+        for size in (60_000, 60_000, 60_000, 60_000, 21_000, 900, 300, 100, 3, 1, 1):
+            made = string(b"ssh-rsa") + string(b"\x7f" * size) + string(b"\3") + string(b"\5") * 4 + string(b"")
+            self.put(0x40, u32(1) + string(b"\x11" + made))
+            self.put(0x40, u32(1) + string(b"\x0b"))
+
+    def granted(self, window):
+        self.log_in()
+        self.open_channel(0x17)
+        self.confirm(1, window, 32768)
+        for amount in (0, 1, 1, 2**32 - 1):
+            self.packet(93, u32(1) + u32(amount))
+
+    def long_data(self, size):
+        self.log_in()
+        self.open_channel(0x17)
+        self.confirm(1, 100_000, size)
+        self.put(0x21, u32(1) + b"\0" + string(self.rng.randbytes(200_000)))
+        self.put(0x21, u32(1) + b"\1" + u32(9) + string(self.rng.randbytes(9)))
+        self.put(0x21, u32(1) + b"\3")
+        self.packet(93, u32(1) + u32(99_999))
+        self.packet(93, u32(1) + u32(5))
+        self.packet(93, u32(1) + u32(2**32 - 1))
+
+    def last_moment(self):
+        self.moment = 2**64 - 1
+        self.put(0x40, u32(1) + string(b"\x19" + pair(self.rng)[0] + string(b"") + b"\1" + u32(2**32 - 1)))
+        self.put(0x40, u32(1) + string(b"\x0b"))
+        self.moment -= 1
+        self.put(0x08)
+
+    def nested(self, count):
+        self.exchange(certificate_blob(self.rng, b"ssh-ed25519", count - 1), 2)
+
+    def named(self, length):
+        self.exchange(string(b"a" * (length - 2) + b"@b") + string(b""))
+
+    def certified(self, length):
+        self.exchange(certificate_blob(self.rng, b"a" * (length - 11) + b"@b"), 2)
+
+    def confirmed_in_exchange(self, kind, fields=b""):
+        """An end that waits for an open of ours, which is confirmed while an exchange of ours runs."""
+        self.log_in()
+        self.open_channel(0x17)
+        self.put(kind, u32(1) + fields)
+        self.put(0x24)
+        self.flag = "ours"
+        self.confirm(1, 100, 100)
+        self.exchange()
+
+    def awaited_in_exchange(self, kind):
+        """An outside signer that is asked while an exchange of ours runs."""
+        self.exchange()
+        self.authenticate("key", u32(1), small=True)
+        self.service_accept()
+        self.put(0x24)
+        self.flag = "ours"
+        self.ask_to_sign()
+        self.put(kind)
+        self.put(0x26, u32(5))
+        self.exchange()
 
     # ---- what is measured
 
@@ -509,19 +622,21 @@ class Writer:
         self.open_channel(0x17)
         self.confirm(1, WINDOW, 32768)
         piece = self.rng.randbytes(32768)
-        for _ in range(32 * mebibytes):
+        for turn in range(1, 32 * mebibytes + 1):
             self.put(0x21, u32(1) + b"\0" + string(piece))
             self.packet(94, u32(1) + string(piece))
-            if _ % 32 == 31:
+            if turn % 32 == 0:
                 self.packet(93, u32(1) + u32(32 * 32768))
 
-    def many_channels(self, count):
+    def many_channels(self, count, events):
         self.log_in()
         for number in range(1, count + 1):
             self.open_channel(0x17)
             self.confirm(number, WINDOW, 32768)
-            self.put(0x21, u32(number) + b"\0" + string(b"0123456789"))
-            self.packet(94, u32(number) + string(b"0123456789"))
+        for turn in range((events - self.count) // 2):
+            number = u32(turn % count + 1)
+            self.put(0x21, number + b"\0" + string(b"0123456789"))
+            self.packet(94, number + string(b"0123456789"))
 
 
 def known_text(rng):
@@ -556,7 +671,9 @@ def script_of(words):
     elif kind == "bytes":
         writer.megabytes(int(rest[0]))
     elif kind == "channels":
-        writer.many_channels(int(rest[0]))
+        writer.many_channels(int(rest[0]), int(rest[1]))
+    elif kind == "edge":
+        writer.edge(int(rest[0]))
     else:
         writer.walk()
     return writer

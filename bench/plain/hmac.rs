@@ -47,20 +47,24 @@ fn compress(state: &mut [u32; 5], block: &[u8; 64]) {
     for at in 16..80 {
         words[at] = (words[at - 3] ^ words[at - 8] ^ words[at - 14] ^ words[at - 16]).rotate_left(1);
     }
-    let [mut a, mut b, mut c, mut d, mut e] = *state;
-    for (at, word) in words.iter().enumerate() {
-        let (mixed, constant) = match at / 20 {
-            0 => ((b & c) | (!b & d), 0x5a82_7999),
-            1 => (b ^ c ^ d, 0x6ed9_eba1),
-            2 => ((b & c) | (b & d) | (c & d), 0x8f1b_bcdc),
-            _ => (b ^ c ^ d, 0xca62_c1d6_u32),
-        };
-        let next = a.rotate_left(5).wrapping_add(mixed).wrapping_add(e).wrapping_add(constant).wrapping_add(*word);
-        (e, d, c, b, a) = (d, c, b.rotate_left(30), a, next);
-    }
-    for (word, more) in state.iter_mut().zip([a, b, c, d, e]) {
+    let mut now = *state;
+    rounds(&mut now, &words[..20], 0x5a82_7999, |b, c, d| (b & c) | (!b & d));
+    rounds(&mut now, &words[20..40], 0x6ed9_eba1, |b, c, d| b ^ c ^ d);
+    rounds(&mut now, &words[40..60], 0x8f1b_bcdc, |b, c, d| (b & c) | (b & d) | (c & d));
+    rounds(&mut now, &words[60..], 0xca62_c1d6, |b, c, d| b ^ c ^ d);
+    for (word, more) in state.iter_mut().zip(now) {
         *word = word.wrapping_add(more);
     }
+}
+
+fn rounds(state: &mut [u32; 5], words: &[u32], constant: u32, mix: impl Fn(u32, u32, u32) -> u32) {
+    let [mut a, mut b, mut c, mut d, mut e] = *state;
+    for word in words {
+        let next =
+            a.rotate_left(5).wrapping_add(mix(b, c, d)).wrapping_add(e).wrapping_add(constant).wrapping_add(*word);
+        (e, d, c, b, a) = (d, c, b.rotate_left(30), a, next);
+    }
+    *state = [a, b, c, d, e];
 }
 
 pub fn hmac(key: &[u8], parts: &[&[u8]]) -> [u8; 20] {

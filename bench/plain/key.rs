@@ -50,20 +50,9 @@ const MARK: &[u8] = b"-cert-v01";
 const MOST_NESTED: usize = 9;
 const MOST_MARKERS: usize = 8;
 
-fn known_plain(name: &[u8]) -> Option<Known> {
-    KNOWN
-        .iter()
-        .find(|(stem, has_domain, _)| name == if *has_domain { [stem, OPENSSH].concat() } else { stem.to_vec() })
-        .map(|k| k.2)
-}
-
 fn known_named(name: &[u8]) -> Option<Known> {
-    match name {
-        // by far the most frequent, and found without memory
-        b"ssh-ed25519" => Some(Known::Ed25519),
-        b"ssh-rsa" => Some(Known::Rsa),
-        other => known_plain(other),
-    }
+    let stem = name.strip_suffix(OPENSSH);
+    KNOWN.iter().find(|known| if known.1 { stem == Some(known.0) } else { name == known.0 }).map(|known| known.2)
 }
 
 fn known_certified(name: &[u8]) -> Option<Known> {
@@ -195,7 +184,7 @@ fn key<'a>(f: &mut Fields<'a>, nested: usize) -> Option<Key<'a>> {
 
 fn has_few_markers(blob: &[u8]) -> bool {
     // a short blob holds no more of them
-    blob.len() < 90 || blob.windows(10).filter(|part| *part == b"-cert-v01@").count() <= MOST_MARKERS
+    blob.len() < 90 || blob.windows(10).filter(|part| part[0] == b'-' && *part == b"-cert-v01@").count() <= MOST_MARKERS
 }
 
 impl<'a> Key<'a> {

@@ -33,7 +33,9 @@ const MOST_EVENTS: u64 = 8192;
 /// The events of a script, one at a time.
 struct Script<R> {
     input: R,
-    event: Vec<u8>,
+    /// As long as the longest event so far, of which so many bytes are this one's.
+    buffer: Vec<u8>,
+    length: usize,
     place: u64,
     moment: u64,
 }
@@ -41,10 +43,12 @@ struct Script<R> {
 impl<R: Read> Script<R> {
     /// As many of the bytes as there are.
     fn fill(&mut self, count: usize) -> Result<usize, Stop> {
-        self.event.resize(count, 0);
+        if self.buffer.len() < count {
+            self.buffer.resize(count, 0);
+        }
         let mut held = 0;
         while held < count {
-            match self.input.read(&mut self.event[held..]) {
+            match self.input.read(&mut self.buffer[held..count]) {
                 Ok(0) => break,
                 Ok(more) => held += more,
                 Err(error) if error.kind() == ErrorKind::Interrupted => {}
@@ -61,11 +65,11 @@ impl<R: Read> Script<R> {
             4 => {}
             _ => return Err(BAD_EVENT),
         }
-        let length = u32::from_be_bytes([self.event[0], self.event[1], self.event[2], self.event[3]]) as usize;
-        if !(9..=262_144).contains(&length) || self.fill(length)? < length {
+        self.length = u32::from_be_bytes(*self.buffer.first_chunk().ok_or(BAD_EVENT)?) as usize;
+        if !(9..=262_144).contains(&self.length) || self.fill(self.length)? < self.length {
             return Err(BAD_EVENT);
         }
-        let moment = u64::from_be_bytes(self.event[..8].try_into().expect("eight bytes"));
+        let moment = u64::from_be_bytes(*self.buffer.first_chunk().ok_or(BAD_EVENT)?);
         if moment < self.moment {
             return Err(BAD_EVENT);
         }
@@ -80,7 +84,7 @@ fn run(script: &mut Script<impl Read>, mut session: Session) -> Stop {
         if let Err(stop) = turn(script, &mut session, &mut agent) {
             return stop.at(script.place);
         }
-        script.place += 4 + script.event.len() as u64;
+        script.place += 4 + script.length as u64;
     }
     match script.fill(1) {
         Ok(0) => SCRIPT_END,
@@ -91,7 +95,7 @@ fn run(script: &mut Script<impl Read>, mut session: Session) -> Stop {
 
 fn turn(script: &mut Script<impl Read>, session: &mut Session, agent: &mut Agent) -> Result<(), Stop> {
     script.next()?;
-    match event::read(script.event[8], &script.event[9..]).ok_or(BAD_EVENT)? {
+    match event::read(script.buffer[8], &script.buffer[9..script.length]).ok_or(BAD_EVENT)? {
         Event::Agent { connection, event } => agent.step(script.moment, connection, event, &mut session.lines),
         event => session.step(event),
     }
@@ -128,7 +132,8 @@ fn work(words: &[String], out: &mut dyn Write) -> u8 {
     let (Some(port), "script") = (port(port_word), script.as_str()) else { return answer(out, "error words", 2) };
     let Some(known) = known_text(known) else { return answer(out, "error known-file", 3) };
     let host = if port == 22 { host.clone() } else { format!("[{host}]:{port}") };
-    let mut script = Script { input: BufReader::new(io::stdin().lock()), event: Vec::new(), place: 0, moment: 0 };
+    let mut script =
+        Script { input: BufReader::new(io::stdin().lock()), buffer: Vec::new(), length: 0, place: 0, moment: 0 };
     let stop = run(&mut script, Session::new(Lines::new(out), Hosts { known, host }));
     match stop {
         WRITE_FAULT => stop.status(),

@@ -102,6 +102,7 @@ const HEX: [[u8; 2]; 256] = {
 pub struct Lines<'a> {
     out: &'a mut dyn Write,
     record: Vec<u8>,
+    /// As long as the longest line so far.
     line: Vec<u8>,
 }
 
@@ -115,12 +116,15 @@ impl<'a> Lines<'a> {
         self.record.clear();
         self.record.push(number);
         put(&mut self.record);
-        self.line.clear();
-        self.line.resize(2 * self.record.len() + 1, b'\n');
-        for (digits, byte) in self.line.chunks_exact_mut(2).zip(&self.record) {
-            digits.copy_from_slice(&HEX[usize::from(*byte)]);
+        let digits = 2 * self.record.len();
+        if self.line.len() <= digits {
+            self.line.resize(digits + 1, 0);
         }
-        self.out.write_all(&self.line).map_err(|_| WRITE_FAULT)
+        for (pair, byte) in self.line.as_chunks_mut().0.iter_mut().zip(&self.record) {
+            *pair = HEX[usize::from(*byte)];
+        }
+        self.line[digits] = b'\n';
+        self.out.write_all(&self.line[..=digits]).map_err(|_| WRITE_FAULT)
     }
 
     /// The packet of this number for the transport.
