@@ -1,11 +1,12 @@
 #!/usr/bin/env python3
 """Runs two programs over many scripts that are made from numbers (mixed_script.py), each with a known hosts text, and compares
-their lines, last lines and statuses. Of each difference it prints the first event at which the two differ, and it keeps the
+their lines, last lines and statuses; from number 0 on also many lists of words. Of each difference it prints the first event at which the two differ, and it keeps the
 script and the known hosts text. At the end it prints how the scripts ended.
 
 Usage: bench/differ.py FIRST SECOND FROM TO [FOLDER]
 The programs are called with the words script, host, port and known hosts file. FOLDER is where differing scripts are kept.
 """
+import base64
 import collections
 import os
 import random
@@ -13,9 +14,10 @@ import subprocess
 import sys
 import tempfile
 
-from mixed_script import Writer, known_text
+from mixed_script import KEY, Writer, known_text
 
 EDGES = 28
+PORTS = ["22", "022", "00022", "000022", "0", "65535", "65536", "13265 ", "+22", "-1", "", "0x16", "\u0662\u0662"]
 
 
 class Pair:
@@ -23,9 +25,9 @@ class Pair:
         self.programs = programs
         self.known = os.path.join(folder, "known")
 
-    def outcomes(self, script):
+    def outcomes(self, script, words=None):
         """The status and what was written, of each program."""
-        words = ["script", "localhost", "13265", self.known]
+        words = words or ["script", "localhost", "13265", self.known]
         runs = [subprocess.run([program, *words], input=script, stdout=subprocess.PIPE, check=False) for program in self.programs]
         return [(run.returncode, run.stdout) for run in runs]
 
@@ -49,6 +51,28 @@ class Pair:
             print(f"  {os.path.basename(program)}: status {status}, lines from {same}: {b' '.join(told[same:same + 4]).decode()[:600]}")
 
 
+def compare_words(both):
+    """Arguments that are right and wrong, and known hosts files of all sorts, over a login."""
+    writer = Writer(1)
+    writer.log_in()
+    script, differing = b"".join(writer.out), 0
+    key = base64.b64encode(KEY)
+    texts = [b"localhost x " + key, b"[localhost]:13265 x " + key, b"\xff", b"", b"[]:13265 x " + key + b"\n\xc3", b"[localhost]:65535 x " + key]
+    words = [["script", host, port, both.known] for host in ("localhost", "") for port in PORTS]
+    words += [["script", "localhost", "13265", path] for path in ("/", "/no/such/file", "")]
+    words += [[], ["script"], ["script", "localhost", "22"], ["Script", "localhost", "22", both.known], ["script", "localhost", "22", both.known, "x"]]
+    for text in texts:
+        with open(both.known, "wb") as file:
+            file.write(text)
+        for given in words:
+            first, second = both.outcomes(script, given or [""])
+            if first != second:
+                differing += 1
+                print(f"words {given}, known hosts text {text}: {first}, {second}")
+    print(f"{len(texts) * len(words)} lists of words, {differing} differ")
+    return differing
+
+
 def made(seed):
     """A script's events and a known hosts text."""
     rng = random.Random(seed)
@@ -60,20 +84,22 @@ def made(seed):
         writer.mixed(rng.choice((300, 1500)))
         return writer.out, None
     writer.walk()
-    return writer.out, known_text(rng)
+    known = known_text(rng).encode()
+    return writer.out, known + b"\xff" if seed % 97 == 0 else known
 
 
 def main():
     first, last = int(sys.argv[3]), int(sys.argv[4])
     keep = sys.argv[5] if len(sys.argv) > 5 else None
     ends, events_run, differing = collections.Counter(), 0, 0
-    with open(os.path.join(os.path.dirname(__file__), "../examples/password-login/known_hosts"), encoding="utf-8") as file:
+    with open(os.path.join(os.path.dirname(__file__), "../examples/password-login/known_hosts"), "rb") as file:
         accepting = file.read()
     with tempfile.TemporaryDirectory() as folder:
         both = Pair(sys.argv[1:3], folder)
+        differing += compare_words(both) if first == 0 else 0
         for seed in range(first, last):
             events, known = made(seed)
-            with open(both.known, "w", encoding="utf-8", newline="") as file:
+            with open(both.known, "wb") as file:
                 file.write(known or accepting)
             script = b"".join(events)
             one, other = both.outcomes(script)
@@ -84,7 +110,7 @@ def main():
             differing += 1
             both.report(seed, events)
             if keep:
-                for name, body in (("script", script), ("known", (known or accepting).encode())):
+                for name, body in (("script", script), ("known", known or accepting)):
                     with open(os.path.join(keep, f"{seed}.{name}"), "wb") as file:
                         file.write(body)
     for end, count in ends.most_common():

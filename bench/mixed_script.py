@@ -10,6 +10,9 @@ Usage: bench/mixed_script.py logins METHOD COUNT   so many requests by this meth
        bench/mixed_script.py edge NUMBER           a limit, on either side of it: 0 to 27
 METHOD is none, password, pair, pair-certificate, key, certificate, prompts or gssapi.
 """
+import base64
+import hashlib
+import hmac
 import random
 import sys
 
@@ -641,21 +644,21 @@ class Writer:
 
 def known_text(rng):
     """A known hosts text for the host of examples/password-login, most often one that accepts its key."""
-    import base64
-    import hashlib
-    import hmac
     accepted = base64.b64encode(KEY).decode()
     salt = rng.randbytes(20)
     hashed = f"|1|{base64.b64encode(salt).decode()}|{base64.b64encode(hmac.new(salt, HOST.encode(), hashlib.sha1).digest()).decode()}"
     other = base64.b64encode(plain_blob(rng, any_name(rng))).decode()
     good = [f"{HOST} ssh-ed25519 {accepted}", f"{hashed} ssh-ed25519 {accepted}", f"a,{HOST},b any {accepted} comment", f"{HOST} x {accepted}\r"]
     rest = ["", f"#{HOST} ssh-ed25519 {other}", f"other ssh-ed25519 {other}", f"|1|AAAA|AAAA ssh-ed25519 {other}", "|1| x y", f"{HOST}"]
-    bad = [f"{HOST} ssh-rsa {other}", f"{HOST} ssh-ed25519 {other}", f"{HOST} ssh-ed25519 {accepted[:-2]}", f"{HOST}  ssh-ed25519",
+    padded = base64.b64encode(plain_blob(rng, b"x@y")).decode()
+    others = [base64.b64encode(plain_blob(rng)).decode() for _ in range(2)]
+    bad = [f"{HOST} x {padded.rstrip('=')}", f"{HOST} x {padded}", f"{HOST} x {others[0]}\n{HOST} x {others[1]}", f"{HOST} x {others[0]}\n{HOST} x ====",
+           f"{HOST} ssh-rsa {other}", f"{HOST} ssh-ed25519 {other}", f"{HOST} ssh-ed25519 {accepted[:-2]}", f"{HOST}  ssh-ed25519",
            f"{hashed} x {base64.b64encode(certificate_blob(rng, any_name(rng))).decode()}", f"{HOST} x {accepted[:rng.randrange(len(accepted))]}",
            f"{HOST} x {base64.b64encode(KEY + b'more').decode()}", f"{HOST} x {accepted[:20]}={accepted[20:]}"]
     lines = [rng.choice(good)] if rng.random() < 0.95 else []
     lines += rng.choices(rest, k=rng.randrange(3))
-    if rng.random() < 0.15:
+    if rng.random() < 0.2:
         lines.append(rng.choice(bad))
     rng.shuffle(lines)
     return "\n".join(lines) + rng.choice(("", "\n"))
