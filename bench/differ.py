@@ -83,7 +83,10 @@ def made(seed):
     if seed % 50 == 0:
         writer.mixed(rng.choice((300, 1500)))
         return writer.out, None
-    writer.walk()
+    if seed % 2:
+        writer.walk()
+    else:
+        writer.near_fields()
     known = known_text(rng).encode()
     return writer.out, known + b"\xff" if seed % 97 == 0 else known
 

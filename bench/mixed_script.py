@@ -7,6 +7,7 @@ Usage: bench/mixed_script.py logins METHOD COUNT   so many requests by this meth
        bench/mixed_script.py bytes MIB             so many MiB up and as many down on one channel
        bench/mixed_script.py channels COUNT EVENTS so many channels, and bytes up and down on each in turn
        bench/mixed_script.py walk SEED             any events, also broken ones and ones out of turn
+       bench/mixed_script.py fields SEED           fields and packets at the border of their grammars
        bench/mixed_script.py edge NUMBER           a limit, on either side of it: 0 to 27
 METHOD is none, password, pair, pair-certificate, key, certificate, prompts or gssapi.
 """
@@ -17,7 +18,8 @@ import random
 import sys
 
 from wire_parts import (
-    HOST, PAIR_NAMES, any_name, certificate_blob, event, exchange_done, pair, plain_blob, string, toy_signature, u32,
+    HOST, PAIR_NAMES, any_name, certificate_blob, event, exchange_done, near_certificate, near_key, near_pair, near_plain, pair, plain_blob,
+    string, toy_signature, u32,
 )
 
 KEY = string(b"ssh-ed25519") + string(bytes.fromhex("9743ef2dda2eae39e325817702d66e2794d5e6f3f7f72eeff4045e7f4e21e649"))
@@ -487,6 +489,113 @@ class Writer:
             else:
                 self.opening_event()
 
+    # ---- fields and packets at the border of their grammars
+
+    def near_text(self):
+        return string(self.rng.choice((b"", b"x", b"\xc3\xbc", b"\xff", b"\xed\xa0\x80", b"\xc0\x80", b"\xf4\x90\x80\x80"))) if self.rng.random() < 0.1 else self.text()
+
+    def near_count(self, count):
+        return u32(self.rng.choice((count, count, count, count, count + 1, max(count - 1, 0), 2**32 - 1)))
+
+    def near_method(self):
+        rng, code = self.rng, self.rng.randrange(9)
+        hashed = bytes([rng.choice((0, 1, 2, 2, 3))])
+        mechanisms = rng.randrange(3)
+        fields = {
+            1: self.near_text(), 2: string(near_pair(rng)[0]) + hashed, 3: string(near_pair(rng)[0]) + string(near_key(rng)),
+            4: string(near_key(rng)) + hashed, 5: string(near_certificate(rng)) + hashed, 6: self.near_text(),
+            7: self.near_count(mechanisms) + string(b"\xff") * mechanisms,
+        }.get(code, b"")
+        return bytes([code]) + fields
+
+    def near_user(self):
+        """An event of the user's with fields that may be outside the formats."""
+        rng, flag, text = self.rng, self.flag_byte(), self.near_text
+        keys, texts, modes = (rng.randrange(3) for _ in range(3))
+        sorts = {
+            0: string(b"data"), 1: u32(1) + string(b"data"), 4: flag + text() + bytes(16) + self.near_count(modes) + bytes(5) * modes, 5: bytes(16),
+            6: flag + flag + text() + text() + u32(0), 7: flag + text() + text(), 8: flag, 9: flag + string(b"\xff"), 10: text(), 11: flag + text(), 12: flag,
+        }
+        sort = rng.randrange(14)
+        kind, fields = rng.choice((
+            (0x10, self.ticket() + text() + self.near_method()), (0x10, self.ticket() + text() + self.near_method()),
+            (0x11, self.near_count(texts) + b"".join(text() for _ in range(texts))), (0x13, string(b"") + string(b"")),
+            (0x18, self.ticket() + text() + self.port()), (0x19, self.ticket() + text() + self.port() + text() + self.port()),
+            (0x1a, self.ticket() + text()), (0x1b, self.ticket() + text() + self.port()), (0x1d, self.ticket() + text()),
+            (0x20, u32(rng.randrange(17)) + text() + text()), (0x21, u32(1) + bytes([sort]) + sorts.get(sort, b"")),
+            (0x22, u32(1) + flag + u32(rng.randrange(6))), (0x25, self.ticket() + text()), (0x27, flag), (0x28, self.ticket()),
+            (0x2a, self.ticket() + self.near_count(keys) + b"".join(string(near_key(rng)) for _ in range(keys))),
+            (0x2b, self.ticket() + text() + string(b"\xff")), (0x41, u32(1) + flag), (rng.randrange(0x50), b""),
+        ))
+        self.put(kind, fields + (b"x" if rng.random() < 0.03 else b""))
+
+    def near_packet(self):
+        """A packet with fields that may be outside the formats."""
+        rng, flag, text = self.rng, self.flag_byte(), self.near_text
+        number = u32(rng.randrange(1, 4))
+        keys = b"".join(string(near_key(rng)) for _ in range(rng.randrange(4)))
+        count = rng.randrange(3)
+        here = {"service": (1, 6, 7, 19), "auth": (1, 7, 51, 53, 60, 64 if self.klass == "gssapi" else 60), "open": range(256)}[self.phase]
+        extensions = b"".join(rng.choice((string(b"server-sig-algs") + self.near_list(), text() + string(b"\xff"))) for _ in range(count))
+        kind, fields = rng.choice([packet for packet in (
+            (1, u32(rng.randrange(17)) + text() + text()), (6, string(b"ssh-userauth")), (7, self.near_count(count) + extensions),
+            (51, self.near_list() + flag), (52, b""), (53, text() + text()), (60, text() + string(b"\xff")),
+            (60, text() + text() + text() + self.near_count(count) + (text() + flag) * count), (64, bytes(8) + text() + text()),
+            (80, text() + flag), (80, string(b"hostkeys-00@openssh.com") + flag + keys), (80, string(b"hostkeys-00@openssh.com") + flag + keys),
+            (80, string(b"keepalives") + flag), (81, self.body(3)), (82, b""), (90, string(rng.choice(OPENED)) + bytes(12) + text() + self.port()),
+            (90, string(rng.choice(OPENED)) + bytes(12) + text() + self.port() + text() + self.port()), (91, number + bytes(12)),
+            (92, number + u32(rng.randrange(6)) + text() + text()), (93, number + bytes(4)), (94, number + string(b"\xff")), (95, number * 2 + string(b"")),
+            (96, number), (97, number), (98, number + string(b"exit-signal") + flag + text() + flag + text() + text()), (98, number + text() + flag),
+            (98, number + string(b"xon-xoff") + flag + flag), (98, number + string(b"exit-status") + flag + u32(1)), (99, number), (100, number),
+            (rng.choice((0, 19, 20, 49, 50, 255)), b""),
+        ) if packet[0] in here])
+        if rng.random() < 0.05:
+            fields = fields[:-1] if rng.random() < 0.5 else fields + b"x"
+        self.put(0x03, bytes([kind]) + fields)
+
+    def near_list(self):
+        names = [b"ssh-ed25519", b"ssh-rsa", b"rsa-sha2-512", b"ssh-dss", b"sk-ssh-ed25519@openssh.com", b"sk-ssh-ed25519", b"a@b", b"a@b@c", b"",
+                 b"publickey", b"none", b"hostbased", b"gssapi-with-mic", b"a" * 62 + b"@b", b"a" * 63 + b"@b", b"\xff" if self.rng.random() < 0.1 else b"-"]
+        return string(b",".join(self.rng.choices(names, k=self.rng.randrange(5))))
+
+    def near_exchange(self):
+        rng = self.rng
+        sort, blob = rng.choice(((0, b""), (0, KEY), (1, KEY), (1, near_key(rng)), (1, near_plain(rng)), (2, near_certificate(rng)), (3, KEY), (2, KEY)))
+        secret = rng.choice((b"\0" + string(b""), b"\1" + string(b""), b"\2" + string(b"secret"), b"\0" + string(b"secret")))
+        names = b"".join(self.near_text() for _ in range(5))
+        if self.phase != "exchanging" or rng.random() < 0.7:
+            self.put(0x01)
+        self.put(0x02, bytes([sort]) + string(blob) + string(self.session_hash) + string(b"") + secret + names + self.flag_byte())
+
+    def near_agent(self):
+        """Keys that the agent takes or doesn't, and a listing behind each."""
+        made, blob = near_pair(self.rng)
+        constraints = b"".join(self.rng.choice((b"\1" + u32(9), b"\2", b"\3", b"\xff", b"\1\0")) for _ in range(self.rng.randrange(4)))
+        for message in (self.rng.choice((b"\x11" + made + self.near_text(), b"\x19" + made + self.near_text() + constraints)), b"\x0b",
+                        b"\x0d" + string(blob) + string(b"data") + u32(self.rng.randrange(8)), b"\x0b" + self.body(3)):
+            self.put(0x40, u32(self.rng.randrange(9)) + string(message))
+
+    def near_fields(self):
+        """A few of these in one phase."""
+        start = self.rng.randrange(5)
+        if start == 0:
+            self.near_exchange()
+            return
+        self.exchange()
+        if start > 1:
+            self.authenticate(self.rng.choice(METHODS), u32(1))
+        if start > 2:
+            self.service_accept()
+        if start > 3:
+            self.success()
+            self.open_channel(0x17)
+            self.confirm(1, 100, 50)
+        acts = [self.near_user, self.near_packet, self.near_packet, self.near_agent, self.near_agent]
+        while self.count < 24:
+            self.rng.choice(acts)()
+            if self.rng.random() < 0.02:
+                self.near_exchange()
+
     # ---- limits
 
     def edge(self, number):
@@ -649,10 +758,11 @@ def known_text(rng):
     hashed = f"|1|{base64.b64encode(salt).decode()}|{base64.b64encode(hmac.new(salt, HOST.encode(), hashlib.sha1).digest()).decode()}"
     other = base64.b64encode(plain_blob(rng, any_name(rng))).decode()
     good = [f"{HOST} ssh-ed25519 {accepted}", f"{hashed} ssh-ed25519 {accepted}", f"a,{HOST},b any {accepted} comment", f"{HOST} x {accepted}\r"]
-    rest = ["", f"#{HOST} ssh-ed25519 {other}", f"other ssh-ed25519 {other}", f"|1|AAAA|AAAA ssh-ed25519 {other}", "|1| x y", f"{HOST}"]
+    near = base64.b64encode(near_key(rng)).decode()
+    rest = ["", f"#{HOST} ssh-ed25519 {other}", f"#a,{HOST} ssh-ed25519 {other}", f"other ssh-ed25519 {other}", f"|1|AAAA|AAAA ssh-ed25519 {other}", "|1| x y", f"{HOST}"]
     padded = base64.b64encode(plain_blob(rng, b"x@y")).decode()
     others = [base64.b64encode(plain_blob(rng)).decode() for _ in range(2)]
-    bad = [f"{HOST} x {padded.rstrip('=')}", f"{HOST} x {padded}", f"{HOST} x {others[0]}\n{HOST} x {others[1]}", f"{HOST} x {others[0]}\n{HOST} x ====",
+    bad = [f"{HOST} x {near}", f"{HOST} x {near}", f"{HOST} x {padded.rstrip('=')}", f"{HOST} x {padded}", f"{HOST} x {others[0]}\n{HOST} x {others[1]}", f"{HOST} x {others[0]}\n{HOST} x ====",
            f"{HOST} ssh-rsa {other}", f"{HOST} ssh-ed25519 {other}", f"{HOST} ssh-ed25519 {accepted[:-2]}", f"{HOST}  ssh-ed25519",
            f"{hashed} x {base64.b64encode(certificate_blob(rng, any_name(rng))).decode()}", f"{HOST} x {accepted[:rng.randrange(len(accepted))]}",
            f"{HOST} x {base64.b64encode(KEY + b'more').decode()}", f"{HOST} x {accepted[:20]}={accepted[20:]}"]
@@ -666,7 +776,7 @@ def known_text(rng):
 
 def script_of(words):
     kind, rest = words[0], words[1:]
-    writer = Writer(int(rest[0]) if kind in ("mixed", "walk") else 1)
+    writer = Writer(int(rest[0]) if kind in ("mixed", "walk", "fields") else 1)
     if kind == "logins":
         writer.logins(rest[0], int(rest[1]))
     elif kind == "mixed":
@@ -675,6 +785,8 @@ def script_of(words):
         writer.megabytes(int(rest[0]))
     elif kind == "channels":
         writer.many_channels(int(rest[0]), int(rest[1]))
+    elif kind == "fields":
+        writer.near_fields()
     elif kind == "edge":
         writer.edge(int(rest[0]))
     else:
