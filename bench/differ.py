@@ -1,6 +1,7 @@
 #!/usr/bin/env python3
 """Runs two programs over many scripts that are made from numbers (mixed_script.py), each with a known hosts text, and compares
-their lines, last lines and statuses; from number 0 on also many lists of words. Of each difference it prints the first event at which the two differ, and it keeps the
+their lines, last lines and statuses. A script that ends early is run again without the event that ended it. From number 0 on
+it also compares many lists of words. Of each difference it prints the first event at which the two differ, and it keeps the
 script and the known hosts text. At the end it prints how the scripts ended.
 
 Usage: bench/differ.py FIRST SECOND FROM TO [FOLDER]
@@ -17,6 +18,7 @@ import tempfile
 from mixed_script import KEY, Writer, known_text
 
 EDGES = 28
+MOST_RUNS = 12
 PORTS = ["22", "022", "00022", "000022", "0", "65535", "65536", "13265 ", "+22", "-1", "", "0x16", "\u0662\u0662"]
 
 
@@ -27,9 +29,12 @@ class Pair:
 
     def outcomes(self, script, words=None):
         """The status and what was written, of each program."""
+        return [self.outcome(program, script, words) for program in self.programs]
+
+    def outcome(self, program, script, words=None):
         words = words or ["script", "localhost", "13265", self.known]
-        runs = [subprocess.run([program, *words], input=script, stdout=subprocess.PIPE, check=False) for program in self.programs]
-        return [(run.returncode, run.stdout) for run in runs]
+        done = subprocess.run([program, *words], input=script, stdout=subprocess.PIPE, check=False)
+        return done.returncode, done.stdout
 
     def first_event(self, events):
         """The number of the first event at which the outcomes differ."""
@@ -39,6 +44,15 @@ class Pair:
             first, second = self.outcomes(b"".join(events[:middle]))
             low, high = (low, middle) if first != second else (middle, high)
         return high - 1
+
+    def last_event(self, events):
+        """The number of the event that ends the run."""
+        low, high = 0, len(events)
+        while high - low > 1:
+            middle = (low + high) // 2
+            ends = self.outcome(self.programs[1], b"".join(events[:middle]))[1].endswith(b"ended script-end\n")
+            low, high = (middle, high) if ends else (low, middle)
+        return low
 
     def report(self, seed, events):
         at = self.first_event(events)
@@ -91,10 +105,26 @@ def made(seed):
     return writer.out, known + b"\xff" if seed % 97 == 0 else known
 
 
+def compare_script(both, seed, events, ends):
+    """Compares the script, and then without the event that ended it, and so on. How many runs, and the first that differs."""
+    for run in range(MOST_RUNS):
+        script = b"".join(events)
+        one, other = both.outcomes(script)
+        end = one[1].split(b"\n")[-2]
+        ends[b" ".join(end.split(b" ")[:2]).decode()] += 1
+        if one != other:
+            both.report(seed, events)
+            return run + 1, script
+        if end in (b"ended script-end", b"error known-file") or len(events) > 200:
+            break
+        del events[both.last_event(events)]
+    return run + 1, None
+
+
 def main():
     first, last = int(sys.argv[3]), int(sys.argv[4])
     keep = sys.argv[5] if len(sys.argv) > 5 else None
-    ends, events_run, differing = collections.Counter(), 0, 0
+    ends, events_run, runs, differing = collections.Counter(), 0, 0, 0
     with open(os.path.join(os.path.dirname(__file__), "../examples/password-login/known_hosts"), "rb") as file:
         accepting = file.read()
     with tempfile.TemporaryDirectory() as folder:
@@ -104,21 +134,19 @@ def main():
             events, known = made(seed)
             with open(both.known, "wb") as file:
                 file.write(known or accepting)
-            script = b"".join(events)
-            one, other = both.outcomes(script)
-            ends[b" ".join(one[1].split(b"\n")[-2].split(b" ")[:2]).decode()] += 1
             events_run += len(events)
-            if one == other:
+            more, script = compare_script(both, seed, events, ends)
+            runs += more
+            if script is None:
                 continue
             differing += 1
-            both.report(seed, events)
             if keep:
                 for name, body in (("script", script), ("known", known or accepting)):
                     with open(os.path.join(keep, f"{seed}.{name}"), "wb") as file:
                         file.write(body)
     for end, count in ends.most_common():
         print(f"{count:8} {end}")
-    print(f"{last - first} scripts of {events_run} events, {differing} differ")
+    print(f"{last - first} scripts of {events_run} events in {runs} runs, {differing} differ")
     return differing > 0
 
 

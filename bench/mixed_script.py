@@ -518,7 +518,7 @@ class Writer:
         }
         sort = rng.randrange(14)
         kind, fields = rng.choice((
-            (0x10, self.ticket() + text() + self.near_method()), (0x10, self.ticket() + text() + self.near_method()),
+            *[(0x10, self.ticket() + text() + self.near_method())] * 6,
             (0x11, self.near_count(texts) + b"".join(text() for _ in range(texts))), (0x13, string(b"") + string(b"")),
             (0x18, self.ticket() + text() + self.port()), (0x19, self.ticket() + text() + self.port() + text() + self.port()),
             (0x1a, self.ticket() + text()), (0x1b, self.ticket() + text() + self.port()), (0x1d, self.ticket() + text()),
@@ -590,8 +590,8 @@ class Writer:
             self.success()
             self.open_channel(0x17)
             self.confirm(1, 100, 50)
-        acts = [self.near_user, self.near_packet, self.near_packet, self.near_agent, self.near_agent]
-        while self.count < 24:
+        acts = [self.near_user] * 4 + [self.near_packet] * 3 + [self.near_agent]
+        while self.count < 30:
             self.rng.choice(acts)()
             if self.rng.random() < 0.02:
                 self.near_exchange()

@@ -62,7 +62,7 @@ def plain_blob(rng, name=b"ssh-ed25519"):
 
 
 def any_name(rng):
-    return rng.choice([*PLAIN_NAMES, b"own@example.org", b"rsa-sha2-256@openssh.com", b"x@y"])
+    return rng.choice([*PLAIN_NAMES, b"ssh-rsa", b"ssh-rsa", b"own@example.org", b"rsa-sha2-256@openssh.com", b"x@y"])
 
 
 def certified_name(name):
@@ -102,12 +102,12 @@ BAD_STRINGS = [string(b"\xff"), string(b""), u32(5) + b"abc", b"", string(string
 
 def near_plain(rng):
     """A plain key, most often with one part from the border of the grammar."""
-    kind = rng.randrange(7)
+    kind = rng.randrange(8)
     if kind == 0:
         return string(b"ssh-rsa") + string(rng.choice(NUMBERS)) + string(rng.choice(NUMBERS[2:4]))
     if kind == 1:
         return string(b"ssh-dss") + b"".join(string(rng.choice(NUMBERS if rng.random() < 0.2 else NUMBERS[2:4])) for _ in range(4))
-    if kind == 2:
+    if kind in (2, 7):
         return string(rng.choice(NAMES)) + rng.choice((string(b"body"), string(b""), plain_fields(rng, any_name(rng))))
     if kind == 3:
         curve, length = rng.choice(list(POINTS.items()))
