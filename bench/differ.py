@@ -17,7 +17,7 @@ import tempfile
 
 from mixed_script import KEY, Writer, known_text
 
-EDGES = 28
+EDGES = 192
 MOST_RUNS = 12
 PORTS = ["22", "022", "00022", "000022", "0", "65535", "65536", "13265 ", "+22", "-1", "", "0x16", "\u0662\u0662"]
 

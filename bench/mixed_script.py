@@ -8,7 +8,7 @@ Usage: bench/mixed_script.py logins METHOD COUNT   so many requests by this meth
        bench/mixed_script.py channels COUNT EVENTS so many channels, and bytes up and down on each in turn
        bench/mixed_script.py walk SEED             any events, also broken ones and ones out of turn
        bench/mixed_script.py fields SEED           fields and packets at the border of their grammars
-       bench/mixed_script.py edge NUMBER           a limit, on either side of it: 0 to 27
+       bench/mixed_script.py edge NUMBER           a limit, on either side of it, or one of a row of cases: 0 to 191
 METHOD is none, password, pair, pair-certificate, key, certificate, prompts or gssapi.
 """
 import base64
@@ -609,7 +609,41 @@ class Writer:
             lambda: self.certified(65), lambda: self.confirmed_in_exchange(0x21, b"\2"), lambda: self.confirmed_in_exchange(0x1f),
             lambda: self.awaited_in_exchange(0x16), lambda: self.awaited_in_exchange(0x24), lambda: self.awaited_in_exchange(0x2f),
         ]
+        for begins in (0x01, 0x24, 0x05):
+            for packet in (6, 7, 19, 50, 80, 255):
+                acts += [lambda begins=begins, packet=packet: self.in_exchange(begins, packet, True),
+                         lambda begins=begins, packet=packet: self.in_exchange(begins, packet, False)]
+        for kind in ("pair", "pair-certificate", "key", "certificate"):
+            for name in (*PAIR_NAMES, b"sk-ssh-ed25519@openssh.com", b"x@y"):
+                acts += [lambda kind=kind, name=name, hashed=hashed: self.signed_by(kind, name, hashed) for hashed in range(4)]
         acts[number]()
+
+    def in_exchange(self, begins, number, is_open):
+        """Packets and timers while an exchange runs, and the same number again behind it."""
+        self.log_in() if is_open else self.exchange()
+        self.put(begins)
+        self.put(0x05)
+        self.put(0x08)
+        self.put(0x03, bytes([number]))
+        self.put(0x01)
+        self.exchange()
+        self.put(0x03, bytes([number]))
+
+    def signed_by(self, kind, name, hashed):
+        """A login by a key of this sort, with a hash that may be none."""
+        rng = self.rng
+        made, blob = pair(rng, name) if name in PAIR_NAMES else (b"", plain_blob(rng, name))
+        certified = certificate_blob(rng, name)
+        fields = {
+            "pair": b"\2" + string(made) + bytes([hashed]), "pair-certificate": b"\3" + string(made) + string(certified),
+            "key": b"\4" + string(blob) + bytes([hashed]), "certificate": b"\5" + string(certified) + bytes([hashed]),
+        }[kind]
+        self.exchange()
+        self.put(0x10, u32(1) + string(b"alice") + fields)
+        self.service_accept()
+        self.packet(60, string(b"any") + string(b"blob"))
+        self.put(0x16)
+        self.success()
 
     def as_many(self, count, more=b""):
         self.exchange()
