@@ -81,7 +81,7 @@ def main():
             table.rows("MiB up and down", ["bytes"], BYTES, "MiB")
         if not parts or "channels" in parts:
             for count, events in CHANNELS:
-                table.row(f"{count} channels", ["channels", count, events])
+                table.row(f"{count} channel{'s' if count > 1 else ''}", ["channels", count, events])
 
 
 if __name__ == "__main__":
