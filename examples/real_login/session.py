@@ -45,6 +45,7 @@ class Session:
         self.program = subprocess.Popen(words, stdin=subprocess.PIPE, stdout=subprocess.PIPE, bufsize=0)
         self.start, self.lines = time.monotonic(), b""
         self.is_exchanging = self.is_open = False
+        self.held = []
         self.tickets, self.resolved, self.channels, self.exchanges = 0, {}, {}, 0
         self.begin_exchange()
 
@@ -172,11 +173,12 @@ class Session:
 
     def act(self, kind, fields):
         if kind == SEND:
-            self.transport.send(fields.rest())
+            self.send(fields.rest())
         elif kind == BEGIN_EXCHANGE:
             self.begin_exchange()
         elif kind == KEX_DONE:
             self.is_exchanging, self.exchanges = False, self.exchanges + 1
+            self.send_held()
         elif kind == OPENED:
             self.is_open = True
         elif kind == RESOLVED:
@@ -188,6 +190,18 @@ class Session:
             self.prompts(fields)
         else:
             self.channel(kind, fields)
+
+    def send(self, packet):
+        """Sends a packet; one that comes while an exchange of ours runs waits for the new keys (RFC 4253, section 7.1)."""
+        if self.is_exchanging:
+            self.held.append(packet)
+        else:
+            self.transport.send(packet)
+
+    def send_held(self):
+        for packet in self.held:
+            self.transport.send(packet)
+        self.held = []
 
     def signature(self, fields):
         """A signature is wanted: the bytes go back as they came, with the signature behind them."""
