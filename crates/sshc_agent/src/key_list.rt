@@ -62,7 +62,8 @@ impl KeyList {
 
     /// The place of the key of this blob.
     pub(crate) fn place(&self, blob: &[u8]) -> Option<usize>
-        ensures { MatchOption result (held self.now blob.now ≡ None) (λ at. (at < length self.now) × (held self.now blob.now ≡ slice_get self.now at)) }
+        ensures { MatchOption result (held self.now blob.now ≡ None)
+            (λ at. (at < length self.now) × (held self.now blob.now ≡ slice_get self.now at)) }
     {
         found_place(self.keys.as_slice(), blob)
     }

@@ -63,7 +63,10 @@ impl OneSigner {
         bytes: &[u8],
         answer: &[u8],
     ) -> Result<(), NoMemory>
-        ensures ok { OnOk result (self.new ≡ self.old ++ (record { by = by; key = key.now; hash = hash; bytes = bytes.now; answer = Some answer.now }) ∷ []) }
+        ensures ok { OnOk result
+            (self.new
+            ≡ self.old
+            ++ (record { by = by; key = key.now; hash = hash; bytes = bytes.now; answer = Some answer.now }) ∷ []) }
         ensures err { OnErr result (self.new ≡ self.old) }
     {
         let call = Signed {

@@ -58,8 +58,11 @@ fn take_one<G: LocalSigner>(
     out: &mut Outbox,
 ) -> Result<(), NoMemory>
     requires open { out.old.muted ≡ false }
-    ensures ok { OnOk result (SaysInput now conn input.now core.old (since (G.calls signer.old) (G.calls signer.new)) core.new out.old.records out.new.records) }
-    ensures err { OnErr result (MakesFirst (input_turn now conn input.now core.old) (since (G.calls signer.old) (G.calls signer.new))) }
+    ensures ok { OnOk result
+        (SaysInput now conn input.now core.old
+        (since (G.calls signer.old) (G.calls signer.new)) core.new out.old.records out.new.records) }
+    ensures err { OnErr result
+        (MakesFirst (input_turn now conn input.now core.old) (since (G.calls signer.old) (G.calls signer.new))) }
     ensures gained { G.calls signer.new ≡ G.calls signer.old ++ since (G.calls signer.old) (G.calls signer.new) }
     ensures open { out.new.muted ≡ false }
 {
@@ -77,8 +80,11 @@ fn take_whole<G: LocalSigner>(
     out: &mut Outbox,
 ) -> Result<(), NoMemory>
     requires open { out.old.muted ≡ false }
-    ensures ok { OnOk result (SaysInput now conn input core.old (since (G.calls signer.old) (G.calls signer.new)) core.new out.old.records out.new.records) }
-    ensures err { OnErr result (MakesFirst (input_turn now conn input core.old) (since (G.calls signer.old) (G.calls signer.new))) }
+    ensures ok { OnOk result
+        (SaysInput now conn input core.old
+        (since (G.calls signer.old) (G.calls signer.new)) core.new out.old.records out.new.records) }
+    ensures err { OnErr result
+        (MakesFirst (input_turn now conn input core.old) (since (G.calls signer.old) (G.calls signer.new))) }
     ensures gained { G.calls signer.new ≡ G.calls signer.old ++ since (G.calls signer.old) (G.calls signer.new) }
     ensures open { out.new.muted ≡ false }
 {
@@ -94,9 +100,13 @@ fn serve<G: LocalSigner>(
     frames: &mut Frames,
     signer: &mut G,
 ) -> Result<Outbox, NoMemory>
-    ensures ok { IfOk result (λ said. Makes (each_turn now conn (inputs_of frames.old) core.old) (since (G.calls signer.old) (G.calls signer.new)) (record { records = said.records; list = core.new })) }
+    ensures ok { IfOk result
+        (λ said. Makes (each_turn now conn (inputs_of frames.old) core.old)
+        (since (G.calls signer.old) (G.calls signer.new)) (record { records = said.records; list = core.new })) }
     ensures rest { OnOk result (frames.new ≡ rest_of frames.old) }
-    ensures err { OnErr result (MakesFirst (each_turn now conn (inputs_of frames.old) core.old) (since (G.calls signer.old) (G.calls signer.new))) }
+    ensures err { OnErr result
+        (MakesFirst (each_turn now conn (inputs_of frames.old) core.old)
+        (since (G.calls signer.old) (G.calls signer.new))) }
     ensures gained { G.calls signer.new ≡ G.calls signer.old ++ since (G.calls signer.old) (G.calls signer.new) }
 {
     let mut out = Outbox::new(alloc);
@@ -141,8 +151,12 @@ impl ServedAgent {
         piece: &Octets,
         signer: &mut G,
     ) -> Result<Outbox, NoMemory>
-        ensures ok { IfOk result (λ said. Makes (agent_turn now (AgentEvent.Bytes conn piece.now) self.old) (since (G.calls signer.old) (G.calls signer.new)) (record { records = said.records; state = self.new })) }
-        ensures err { OnErr result (MakesFirst (agent_turn now (AgentEvent.Bytes conn piece.now) self.old) (since (G.calls signer.old) (G.calls signer.new))) }
+        ensures ok { IfOk result
+            (λ said. Makes (agent_turn now (AgentEvent.Bytes conn piece.now) self.old)
+            (since (G.calls signer.old) (G.calls signer.new)) (record { records = said.records; state = self.new })) }
+        ensures err { OnErr result
+            (MakesFirst (agent_turn now (AgentEvent.Bytes conn piece.now) self.old)
+            (since (G.calls signer.old) (G.calls signer.new))) }
         ensures gained { G.calls signer.new ≡ G.calls signer.old ++ since (G.calls signer.old) (G.calls signer.new) }
     {
         let mut frames = self.take_frames(conn);
@@ -161,8 +175,12 @@ impl ServedAgent {
         input: &AgentInput,
         signer: &mut G,
     ) -> Result<Outbox, NoMemory>
-        ensures ok { IfOk result (λ said. Makes (agent_turn now (AgentEvent.Input conn input.now) self.old) (since (G.calls signer.old) (G.calls signer.new)) (record { records = said.records; state = self.new })) }
-        ensures err { OnErr result (MakesFirst (agent_turn now (AgentEvent.Input conn input.now) self.old) (since (G.calls signer.old) (G.calls signer.new))) }
+        ensures ok { IfOk result
+            (λ said. Makes (agent_turn now (AgentEvent.Input conn input.now) self.old)
+            (since (G.calls signer.old) (G.calls signer.new)) (record { records = said.records; state = self.new })) }
+        ensures err { OnErr result
+            (MakesFirst (agent_turn now (AgentEvent.Input conn input.now) self.old)
+            (since (G.calls signer.old) (G.calls signer.new))) }
         ensures gained { G.calls signer.new ≡ G.calls signer.old ++ since (G.calls signer.old) (G.calls signer.new) }
     {
         let mut out = Outbox::new(self.alloc);
@@ -179,9 +197,12 @@ impl ServedAgent {
         signer: &mut G,
     ) -> Result<Outbox, NoMemory>
         // The event is its turn, by the calls that the signer's list gained.
-        ensures turn { IfOk result (λ said. Makes (agent_turn now event.now self.old) (since (G.calls signer.old) (G.calls signer.new)) (record { records = said.records; state = self.new })) }
+        ensures turn { IfOk result
+            (λ said. Makes (agent_turn now event.now self.old) (since (G.calls signer.old) (G.calls signer.new))
+            (record { records = said.records; state = self.new })) }
         // Out of memory, the calls are the first of the turn's.
-        ensures memory { OnErr result (MakesFirst (agent_turn now event.now self.old) (since (G.calls signer.old) (G.calls signer.new))) }
+        ensures memory { OnErr result
+            (MakesFirst (agent_turn now event.now self.old) (since (G.calls signer.old) (G.calls signer.new))) }
         ensures gained { G.calls signer.new ≡ G.calls signer.old ++ since (G.calls signer.old) (G.calls signer.new) }
     {
         match event {

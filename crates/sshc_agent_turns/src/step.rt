@@ -38,11 +38,14 @@ pub fn step_input<G: LocalSigner>(
     signer: &mut G,
 ) -> Result<Option<Record>, NoMemory>
     // The step is the input's turn, by the calls that the signer's list gained.
-    ensures turn { IfOk result (λ said. Makes (input_turn now conn input.now core.old) (since (G.calls signer.old) (G.calls signer.new)) (record { records = listed said; list = core.new })) }
+    ensures turn { IfOk result
+        (λ said. Makes (input_turn now conn input.now core.old) (since (G.calls signer.old) (G.calls signer.new))
+        (record { records = listed said; list = core.new })) }
     // The signer's list only grows.
     ensures gained { G.calls signer.new ≡ G.calls signer.old ++ since (G.calls signer.old) (G.calls signer.new) }
     // Out of memory, these are the first of the calls that it makes.
-    ensures memory { OnErr result (MakesFirst (input_turn now conn input.now core.old) (since (G.calls signer.old) (G.calls signer.new))) }
+    ensures memory { OnErr result
+        (MakesFirst (input_turn now conn input.now core.old) (since (G.calls signer.old) (G.calls signer.new))) }
 {
     let output = core.step(now, conn, input, signer);
     record_of(conn, output)

@@ -84,7 +84,8 @@ impl<S: AgentStream> AgentClient<S> {
     }
     /// Asks for what the agent acknowledges or refuses.
     pub(crate) fn succeed(&mut self, message: Message) -> Result<(), Error>
-        ensures { Calls (string_text message) (λ answer. GivesAll (λ x. x) result (success_reading answer)) self.old self.new result }
+        ensures { Calls (string_text message) (λ answer. GivesAll (λ x. x) result (success_reading answer))
+            self.old self.new result }
     {
         let answer = self.ask(message)?;
         success_in(&answer)

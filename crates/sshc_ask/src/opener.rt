@@ -74,7 +74,8 @@ pub fn connect_env<O: Opener>(
     ensures unset { (result ≡ Err Error.EnvVar) ↔ (option_copied var.entry ≡ None) }
     ensures not_found { Counts Error.BadAuthSock (O.missing opener.old) (O.missing opener.new) result }
     ensures other { Counts Error.ReadFault (O.failures opener.old) (O.failures opener.new) result }
-    ensures errors { IfErr result (λ e. (e ≡ Error.EnvVar) ⊎ ((e ≡ Error.BadAuthSock) ⊎ ((e ≡ Error.ReadFault) ⊎ (e ≡ Error.NoMemory)))) }
+    ensures errors { IfErr result
+        (λ e. (e ≡ Error.EnvVar) ⊎ ((e ≡ Error.BadAuthSock) ⊎ ((e ≡ Error.ReadFault) ⊎ (e ≡ Error.NoMemory)))) }
     ensures unused { IfOk result (λ client. (client.reads ≡ 0) × (client.writes ≡ 0)) }
 {
     match var {

@@ -143,7 +143,8 @@ impl<H: Handler> HandleState<H> {
         signer: &mut S,
         verifier: &V,
     ) -> Turn<H::Error>
-        ensures { TakesEvent H.keeps_defaults (handler_gate H.told_as (H.judges handler.old)) (V.accepts verifier.now) event self.old self.new
+        ensures { TakesEvent H.keeps_defaults (handler_gate H.told_as (H.judges handler.old))
+            (V.accepts verifier.now) event self.old self.new
             (callers_at (S.calls signer.old) (S.refusals signer.old) (H.refusals handler.old) (H.setting handler.old))
             (callers_at (S.calls signer.new) (S.refusals signer.new) (H.refusals handler.new) (H.setting handler.new))
             (link_at (T.answers transport.old) (T.handed transport.old) (T.faults transport.old))
@@ -167,7 +168,8 @@ impl<H: Handler> HandleState<H> {
         verifier: &V,
     ) -> Turn<H::Error>
         requires { self.old.end ≡ None }
-        ensures { Turns H.keeps_defaults (handler_gate H.told_as (H.judges handler.old)) (V.accepts verifier.now) now self.old self.new
+        ensures { Turns H.keeps_defaults (handler_gate H.told_as (H.judges handler.old)) (V.accepts verifier.now) now
+            self.old self.new
             (callers_at (S.calls signer.old) (S.refusals signer.old) (H.refusals handler.old) (H.setting handler.old))
             (callers_at (S.calls signer.new) (S.refusals signer.new) (H.refusals handler.new) (H.setting handler.new))
             (link_at (T.answers transport.old) (T.handed transport.old) (T.faults transport.old))

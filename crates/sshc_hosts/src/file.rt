@@ -39,7 +39,8 @@ pub fn known_host_keys_path<F: Files>(
     port: u16,
     path: &str,
 ) -> Result<Vec<(u64, PublicKey)>, Error>
-    ensures answer { AnswersBy (λ known. known.items) result (F.contents files.old) (known_keys_at path.now (host_text host.now port)) }
+    ensures answer { AnswersBy (λ known. known.items) result (F.contents files.old)
+        (known_keys_at path.now (host_text host.now port)) }
     ensures same { F.contents files.new ≡ F.contents files.old }
     ensures refusal { IfErr result IsFileRefusal }
     ensures cause { HasReadCause (F.read_faults files.old) (F.read_faults files.new) result }
@@ -58,7 +59,8 @@ pub fn check_known_hosts_path<F: Files>(
     key: &PublicKey,
     path: &str,
 ) -> Result<bool, Error>
-    ensures answer { AnswersBy (λ accepted. accepted) result (F.contents files.old) (judged_at path.now (host_text host.now port) key.now.0) }
+    ensures answer { AnswersBy (λ accepted. accepted) result (F.contents files.old)
+        (judged_at path.now (host_text host.now port) key.now.0) }
     ensures same { F.contents files.new ≡ F.contents files.old }
     ensures refusal { IfErr result IsFileRefusal }
     ensures cause { HasReadCause (F.read_faults files.old) (F.read_faults files.new) result }
@@ -70,7 +72,8 @@ pub fn check_known_hosts_path<F: Files>(
 
 /// Adds the text at the end of the file at the path.
 fn add_at<F: Files>(files: &mut F, path: &str, text: &str) -> Result<(), Error>
-    ensures added { OnOk result (F.contents files.new ≡ option_map (λ told. with_text told path.now text.now) (F.contents files.old)) }
+    ensures added { OnOk result
+        (F.contents files.new ≡ option_map (λ told. with_text told path.now text.now) (F.contents files.old)) }
     ensures none { OnErr result (F.contents files.new ≡ F.contents files.old) }
     ensures refusal { IfErr result IsAddingRefusal }
     ensures cause { HasWriteCause (F.append_faults files.old) (F.append_faults files.new) result }
@@ -92,8 +95,11 @@ pub fn learn_known_hosts_path<F: Files>(
     key: &PublicKey,
     path: &str,
 ) -> Result<(), Error>
-    ensures added { OnOk result (LearnedIn (F.contents files.old) (F.contents files.new) path.now (host_text host.now port) key.now) }
-    ensures law { IsLearnable host.now → IsLearnableKey key.now → OnOk result (LearnsIn (F.contents files.old) (F.contents files.new) path.now (host_text host.now port) key.now.0) }
+    ensures added { OnOk result
+        (LearnedIn (F.contents files.old) (F.contents files.new) path.now (host_text host.now port) key.now) }
+    ensures law { IsLearnable host.now → IsLearnableKey key.now
+        → OnOk result
+        (LearnsIn (F.contents files.old) (F.contents files.new) path.now (host_text host.now port) key.now.0) }
     ensures none { OnErr result (F.contents files.new ≡ F.contents files.old) }
     ensures text { IsErrOf result Utf8 → HoldsNoText (F.contents files.old) path.now }
     ensures refusal { IfErr result IsLearningRefusal }

@@ -27,7 +27,8 @@ pub fn known_host_keys<F: Files>(
     port: u16,
     home: Option<&str>,
 ) -> Result<Vec<(u64, PublicKey)>, Error>
-    ensures answer { AnswersBy (λ known. known.items) result (F.contents files.old) (at_home (option_copied home.entry) (λ path. known_keys_at path (host_text host.now port))) }
+    ensures answer { AnswersBy (λ known. known.items) result (F.contents files.old)
+        (at_home (option_copied home.entry) (λ path. known_keys_at path (host_text host.now port))) }
     ensures same { F.contents files.new ≡ F.contents files.old }
     ensures home { NeedsHome (option_copied home.entry) result }
     ensures refusal { IfErr result IsHomeRefusal }
@@ -52,7 +53,8 @@ pub fn check_known_hosts<F: Files>(
     key: &PublicKey,
     home: Option<&str>,
 ) -> Result<bool, Error>
-    ensures answer { AnswersBy (λ accepted. accepted) result (F.contents files.old) (at_home (option_copied home.entry) (λ path. judged_at path (host_text host.now port) key.now.0)) }
+    ensures answer { AnswersBy (λ accepted. accepted) result (F.contents files.old)
+        (at_home (option_copied home.entry) (λ path. judged_at path (host_text host.now port) key.now.0)) }
     ensures same { F.contents files.new ≡ F.contents files.old }
     ensures home { NeedsHome (option_copied home.entry) result }
     ensures refusal { IfErr result IsHomeRefusal }
@@ -77,8 +79,13 @@ pub fn learn_known_hosts<F: Files>(
     key: &PublicKey,
     home: Option<&str>,
 ) -> Result<(), Error>
-    ensures added { OnOk result (LearnedAtHome (F.contents files.old) (F.contents files.new) (option_copied home.entry) (host_text host.now port) key.now) }
-    ensures law { IsLearnable host.now → IsLearnableKey key.now → OnOk result (LearnsAtHome (F.contents files.old) (F.contents files.new) (option_copied home.entry) (host_text host.now port) key.now.0) }
+    ensures added { OnOk result
+        (LearnedAtHome (F.contents files.old) (F.contents files.new) (option_copied home.entry)
+        (host_text host.now port) key.now) }
+    ensures law { IsLearnable host.now → IsLearnableKey key.now
+        → OnOk result
+        (LearnsAtHome (F.contents files.old) (F.contents files.new) (option_copied home.entry)
+        (host_text host.now port) key.now.0) }
     ensures none { OnErr result (F.contents files.new ≡ F.contents files.old) }
     ensures text { IsErrOf result Utf8 → HomeHoldsNoText (F.contents files.old) (option_copied home.entry) }
     ensures home { NeedsHome (option_copied home.entry) result }

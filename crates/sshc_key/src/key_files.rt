@@ -105,7 +105,8 @@ fn key_line(text: &str) -> Option<&str>
 /// What stands before and after the first white space.
 #[tactic(auto, unfolding(crate::specs::KeyFiles::at_white_space))]
 fn white_space_parts(text: &str) -> Option<(&str, &str)>
-    ensures { MatchOption result (at_white_space text.now ≡ None) (λ x. at_white_space text.now ≡ Some (x.0.now, x.1.now)) }
+    ensures { MatchOption result (at_white_space text.now ≡ None)
+        (λ x. at_white_space text.now ≡ Some (x.0.now, x.1.now)) }
 {
     text.split_once(|c: char| c.is_whitespace())
 }

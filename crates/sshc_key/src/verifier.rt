@@ -33,7 +33,8 @@ pub trait Verify {
         buffer: &[u8],
         sig: &[u8],
     ) -> Result<bool, NoMemory>
-        ensures { IfOk result (λ yes. yes ≡ is_accepted (V.accepts verifier.now (key self.now) buffer.now) (whole_signature sig.now)) };
+        ensures { IfOk result
+            (λ yes. yes ≡ is_accepted (V.accepts verifier.now (key self.now) buffer.now) (whole_signature sig.now)) };
 
     /// The same of the server's signature.
     fn verify_server_auth<V: Verifier>(
@@ -42,7 +43,8 @@ pub trait Verify {
         buffer: &[u8],
         sig: &[u8],
     ) -> Result<bool, NoMemory>
-        ensures { IfOk result (λ yes. yes ≡ is_accepted (V.accepts verifier.now (key self.now) buffer.now) (whole_signature sig.now)) };
+        ensures { IfOk result
+            (λ yes. yes ≡ is_accepted (V.accepts verifier.now (key self.now) buffer.now) (whole_signature sig.now)) };
 }
 
 impl Verify for PublicKey {

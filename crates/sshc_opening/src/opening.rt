@@ -133,7 +133,8 @@ impl Model for Opening {
 impl Opening {
     /// The opening at the start of a connection: a first key exchange of ours runs.
     pub fn new(alloc: Global, window_size: u32, anonymous: bool, inactivity: bool) -> Opening
-        ensures { result ≡ start (record { window_size = window_size; anonymous = anonymous; inactivity = inactivity }) }
+        ensures { result ≡ start
+            (record { window_size = window_size; anonymous = anonymous; inactivity = inactivity }) }
     {
         Opening {
             alloc,

@@ -83,7 +83,8 @@ fn judge<G: Gate>(
     gate: &mut G,
     out: &mut Outbox,
 ) -> Result<Told, G::Error>
-    ensures judged { (verdict : Result Bool G.Error) × G.judges gate.old key.now verdict × Judged (G.tells exchange.now.secret exchange.now.names) out.old out.new result verdict }
+    ensures judged { (verdict : Result Bool G.Error) × G.judges gate.old key.now verdict
+        × Judged (G.tells exchange.now.secret exchange.now.names) out.old out.new result verdict }
     ensures cause { OnErr result (Rose (G.refusals gate.old) (G.refusals gate.new)) }
     ensures keeps { GateKeeps (G.refusals gate.old) (G.refusals gate.new) (G.setting gate.old) (G.setting gate.new) }
 {
@@ -102,7 +103,8 @@ fn ask_gate<G: Gate>(
     out: &mut Outbox,
 ) -> Result<Told, G::Error>
     requires { HasExchange asks.now (exchange_in event.now) }
-    ensures answered { Answered (gate_answers G.told_as (G.judges gate.old) G.tells G.tells_banner) (exchange_in event.now) out.old out.new result asks.now }
+    ensures answered { Answered (gate_answers G.told_as (G.judges gate.old) G.tells G.tells_banner)
+        (exchange_in event.now) out.old out.new result asks.now }
     ensures cause { OnErr result (Rose (G.refusals gate.old) (G.refusals gate.new)) }
     ensures keeps { GateKeeps (G.refusals gate.old) (G.refusals gate.new) (G.setting gate.old) (G.setting gate.new) }
 {
@@ -130,8 +132,10 @@ impl Opening {
         out: &mut Outbox,
     ) -> Step<G::Error>
         ensures { Stepped (gate_answers G.told_as (G.judges gate.old) G.tells G.tells_banner) event.now
-            (with_gate (lent self.old out.old (S.calls signer.old) (S.refusals signer.old)) (G.refusals gate.old) (G.setting gate.old))
-            (with_gate (lent self.new out.new (S.calls signer.new) (S.refusals signer.new)) (G.refusals gate.new) (G.setting gate.new))
+            (with_gate (lent self.old out.old (S.calls signer.old) (S.refusals signer.old)) (G.refusals gate.old)
+            (G.setting gate.old))
+            (with_gate (lent self.new out.new (S.calls signer.new) (S.refusals signer.new)) (G.refusals gate.new)
+            (G.setting gate.new))
             result }
     {
         self.step_by_table(event, gate, signer, out)
@@ -146,8 +150,10 @@ impl Opening {
         out: &mut Outbox,
     ) -> Step<G::Error>
         ensures { ByTable (gate_answers G.told_as (G.judges gate.old) G.tells G.tells_banner) event.now
-            (with_gate (lent self.old out.old (S.calls signer.old) (S.refusals signer.old)) (G.refusals gate.old) (G.setting gate.old))
-            (with_gate (lent self.new out.new (S.calls signer.new) (S.refusals signer.new)) (G.refusals gate.new) (G.setting gate.new))
+            (with_gate (lent self.old out.old (S.calls signer.old) (S.refusals signer.old)) (G.refusals gate.old)
+            (G.setting gate.old))
+            (with_gate (lent self.new out.new (S.calls signer.new) (S.refusals signer.new)) (G.refusals gate.new)
+            (G.setting gate.new))
             result }
     {
         if self.is_closed() {
@@ -174,8 +180,10 @@ impl Opening {
         requires fresh { self.old.closed ≡ false }
         requires asked { asked_of self.old event.now ≡ asks.now }
         ensures { ByTable (gate_answers G.told_as (G.judges gate.old) G.tells G.tells_banner) event.now
-            (with_gate (lent self.old out.old (S.calls signer.old) (S.refusals signer.old)) (G.refusals gate.old) (G.setting gate.old))
-            (with_gate (lent self.new out.new (S.calls signer.new) (S.refusals signer.new)) (G.refusals gate.new) (G.setting gate.new))
+            (with_gate (lent self.old out.old (S.calls signer.old) (S.refusals signer.old)) (G.refusals gate.old)
+            (G.setting gate.old))
+            (with_gate (lent self.new out.new (S.calls signer.new) (S.refusals signer.new)) (G.refusals gate.new)
+            (G.setting gate.new))
             result }
     {
         match ask_gate(asks, event, gate, out) {

@@ -63,7 +63,8 @@ impl<'a> ChannelOpen<'a> {
 /// A path, and behind it an empty string and the number 0, which are reserved.
 #[tactic(auto, using(std::proofs::lemmas::List::append_assoc))]
 fn put_path(out: &mut Vec<u8>, socket_path: &str) -> Result<(), NoMemory>
-    ensures { OnOk result (out.new.items ≡ out.old.items ++ string_text socket_path.now ++ string_text [] ++ u32_text 0) }
+    ensures { OnOk result
+        (out.new.items ≡ out.old.items ++ string_text socket_path.now ++ string_text [] ++ u32_text 0) }
 {
     put_words(out, socket_path)?;
     put_string(out, b"".as_slice())?;

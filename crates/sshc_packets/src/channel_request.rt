@@ -159,7 +159,9 @@ fn put_pty(
     size: TerminalSize,
     modes: &[(Pty, u32)],
 ) -> Result<(), NoMemory>
-    ensures { OnOk result (out.new.items ≡ out.old.items ++ string_text term.now ++ size_text size ++ string_text (modes_text modes.now)) }
+    ensures { OnOk result
+        (out.new.items
+        ≡ out.old.items ++ string_text term.now ++ size_text size ++ string_text (modes_text modes.now)) }
 {
     put_words(out, term)?;
     put_size(out, size)?;
@@ -174,7 +176,10 @@ fn put_x11(
     cookie: &str,
     screen: u32,
 ) -> Result<(), NoMemory>
-    ensures { OnOk result (out.new.items ≡ out.old.items ++ bool_text single_connection ++ string_text protocol.now ++ string_text cookie.now ++ u32_text screen) }
+    ensures { OnOk result
+        (out.new.items
+        ≡ out.old.items ++ bool_text single_connection ++ string_text protocol.now ++ string_text cookie.now
+        ++ u32_text screen) }
 {
     put_bool(out, single_connection)?;
     put_words(out, protocol)?;

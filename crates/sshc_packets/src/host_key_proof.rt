@@ -54,7 +54,9 @@ fn part_fault<V: Verifier>(
     key: &PublicKey,
     part: &[u8],
 ) -> Result<Result<(), HostKeysFault>, NoMemory>
-    ensures { IfOk result (λ r. r ≡ signature_judged (V.accepts verifier.now key.now.0 (proof_bytes session_id.now key.now.0)) (whole_signature part.now)) }
+    ensures { IfOk result
+        (λ r. r ≡ signature_judged (V.accepts verifier.now key.now.0 (proof_bytes session_id.now key.now.0))
+        (whole_signature part.now)) }
 {
     let Some(signature) = signature_in(alloc, part)? else {
         return Ok(Err(HostKeysFault::SshEncoding));

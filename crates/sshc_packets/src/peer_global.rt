@@ -76,7 +76,8 @@ fn host_keys(alloc: Global, bytes: &[u8]) -> Result<List<PublicKey>, PacketError
 }
 
 fn keepalive(want_reply: bool, fields: &[u8]) -> Result<PeerGlobal, PacketError>
-    ensures { GivesAll (λ r. r) result (finished PacketError.SshEncoding (PeerGlobal.Keepalive want_reply, fields.now)) }
+    ensures { GivesAll (λ r. r) result
+        (finished PacketError.SshEncoding (PeerGlobal.Keepalive want_reply, fields.now)) }
 {
     Cursor::new(fields).ensure_end()?;
     Ok(PeerGlobal::Keepalive { want_reply })

@@ -21,7 +21,9 @@ pub fn part_to_sign(
 ) -> Result<Vec<u8>, NoMemory>
     requires id { length session_id.now < 2 ^ 32 }
     requires user { length user.now < 2 ^ 32 }
-    ensures { IfOk result (λ v. (key : Key) (hash : Option Hash) → IsKeyPart part.now key hash → v.items ≡ signed session_id.now user.now key hash) }
+    ensures { IfOk result
+        (λ v. (key : Key) (hash : Option Hash) → IsKeyPart part.now key hash
+        → v.items ≡ signed session_id.now user.now key hash) }
 {
     let mut bytes = Vec::new(alloc);
     put_bytes(&mut bytes, session_id)?;
@@ -40,7 +42,9 @@ pub fn signed_packet(
 ) -> Result<Octets, NoMemory>
     requires user { length user.now < 2 ^ 32 }
     requires signature { length signature.now < 2 ^ 32 }
-    ensures { IfOk result (λ packet. (key : Key) (hash : Option Hash) → IsKeyPart part.now key hash → packet ≡ signed_request user.now key hash signature.now) }
+    ensures { IfOk result
+        (λ packet. (key : Key) (hash : Option Hash) → IsKeyPart part.now key hash
+        → packet ≡ signed_request user.now key hash signature.now) }
 {
     let mut packet = Vec::new(alloc);
     put_head(&mut packet, user)?;

@@ -109,7 +109,8 @@ fn request_pty(
     size: TerminalSize,
     modes: &[TerminalMode],
 ) -> Result<(), NoMemory>
-    ensures { Does (RequestsOn id.0 (PtyReq want_reply term.now size (map mode_of modes.now)) ∷ []) session.old session.new result }
+    ensures { Does (RequestsOn id.0 (PtyReq want_reply term.now size (map mode_of modes.now)) ∷ []) session.old
+        session.new result }
 {
     let modes = modes_of(session.alloc(), modes)?;
     let modes = modes.as_slice();

@@ -43,7 +43,8 @@ fn proof_answer<V: Verifier>(
     keys: &List<PublicKey>,
     body: &[u8],
 ) -> Result<Resolution, NoMemory>
-    ensures { IfOk result (λ r. r ≡ proof_answer (proof_judged (V.accepts verifier.now) session_id.now keys.now body.now)) }
+    ensures { IfOk result
+        (λ r. r ≡ proof_answer (proof_judged (V.accepts verifier.now) session_id.now keys.now body.now)) }
 {
     match judge_host_key_proof(alloc, verifier, session_id, keys.as_slice(), body)? {
         Ok(()) => Ok(Resolution::HostKeysProved),
@@ -85,7 +86,8 @@ pub fn request_success<V: Verifier>(
     body: &[u8],
     verifier: &V,
 ) -> Result<Flow, Error>
-    ensures row { Follows (request_success_row (V.accepts verifier.now) session.old body.now) session.old session.new result }
+    ensures row { Follows (request_success_row (V.accepts verifier.now) session.old body.now) session.old session.new
+        result }
 {
     let answer = match session.first_reply() {
         Some(first) => success_of(

@@ -111,7 +111,8 @@ fn await_extension(session: &mut Connection, ticket: Ticket, name: &str) -> Resu
 }
 
 fn tell_sig_algs(session: &mut Connection, ticket: Ticket) -> Result<(), NoMemory>
-    ensures { Does (Resolves ticket (sig_algs_answer session.old.opening.sig_algs) ∷ []) session.old session.new result }
+    ensures { Does (Resolves ticket (sig_algs_answer session.old.opening.sig_algs) ∷ []) session.old session.new
+        result }
 {
     let answer = session.opening().sig_algs_answer()?;
     session.resolve(ticket, answer)

@@ -28,7 +28,8 @@ pub struct Point {
 impl Point {
     /// Where a run begins.
     pub fn at_start(alloc: Global, config: &Config) -> Point
-        ensures session { result.session ≡ new_session (run_settings_of config.now).session (run_settings_of config.now).opening }
+        ensures session { result.session
+            ≡ new_session (run_settings_of config.now).session (run_settings_of config.now).opening }
         ensures opened { result.opened ≡ false }
         ensures agents { result.agents ≡ idle (run_settings_of config.now).agent_asks }
         ensures place { result.place ≡ 0 }

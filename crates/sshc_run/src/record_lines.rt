@@ -56,10 +56,14 @@ fn write_line<K: Sink>(
     out: &Outbox,
     at: usize,
 ) -> Result<(), Failed>
-    ensures whole { OnOk result (K.contents sink.new ≡ append (K.contents sink.old) (text_line (text_in (slice_get out.now.records at)))) }
-    ensures cut { OnErr result (WroteFront (K.contents sink.old) (K.contents sink.new) (text_line (text_in (slice_get out.now.records at)))) }
-    ensures moved { OnOk result (WritesMove (K.contents sink.old) (K.contents sink.new) (K.writes sink.old) (K.writes sink.new)) }
-    ensures writes { OnErr result (WritesFor (K.contents sink.old) (K.contents sink.new) (K.writes sink.old) (K.writes sink.new)) }
+    ensures whole { OnOk result
+        (K.contents sink.new ≡ append (K.contents sink.old) (text_line (text_in (slice_get out.now.records at)))) }
+    ensures cut { OnErr result
+        (WroteFront (K.contents sink.old) (K.contents sink.new) (text_line (text_in (slice_get out.now.records at)))) }
+    ensures moved { OnOk result
+        (WritesMove (K.contents sink.old) (K.contents sink.new) (K.writes sink.old) (K.writes sink.new)) }
+    ensures writes { OnErr result
+        (WritesFor (K.contents sink.old) (K.contents sink.new) (K.writes sink.old) (K.writes sink.new)) }
     ensures cause { HasCause (K.faults sink.old) (K.faults sink.new) result }
     ensures moving { OnOk result (K.empty_writes sink.new ≡ K.empty_writes sink.old) }
     ensures last { K.empty_writes sink.new ≤ K.empty_writes sink.old + 1 }
@@ -78,8 +82,10 @@ pub fn write_lines<K: Sink>(
 ) -> Result<(), Failed>
     ensures whole { OnOk result (K.contents sink.new ≡ append (K.contents sink.old) (lines out.now.records)) }
     ensures cut { OnErr result (WroteFront (K.contents sink.old) (K.contents sink.new) (lines out.now.records)) }
-    ensures moved { OnOk result (WritesMove (K.contents sink.old) (K.contents sink.new) (K.writes sink.old) (K.writes sink.new)) }
-    ensures writes { OnErr result (WritesFor (K.contents sink.old) (K.contents sink.new) (K.writes sink.old) (K.writes sink.new)) }
+    ensures moved { OnOk result
+        (WritesMove (K.contents sink.old) (K.contents sink.new) (K.writes sink.old) (K.writes sink.new)) }
+    ensures writes { OnErr result
+        (WritesFor (K.contents sink.old) (K.contents sink.new) (K.writes sink.old) (K.writes sink.new)) }
     ensures cause { HasCause (K.faults sink.old) (K.faults sink.new) result }
     ensures moving { OnOk result (K.empty_writes sink.new ≡ K.empty_writes sink.old) }
     ensures last { K.empty_writes sink.new ≤ K.empty_writes sink.old + 1 }

@@ -35,14 +35,20 @@ fn take_turns<S: Source, G: LocalSigner, V: Verifier, K: Sink>(
 ) -> Result<Ended, RunError>
     requires room { at.old.place ≡ 0 }
     requires ready { IsReady at.old.opened at.old.session }
-    ensures run { Ends max_events at.old.place at.old.last (run (run_turn (hosts_of gate.old) (V.accepts verifier.now)) max_events (spot at.old.place at.old.last (kept at.old.session at.old.agents)))
+    ensures run { Ends max_events at.old.place at.old.last
+        (run (run_turn (hosts_of gate.old) (V.accepts verifier.now)) max_events
+        (spot at.old.place at.old.last (kept at.old.session at.old.agents)))
         (streams (S.left source.old) (K.contents sink.old) (S.reads source.old) (G.calls signer.old))
         (streams (S.left source.new) (K.contents sink.new) (S.reads source.new) (G.calls signer.new)) result }
     ensures counts { CountsMoved
-        (run_outside (source_state (S.left source.old) (S.reads source.old) (S.empty_reads source.old) (S.faults source.old))
-        (sink_state (K.contents sink.old) (K.writes sink.old) (K.empty_writes sink.old) (K.faults sink.old)) (G.calls signer.old))
-        (run_outside (source_state (S.left source.new) (S.reads source.new) (S.empty_reads source.new) (S.faults source.new))
-        (sink_state (K.contents sink.new) (K.writes sink.new) (K.empty_writes sink.new) (K.faults sink.new)) (G.calls signer.new))
+        (run_outside
+        (source_state (S.left source.old) (S.reads source.old) (S.empty_reads source.old) (S.faults source.old))
+        (sink_state (K.contents sink.old) (K.writes sink.old) (K.empty_writes sink.old) (K.faults sink.old))
+        (G.calls signer.old))
+        (run_outside
+        (source_state (S.left source.new) (S.reads source.new) (S.empty_reads source.new) (S.faults source.new))
+        (sink_state (K.contents sink.new) (K.writes sink.new) (K.empty_writes sink.new) (K.faults sink.new))
+        (G.calls signer.new))
         result }
 {
     for turn in 0..max_events {
@@ -63,14 +69,20 @@ fn run_events<S: Source, G: LocalSigner, V: Verifier, K: Sink>(
     verifier: &V,
     sink: &mut K,
 ) -> Result<Ended, RunError>
-    ensures run { Ends config.now.max_events 0 0 (script_run (run_machine (hosts_of gate.old) (V.accepts verifier.now) (run_settings_of config.now)) config.now.max_events)
+    ensures run { Ends config.now.max_events 0 0
+        (script_run
+        (run_machine (hosts_of gate.old) (V.accepts verifier.now) (run_settings_of config.now)) config.now.max_events)
         (streams (S.left source.old) (K.contents sink.old) (S.reads source.old) (G.calls signer.old))
         (streams (S.left source.new) (K.contents sink.new) (S.reads source.new) (G.calls signer.new)) result }
     ensures counts { CountsMoved
-        (run_outside (source_state (S.left source.old) (S.reads source.old) (S.empty_reads source.old) (S.faults source.old))
-        (sink_state (K.contents sink.old) (K.writes sink.old) (K.empty_writes sink.old) (K.faults sink.old)) (G.calls signer.old))
-        (run_outside (source_state (S.left source.new) (S.reads source.new) (S.empty_reads source.new) (S.faults source.new))
-        (sink_state (K.contents sink.new) (K.writes sink.new) (K.empty_writes sink.new) (K.faults sink.new)) (G.calls signer.new))
+        (run_outside
+        (source_state (S.left source.old) (S.reads source.old) (S.empty_reads source.old) (S.faults source.old))
+        (sink_state (K.contents sink.old) (K.writes sink.old) (K.empty_writes sink.old) (K.faults sink.old))
+        (G.calls signer.old))
+        (run_outside
+        (source_state (S.left source.new) (S.reads source.new) (S.empty_reads source.new) (S.faults source.new))
+        (sink_state (K.contents sink.new) (K.writes sink.new) (K.empty_writes sink.new) (K.faults sink.new))
+        (G.calls signer.new))
         result }
 {
     let mut at = Point::at_start(alloc, config);
@@ -103,10 +115,14 @@ pub fn run_script<S: Source, K: Sink, G: LocalSigner, V: Verifier>(
 ) -> Result<Ended, RunError>
     // What a run promises, each a field with its own name: specs/RunPromises.antt.
     ensures promises { RunPromises (run_asked host.now port known.now (V.accepts verifier.now) config.now)
-        (run_outside (source_state (S.left source.old) (S.reads source.old) (S.empty_reads source.old) (S.faults source.old))
-        (sink_state (K.contents sink.old) (K.writes sink.old) (K.empty_writes sink.old) (K.faults sink.old)) (G.calls signer.old))
-        (run_outside (source_state (S.left source.new) (S.reads source.new) (S.empty_reads source.new) (S.faults source.new))
-        (sink_state (K.contents sink.new) (K.writes sink.new) (K.empty_writes sink.new) (K.faults sink.new)) (G.calls signer.new))
+        (run_outside
+        (source_state (S.left source.old) (S.reads source.old) (S.empty_reads source.old) (S.faults source.old))
+        (sink_state (K.contents sink.old) (K.writes sink.old) (K.empty_writes sink.old) (K.faults sink.old))
+        (G.calls signer.old))
+        (run_outside
+        (source_state (S.left source.new) (S.reads source.new) (S.empty_reads source.new) (S.faults source.new))
+        (sink_state (K.contents sink.new) (K.writes sink.new) (K.empty_writes sink.new) (K.faults sink.new))
+        (G.calls signer.new))
         result }
 {
     session_laws();

@@ -27,9 +27,11 @@ fn serve_event<G: LocalSigner, K: Sink>(
     sink: &mut K,
 ) -> Option<Result<Ended, RunError>>
     ensures gives { TakeGives (served_turn moment event.now agents.old)
-        (since (G.calls signer.old) (G.calls signer.new)) agents.new (K.contents sink.old) (K.contents sink.new) result }
+        (since (G.calls signer.old) (G.calls signer.new)) agents.new (K.contents sink.old)
+        (K.contents sink.new) result }
     ensures gained { G.calls signer.new ≡ G.calls signer.old ++ since (G.calls signer.old) (G.calls signer.new) }
-    ensures sink { SinkTaken (sink_state (K.contents sink.old) (K.writes sink.old) (K.empty_writes sink.old) (K.faults sink.old))
+    ensures sink { SinkTaken
+        (sink_state (K.contents sink.old) (K.writes sink.old) (K.empty_writes sink.old) (K.faults sink.old))
         (sink_state (K.contents sink.new) (K.writes sink.new) (K.empty_writes sink.new) (K.faults sink.new)) result }
     ensures no_read { result ≢ Some (Err RunError.ReadFault) }
 {
@@ -53,9 +55,11 @@ pub fn take_agent_event<G: LocalSigner, K: Sink>(
     sink: &mut K,
 ) -> Option<Result<Ended, RunError>>
     ensures gives { TakeGives (agents_turn agents.old (frame_at place event.now))
-        (since (G.calls signer.old) (G.calls signer.new)) agents.new (K.contents sink.old) (K.contents sink.new) result }
+        (since (G.calls signer.old) (G.calls signer.new)) agents.new (K.contents sink.old)
+        (K.contents sink.new) result }
     ensures gained { G.calls signer.new ≡ G.calls signer.old ++ since (G.calls signer.old) (G.calls signer.new) }
-    ensures sink { SinkTaken (sink_state (K.contents sink.old) (K.writes sink.old) (K.empty_writes sink.old) (K.faults sink.old))
+    ensures sink { SinkTaken
+        (sink_state (K.contents sink.old) (K.writes sink.old) (K.empty_writes sink.old) (K.faults sink.old))
         (sink_state (K.contents sink.new) (K.writes sink.new) (K.empty_writes sink.new) (K.faults sink.new)) result }
     ensures no_read { result ≢ Some (Err RunError.ReadFault) }
 {

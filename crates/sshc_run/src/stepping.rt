@@ -32,8 +32,10 @@ fn step_unopened<G: LocalSigner, V: Verifier>(
 ) -> Step<HandlerError>
     requires ready { IsReady at.old.opened at.old.session }
     requires unopened { at.old.opened ≡ false }
-    ensures came { Came (step_turn false (hosts_of gate.old) (V.accepts verifier.now) at.old.place at.old.session event.now)
-        (since (G.calls signer.old) (G.calls signer.new)) at.old.place result (emptied at.new.session) at.new.session.records }
+    ensures came { Came (step_turn false (hosts_of gate.old)
+        (V.accepts verifier.now) at.old.place at.old.session event.now)
+        (since (G.calls signer.old) (G.calls signer.new)) at.old.place result
+        (emptied at.new.session) at.new.session.records }
     ensures ready { IsReadyAfter result at.new.opened (emptied at.new.session) }
     ensures moved { (at.new.place ≡ at.old.place) × (at.new.last ≡ at.old.last) }
     ensures agents { at.new.agents ≡ at.old.agents }
@@ -54,8 +56,11 @@ fn step_opened<G: LocalSigner, V: Verifier>(
 ) -> Step<HandlerError>
     requires ready { IsReady at.old.opened at.old.session }
     requires opened { at.old.opened ≡ true }
-    ensures came { Came (done (row_turn at.old.place at.old.session (session_row (V.accepts verifier.now) (default_opinions at.old.session) at.old.session event.now)))
-        (since (G.calls signer.old) (G.calls signer.new)) at.old.place result (emptied at.new.session) at.new.session.records }
+    ensures came { Came (done
+        (row_turn at.old.place at.old.session
+        (session_row (V.accepts verifier.now) (default_opinions at.old.session) at.old.session event.now)))
+        (since (G.calls signer.old) (G.calls signer.new)) at.old.place result
+        (emptied at.new.session) at.new.session.records }
     ensures ready { IsReadyAfter result at.new.opened (emptied at.new.session) }
     ensures moved { (at.new.place ≡ at.old.place) × (at.new.last ≡ at.old.last) }
     ensures agents { at.new.agents ≡ at.old.agents }
@@ -73,8 +78,10 @@ pub fn step_session<G: LocalSigner, V: Verifier>(
     verifier: &V,
 ) -> Step<HandlerError>
     requires ready { IsReady at.old.opened at.old.session }
-    ensures came { Came (step_turn at.old.opened (hosts_of gate.old) (V.accepts verifier.now) at.old.place at.old.session event.now)
-        (since (G.calls signer.old) (G.calls signer.new)) at.old.place result (emptied at.new.session) at.new.session.records }
+    ensures came { Came (step_turn at.old.opened (hosts_of gate.old)
+        (V.accepts verifier.now) at.old.place at.old.session event.now)
+        (since (G.calls signer.old) (G.calls signer.new)) at.old.place result
+        (emptied at.new.session) at.new.session.records }
     ensures ready { IsReadyAfter result at.new.opened (emptied at.new.session) }
     ensures moved { (at.new.place ≡ at.old.place) × (at.new.last ≡ at.old.last) }
     ensures agents { at.new.agents ≡ at.old.agents }

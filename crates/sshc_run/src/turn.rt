@@ -125,14 +125,17 @@ fn step_event<G: LocalSigner, V: Verifier, K: Sink>(
     sink: &mut K,
 ) -> Option<Result<Ended, RunError>>
     requires ready { IsReady at.old.opened at.old.session }
-    ensures gives { TakeGives (step_turn at.old.opened (hosts_of gate.old) (V.accepts verifier.now) at.old.place at.old.session event.now)
-        (since (G.calls signer.old) (G.calls signer.new)) at.new.session (K.contents sink.old) (K.contents sink.new) result }
+    ensures gives { TakeGives
+        (step_turn at.old.opened (hosts_of gate.old) (V.accepts verifier.now) at.old.place at.old.session event.now)
+        (since (G.calls signer.old) (G.calls signer.new)) at.new.session (K.contents sink.old)
+        (K.contents sink.new) result }
     ensures moved { (at.new.place ≡ at.old.place) × (at.new.last ≡ at.old.last) }
     ensures agents { at.new.agents ≡ at.old.agents }
     ensures ready { IfNone result (IsReady at.new.opened at.new.session) }
     ensures same { hosts_of gate.new ≡ hosts_of gate.old }
     ensures gained { G.calls signer.new ≡ G.calls signer.old ++ since (G.calls signer.old) (G.calls signer.new) }
-    ensures sink { SinkTaken (sink_state (K.contents sink.old) (K.writes sink.old) (K.empty_writes sink.old) (K.faults sink.old))
+    ensures sink { SinkTaken
+        (sink_state (K.contents sink.old) (K.writes sink.old) (K.empty_writes sink.old) (K.faults sink.old))
         (sink_state (K.contents sink.new) (K.writes sink.new) (K.empty_writes sink.new) (K.faults sink.new)) result }
     ensures no_read { result ≢ Some (Err RunError.ReadFault) }
 {
@@ -158,14 +161,17 @@ fn take_session_event<G: LocalSigner, V: Verifier, K: Sink>(
     sink: &mut K,
 ) -> Option<Result<Ended, RunError>>
     requires ready { IsReady at.old.opened at.old.session }
-    ensures gives { TakeGives (session_turn (hosts_of gate.old) (V.accepts verifier.now) at.old.session (frame_at at.old.place event.now))
-        (since (G.calls signer.old) (G.calls signer.new)) at.new.session (K.contents sink.old) (K.contents sink.new) result }
+    ensures gives { TakeGives
+        (session_turn (hosts_of gate.old) (V.accepts verifier.now) at.old.session (frame_at at.old.place event.now))
+        (since (G.calls signer.old) (G.calls signer.new)) at.new.session (K.contents sink.old)
+        (K.contents sink.new) result }
     ensures moved { (at.new.place ≡ at.old.place) × (at.new.last ≡ at.old.last) }
     ensures agents { at.new.agents ≡ at.old.agents }
     ensures ready { IfNone result (IsReady at.new.opened at.new.session) }
     ensures same { hosts_of gate.new ≡ hosts_of gate.old }
     ensures gained { G.calls signer.new ≡ G.calls signer.old ++ since (G.calls signer.old) (G.calls signer.new) }
-    ensures sink { SinkTaken (sink_state (K.contents sink.old) (K.writes sink.old) (K.empty_writes sink.old) (K.faults sink.old))
+    ensures sink { SinkTaken
+        (sink_state (K.contents sink.old) (K.writes sink.old) (K.empty_writes sink.old) (K.faults sink.old))
         (sink_state (K.contents sink.new) (K.writes sink.new) (K.empty_writes sink.new) (K.faults sink.new)) result }
     ensures no_read { result ≢ Some (Err RunError.ReadFault) }
 {
@@ -204,13 +210,17 @@ fn take_event<G: LocalSigner, V: Verifier, K: Sink>(
     sink: &mut K,
 ) -> Option<Result<Ended, RunError>>
     requires ready { IsReady at.old.opened at.old.session }
-    ensures gives { TakeGives (run_turn (hosts_of gate.old) (V.accepts verifier.now) (kept at.old.session at.old.agents) (frame_at at.old.place event.now))
-        (since (G.calls signer.old) (G.calls signer.new)) (kept at.new.session at.new.agents) (K.contents sink.old) (K.contents sink.new) result }
+    ensures gives { TakeGives
+        (run_turn (hosts_of gate.old) (V.accepts verifier.now) (kept at.old.session at.old.agents)
+        (frame_at at.old.place event.now))
+        (since (G.calls signer.old) (G.calls signer.new)) (kept at.new.session at.new.agents) (K.contents sink.old)
+        (K.contents sink.new) result }
     ensures moved { (at.new.place ≡ at.old.place) × (at.new.last ≡ at.old.last) }
     ensures ready { IfNone result (IsReady at.new.opened at.new.session) }
     ensures same { hosts_of gate.new ≡ hosts_of gate.old }
     ensures gained { G.calls signer.new ≡ G.calls signer.old ++ since (G.calls signer.old) (G.calls signer.new) }
-    ensures sink { SinkTaken (sink_state (K.contents sink.old) (K.writes sink.old) (K.empty_writes sink.old) (K.faults sink.old))
+    ensures sink { SinkTaken
+        (sink_state (K.contents sink.old) (K.writes sink.old) (K.empty_writes sink.old) (K.faults sink.old))
         (sink_state (K.contents sink.new) (K.writes sink.new) (K.empty_writes sink.new) (K.faults sink.new)) result }
     ensures no_read { result ≢ Some (Err RunError.ReadFault) }
 {
@@ -241,14 +251,19 @@ pub fn one_turn<S: Source, G: LocalSigner, V: Verifier, K: Sink>(
 ) -> Option<Result<Ended, RunError>>
     requires room { at.old.place + 262148 < 2 ^ 64 }
     requires ready { IsReady at.old.opened at.old.session }
-    ensures gives { TurnGives (run (run_turn (hosts_of gate.old) (V.accepts verifier.now))) (spot at.old.place at.old.last (kept at.old.session at.old.agents)) (spot at.new.place at.new.last (kept at.new.session at.new.agents))
+    ensures gives { TurnGives (run (run_turn (hosts_of gate.old) (V.accepts verifier.now)))
+        (spot at.old.place at.old.last (kept at.old.session at.old.agents))
+        (spot at.new.place at.new.last (kept at.new.session at.new.agents))
         (streams (S.left source.old) (K.contents sink.old) (S.reads source.old) (G.calls signer.old))
         (streams (S.left source.new) (K.contents sink.new) (S.reads source.new) (G.calls signer.new)) result }
     ensures ready { IfNone result (IsReady at.new.opened at.new.session) }
     ensures same { hosts_of gate.new ≡ hosts_of gate.old }
-    ensures source { SourceTaken (source_state (S.left source.old) (S.reads source.old) (S.empty_reads source.old) (S.faults source.old))
-        (source_state (S.left source.new) (S.reads source.new) (S.empty_reads source.new) (S.faults source.new)) result }
-    ensures sink { SinkTaken (sink_state (K.contents sink.old) (K.writes sink.old) (K.empty_writes sink.old) (K.faults sink.old))
+    ensures source { SourceTaken
+        (source_state (S.left source.old) (S.reads source.old) (S.empty_reads source.old) (S.faults source.old))
+        (source_state (S.left source.new) (S.reads source.new) (S.empty_reads source.new) (S.faults source.new))
+        result }
+    ensures sink { SinkTaken
+        (sink_state (K.contents sink.old) (K.writes sink.old) (K.empty_writes sink.old) (K.faults sink.old))
         (sink_state (K.contents sink.new) (K.writes sink.new) (K.empty_writes sink.new) (K.faults sink.new)) result }
 {
     let event = match next_event(alloc, source, at.last) {

@@ -132,7 +132,8 @@ fn run_asked(alloc: Global, asked: GenWords) -> Result<GeneratedRun, NoMemory>
 
 /// The lines that tell a run.
 fn run_lines(alloc: Global, run: &GeneratedRun) -> Result<String, NoMemory>
-    ensures { IfOk result (λ text. string_bytes text ≡ summary_lines run.now.events run.now.summary ++ answer_line run.now.answer) }
+    ensures { IfOk result
+        (λ text. string_bytes text ≡ summary_lines run.now.events run.now.summary ++ answer_line run.now.answer) }
 {
     let mut lines = summary_lines(alloc, run.events, &run.summary)?;
     lines.push_str(answer_line(alloc, &run.answer)?.as_str())?;
@@ -141,7 +142,8 @@ fn run_lines(alloc: Global, run: &GeneratedRun) -> Result<String, NoMemory>
 
 /// Tells a run, and answers its status.
 fn tell_run<K: Sink>(alloc: Global, sink: &mut K, run: &GeneratedRun) -> u8
-    ensures adds { Adds (summary_lines run.now.events run.now.summary ++ answer_line run.now.answer) (status_of run.now.answer)
+    ensures adds { Adds (summary_lines run.now.events run.now.summary ++ answer_line run.now.answer)
+        (status_of run.now.answer)
         (K.contents sink.old) (K.contents sink.new) (K.faults sink.old) (K.faults sink.new) result }
 {
     match run_lines(alloc, run) {
@@ -153,7 +155,8 @@ fn tell_run<K: Sink>(alloc: Global, sink: &mut K, run: &GeneratedRun) -> u8
 /// Runs the words `gen SEED N`.
 pub(crate) fn run_gen_words<K: Sink>(alloc: Global, asked: GenWords, sink: &mut K) -> u8
     requires { asked.count ≤ 100000 }
-    ensures gives { GenGives asked.seed asked.count (K.contents sink.old) (K.contents sink.new) (K.faults sink.old) (K.faults sink.new) result }
+    ensures gives { GenGives asked.seed asked.count (K.contents sink.old) (K.contents sink.new) (K.faults sink.old)
+        (K.faults sink.new) result }
 {
     match run_asked(alloc, asked) {
         Ok(run) => tell_run(alloc, sink, &run),

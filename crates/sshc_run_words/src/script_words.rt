@@ -23,7 +23,8 @@ pub(crate) struct ScriptWords<'a> {
 /// The words, where they are `script HOST PORT KNOWN`.
 pub(crate) fn script_words<'a>(words: &'a [Text]) -> Option<ScriptWords<'a>>
     ensures some { IfSome result (λ asked. IsScriptWords words.now asked.host.now asked.port asked.path.now) }
-    ensures none { IsNone result → (host : List ℕ) (port : ℕ) (path : List ℕ) → IsScriptWords words.now host port path → ⊥ }
+    ensures none { IsNone result → (host : List ℕ) (port : ℕ) (path : List ℕ) → IsScriptWords words.now host port path
+        → ⊥ }
 {
     if words.len() != 4 || words[0].as_str() != "script" {
         return None;
@@ -50,10 +51,14 @@ fn run_told<S: Source, K: Sink, G: LocalSigner, V: Verifier>(
     sink: &mut K,
 ) -> u8
     ensures runs { RunsBy (run_asked asked.now.host.now asked.now.port known.now (V.accepts verifier.now) config.now)
-        (run_outside (source_state (S.left source.old) (S.reads source.old) (S.empty_reads source.old) (S.faults source.old))
-        (sink_state (K.contents sink.old) (K.writes sink.old) (K.empty_writes sink.old) (K.faults sink.old)) (G.calls signer.old))
-        (run_outside (source_state (S.left source.new) (S.reads source.new) (S.empty_reads source.new) (S.faults source.new))
-        (sink_state (K.contents sink.new) (K.writes sink.new) (K.empty_writes sink.new) (K.faults sink.new)) (G.calls signer.new))
+        (run_outside
+        (source_state (S.left source.old) (S.reads source.old) (S.empty_reads source.old) (S.faults source.old))
+        (sink_state (K.contents sink.old) (K.writes sink.old) (K.empty_writes sink.old) (K.faults sink.old))
+        (G.calls signer.old))
+        (run_outside
+        (source_state (S.left source.new) (S.reads source.new) (S.empty_reads source.new) (S.faults source.new))
+        (sink_state (K.contents sink.new) (K.writes sink.new) (K.empty_writes sink.new) (K.faults sink.new))
+        (G.calls signer.new))
         result }
 {
     let answer = run_script(
@@ -73,10 +78,14 @@ fn run_default<S: Source, K: Sink, G: LocalSigner, V: Verifier>(
     sink: &mut K,
 ) -> u8
     ensures gives { TextGives (words_asked (V.accepts verifier.now) asked.now.host.now asked.now.port known.now)
-        (run_outside (source_state (S.left source.old) (S.reads source.old) (S.empty_reads source.old) (S.faults source.old))
-        (sink_state (K.contents sink.old) (K.writes sink.old) (K.empty_writes sink.old) (K.faults sink.old)) (G.calls signer.old))
-        (run_outside (source_state (S.left source.new) (S.reads source.new) (S.empty_reads source.new) (S.faults source.new))
-        (sink_state (K.contents sink.new) (K.writes sink.new) (K.empty_writes sink.new) (K.faults sink.new)) (G.calls signer.new))
+        (run_outside
+        (source_state (S.left source.old) (S.reads source.old) (S.empty_reads source.old) (S.faults source.old))
+        (sink_state (K.contents sink.old) (K.writes sink.old) (K.empty_writes sink.old) (K.faults sink.old))
+        (G.calls signer.old))
+        (run_outside
+        (source_state (S.left source.new) (S.reads source.new) (S.empty_reads source.new) (S.faults source.new))
+        (sink_state (K.contents sink.new) (K.writes sink.new) (K.empty_writes sink.new) (K.faults sink.new))
+        (G.calls signer.new))
         result }
 {
     match Config::default_in(alloc) {
@@ -96,11 +105,16 @@ pub(crate) fn run_script_words<F: Files, S: Source, K: Sink, G: LocalSigner, V: 
     source: &mut S,
     sink: &mut K,
 ) -> u8
-    ensures gives { ScriptGives (V.accepts verifier.now) asked.now.host.now asked.now.port asked.now.path.now (F.contents files.old)
-        (run_outside (source_state (S.left source.old) (S.reads source.old) (S.empty_reads source.old) (S.faults source.old))
-        (sink_state (K.contents sink.old) (K.writes sink.old) (K.empty_writes sink.old) (K.faults sink.old)) (G.calls signer.old))
-        (run_outside (source_state (S.left source.new) (S.reads source.new) (S.empty_reads source.new) (S.faults source.new))
-        (sink_state (K.contents sink.new) (K.writes sink.new) (K.empty_writes sink.new) (K.faults sink.new)) (G.calls signer.new))
+    ensures gives { ScriptGives (V.accepts verifier.now) asked.now.host.now asked.now.port asked.now.path.now
+        (F.contents files.old)
+        (run_outside
+        (source_state (S.left source.old) (S.reads source.old) (S.empty_reads source.old) (S.faults source.old))
+        (sink_state (K.contents sink.old) (K.writes sink.old) (K.empty_writes sink.old) (K.faults sink.old))
+        (G.calls signer.old))
+        (run_outside
+        (source_state (S.left source.new) (S.reads source.new) (S.empty_reads source.new) (S.faults source.new))
+        (sink_state (K.contents sink.new) (K.writes sink.new) (K.empty_writes sink.new) (K.faults sink.new))
+        (G.calls signer.new))
         (F.read_faults files.old) (F.read_faults files.new) result }
     ensures kept { F.contents files.new ≡ F.contents files.old }
 {

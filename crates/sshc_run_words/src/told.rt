@@ -116,7 +116,8 @@ fn is_write_fault(answer: &Result<Ended, RunError>) -> bool
 
 /// Tells the answer of a run, and answers its status. After a failed write nothing more is written.
 pub(crate) fn tell<K: Sink>(alloc: Global, sink: &mut K, answer: &Result<Ended, RunError>) -> u8
-    ensures tells { Tells answer.now (K.contents sink.old) (K.contents sink.new) (K.faults sink.old) (K.faults sink.new) result }
+    ensures tells { Tells answer.now (K.contents sink.old) (K.contents sink.new) (K.faults sink.old)
+        (K.faults sink.new) result }
     ensures later { K.faults sink.old ≤ K.faults sink.new }
 {
     if is_write_fault(answer) {

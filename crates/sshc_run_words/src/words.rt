@@ -23,8 +23,10 @@ fn run_other_words<F: Files, K: Sink>(
     sink: &mut K,
 ) -> u8
     ensures hosts { (asked : Asked) → Asks words.now asked → AskedGives asked
-        (outside (F.contents files.old) (F.read_faults files.old) (F.append_faults files.old) (K.contents sink.old) (K.faults sink.old))
-        (outside (F.contents files.new) (F.read_faults files.new) (F.append_faults files.new) (K.contents sink.new) (K.faults sink.new)) result }
+        (outside (F.contents files.old) (F.read_faults files.old) (F.append_faults files.old) (K.contents sink.old)
+        (K.faults sink.old))
+        (outside (F.contents files.new) (F.read_faults files.new) (F.append_faults files.new) (K.contents sink.new)
+        (K.faults sink.new)) result }
     ensures other { ((asked : Asked) → Asks words.now asked → ⊥) → (F.contents files.new ≡ F.contents files.old)
         × Adds (codes "error words" ++ 10 ∷ []) 2 (K.contents sink.old) (K.contents sink.new) (K.faults sink.old) (K.faults sink.new) result }
 {
@@ -49,23 +51,33 @@ pub fn run_words<F: Files, S: Source, K: Sink, G: LocalSigner, V: Verifier>(
     // `script HOST PORT KNOWN`: the run with all its promises, and the line that tells its answer.
     ensures script { (host : List ℕ) (port : ℕ) (path : List ℕ) → IsScriptWords words.now host port path →
         ScriptGives (V.accepts verifier.now) host port path (F.contents files.old)
-        (run_outside (source_state (S.left source.old) (S.reads source.old) (S.empty_reads source.old) (S.faults source.old))
-        (sink_state (K.contents sink.old) (K.writes sink.old) (K.empty_writes sink.old) (K.faults sink.old)) (G.calls signer.old))
-        (run_outside (source_state (S.left source.new) (S.reads source.new) (S.empty_reads source.new) (S.faults source.new))
-        (sink_state (K.contents sink.new) (K.writes sink.new) (K.empty_writes sink.new) (K.faults sink.new)) (G.calls signer.new))
+        (run_outside
+        (source_state (S.left source.old) (S.reads source.old) (S.empty_reads source.old) (S.faults source.old))
+        (sink_state (K.contents sink.old) (K.writes sink.old) (K.empty_writes sink.old) (K.faults sink.old))
+        (G.calls signer.old))
+        (run_outside
+        (source_state (S.left source.new) (S.reads source.new) (S.empty_reads source.new) (S.faults source.new))
+        (sink_state (K.contents sink.new) (K.writes sink.new) (K.empty_writes sink.new) (K.faults sink.new))
+        (G.calls signer.new))
         (F.read_faults files.old) (F.read_faults files.new) result }
     // The files are as they were: no script adds to a known hosts file.
-    ensures kept { (host : List ℕ) (port : ℕ) (path : List ℕ) → IsScriptWords words.now host port path → F.contents files.new ≡ F.contents files.old }
+    ensures kept { (host : List ℕ) (port : ℕ) (path : List ℕ) → IsScriptWords words.now host port path
+        → F.contents files.new ≡ F.contents files.old }
     // `gen SEED N`: the run of the generated script over memory, told in a summary. The files are as they were, and nothing is read.
-    ensures generated { (seed : ℕ) (count : ℕ) → IsGenWords words.now seed count → (S.left source.new ≡ S.left source.old) × (F.contents files.new ≡ F.contents files.old)
-        × GenGives seed count (K.contents sink.old) (K.contents sink.new) (K.faults sink.old) (K.faults sink.new) result }
+    ensures generated { (seed : ℕ) (count : ℕ) → IsGenWords words.now seed count
+        → (S.left source.new ≡ S.left source.old) × (F.contents files.new ≡ F.contents files.old)
+        × GenGives seed count (K.contents sink.old) (K.contents sink.new) (K.faults sink.old)
+        (K.faults sink.new) result }
     // `hosts check`, `hosts keys` and `hosts learn`: the answer of known hosts, told; nothing is read from the source.
     ensures hosts { (asked : Asked) → Asks words.now asked → (S.left source.new ≡ S.left source.old) × AskedGives asked
-        (outside (F.contents files.old) (F.read_faults files.old) (F.append_faults files.old) (K.contents sink.old) (K.faults sink.old))
-        (outside (F.contents files.new) (F.read_faults files.new) (F.append_faults files.new) (K.contents sink.new) (K.faults sink.new)) result }
+        (outside (F.contents files.old) (F.read_faults files.old) (F.append_faults files.old) (K.contents sink.old)
+        (K.faults sink.old))
+        (outside (F.contents files.new) (F.read_faults files.new) (F.append_faults files.new) (K.contents sink.new)
+        (K.faults sink.new)) result }
     // No words but those of a script read from the source or ask the signer.
     ensures untouched { ((host : List ℕ) (port : ℕ) (path : List ℕ) → IsScriptWords words.now host port path → ⊥) →
-        (S.left source.new ≡ S.left source.old) × (S.reads source.new ≡ S.reads source.old) × (G.calls signer.new ≡ G.calls signer.old) }
+        (S.left source.new ≡ S.left source.old) × (S.reads source.new ≡ S.reads source.old)
+        × (G.calls signer.new ≡ G.calls signer.old) }
     // Other words: nothing is read, and the files stay as they were.
     ensures other { ((host : List ℕ) (port : ℕ) (path : List ℕ) → IsScriptWords words.now host port path → ⊥) →
         ((seed : ℕ) (count : ℕ) → IsGenWords words.now seed count → ⊥) → ((asked : Asked) → Asks words.now asked → ⊥) →

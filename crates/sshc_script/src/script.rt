@@ -73,7 +73,8 @@ fn length_of(head: &[u8]) -> Option<usize>
     ensures within { IfSome result (λ n. (9 ≤ n) × (n ≤ 262144)) }
     ensures some { IfSome result (λ n. n ≡ from_be_bytes w32 head.now) }
     ensures size { IfSome result (λ n. 4 ≤ length head.now) }
-    ensures none { IsNone result → (length head.now < 4) ⊎ (from_be_bytes w32 head.now < 9) ⊎ (262144 < from_be_bytes w32 head.now) }
+    ensures none { IsNone result → (length head.now < 4) ⊎ (from_be_bytes w32 head.now < 9)
+        ⊎ (262144 < from_be_bytes w32 head.now) }
 {
     if head.len() < 4 {
         return None;
@@ -119,7 +120,8 @@ pub fn next_event<S: Source>(
     source: &mut S,
     last: u64,
 ) -> Result<Option<RawEvent>, NextError>
-    ensures gives { NextGives last (S.left source.old) (S.left source.new) (S.reads source.old) (S.reads source.new) result }
+    ensures gives { NextGives last (S.left source.old) (S.left source.new) (S.reads source.old)
+        (S.reads source.new) result }
     ensures later { S.faults source.old ≤ S.faults source.new }
     ensures fault { result ≡ Err NextError.ReadFault → Rose (S.faults source.old) (S.faults source.new) }
     ensures told { (result ≡ Err NextError.ReadFault → ⊥) → S.faults source.new ≡ S.faults source.old }

@@ -19,7 +19,8 @@ fn read_piece<S: AgentStream>(stream: &mut S, buf: &mut [u8]) -> Result<usize, F
     ensures end { IfOk result (λ n. n ≡ 0 → 0 < length buf.new → IsAtEnd (S.left stream.new)) }
     ensures none { OnErr result (S.left stream.new ≡ S.left stream.old) }
     ensures cause { HasCause (S.Source.faults stream.old) (S.Source.faults stream.new) result }
-    ensures unwritten { (S.contents stream.new ≡ S.contents stream.old) × (S.Sink.faults stream.new ≡ S.Sink.faults stream.old) }
+    ensures unwritten { (S.contents stream.new ≡ S.contents stream.old)
+        × (S.Sink.faults stream.new ≡ S.Sink.faults stream.old) }
 {
     stream.read(buf)
 }
@@ -29,11 +30,14 @@ pub(crate) fn read_more<S: AgentStream>(
     stream: &mut S,
     frames: &mut Frames,
 ) -> Result<bool, NoMemory>
-    ensures read { ReadsMore frames.old frames.new (seen (S.left stream.old) (S.contents stream.old) (S.Source.faults stream.old) (S.Sink.faults stream.old))
-        (seen (S.left stream.new) (S.contents stream.new) (S.Source.faults stream.new) (S.Sink.faults stream.new)) result }
+    ensures read { ReadsMore frames.old frames.new
+        (seen (S.left stream.old) (S.contents stream.old) (S.Source.faults stream.old) (S.Sink.faults stream.old))
+        (seen (S.left stream.new) (S.contents stream.new) (S.Source.faults stream.new) (S.Sink.faults stream.new))
+        result }
     ensures later { S.Source.faults stream.old ≤ S.Source.faults stream.new }
     ensures same { result ≡ Ok true → S.Source.faults stream.new ≡ S.Source.faults stream.old }
-    ensures unwritten { (S.contents stream.new ≡ S.contents stream.old) × (S.Sink.faults stream.new ≡ S.Sink.faults stream.old) }
+    ensures unwritten { (S.contents stream.new ≡ S.contents stream.old)
+        × (S.Sink.faults stream.new ≡ S.Sink.faults stream.old) }
 {
     let mut piece = [0u8; PIECE];
     match read_piece(stream, &mut piece) {
@@ -54,10 +58,13 @@ fn next_input<S: AgentStream, R: Wait>(
     stream: &mut S,
     frames: &mut Frames,
 ) -> Result<Option<AgentInput>, NoMemory>
-    ensures fetched { Fetches frames.old frames.new (seen (S.left stream.old) (S.contents stream.old) (S.Source.faults stream.old) (S.Sink.faults stream.old))
-        (seen (S.left stream.new) (S.contents stream.new) (S.Source.faults stream.new) (S.Sink.faults stream.new)) result }
+    ensures fetched { Fetches frames.old frames.new
+        (seen (S.left stream.old) (S.contents stream.old) (S.Source.faults stream.old) (S.Sink.faults stream.old))
+        (seen (S.left stream.new) (S.contents stream.new) (S.Source.faults stream.new) (S.Sink.faults stream.new))
+        result }
     ensures later { S.Source.faults stream.old ≤ S.Source.faults stream.new }
-    ensures unwritten { (S.contents stream.new ≡ S.contents stream.old) × (S.Sink.faults stream.new ≡ S.Sink.faults stream.old) }
+    ensures unwritten { (S.contents stream.new ≡ S.contents stream.old)
+        × (S.Sink.faults stream.new ≡ S.Sink.faults stream.old) }
 {
     for _ in rt.forever() {
         match frames.next()? {
@@ -79,10 +86,13 @@ pub(crate) fn fetch<S: AgentStream, R: Wait>(
     frames: &mut Frames,
     answer: Option<AgentInput>,
 ) -> Result<Option<AgentInput>, NoMemory>
-    ensures fetched { Fetched answer frames.old frames.new (seen (S.left stream.old) (S.contents stream.old) (S.Source.faults stream.old) (S.Sink.faults stream.old))
-        (seen (S.left stream.new) (S.contents stream.new) (S.Source.faults stream.new) (S.Sink.faults stream.new)) result }
+    ensures fetched { Fetched answer frames.old frames.new
+        (seen (S.left stream.old) (S.contents stream.old) (S.Source.faults stream.old) (S.Sink.faults stream.old))
+        (seen (S.left stream.new) (S.contents stream.new) (S.Source.faults stream.new) (S.Sink.faults stream.new))
+        result }
     ensures later { S.Source.faults stream.old ≤ S.Source.faults stream.new }
-    ensures unwritten { (S.contents stream.new ≡ S.contents stream.old) × (S.Sink.faults stream.new ≡ S.Sink.faults stream.old) }
+    ensures unwritten { (S.contents stream.new ≡ S.contents stream.old)
+        × (S.Sink.faults stream.new ≡ S.Sink.faults stream.old) }
 {
     match answer {
         Some(input) => Ok(Some(input)),

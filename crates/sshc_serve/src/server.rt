@@ -122,7 +122,10 @@ fn serve_all<
         thread::scope_env(),
         rt,
         move |scope| -> (&mut I, Result<(), NoMemory>)
-            requires handle { IsSync R.row × (IsSend L.row × (IsSend A.row × (IsSync A.row × (IsSync P.row × (IsSend G.row × (IsSend C.row × IsSend I.Stream.row)))))) }
+            requires handle { IsSync R.row
+                × (IsSend L.row
+                × (IsSend A.row
+                × (IsSync A.row × (IsSync P.row × (IsSend G.row × (IsSend C.row × IsSend I.Stream.row)))))) }
             ensures same { result.0.ghost_name ≡ listener.entry.ghost_name }
             ensures fault { OnOk result.1 (Rose (I.faults listener.entry.now) (I.faults result.0.now)) }
         {

@@ -35,8 +35,10 @@ pub fn serve_one<
     pause: &P,
     clock: &mut C,
 ) -> (Seat<L>, Result<(), NoMemory>)
-    ensures serves { Serves (A.allows agent.now) (A.confirms agent.now) (seen (S.left stream.old) (S.contents stream.old) (S.Source.faults stream.old) (S.Sink.faults stream.old))
-        (seen (S.left stream.new) (S.contents stream.new) (S.Source.faults stream.new) (S.Sink.faults stream.new)) seat result.0 result.1 }
+    ensures serves { Serves (A.allows agent.now) (A.confirms agent.now)
+        (seen (S.left stream.old) (S.contents stream.old) (S.Source.faults stream.old) (S.Sink.faults stream.old))
+        (seen (S.left stream.new) (S.contents stream.new) (S.Source.faults stream.new) (S.Sink.faults stream.new))
+        seat result.0 result.1 }
     // Each call is made at a moment that the clock returned for it.
     ensures moments { Timed (C.told clock.old) (C.told clock.new) seat result.0 }
     // The signer is asked just what the steps of the calls ask.

@@ -38,7 +38,8 @@ fn write_answer<S: AgentStream>(stream: &mut S, frame: &[u8]) -> Result<(), Fail
     ensures whole { OnOk result (S.contents stream.new ≡ append (S.contents stream.old) frame.now) }
     ensures cut { OnErr result (WroteFront (S.contents stream.old) (S.contents stream.new) frame.now) }
     ensures cause { HasCause (S.Sink.faults stream.old) (S.Sink.faults stream.new) result }
-    ensures unread { (S.left stream.new ≡ S.left stream.old) × (S.Source.faults stream.new ≡ S.Source.faults stream.old) }
+    ensures unread { (S.left stream.new ≡ S.left stream.old)
+        × (S.Source.faults stream.new ≡ S.Source.faults stream.old) }
 {
     write_whole(stream, frame)
 }
@@ -46,9 +47,12 @@ fn write_answer<S: AgentStream>(stream: &mut S, frame: &[u8]) -> Result<(), Fail
 /// Writes an answer or asks the agent's user, outside the agent's lock.
 #[tactic(auto, using(crate::proofs::Talking::nothing_written))]
 fn follow<S: AgentStream, A: Agent>(output: AgentOutput, stream: &mut S, agent: &A) -> Next
-    ensures answered { Answered (A.allows agent.now) (A.confirms agent.now) (seen (S.left stream.old) (S.contents stream.old) (S.Source.faults stream.old) (S.Sink.faults stream.old))
-        (seen (S.left stream.new) (S.contents stream.new) (S.Source.faults stream.new) (S.Sink.faults stream.new)) output result }
-    ensures unread { (S.left stream.new ≡ S.left stream.old) × (S.Source.faults stream.new ≡ S.Source.faults stream.old) }
+    ensures answered { Answered (A.allows agent.now) (A.confirms agent.now)
+        (seen (S.left stream.old) (S.contents stream.old) (S.Source.faults stream.old) (S.Sink.faults stream.old))
+        (seen (S.left stream.new) (S.contents stream.new) (S.Source.faults stream.new) (S.Sink.faults stream.new))
+        output result }
+    ensures unread { (S.left stream.new ≡ S.left stream.old)
+        × (S.Source.faults stream.new ≡ S.Source.faults stream.old) }
     ensures later { S.Sink.faults stream.old ≤ S.Sink.faults stream.new }
 {
     match output {
@@ -113,9 +117,12 @@ pub(crate) fn turn<
     pause: &P,
     clock: &mut C,
 ) -> (Seat<L>, Next)
-    ensures turned { Turned (A.allows agent.now) (A.confirms agent.now) input (seen (S.left stream.old) (S.contents stream.old) (S.Source.faults stream.old) (S.Sink.faults stream.old))
-        (seen (S.left stream.new) (S.contents stream.new) (S.Source.faults stream.new) (S.Sink.faults stream.new)) seat result.0 result.1 }
-    ensures unread { (S.left stream.new ≡ S.left stream.old) × (S.Source.faults stream.new ≡ S.Source.faults stream.old) }
+    ensures turned { Turned (A.allows agent.now) (A.confirms agent.now) input
+        (seen (S.left stream.old) (S.contents stream.old) (S.Source.faults stream.old) (S.Sink.faults stream.old))
+        (seen (S.left stream.new) (S.contents stream.new) (S.Source.faults stream.new) (S.Sink.faults stream.new))
+        seat result.0 result.1 }
+    ensures unread { (S.left stream.new ≡ S.left stream.old)
+        × (S.Source.faults stream.new ≡ S.Source.faults stream.old) }
     ensures later { S.Sink.faults stream.old ≤ S.Sink.faults stream.new }
     ensures tick { IsTick (C.told clock.old) (C.told clock.new) seat result.0 }
     ensures signs { Signs (G.calls signer.old) (G.calls signer.new) seat result.0 }

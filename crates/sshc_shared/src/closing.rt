@@ -19,7 +19,9 @@ const PARTS: usize = 67_108_864;
 impl<L: Settings> AgentState<L> {
     /// The first place at which a seat and the journal differ.
     fn torn(&self, seats: &[Seat<L>]) -> Result<Option<CloseError>, NoMemory>
-        ensures { IfOk result (λ r. MatchOption r (All (λ p. calls_of p.conn self.now.journal ≡ p.calls) seats.now) (λ e. LockedCause self.now seats.now e)) }
+        ensures { IfOk result
+            (λ r. MatchOption r (All (λ p. calls_of p.conn self.now.journal ≡ p.calls) seats.now)
+            (λ e. LockedCause self.now seats.now e)) }
     {
         for seat in seats {
             if let Some(tear) = first_tear(

@@ -59,11 +59,13 @@ impl<L: Settings> AgentShared<L> {
         input: AgentInput,
         signer: &mut G,
     ) -> (Seat<L>, Result<AgentOutput, CallRefused>)
-        ensures tells { IfOk result.1 (λ out. Tells seat result.0 (call_of now input out) (since (G.calls signer.old) (G.calls signer.new))) }
+        ensures tells { IfOk result.1
+            (λ out. Tells seat result.0 (call_of now input out) (since (G.calls signer.old) (G.calls signer.new))) }
         ensures refused { OnErr result.1 (result.0 ≡ refused_once seat) }
         ensures seen { IfErr result.1 (λ e. RefusalSeen seat e) }
         // The signer's list gains what the step asks; nothing where the call is refused.
-        ensures asked { OnOk result.1 (G.calls signer.new ≡ G.calls signer.old ++ since (G.calls signer.old) (G.calls signer.new)) }
+        ensures asked { OnOk result.1
+            (G.calls signer.new ≡ G.calls signer.old ++ since (G.calls signer.old) (G.calls signer.new)) }
         ensures unasked { OnErr result.1 (G.calls signer.new ≡ G.calls signer.old) }
     {
         self.state.lock(rt).call(seat, now, input, signer)

@@ -66,7 +66,8 @@ impl<L: Settings> AgentState<L> {
         requires parts { blank.parts ≡ 67108864 }
         requires ledger { (blank.name ≡ L.name) × (blank.parts ≡ L.parts) }
         requires settings { (asks ≡ L.asks) × (journal_limit ≡ L.limit) }
-        ensures { result ≡ record { asks = asks; list = empty_list asks; journal = []; made = 0; limit = journal_limit } }
+        ensures { result ≡ record
+            { asks = asks; list = empty_list asks; journal = []; made = 0; limit = journal_limit } }
     {
         let (book, spare) = blank.open::<L>();
         AgentState {
@@ -134,10 +135,14 @@ impl<L: Settings> AgentState<L> {
         input: AgentInput,
         signer: &mut G,
     ) -> Result<AgentOutput, CallRefused>
-        ensures ok { IfOk result (λ out. Adds self.old self.new seat.old seat.new now input (since (G.calls signer.old) (G.calls signer.new)) out) }
+        ensures ok { IfOk result
+            (λ out. Adds
+            self.old self.new seat.old seat.new now input (since (G.calls signer.old) (G.calls signer.new)) out) }
         ensures err { OnErr result ((self.new ≡ self.old) × (seat.new ≡ seat.old)) }
-        ensures due { MatchOption (due self.old seat.old input) (IfErr result (λ e. e ≡ CallRefused.NoMemory)) (λ e. result ≡ Err e) }
-        ensures asked { OnOk result (G.calls signer.new ≡ G.calls signer.old ++ since (G.calls signer.old) (G.calls signer.new)) }
+        ensures due { MatchOption (due self.old seat.old input) (IfErr result (λ e. e ≡ CallRefused.NoMemory))
+            (λ e. result ≡ Err e) }
+        ensures asked { OnOk result
+            (G.calls signer.new ≡ G.calls signer.old ++ since (G.calls signer.old) (G.calls signer.new)) }
         ensures unasked { OnErr result (G.calls signer.new ≡ G.calls signer.old) }
     {
         let conn = seat.conn;
@@ -185,14 +190,19 @@ impl<L: Settings> AgentState<L> {
         input: AgentInput,
         signer: &mut G,
     ) -> (Seat<L>, Result<AgentOutput, CallRefused>)
-        ensures adds { IfOk result.1 (λ out. Adds self.old self.new seat result.0 now input (since (G.calls signer.old) (G.calls signer.new)) out) }
+        ensures adds { IfOk result.1
+            (λ out. Adds
+            self.old self.new seat result.0 now input (since (G.calls signer.old) (G.calls signer.new)) out) }
         // So the answer is that of a step behind a legal history.
-        ensures tells { IfOk result.1 (λ out. Tells seat result.0 (call_of now input out) (since (G.calls signer.old) (G.calls signer.new))) }
+        ensures tells { IfOk result.1
+            (λ out. Tells seat result.0 (call_of now input out) (since (G.calls signer.old) (G.calls signer.new))) }
         ensures same { OnErr result.1 ((self.new ≡ self.old) × (result.0 ≡ refused_once seat)) }
         // Miscounted and JournalFull come just where they are due; else only out of memory refuses.
-        ensures due { MatchOption (due self.old seat input) (IfErr result.1 (λ e. e ≡ CallRefused.NoMemory)) (λ e. result.1 ≡ Err e) }
+        ensures due { MatchOption (due self.old seat input) (IfErr result.1 (λ e. e ≡ CallRefused.NoMemory))
+            (λ e. result.1 ≡ Err e) }
         // The signer's list gains what the step asks; nothing where the call is refused.
-        ensures asked { OnOk result.1 (G.calls signer.new ≡ G.calls signer.old ++ since (G.calls signer.old) (G.calls signer.new)) }
+        ensures asked { OnOk result.1
+            (G.calls signer.new ≡ G.calls signer.old ++ since (G.calls signer.old) (G.calls signer.new)) }
         ensures unasked { OnErr result.1 (G.calls signer.new ≡ G.calls signer.old) }
     {
         self.is_legal();

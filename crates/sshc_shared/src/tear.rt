@@ -23,7 +23,8 @@ pub(crate) fn first_tear(
 ) -> Result<Option<Tear>, NoMemory>
     requires { length journal.now < 2 ^ 32 }
     ensures { IfOk result (λ r. MatchOption r (calls_of conn journal.now ≡ calls.now)
-        (λ t. (t.got ≡ slice_get calls.now t.at) × (t.kept ≡ slice_get (calls_of conn journal.now) t.at) × (t.got ≢ t.kept))) }
+        (λ t. (t.got ≡ slice_get calls.now t.at) × (t.kept ≡ slice_get (calls_of conn journal.now) t.at)
+        × (t.got ≢ t.kept))) }
 {
     let mut at: u32 = 0;
     for e in journal {

@@ -64,7 +64,10 @@ impl Calls {
         bytes: &[u8],
         answer: &[u8],
     ) -> Result<(), NoMemory>
-        ensures ok { OnOk result (self.new.calls ≡ self.old.calls ++ (record { by = by; key = key.now; hash = hash; bytes = bytes.now; answer = Some answer.now }) ∷ []) }
+        ensures ok { OnOk result
+            (self.new.calls
+            ≡ self.old.calls
+            ++ (record { by = by; key = key.now; hash = hash; bytes = bytes.now; answer = Some answer.now }) ∷ []) }
         ensures err { OnErr result (self.new.calls ≡ self.old.calls) }
         ensures same { self.new.refusals ≡ self.old.refusals }
     {
@@ -87,7 +90,10 @@ impl Calls {
         hash: Option<HashAlg>,
         bytes: &[u8],
     ) -> Result<(), NoMemory>
-        ensures ok { OnOk result (self.new.calls ≡ self.old.calls ++ (record { by = by; key = key.now; hash = hash; bytes = bytes.now; answer = None }) ∷ []) }
+        ensures ok { OnOk result
+            (self.new.calls
+            ≡ self.old.calls ++ (record { by = by; key = key.now; hash = hash; bytes = bytes.now; answer = None })
+            ∷ []) }
         ensures counted { OnOk result (Rose self.old.refusals self.new.refusals) }
         ensures later { self.old.refusals ≤ self.new.refusals }
         ensures err { OnErr result (self.new ≡ self.old) }

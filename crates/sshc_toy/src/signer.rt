@@ -55,7 +55,8 @@ fn signature_text(alloc: Global, name: &Text, body: &[u8; 20]) -> Result<Vec<u8>
 /// A signature of this name and body.
 fn signature_of(alloc: Global, name: &Text, body: &[u8; 20]) -> Result<Vec<u8>, NoMemory>
     requires name { can_sign name.now ≡ true }
-    ensures text { IfOk result (λ v. v.items ≡ signature_text (record { name = name.now; body = body.now; sk = None })) }
+    ensures text { IfOk result
+        (λ v. v.items ≡ signature_text (record { name = name.now; body = body.now; sk = None })) }
     ensures whole { IfOk result (λ v. IsSignature v.items) }
     ensures short { IfOk result (λ v. length v.items ≤ 65536) }
 {

@@ -40,7 +40,8 @@ pub trait Files {
 
     /// Adds text at a file's end. Makes the file and its parent folders where there are none.
     fn append(&mut self, path: &str, text: &str) -> Result<(), Failed>
-        ensures added { OnOk result (contents self.new ≡ option_map (λ files. with_text files path.now text.now) (contents self.old)) }
+        ensures added { OnOk result
+            (contents self.new ≡ option_map (λ files. with_text files path.now text.now) (contents self.old)) }
         ensures none { OnErr result (contents self.new ≡ contents self.old) }
         ensures cause { HasCause (append_faults self.old) (append_faults self.new) result }
         ensures others { read_faults self.new ≡ read_faults self.old };

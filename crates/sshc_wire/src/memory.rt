@@ -124,7 +124,8 @@ impl Model for MemSink {
 impl MemSink {
     /// A sink that holds these bytes. The calls of the numbers in `failing`, counted from 0, fail.
     pub fn new(contents: Vec<u8>, failing: Vec<u64>) -> MemSink
-        ensures { result ≡ record { contents = contents.items; failing = failing.items; calls = 0; empty = 0; faults = 0 } }
+        ensures { result ≡ record
+            { contents = contents.items; failing = failing.items; calls = 0; empty = 0; faults = 0 } }
     {
         MemSink {
             contents,
@@ -206,7 +207,8 @@ impl MemFiles {
     /// Files of these paths and bytes; of two with one path the first counts. The calls of the numbers in `failing`,
     /// reads and appends counted together from 0, fail.
     pub fn new(contents: Vec<(Text, Octets)>, failing: Vec<u64>) -> MemFiles
-        ensures { result ≡ record { contents = contents.items; failing = failing.items; calls = 0; read_faults = 0; append_faults = 0 } }
+        ensures { result ≡ record
+            { contents = contents.items; failing = failing.items; calls = 0; read_faults = 0; append_faults = 0 } }
     {
         MemFiles {
             alloc: *contents.allocator(),

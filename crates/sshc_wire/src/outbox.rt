@@ -99,7 +99,8 @@ impl Outbox {
     /// Adds a packet of these two parts, one after the other, or changes nothing. Each part is copied once. More than
     /// 2^32 - 1 bytes count as out of memory.
     pub fn push_packet(&mut self, head: &[u8], body: &[u8]) -> Result<(), NoMemory>
-        ensures ok { OnOk result (self.new.records ≡ self.old.records ++ shown self.old.muted (Record.Payload (head.now ++ body.now) ∷ [])) }
+        ensures ok { OnOk result
+            (self.new.records ≡ self.old.records ++ shown self.old.muted (Record.Payload (head.now ++ body.now) ∷ [])) }
         ensures err { OnErr result (self.new.records ≡ self.old.records) }
         ensures same { self.new.muted ≡ self.old.muted }
     {
@@ -114,7 +115,8 @@ impl Outbox {
         first: Option<Record>,
         second: Option<Record>,
     ) -> Result<(), NoMemory>
-        ensures ok { OnOk result (self.new.records ≡ self.old.records ++ shown self.old.muted (listed first ++ listed second)) }
+        ensures ok { OnOk result
+            (self.new.records ≡ self.old.records ++ shown self.old.muted (listed first ++ listed second)) }
         ensures err { OnErr result (self.new.records ≡ self.old.records) }
         ensures same { self.new.muted ≡ self.old.muted }
     {

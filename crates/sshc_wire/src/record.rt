@@ -187,7 +187,8 @@ fn put_sign_request(
     hash_alg: Option<HashAlg>,
     body: &Octets,
 ) -> Result<(), NoMemory>
-    ensures ok { OnOk result (out.new.items ≡ out.old.items ++ string_text blob.now ++ hash_number hash_alg ∷ string_text body.now) }
+    ensures ok { OnOk result
+        (out.new.items ≡ out.old.items ++ string_text blob.now ++ hash_number hash_alg ∷ string_text body.now) }
     ensures err { OnErr result (Extends out.old.items out.new.items) }
 {
     put_bytes(out, blob.as_slice())?;
@@ -334,7 +335,9 @@ fn put_told(
     message: &Text,
     language: &Text,
 ) -> Result<(), NoMemory>
-    ensures ok { OnOk result (out.new.items ≡ out.old.items ++ kind ∷ u32_text n ++ u32_text other ++ string_text message.now ++ string_text language.now) }
+    ensures ok { OnOk result
+        (out.new.items
+        ≡ out.old.items ++ kind ∷ u32_text n ++ u32_text other ++ string_text message.now ++ string_text language.now) }
     ensures err { OnErr result (Extends out.old.items out.new.items) }
 {
     put_two_numbers(out, kind, n, other)?;
@@ -354,7 +357,10 @@ fn put_exit_signal(
     message: &Text,
     language: &Text,
 ) -> Result<(), NoMemory>
-    ensures ok { OnOk result (out.new.items ≡ out.old.items ++ string_text (signal_name signal.now) ++ bool_text core_dumped ++ string_text message.now ++ string_text language.now) }
+    ensures ok { OnOk result
+        (out.new.items
+        ≡ out.old.items ++ string_text (signal_name signal.now) ++ bool_text core_dumped ++ string_text message.now
+        ++ string_text language.now) }
     ensures err { OnErr result (Extends out.old.items out.new.items) }
 {
     put_text(out, signal.name())?;

@@ -43,7 +43,8 @@ pub fn write_whole<K: Sink>(sink: &mut K, piece: &[u8]) -> Result<(), Failed>
     ensures cause { HasCause (K.faults sink.old) (K.faults sink.new) result }
     ensures moved { OnOk result (K.writes sink.new ≤ K.writes sink.old + length piece.now) }
     ensures counted { K.writes sink.new ≤ K.writes sink.old + length piece.now + 1 }
-    ensures writes { OnErr result (WritesFor (K.contents sink.old) (K.contents sink.new) (K.writes sink.old) (K.writes sink.new)) }
+    ensures writes { OnErr result
+        (WritesFor (K.contents sink.old) (K.contents sink.new) (K.writes sink.old) (K.writes sink.new)) }
     ensures empty { OnOk result (K.empty_writes sink.new ≡ K.empty_writes sink.old) }
     ensures last { K.empty_writes sink.new ≤ K.empty_writes sink.old + 1 }
     ensures apart { K.beside sink.new ≡ K.beside sink.old }

@@ -93,7 +93,8 @@ pub fn read_up_to<S: Source>(alloc: Global, source: &mut S, count: usize) -> Res
         × (S.left source.old ≡ prepend given (S.left source.new))
         × (S.reads source.new ≤ S.reads source.old + length given + 1)) }
     ensures cause { HasCause (S.faults source.old) (S.faults source.new) result }
-    ensures whole { IfOk result (λ v. length v.items ≡ count → S.reads source.new ≤ S.reads source.old + length v.items) }
+    ensures whole { IfOk result
+        (λ v. length v.items ≡ count → S.reads source.new ≤ S.reads source.old + length v.items) }
     ensures short { IfOk result (λ v. S.reads source.new ≤ S.reads source.old + length v.items + 1) }
     ensures empty { IfOk result (λ v. length v.items ≡ count → S.empty_reads source.new ≡ S.empty_reads source.old) }
     ensures last { S.empty_reads source.new ≤ S.empty_reads source.old + 1 }

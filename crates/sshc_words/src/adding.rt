@@ -19,7 +19,8 @@ pub const WRITE_FAULT_STATUS: u8 = 22;
 
 /// Adds a line, and answers its status, or that of a failed write.
 pub fn add_line<K: Sink>(sink: &mut K, line: &str, status: u8) -> u8
-    ensures adds { Adds line.now status (K.contents sink.old) (K.contents sink.new) (K.faults sink.old) (K.faults sink.new) result }
+    ensures adds { Adds line.now status (K.contents sink.old) (K.contents sink.new) (K.faults sink.old)
+        (K.faults sink.new) result }
     ensures later { K.faults sink.old ≤ K.faults sink.new }
 {
     match write_whole(sink, line.as_bytes()) {

@@ -36,8 +36,10 @@ fn judge<F: Files, K: Sink>(
     sink: &mut K,
 ) -> u8
     ensures gives { VerdictGives (place at.entry) key.now.0
-        (outside (F.contents files.old) (F.read_faults files.old) (F.append_faults files.old) (K.contents sink.old) (K.faults sink.old))
-        (outside (F.contents files.new) (F.read_faults files.new) (F.append_faults files.new) (K.contents sink.new) (K.faults sink.new)) result }
+        (outside (F.contents files.old) (F.read_faults files.old) (F.append_faults files.old) (K.contents sink.old)
+        (K.faults sink.old))
+        (outside (F.contents files.new) (F.read_faults files.new) (F.append_faults files.new) (K.contents sink.new)
+        (K.faults sink.new)) result }
 {
     let answer = check_known_hosts_path(alloc, files, at.host, at.port, key, at.path);
     add_verdict(alloc, sink, answer)
@@ -52,8 +54,10 @@ fn learn<F: Files, K: Sink>(
     sink: &mut K,
 ) -> u8
     ensures gives { LearningGives (place at.entry) key.now
-        (outside (F.contents files.old) (F.read_faults files.old) (F.append_faults files.old) (K.contents sink.old) (K.faults sink.old))
-        (outside (F.contents files.new) (F.read_faults files.new) (F.append_faults files.new) (K.contents sink.new) (K.faults sink.new)) result }
+        (outside (F.contents files.old) (F.read_faults files.old) (F.append_faults files.old) (K.contents sink.old)
+        (K.faults sink.old))
+        (outside (F.contents files.new) (F.read_faults files.new) (F.append_faults files.new) (K.contents sink.new)
+        (K.faults sink.new)) result }
 {
     let answer = learn_known_hosts_path(alloc, files, at.host, at.port, key, at.path);
     add_learning(alloc, sink, answer)
@@ -68,8 +72,10 @@ fn run_check<F: Files, K: Sink>(
     sink: &mut K,
 ) -> u8
     ensures gives { CheckGives (place at.entry) word.now
-        (outside (F.contents files.old) (F.read_faults files.old) (F.append_faults files.old) (K.contents sink.old) (K.faults sink.old))
-        (outside (F.contents files.new) (F.read_faults files.new) (F.append_faults files.new) (K.contents sink.new) (K.faults sink.new)) result }
+        (outside (F.contents files.old) (F.read_faults files.old) (F.append_faults files.old) (K.contents sink.old)
+        (K.faults sink.old))
+        (outside (F.contents files.new) (F.read_faults files.new) (F.append_faults files.new) (K.contents sink.new)
+        (K.faults sink.new)) result }
 {
     match key_of(alloc, word) {
         Ok(Some(key)) => judge(alloc, at, &key, files, sink),
@@ -81,8 +87,10 @@ fn run_check<F: Files, K: Sink>(
 /// Runs the words `hosts keys HOST PORT KNOWN`.
 fn run_keys<F: Files, K: Sink>(alloc: Global, at: KnownAt<'_>, files: &mut F, sink: &mut K) -> u8
     ensures gives { KeysGives (place at.entry)
-        (outside (F.contents files.old) (F.read_faults files.old) (F.append_faults files.old) (K.contents sink.old) (K.faults sink.old))
-        (outside (F.contents files.new) (F.read_faults files.new) (F.append_faults files.new) (K.contents sink.new) (K.faults sink.new)) result }
+        (outside (F.contents files.old) (F.read_faults files.old) (F.append_faults files.old) (K.contents sink.old)
+        (K.faults sink.old))
+        (outside (F.contents files.new) (F.read_faults files.new) (F.append_faults files.new) (K.contents sink.new)
+        (K.faults sink.new)) result }
 {
     match known_host_keys_path(alloc, files, at.host, at.port, at.path) {
         Ok(keys) => add_key_lines(alloc, sink, keys.as_slice()),
@@ -99,8 +107,10 @@ fn run_learn<F: Files, K: Sink>(
     sink: &mut K,
 ) -> u8
     ensures gives { LearnGives (place at.entry) word.now
-        (outside (F.contents files.old) (F.read_faults files.old) (F.append_faults files.old) (K.contents sink.old) (K.faults sink.old))
-        (outside (F.contents files.new) (F.read_faults files.new) (F.append_faults files.new) (K.contents sink.new) (K.faults sink.new)) result }
+        (outside (F.contents files.old) (F.read_faults files.old) (F.append_faults files.old) (K.contents sink.old)
+        (K.faults sink.old))
+        (outside (F.contents files.new) (F.read_faults files.new) (F.append_faults files.new) (K.contents sink.new)
+        (K.faults sink.new)) result }
 {
     match key_of(alloc, word) {
         Ok(Some(key)) => learn(alloc, at, &key, files, sink),
@@ -117,8 +127,10 @@ fn run_asked<F: Files, K: Sink>(
     sink: &mut K,
 ) -> u8
     ensures gives { AskedGives (asked_by asked.entry)
-        (outside (F.contents files.old) (F.read_faults files.old) (F.append_faults files.old) (K.contents sink.old) (K.faults sink.old))
-        (outside (F.contents files.new) (F.read_faults files.new) (F.append_faults files.new) (K.contents sink.new) (K.faults sink.new)) result }
+        (outside (F.contents files.old) (F.read_faults files.old) (F.append_faults files.old) (K.contents sink.old)
+        (K.faults sink.old))
+        (outside (F.contents files.new) (F.read_faults files.new) (F.append_faults files.new) (K.contents sink.new)
+        (K.faults sink.new)) result }
 {
     match asked {
         HostsWords::Check { at, key } => run_check(alloc, at, key, files, sink),
@@ -137,11 +149,15 @@ pub fn run_hosts_words<F: Files, K: Sink>(
     sink: &mut K,
 ) -> Option<u8>
     ensures hosts { (asked : Asked) → Asks words.now asked → HostsGives asked
-        (outside (F.contents files.old) (F.read_faults files.old) (F.append_faults files.old) (K.contents sink.old) (K.faults sink.old))
-        (outside (F.contents files.new) (F.read_faults files.new) (F.append_faults files.new) (K.contents sink.new) (K.faults sink.new)) result }
+        (outside (F.contents files.old) (F.read_faults files.old) (F.append_faults files.old) (K.contents sink.old)
+        (K.faults sink.old))
+        (outside (F.contents files.new) (F.read_faults files.new) (F.append_faults files.new) (K.contents sink.new)
+        (K.faults sink.new)) result }
     ensures other { ((asked : Asked) → Asks words.now asked → ⊥) → (result ≡ None) × (
-        outside (F.contents files.new) (F.read_faults files.new) (F.append_faults files.new) (K.contents sink.new) (K.faults sink.new)
-        ≡ outside (F.contents files.old) (F.read_faults files.old) (F.append_faults files.old) (K.contents sink.old) (K.faults sink.old)) }
+        outside (F.contents files.new) (F.read_faults files.new) (F.append_faults files.new) (K.contents sink.new)
+        (K.faults sink.new)
+        ≡ outside (F.contents files.old) (F.read_faults files.old) (F.append_faults files.old) (K.contents sink.old)
+        (K.faults sink.old)) }
 {
     match hosts_words(words) {
         Some(asked) => Some(run_asked(alloc, asked, files, sink)),

@@ -67,7 +67,8 @@ fn write_key_lines<K: Sink>(
 
 /// Adds a line a key, and answers their status, or that of a failed write.
 pub fn add_key_lines<K: Sink>(alloc: Global, sink: &mut K, keys: &[(u64, PublicKey)]) -> u8
-    ensures adds { Adds (key_lines keys.now) 0 (K.contents sink.old) (K.contents sink.new) (K.faults sink.old) (K.faults sink.new) result }
+    ensures adds { Adds (key_lines keys.now) 0 (K.contents sink.old) (K.contents sink.new) (K.faults sink.old)
+        (K.faults sink.new) result }
     ensures later { K.faults sink.old ≤ K.faults sink.new }
 {
     match write_key_lines(alloc, sink, keys) {

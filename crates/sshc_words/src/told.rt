@@ -39,7 +39,8 @@ fn refusal_status(e: Error) -> u8
 
 /// Adds the line that tells a refusal, and answers its status.
 pub fn add_refusal<K: Sink>(alloc: Global, sink: &mut K, e: Error) -> u8
-    ensures adds { Adds (told_refusal e).lines (told_refusal e).status (K.contents sink.old) (K.contents sink.new) (K.faults sink.old) (K.faults sink.new) result }
+    ensures adds { Adds (told_refusal e).lines (told_refusal e).status (K.contents sink.old) (K.contents sink.new)
+        (K.faults sink.old) (K.faults sink.new) result }
     ensures later { K.faults sink.old ≤ K.faults sink.new }
 {
     match refusal_line(alloc, e) {
@@ -50,7 +51,8 @@ pub fn add_refusal<K: Sink>(alloc: Global, sink: &mut K, e: Error) -> u8
 
 /// Adds the line that tells a verdict, and answers its status.
 pub fn add_verdict<K: Sink>(alloc: Global, sink: &mut K, answer: Result<bool, Error>) -> u8
-    ensures adds { Adds (told_verdict answer).lines (told_verdict answer).status (K.contents sink.old) (K.contents sink.new) (K.faults sink.old) (K.faults sink.new) result }
+    ensures adds { Adds (told_verdict answer).lines (told_verdict answer).status (K.contents sink.old)
+        (K.contents sink.new) (K.faults sink.old) (K.faults sink.new) result }
     ensures later { K.faults sink.old ≤ K.faults sink.new }
 {
     match answer {
@@ -62,7 +64,8 @@ pub fn add_verdict<K: Sink>(alloc: Global, sink: &mut K, answer: Result<bool, Er
 
 /// Adds the line that tells that a key was learned, or why not, and answers its status.
 pub fn add_learning<K: Sink>(alloc: Global, sink: &mut K, answer: Result<(), Error>) -> u8
-    ensures adds { Adds (told_learning answer).lines (told_learning answer).status (K.contents sink.old) (K.contents sink.new) (K.faults sink.old) (K.faults sink.new) result }
+    ensures adds { Adds (told_learning answer).lines (told_learning answer).status (K.contents sink.old)
+        (K.contents sink.new) (K.faults sink.old) (K.faults sink.new) result }
     ensures later { K.faults sink.old ≤ K.faults sink.new }
 {
     match answer {

@@ -65,7 +65,8 @@ fn with_one(held: Constraints, one: Option<u32>) -> Option<Constraints>
 fn next_held(c: &mut Cursor<'_>, held: Constraints) -> Option<Constraints>
     requires { 0 < length c.old }
     ensures kept { MatchOption result (kept_in (all_at constraint_at c.old) held ≡ None)
-        (λ more. (kept_in (all_at constraint_at c.old) held ≡ kept_in (all_at constraint_at c.new) more) × (length c.new < length c.old)) }
+        (λ more. (kept_in (all_at constraint_at c.old) held ≡ kept_in (all_at constraint_at c.new) more)
+        × (length c.new < length c.old)) }
 {
     match constraint_of(c) {
         Ok(one) => with_one(held, one),

@@ -72,7 +72,8 @@ impl AgentCore {
     /// The key at the place signs, or the user is asked first.
     fn held<'a>(&mut self, at: usize, rest: &'a [u8], whole: &'a [u8]) -> Result<Turn<'a>, NoMemory>
         requires { at < length self.old.keys }
-        ensures row { Follows (held_turn (slice_get self.old.keys at) rest.now whole.now self.old) self.old self.new result }
+        ensures row { Follows (held_turn (slice_get self.old.keys at) rest.now whole.now self.old)
+            self.old self.new result }
     {
         let key = self.keys.key(at);
         if key.constraints.confirm {
@@ -119,7 +120,8 @@ impl AgentCore {
     ) -> Result<AgentOutput, NoMemory>
         requires held { at < length self.old.keys }
         requires seen { IsSome (standing_of self.old.conns conn) }
-        ensures row { FollowsBy (signed_at conn self.old (slice_get self.old.keys at) rest.now) self.old self.new (since (G.calls signer.old) (G.calls signer.new)) result }
+        ensures row { FollowsBy (signed_at conn self.old (slice_get self.old.keys at) rest.now)
+            self.old self.new (since (G.calls signer.old) (G.calls signer.new)) result }
         ensures grew { Grew (G.calls signer.old) (G.calls signer.new) }
     {
         let mut c = Cursor::new(rest);
@@ -153,7 +155,8 @@ impl AgentCore {
     ) -> Result<AgentOutput, NoMemory>
         requires held { at < length self.old.keys }
         requires seen { IsSome (standing_of self.old.conns conn) }
-        ensures row { FollowsBy (signer_row conn self.old (slice_get self.old.keys at) bytes.now flags) self.old self.new (since (G.calls signer.old) (G.calls signer.new)) result }
+        ensures row { FollowsBy (signer_row conn self.old (slice_get self.old.keys at) bytes.now flags)
+            self.old self.new (since (G.calls signer.old) (G.calls signer.new)) result }
         ensures grew { Grew (G.calls signer.old) (G.calls signer.new) }
     {
         let key = self.keys.key(at);

@@ -30,15 +30,20 @@ impl AgentCore {
         input: &AgentInput,
         signer: &mut G,
     ) -> AgentOutput
-        ensures row { Steps now conn input.now self.old self.new (since (G.calls signer.old) (G.calls signer.new)) result }
+        ensures row { Steps now conn input.now
+            self.old self.new (since (G.calls signer.old) (G.calls signer.new)) result }
         // The signer's list only grows.
         ensures gained { G.calls signer.new ≡ G.calls signer.old ++ since (G.calls signer.old) (G.calls signer.new) }
         // Only an acknowledged request changes keys or passphrase, but that time lets keys go.
         ensures refused { KeepsRefused now self.old self.new result }
         // A locked agent signs nothing and stays as it is, but for an unlock with its passphrase.
-        ensures locked { (p : List ℕ) → self.old.passphrase ≡ Some p → KeepsLock p now conn input.now self.old self.new (since (G.calls signer.old) (G.calls signer.new)) result }
+        ensures locked { (p : List ℕ) → self.old.passphrase ≡ Some p
+            → KeepsLock p now conn input.now
+            self.old self.new (since (G.calls signer.old) (G.calls signer.new)) result }
         // A signature needs an unlocked agent, a key that is held and not expired, and where the key wants it a confirmation.
-        ensures signed { (call : SignCall) (calls : List SignCall) → since (G.calls signer.old) (G.calls signer.new) ≡ call ∷ calls → IsPermitted now conn input.now self.old call.by call.key }
+        ensures signed { (call : SignCall) (calls : List SignCall)
+            → since (G.calls signer.old) (G.calls signer.new) ≡ call ∷ calls
+            → IsPermitted now conn input.now self.old call.by call.key }
         // An answer has at most the bytes of a frame and its length.
         ensures short { answer_bytes result ≤ MAX_AGENT_FRAME_LEN + 4 }
     {
@@ -55,7 +60,8 @@ impl AgentCore {
         input: &AgentInput,
         signer: &mut G,
     ) -> AgentOutput
-        ensures row { Steps now conn input.now self.old self.new (since (G.calls signer.old) (G.calls signer.new)) result }
+        ensures row { Steps now conn input.now
+            self.old self.new (since (G.calls signer.old) (G.calls signer.new)) result }
         ensures grew { Grew (G.calls signer.old) (G.calls signer.new) }
     {
         match self.begin(now, conn) {
@@ -91,7 +97,8 @@ impl AgentCore {
         signer: &mut G,
     ) -> Result<AgentOutput, NoMemory>
         requires { IsSome (standing_of self.old.conns conn) }
-        ensures row { FollowsBy (seen_row conn input.now self.old) self.old self.new (since (G.calls signer.old) (G.calls signer.new)) result }
+        ensures row { FollowsBy (seen_row conn input.now self.old)
+            self.old self.new (since (G.calls signer.old) (G.calls signer.new)) result }
         ensures grew { Grew (G.calls signer.old) (G.calls signer.new) }
         ensures open { OnErr result (is_shut (standing_of self.old.conns conn) ≡ false) }
     {
@@ -138,7 +145,8 @@ impl AgentCore {
         signer: &mut G,
     ) -> Result<AgentOutput, NoMemory>
         requires { IsSome (standing_of self.old.conns conn) }
-        ensures row { FollowsBy (standing_row (Some Open) conn input.now self.old) self.old self.new (since (G.calls signer.old) (G.calls signer.new)) result }
+        ensures row { FollowsBy (standing_row (Some Open) conn input.now self.old)
+            self.old self.new (since (G.calls signer.old) (G.calls signer.new)) result }
         ensures grew { Grew (G.calls signer.old) (G.calls signer.new) }
     {
         match input {
@@ -164,7 +172,8 @@ impl AgentCore {
         signer: &mut G,
     ) -> Result<AgentOutput, NoMemory>
         requires { IsSome (standing_of self.old.conns conn) }
-        ensures row { FollowsBy (turned conn (request_answer_turn is_allowed whole.now self.old)) self.old self.new (since (G.calls signer.old) (G.calls signer.new)) result }
+        ensures row { FollowsBy (turned conn (request_answer_turn is_allowed whole.now self.old))
+            self.old self.new (since (G.calls signer.old) (G.calls signer.new)) result }
         ensures grew { Grew (G.calls signer.old) (G.calls signer.new) }
     {
         match self.request_answer(is_allowed, whole.as_slice()) {
@@ -183,7 +192,8 @@ impl AgentCore {
         signer: &mut G,
     ) -> Result<AgentOutput, NoMemory>
         requires { IsSome (standing_of self.old.conns conn) }
-        ensures row { FollowsBy (turned conn (key_answer_turn is_confirmed whole.now self.old)) self.old self.new (since (G.calls signer.old) (G.calls signer.new)) result }
+        ensures row { FollowsBy (turned conn (key_answer_turn is_confirmed whole.now self.old))
+            self.old self.new (since (G.calls signer.old) (G.calls signer.new)) result }
         ensures grew { Grew (G.calls signer.old) (G.calls signer.new) }
     {
         match self.key_answer(is_confirmed, whole.as_slice()) {
@@ -202,7 +212,8 @@ impl AgentCore {
     ) -> Result<AgentOutput, NoMemory>
         requires seen { IsSome (standing_of self.old.conns conn) }
         requires held { IsTakeable turn self.old }
-        ensures row { Finishes conn turn.entry self.old self.new (since (G.calls signer.old) (G.calls signer.new)) result }
+        ensures row { Finishes conn turn.entry
+            self.old self.new (since (G.calls signer.old) (G.calls signer.new)) result }
         ensures grew { Grew (G.calls signer.old) (G.calls signer.new) }
     {
         match turn {
@@ -227,7 +238,9 @@ impl AgentCore {
     /// No memory was found: a connection that was seen before is closed, and a new one is forgotten.
     fn starve(&mut self, conn: u32, is_new: bool)
         requires { IsSome (standing_of self.old.conns conn) }
-        ensures { self.new ≡ (if is_new then record self.old { conns = without self.old.conns conn } else standing conn Closed self.old) }
+        ensures { self.new ≡
+            (if is_new then
+            record self.old { conns = without self.old.conns conn } else standing conn Closed self.old) }
     {
         if is_new {
             self.conns.forget(conn);

@@ -62,7 +62,8 @@ fn place_of(keys: &[HeldKey], blob: &[u8]) -> Option<usize>
 /// The place of the key of this blob, with what stands there.
 #[tactic(auto, using(crate::proofs::Listings::placed, crate::proofs::Listings::nowhere))]
 pub(super) fn found_place(keys: &[HeldKey], blob: &[u8]) -> Option<usize>
-    ensures { MatchOption result (held keys.now blob.now ≡ None) (λ at. (at < length keys.now) × (held keys.now blob.now ≡ slice_get keys.now at)) }
+    ensures { MatchOption result (held keys.now blob.now ≡ None)
+        (λ at. (at < length keys.now) × (held keys.now blob.now ≡ slice_get keys.now at)) }
 {
     match place_of(keys, blob) {
         None => None,

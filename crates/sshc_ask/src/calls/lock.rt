@@ -13,7 +13,8 @@ use sshc_wire::AgentStream;
 impl<S: AgentStream> AgentClient<S> {
     /// Locks the agent with a passphrase.
     pub fn lock(&mut self, passphrase: &[u8]) -> Result<(), Error>
-        ensures call { Calls (frame (lock passphrase.now)) (λ answer. GivesAll (λ x. x) result (success_reading answer)) self.old self.new result }
+        ensures call { Calls (frame (lock passphrase.now))
+            (λ answer. GivesAll (λ x. x) result (success_reading answer)) self.old self.new result }
     {
         let message = locking(self.alloc, passphrase)?;
         self.succeed(message)
@@ -21,7 +22,8 @@ impl<S: AgentStream> AgentClient<S> {
 
     /// Unlocks the agent by the passphrase of its lock.
     pub fn unlock(&mut self, passphrase: &[u8]) -> Result<(), Error>
-        ensures call { Calls (frame (unlock passphrase.now)) (λ answer. GivesAll (λ x. x) result (success_reading answer)) self.old self.new result }
+        ensures call { Calls (frame (unlock passphrase.now))
+            (λ answer. GivesAll (λ x. x) result (success_reading answer)) self.old self.new result }
     {
         let message = unlocking(self.alloc, passphrase)?;
         self.succeed(message)

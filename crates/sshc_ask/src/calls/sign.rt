@@ -25,7 +25,8 @@ impl<S: AgentStream> AgentClient<S> {
         body: Vec<u8>,
     ) -> Result<Vec<u8>, Error>
         ensures call { Calls (frame (sign_request (signing_key identity.now) hash_alg body.items))
-            (λ answer. GivesAll (λ v. v.items) result (sign_reading (sent_hash (signing_key identity.now) hash_alg) body.items answer))
+            (λ answer. GivesAll (λ v. v.items) result
+            (sign_reading (sent_hash (signing_key identity.now) hash_alg) body.items answer))
             self.old self.new result }
     {
         let message = identity_signing(self.alloc, identity, hash_alg, &body)?;
@@ -49,7 +50,9 @@ impl<S: AgentStream> AgentClient<S> {
     }
 
     fn base64_answer(&mut self, message: Message) -> Result<String, Error>
-        ensures call { Calls (string_text message) (λ answer. GivesAll (λ text. string_bytes text) result (Ok (base64_reading answer))) self.old self.new result }
+        ensures call { Calls (string_text message)
+            (λ answer. GivesAll (λ text. string_bytes text) result (Ok (base64_reading answer)))
+            self.old self.new result }
     {
         let answer = self.ask(message)?;
         Ok(base64_in(self.alloc, &answer)?)
@@ -62,7 +65,8 @@ impl<S: AgentStream> AgentClient<S> {
         body: &[u8],
     ) -> Result<String, Error>
         ensures call { Calls (frame (sign_request public.now.0 hash_alg body.now))
-            (λ answer. GivesAll (λ text. string_bytes text) result (Ok (base64_reading answer))) self.old self.new result }
+            (λ answer. GivesAll (λ text. string_bytes text) result (Ok (base64_reading answer)))
+            self.old self.new result }
     {
         let message = key_signing(self.alloc, public, hash_alg, body)?;
         self.base64_answer(message)
@@ -77,7 +81,8 @@ impl<S: AgentStream> AgentClient<S> {
         body: &[u8],
     ) -> (AgentClient<S>, Result<String, Error>)
         ensures call { Calls (frame (sign_request public.now.0 hash_alg body.now))
-            (λ answer. GivesAll (λ text. string_bytes text) result.1 (Ok (base64_reading answer))) self result.0 result.1 }
+            (λ answer. GivesAll (λ text. string_bytes text) result.1 (Ok (base64_reading answer))) self result.0
+            result.1 }
     {
         let mut client = self;
         let text = client.base64_signature(public, hash_alg, body);
@@ -109,7 +114,8 @@ impl<S: AgentStream> Signer for AgentClient<S> {
         ensures later { self.old.refusals ≤ self.new.refusals }
         ensures same { OnOk result (self.new.refusals ≡ self.old.refusals) }
         ensures call { Calls (frame (sign_request (signing_key key.now) hash bytes.items))
-            (λ answer. GivesAll (λ v. v.items) result (sign_reading (sent_hash (signing_key key.now) hash) bytes.items answer))
+            (λ answer. GivesAll (λ v. v.items) result
+            (sign_reading (sent_hash (signing_key key.now) hash) bytes.items answer))
             self.old (record self.new { refusals = self.old.refusals }) result }
     {
         let signed = self.sign_request(key, hash, bytes);

@@ -80,7 +80,8 @@ fn signing(
     asked: Option<HashAlg>,
     body: &[u8],
 ) -> Result<Message, NoMemory>
-    ensures { IfOk result (λ m. m ≡ SIGN_REQUEST ∷ (string_text blob.now ++ (string_text body.now ++ u32_text (hash_flag asked)))) }
+    ensures { IfOk result
+        (λ m. m ≡ SIGN_REQUEST ∷ (string_text blob.now ++ (string_text body.now ++ u32_text (hash_flag asked)))) }
 {
     let mut written = Message::new(alloc, msg::SIGN_REQUEST)?;
     written.string(blob)?;

@@ -22,7 +22,8 @@ impl Session {
         handler: &mut H,
     ) -> Result<(), Stop<H::Error>>
         ensures { Calls H.keeps_defaults (Ok tt)
-            (handler_at (H.refusals handler.old) (H.setting handler.old)) (handler_at (H.refusals handler.new) (H.setting handler.new))
+            (handler_at (H.refusals handler.old) (H.setting handler.old))
+            (handler_at (H.refusals handler.new) (H.setting handler.new))
             self.old self.new result }
     {
         match happened {
@@ -93,7 +94,8 @@ impl Session {
         handler: &mut H,
     ) -> Result<Flow, Stop<H::Error>>
         ensures row { FollowsOne H.keeps_defaults
-            (handler_at (H.refusals handler.old) (H.setting handler.old)) (handler_at (H.refusals handler.new) (H.setting handler.new))
+            (handler_at (H.refusals handler.old) (H.setting handler.old))
+            (handler_at (H.refusals handler.new) (H.setting handler.new))
             (reports [] id.0 happened []) self.old self.new result }
     {
         match self.call(id, &happened, handler) {
@@ -111,7 +113,8 @@ impl Session {
         handler: &mut H,
     ) -> Result<Flow, Stop<H::Error>>
         ensures row { FollowsOne H.keeps_defaults
-            (handler_at (H.refusals handler.old) (H.setting handler.old)) (handler_at (H.refusals handler.new) (H.setting handler.new))
+            (handler_at (H.refusals handler.old) (H.setting handler.old))
+            (handler_at (H.refusals handler.new) (H.setting handler.new))
             (reports [] id.0 happened (Grants id.0 0 ∷ [])) self.old self.new result }
     {
         match self.call(id, &happened, handler) {

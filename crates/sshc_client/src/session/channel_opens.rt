@@ -55,7 +55,8 @@ impl Session {
         originator_address: &str,
         originator_port: u32,
     ) -> Result<ChannelId, Error>
-        ensures opened { OpensChannel (DirectTcpIp host.now port originator_address.now originator_port) self.old self.new result }
+        ensures opened { OpensChannel (DirectTcpIp host.now port originator_address.now originator_port)
+            self.old self.new result }
         ensures grown { Grown self.old self.new }
     {
         self.open(&ChannelOpen::DirectTcpIp {

@@ -35,7 +35,9 @@ impl Session {
         pix_height: u32,
         modes: &[(Pty, u32)],
     ) -> Result<(), Error>
-        ensures does { Acts (RequestsOn id.0 (PtyReq want_reply term.now (size_of col_width row_height pix_width pix_height) modes.now) ∷ []) self.old self.new result }
+        ensures does { Acts (RequestsOn id.0
+            (PtyReq want_reply term.now (size_of col_width row_height pix_width pix_height) modes.now) ∷ [])
+            self.old self.new result }
         ensures grown { Grown self.old self.new }
     {
         let size = TerminalSize {
@@ -65,7 +67,8 @@ impl Session {
         cookie: &str,
         screen: u32,
     ) -> Result<(), Error>
-        ensures does { Acts (RequestsOn id.0 (X11 want_reply single_connection protocol.now cookie.now screen) ∷ []) self.old self.new result }
+        ensures does { Acts (RequestsOn id.0 (X11 want_reply single_connection protocol.now cookie.now screen) ∷ [])
+            self.old self.new result }
         ensures grown { Grown self.old self.new }
     {
         self.request(
@@ -153,7 +156,8 @@ impl Session {
         pix_width: u32,
         pix_height: u32,
     ) -> Result<(), Error>
-        ensures does { Acts (RequestsOn id.0 (WindowChange (size_of col_width row_height pix_width pix_height)) ∷ []) self.old self.new result }
+        ensures does { Acts (RequestsOn id.0 (WindowChange (size_of col_width row_height pix_width pix_height)) ∷ [])
+            self.old self.new result }
         ensures grown { Grown self.old self.new }
     {
         let size = TerminalSize {

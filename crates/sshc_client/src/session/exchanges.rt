@@ -33,7 +33,8 @@ impl Session {
         handler: &mut H,
     ) -> Result<Flow, Stop<H::Error>>
         ensures { FollowsOne H.keeps_defaults
-            (handler_at (H.refusals handler.old) (H.setting handler.old)) (handler_at (H.refusals handler.new) (H.setting handler.new))
+            (handler_at (H.refusals handler.old) (H.setting handler.old))
+            (handler_at (H.refusals handler.new) (H.setting handler.new))
             (exchange_done_row self.old.opening.flag exchange.now) self.old self.new result }
     {
         let flag = self.connection.opening().flag();
@@ -51,7 +52,8 @@ impl Session {
         handler: &mut H,
     ) -> Result<Flow, Stop<H::Error>>
         ensures { FollowsOne H.keeps_defaults
-            (handler_at (H.refusals handler.old) (H.setting handler.old)) (handler_at (H.refusals handler.new) (H.setting handler.new))
+            (handler_at (H.refusals handler.old) (H.setting handler.old))
+            (handler_at (H.refusals handler.new) (H.setting handler.new))
             (exchange_done_row ExchangeFlag.Peer exchange.now) self.old self.new result }
     {
         let kex = exchange.names.kex.copy()?;
@@ -68,7 +70,8 @@ impl Session {
     ) -> Result<Flow, Stop<H::Error>>
         requires { kex ≡ exchange.now.names.kex }
         ensures { FollowsOne H.keeps_defaults
-            (handler_at (H.refusals handler.old) (H.setting handler.old)) (handler_at (H.refusals handler.new) (H.setting handler.new))
+            (handler_at (H.refusals handler.old) (H.setting handler.old))
+            (handler_at (H.refusals handler.new) (H.setting handler.new))
             (exchange_done_row ExchangeFlag.Peer exchange.now) self.old self.new result }
     {
         match self.call_kex_done(exchange, handler) {
@@ -84,7 +87,8 @@ impl Session {
         handler: &mut H,
     ) -> Result<(), Stop<H::Error>>
         ensures { Calls H.keeps_defaults (Ok tt)
-            (handler_at (H.refusals handler.old) (H.setting handler.old)) (handler_at (H.refusals handler.new) (H.setting handler.new))
+            (handler_at (H.refusals handler.old) (H.setting handler.old))
+            (handler_at (H.refusals handler.new) (H.setting handler.new))
             self.old self.new result }
     {
         lent(handler.kex_done(secret_of(exchange), &exchange.names, self))

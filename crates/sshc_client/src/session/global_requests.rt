@@ -34,7 +34,8 @@ impl Session {
         address: &str,
         port: u32,
     ) -> Result<(), Error>
-        ensures does { Acts (asks_or_denies (or_none ticket) (Forward (or_none ticket) address.now port) self.old) self.old self.new result }
+        ensures does { Acts (asks_or_denies (or_none ticket) (Forward (or_none ticket) address.now port) self.old)
+            self.old self.new result }
         ensures grown { Grown self.old self.new }
     {
         let ticket = ticket_or_none(ticket);
@@ -55,7 +56,8 @@ impl Session {
         address: &str,
         port: u32,
     ) -> Result<(), Error>
-        ensures does { Acts (asks_or_denies (or_none ticket) (CancelForward (or_none ticket) address.now port) self.old) self.old self.new result }
+        ensures does { Acts (asks_or_denies (or_none ticket)
+            (CancelForward (or_none ticket) address.now port) self.old) self.old self.new result }
         ensures grown { Grown self.old self.new }
     {
         let ticket = ticket_or_none(ticket);
@@ -75,7 +77,8 @@ impl Session {
         ticket: Option<Ticket>,
         socket_path: &str,
     ) -> Result<(), Error>
-        ensures does { Acts (asks_or_denies (or_none ticket) (ForwardSocket (or_none ticket) socket_path.now) self.old) self.old self.new result }
+        ensures does { Acts (asks_or_denies (or_none ticket)
+            (ForwardSocket (or_none ticket) socket_path.now) self.old) self.old self.new result }
         ensures grown { Grown self.old self.new }
     {
         let ticket = ticket_or_none(ticket);
@@ -94,7 +97,8 @@ impl Session {
         ticket: Option<Ticket>,
         socket_path: &str,
     ) -> Result<(), Error>
-        ensures does { Acts (asks_or_denies (or_none ticket) (CancelForwardSocket (or_none ticket) socket_path.now) self.old) self.old self.new result }
+        ensures does { Acts (asks_or_denies (or_none ticket)
+            (CancelForwardSocket (or_none ticket) socket_path.now) self.old) self.old self.new result }
         ensures grown { Grown self.old self.new }
     {
         let ticket = ticket_or_none(ticket);
@@ -114,7 +118,8 @@ impl Session {
         name: &str,
         body: &[u8],
     ) -> Result<(), Error>
-        ensures does { Acts (asks_or_denies (or_none ticket) (OwnRequest (or_none ticket) name.now body.now) self.old) self.old self.new result }
+        ensures does { Acts (asks_or_denies (or_none ticket) (OwnRequest (or_none ticket) name.now body.now) self.old)
+            self.old self.new result }
         ensures grown { Grown self.old self.new }
     {
         let ticket = ticket_or_none(ticket);
@@ -123,7 +128,8 @@ impl Session {
 
     /// A keepalive that is always answered.
     pub fn send_ping(&mut self, ticket: Option<Ticket>) -> Result<(), Error>
-        ensures does { Acts (asks_or_denies (or_none ticket) (Ping (or_none ticket)) self.old) self.old self.new result }
+        ensures does { Acts (asks_or_denies (or_none ticket) (Ping (or_none ticket)) self.old)
+            self.old self.new result }
         ensures grown { Grown self.old self.new }
     {
         let ticket = ticket_or_none(ticket);

@@ -40,7 +40,8 @@ impl Session {
         handler: &mut H,
     ) -> Result<bool, H::Error>
         ensures { AsksHandler H.keeps_defaults (H.judges handler.old) (Asks.HostKey key.now)
-            (handler_at (H.refusals handler.old) (H.setting handler.old)) (handler_at (H.refusals handler.new) (H.setting handler.new))
+            (handler_at (H.refusals handler.old) (H.setting handler.old))
+            (handler_at (H.refusals handler.new) (H.setting handler.new))
             self.old self.new result }
     {
         if !handler.check_server_key(key)? {
@@ -60,7 +61,8 @@ impl Session {
     ) -> Result<bool, H::Error>
         requires { HasExchange asks.now (exchange_in event.now) }
         ensures { AsksHandler H.keeps_defaults (H.judges handler.old) asks.now
-            (handler_at (H.refusals handler.old) (H.setting handler.old)) (handler_at (H.refusals handler.new) (H.setting handler.new))
+            (handler_at (H.refusals handler.old) (H.setting handler.old))
+            (handler_at (H.refusals handler.new) (H.setting handler.new))
             self.old self.new result }
     {
         match asks {
@@ -141,8 +143,10 @@ impl Session {
     ) -> Step<H::Error>
         requires { is_open self.old.opening.phase ≡ false }
         ensures { Before H.keeps_defaults (handler_gate H.told_as (H.judges handler.old)) event.now
-            (lent_session self.old (S.calls signer.old) (S.refusals signer.old) (H.refusals handler.old) (H.setting handler.old))
-            (lent_session self.new (S.calls signer.new) (S.refusals signer.new) (H.refusals handler.new) (H.setting handler.new))
+            (lent_session self.old (S.calls signer.old) (S.refusals signer.old) (H.refusals handler.old)
+            (H.setting handler.old))
+            (lent_session self.new (S.calls signer.new) (S.refusals signer.new) (H.refusals handler.new)
+            (H.setting handler.new))
             result }
     {
         if self.connection.opening().is_closed() {
@@ -170,8 +174,10 @@ impl Session {
         requires fresh { self.old.opening.closed ≡ false }
         requires asked { asks.now ≡ asked_of self.old.opening event.now }
         ensures { Before H.keeps_defaults (handler_gate H.told_as (H.judges handler.old)) event.now
-            (lent_session self.old (S.calls signer.old) (S.refusals signer.old) (H.refusals handler.old) (H.setting handler.old))
-            (lent_session self.new (S.calls signer.new) (S.refusals signer.new) (H.refusals handler.new) (H.setting handler.new))
+            (lent_session self.old (S.calls signer.old) (S.refusals signer.old) (H.refusals handler.old)
+            (H.setting handler.old))
+            (lent_session self.new (S.calls signer.new) (S.refusals signer.new) (H.refusals handler.new)
+            (H.setting handler.new))
             result }
     {
         match self.ask_handler(asks, event, handler) {

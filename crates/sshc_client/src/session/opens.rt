@@ -32,7 +32,8 @@ impl Session {
     ) -> Result<Flow, Stop<H::Error>>
         requires { is_live self.old ≡ true }
         ensures row { FollowsOne H.keeps_defaults
-            (handler_at (H.refusals handler.old) (H.setting handler.old)) (handler_at (H.refusals handler.new) (H.setting handler.new))
+            (handler_at (H.refusals handler.old) (H.setting handler.old))
+            (handler_at (H.refusals handler.new) (H.setting handler.new))
             (open_confirmation_row self.old body.now) self.old self.new result }
     {
         let c = read_confirmation(body)?;
@@ -48,7 +49,8 @@ impl Session {
     ) -> Result<Flow, Stop<H::Error>>
         requires { is_live self.old ≡ true }
         ensures row { FollowsOne H.keeps_defaults
-            (handler_at (H.refusals handler.old) (H.setting handler.old)) (handler_at (H.refusals handler.new) (H.setting handler.new))
+            (handler_at (H.refusals handler.old) (H.setting handler.old))
+            (handler_at (H.refusals handler.new) (H.setting handler.new))
             (confirmed_row (awaited c.recipient self.old.table) c) self.old self.new result }
     {
         if !self.connection.confirm(c)? {
@@ -73,7 +75,8 @@ impl Session {
     ) -> Result<Flow, Stop<H::Error>>
         requires { is_live self.old ≡ true }
         ensures row { FollowsOne H.keeps_defaults
-            (handler_at (H.refusals handler.old) (H.setting handler.old)) (handler_at (H.refusals handler.new) (H.setting handler.new))
+            (handler_at (H.refusals handler.old) (H.setting handler.old))
+            (handler_at (H.refusals handler.new) (H.setting handler.new))
             (open_failure_row self.old body.now) self.old self.new result }
     {
         let refusal = read_open_failure(body)?;
@@ -88,7 +91,8 @@ impl Session {
     ) -> Result<Flow, Stop<H::Error>>
         requires { is_live self.old ≡ true }
         ensures row { FollowsOne H.keeps_defaults
-            (handler_at (H.refusals handler.old) (H.setting handler.old)) (handler_at (H.refusals handler.new) (H.setting handler.new))
+            (handler_at (H.refusals handler.old) (H.setting handler.old))
+            (handler_at (H.refusals handler.new) (H.setting handler.new))
             (failed_row (awaited refusal.now.id.0 self.old.table) (lent_refusal refusal.now)) self.old self.new result }
     {
         let description = Text::from_str(self.alloc, refusal.description)?;
@@ -116,7 +120,8 @@ impl Session {
     ) -> Result<Flow, Stop<H::Error>>
         requires { is_live self.old ≡ true }
         ensures row { FollowsWith H.keeps_defaults
-            (handler_at (H.refusals handler.old) (H.setting handler.old)) (handler_at (H.refusals handler.new) (H.setting handler.new))
+            (handler_at (H.refusals handler.old) (H.setting handler.old))
+            (handler_at (H.refusals handler.new) (H.setting handler.new))
             (λ o. channel_open_row o self.old body.now) self.old self.new result }
     {
         let head = read_channel_open(body)?;
@@ -138,7 +143,8 @@ impl Session {
         requires live { is_live self.old ≡ true }
         requires known { is_unknown opened ≡ false }
         ensures row { FollowsWith H.keeps_defaults
-            (handler_at (H.refusals handler.old) (H.setting handler.old)) (handler_at (H.refusals handler.new) (H.setting handler.new))
+            (handler_at (H.refusals handler.old) (H.setting handler.old))
+            (handler_at (H.refusals handler.new) (H.setting handler.new))
             (λ o. numbered_open_row o (next_number self.old.table) sender opened) self.old self.new result }
     {
         let id = self.connection.reserve(sender)?;
@@ -155,7 +161,8 @@ impl Session {
     ) -> Result<Flow, Stop<H::Error>>
         requires { is_live self.old ≡ true }
         ensures row { FollowsWith H.keeps_defaults
-            (handler_at (H.refusals handler.old) (H.setting handler.old)) (handler_at (H.refusals handler.new) (H.setting handler.new))
+            (handler_at (H.refusals handler.old) (H.setting handler.old))
+            (handler_at (H.refusals handler.new) (H.setting handler.new))
             (λ o. numbered_open_row o (next_number self.old.table) sender ServerOpen.Unknown) self.old self.new result }
     {
         let id = self.connection.reserve(sender)?;
@@ -177,7 +184,8 @@ impl Session {
     ) -> Result<Flow, Stop<H::Error>>
         requires { Accepts H.keeps_defaults (default_answer opened) }
         ensures row { FollowsOne H.keeps_defaults
-            (handler_at (H.refusals handler.old) (H.setting handler.old)) (handler_at (H.refusals handler.new) (H.setting handler.new))
+            (handler_at (H.refusals handler.old) (H.setting handler.old))
+            (handler_at (H.refusals handler.new) (H.setting handler.new))
             (served id.0 opened) self.old self.new result }
     {
         match self.call_for_open(id, &opened, handler) {
@@ -216,7 +224,8 @@ impl Session {
         handler: &mut H,
     ) -> Result<OpenAnswer, Stop<H::Error>>
         ensures { Calls H.keeps_defaults (Ok (default_answer opened.now))
-            (handler_at (H.refusals handler.old) (H.setting handler.old)) (handler_at (H.refusals handler.new) (H.setting handler.new))
+            (handler_at (H.refusals handler.old) (H.setting handler.old))
+            (handler_at (H.refusals handler.new) (H.setting handler.new))
             self.old self.new result }
     {
         match opened {

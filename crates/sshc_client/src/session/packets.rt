@@ -35,7 +35,8 @@ impl Session {
     ) -> Result<Flow, Stop<H::Error>>
         requires { is_live self.old ≡ true }
         ensures row { FollowsWith H.keeps_defaults
-            (handler_at (H.refusals handler.old) (H.setting handler.old)) (handler_at (H.refusals handler.new) (H.setting handler.new))
+            (handler_at (H.refusals handler.old) (H.setting handler.old))
+            (handler_at (H.refusals handler.new) (H.setting handler.new))
             (λ o. payload_row (V.accepts verifier.now) o self.old packet.now) self.old self.new result }
     {
         match packet.as_slice() {
@@ -57,7 +58,8 @@ impl Session {
         requires live { is_live self.old ≡ true }
         requires whole { packet.now ≡ number ∷ body.now }
         ensures row { FollowsWith H.keeps_defaults
-            (handler_at (H.refusals handler.old) (H.setting handler.old)) (handler_at (H.refusals handler.new) (H.setting handler.new))
+            (handler_at (H.refusals handler.old) (H.setting handler.old))
+            (handler_at (H.refusals handler.new) (H.setting handler.new))
             (λ o. payload_row (V.accepts verifier.now) o self.old packet.now) self.old self.new result }
     {
         let len = packet.as_slice().len() as u64;
@@ -82,8 +84,10 @@ impl Session {
     ) -> Result<Flow, Stop<H::Error>>
         requires { is_live self.old ≡ true }
         ensures row { FollowsWith H.keeps_defaults
-            (handler_at (H.refusals handler.old) (H.setting handler.old)) (handler_at (H.refusals handler.new) (H.setting handler.new))
-            (λ o. behind_moves (Hears ∷ []) (packet_row (V.accepts verifier.now) o self.old len number body.now)) self.old self.new result }
+            (handler_at (H.refusals handler.old) (H.setting handler.old))
+            (handler_at (H.refusals handler.new) (H.setting handler.new))
+            (λ o. behind_moves (Hears ∷ []) (packet_row (V.accepts verifier.now) o self.old len number body.now))
+            self.old self.new result }
     {
         self.connection.hear();
         self.packet(len, number, body, verifier, handler)
@@ -101,7 +105,8 @@ impl Session {
     ) -> Result<Flow, Stop<H::Error>>
         requires { is_live self.old ≡ true }
         ensures row { FollowsWith H.keeps_defaults
-            (handler_at (H.refusals handler.old) (H.setting handler.old)) (handler_at (H.refusals handler.new) (H.setting handler.new))
+            (handler_at (H.refusals handler.old) (H.setting handler.old))
+            (handler_at (H.refusals handler.new) (H.setting handler.new))
             (λ o. packet_row (V.accepts verifier.now) o self.old len number body.now) self.old self.new result }
     {
         if is_ignored(number) {
@@ -135,8 +140,10 @@ impl Session {
     ) -> Result<Flow, Stop<H::Error>>
         requires { is_live self.old ≡ true }
         ensures row { FollowsWith H.keeps_defaults
-            (handler_at (H.refusals handler.old) (H.setting handler.old)) (handler_at (H.refusals handler.new) (H.setting handler.new))
-            (λ o. behind_moves (Counts len ∷ []) (numbered_row (V.accepts verifier.now) o self.old number body.now)) self.old self.new result }
+            (handler_at (H.refusals handler.old) (H.setting handler.old))
+            (handler_at (H.refusals handler.new) (H.setting handler.new))
+            (λ o. behind_moves (Counts len ∷ []) (numbered_row (V.accepts verifier.now) o self.old number body.now))
+            self.old self.new result }
     {
         self.connection.count(len);
         self.numbered(number, body, verifier, handler)
@@ -153,7 +160,8 @@ impl Session {
     ) -> Result<Flow, Stop<H::Error>>
         requires { is_live self.old ≡ true }
         ensures row { FollowsWith H.keeps_defaults
-            (handler_at (H.refusals handler.old) (H.setting handler.old)) (handler_at (H.refusals handler.new) (H.setting handler.new))
+            (handler_at (H.refusals handler.old) (H.setting handler.old))
+            (handler_at (H.refusals handler.new) (H.setting handler.new))
             (λ o. numbered_row (V.accepts verifier.now) o self.old number body.now) self.old self.new result }
     {
         match number {

@@ -29,7 +29,8 @@ impl Session {
         handler: &mut H,
     ) -> Result<Flow, Stop<H::Error>>
         ensures { FollowsOne H.keeps_defaults
-            (handler_at (H.refusals handler.old) (H.setting handler.old)) (handler_at (H.refusals handler.new) (H.setting handler.new))
+            (handler_at (H.refusals handler.old) (H.setting handler.old))
+            (handler_at (H.refusals handler.new) (H.setting handler.new))
             (channel_request_row self.old body.now) self.old self.new result }
     {
         let head = read_request_head(body)?;
@@ -50,7 +51,8 @@ impl Session {
         handler: &mut H,
     ) -> Result<Flow, Stop<H::Error>>
         ensures { FollowsOne H.keeps_defaults
-            (handler_at (H.refusals handler.old) (H.setting handler.old)) (handler_at (H.refusals handler.new) (H.setting handler.new))
+            (handler_at (H.refusals handler.old) (H.setting handler.old))
+            (handler_at (H.refusals handler.new) (H.setting handler.new))
             (requested_row id.0 request) self.old self.new result }
     {
         match request {
@@ -92,7 +94,8 @@ impl Session {
         handler: &mut H,
     ) -> Result<Flow, Stop<H::Error>>
         ensures { FollowsOne H.keeps_defaults
-            (handler_at (H.refusals handler.old) (H.setting handler.old)) (handler_at (H.refusals handler.new) (H.setting handler.new))
+            (handler_at (H.refusals handler.old) (H.setting handler.old))
+            (handler_at (H.refusals handler.new) (H.setting handler.new))
             (global_request_row body.now) self.old self.new result }
     {
         match read_global_request(self.alloc, body) {
@@ -108,7 +111,8 @@ impl Session {
         handler: &mut H,
     ) -> Result<Flow, Stop<H::Error>>
         ensures { FollowsOne H.keeps_defaults
-            (handler_at (H.refusals handler.old) (H.setting handler.old)) (handler_at (H.refusals handler.new) (H.setting handler.new))
+            (handler_at (H.refusals handler.old) (H.setting handler.old))
+            (handler_at (H.refusals handler.new) (H.setting handler.new))
             (asked_row request) self.old self.new result }
     {
         match request {
@@ -130,7 +134,8 @@ impl Session {
         handler: &mut H,
     ) -> Result<Flow, Stop<H::Error>>
         ensures { FollowsOne H.keeps_defaults
-            (handler_at (H.refusals handler.old) (H.setting handler.old)) (handler_at (H.refusals handler.new) (H.setting handler.new))
+            (handler_at (H.refusals handler.old) (H.setting handler.old))
+            (handler_at (H.refusals handler.new) (H.setting handler.new))
             (asked_row (PeerGlobal.HostKeys keys)) self.old self.new result }
     {
         let blobs = key_blobs(self.alloc, keys.as_slice())?;
@@ -147,8 +152,10 @@ impl Session {
     ) -> Result<Flow, Stop<H::Error>>
         requires { blobs ≡ blobs_of keys }
         ensures { FollowsOne H.keeps_defaults
-            (handler_at (H.refusals handler.old) (H.setting handler.old)) (handler_at (H.refusals handler.new) (H.setting handler.new))
-            (asking [] (HostKeysAnnounced keys) (Tells (AnnouncedRecord (blobs_of keys)) ∷ [])) self.old self.new result }
+            (handler_at (H.refusals handler.old) (H.setting handler.old))
+            (handler_at (H.refusals handler.new) (H.setting handler.new))
+            (asking [] (HostKeysAnnounced keys) (Tells (AnnouncedRecord (blobs_of keys)) ∷ []))
+            self.old self.new result }
     {
         match self.call_announced(keys.into_vec(), handler) {
             Ok(()) => went(self.say_announced(blobs)),
@@ -163,7 +170,8 @@ impl Session {
         handler: &mut H,
     ) -> Result<(), Stop<H::Error>>
         ensures { Calls H.keeps_defaults (Ok tt)
-            (handler_at (H.refusals handler.old) (H.setting handler.old)) (handler_at (H.refusals handler.new) (H.setting handler.new))
+            (handler_at (H.refusals handler.old) (H.setting handler.old))
+            (handler_at (H.refusals handler.new) (H.setting handler.new))
             self.old self.new result }
     {
         lent(handler.openssh_ext_host_keys_announced(keys, self))

@@ -29,13 +29,19 @@ impl Session {
         signer: &mut S,
         verifier: &V,
     ) -> Step<H::Error>
-        ensures steps { SessionSteps H.keeps_defaults (handler_gate H.told_as (H.judges handler.old)) (V.accepts verifier.now) event.now
-            (lent_session self.old (S.calls signer.old) (S.refusals signer.old) (H.refusals handler.old) (H.setting handler.old))
-            (lent_session self.new (S.calls signer.new) (S.refusals signer.new) (H.refusals handler.new) (H.setting handler.new))
+        ensures steps { SessionSteps H.keeps_defaults (handler_gate H.told_as (H.judges handler.old))
+            (V.accepts verifier.now) event.now
+            (lent_session self.old (S.calls signer.old) (S.refusals signer.old) (H.refusals handler.old)
+            (H.setting handler.old))
+            (lent_session self.new (S.calls signer.new) (S.refusals signer.new) (H.refusals handler.new)
+            (H.setting handler.new))
             result }
-        ensures defaults { H.keeps_defaults → SessionStepped (handler_gate H.told_as (H.judges handler.old)) (V.accepts verifier.now) event.now
-            (lent_session self.old (S.calls signer.old) (S.refusals signer.old) (H.refusals handler.old) (H.setting handler.old))
-            (lent_session self.new (S.calls signer.new) (S.refusals signer.new) (H.refusals handler.new) (H.setting handler.new))
+        ensures defaults { H.keeps_defaults
+            → SessionStepped (handler_gate H.told_as (H.judges handler.old)) (V.accepts verifier.now) event.now
+            (lent_session self.old (S.calls signer.old) (S.refusals signer.old) (H.refusals handler.old)
+            (H.setting handler.old))
+            (lent_session self.new (S.calls signer.new) (S.refusals signer.new) (H.refusals handler.new)
+            (H.setting handler.new))
             result }
     {
         self.step_with(event, handler, signer, verifier)
@@ -49,9 +55,12 @@ impl Session {
         signer: &mut S,
         verifier: &V,
     ) -> Step<H::Error>
-        ensures { SessionSteps H.keeps_defaults (handler_gate H.told_as (H.judges handler.old)) (V.accepts verifier.now) event.now
-            (lent_session self.old (S.calls signer.old) (S.refusals signer.old) (H.refusals handler.old) (H.setting handler.old))
-            (lent_session self.new (S.calls signer.new) (S.refusals signer.new) (H.refusals handler.new) (H.setting handler.new))
+        ensures { SessionSteps H.keeps_defaults (handler_gate H.told_as (H.judges handler.old))
+            (V.accepts verifier.now) event.now
+            (lent_session self.old (S.calls signer.old) (S.refusals signer.old) (H.refusals handler.old)
+            (H.setting handler.old))
+            (lent_session self.new (S.calls signer.new) (S.refusals signer.new) (H.refusals handler.new)
+            (H.setting handler.new))
             result }
     {
         match self.connection.life() {
@@ -80,7 +89,8 @@ impl Session {
     ) -> Step<H::Error>
         requires { is_live self.old ≡ true }
         ensures steps { StepsOpen H.keeps_defaults H.told_as (V.accepts verifier.now) event.now
-            (handler_at (H.refusals handler.old) (H.setting handler.old)) (handler_at (H.refusals handler.new) (H.setting handler.new))
+            (handler_at (H.refusals handler.old) (H.setting handler.old))
+            (handler_at (H.refusals handler.new) (H.setting handler.new))
             self.old self.new result }
     {
         let answer = self.row(event, handler, verifier);
@@ -118,7 +128,8 @@ impl Session {
     ) -> Result<Flow, Stop<H::Error>>
         requires { is_live self.old ≡ true }
         ensures row { FollowsWith H.keeps_defaults
-            (handler_at (H.refusals handler.old) (H.setting handler.old)) (handler_at (H.refusals handler.new) (H.setting handler.new))
+            (handler_at (H.refusals handler.old) (H.setting handler.old))
+            (handler_at (H.refusals handler.new) (H.setting handler.new))
             (λ o. session_row (V.accepts verifier.now) o self.old event.now) self.old self.new result }
     {
         match event {

@@ -19,7 +19,8 @@ const LONGEST: usize = 64;
 /// What stands before and after the first `@`.
 #[tactic(auto, unfolding(crate::specs::AlgorithmNames::parted))]
 pub(crate) fn parts_of(name: &str) -> Option<(&str, &str)>
-    ensures { MatchOption result (parted name.now ≡ None) (λ x. parted name.now ≡ Some (record { front = x.0.now; domain = x.1.now })) }
+    ensures { MatchOption result (parted name.now ≡ None)
+        (λ x. parted name.now ≡ Some (record { front = x.0.now; domain = x.1.now })) }
 {
     name.split_once('@')
 }

@@ -140,7 +140,8 @@ pub fn read_key_pair(alloc: Global, c: &mut Cursor<'_>) -> Result<PrivateKey, Er
     ensures reads { Gives (λ k. k) result c.new (made_at key_pair pair_at c.old) }
     ensures unmoved { OnErr result (c.new ≡ c.old) }
     // What is read is a pair of the grammar with its text at the front, and there is no other.
-    ensures grammar { (p : Pair) (rest : List ℕ) → (pair_at c.old ≡ Ok (p, rest)) ↔ (PairFits p × (c.old ≡ pair_text p ++ rest)) }
+    ensures grammar { (p : Pair) (rest : List ℕ) → (pair_at c.old ≡ Ok (p, rest))
+        ↔ (PairFits p × (c.old ≡ pair_text p ++ rest)) }
 {
     let mut after = Cursor::new(c.rest());
     match pair_of(alloc, &mut after) {

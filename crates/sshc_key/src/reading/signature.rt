@@ -52,7 +52,8 @@ pub fn read_signature(alloc: Global, c: &mut Cursor<'_>) -> Result<Signature, Er
     ensures reads { Gives (λ s. s) result c.new (signature_at c.old) }
     ensures unmoved { OnErr result (c.new ≡ c.old) }
     // What is read is a signature of the grammar with its text at the front, and there is no other.
-    ensures grammar { (s : Signed) (rest : List ℕ) → (signature_at c.old ≡ Ok (s, rest)) ↔ (SignatureFits s × (c.old ≡ signature_text s ++ rest)) }
+    ensures grammar { (s : Signed) (rest : List ℕ) → (signature_at c.old ≡ Ok (s, rest))
+        ↔ (SignatureFits s × (c.old ≡ signature_text s ++ rest)) }
 {
     let mut after = Cursor::new(c.rest());
     match signature_of(alloc, &mut after) {

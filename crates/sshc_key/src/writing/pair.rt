@@ -19,7 +19,8 @@ fn put_name(out: &mut Vec<u8>, known: Known) -> Result<(), NoMemory>
 }
 
 fn put_dsa_pair(out: &mut Vec<u8>, key: &KeyData, x: &Octets) -> Result<(), NoMemory>
-    ensures { OnOk result (out.new.items ≡ out.old.items ++ text_or_nothing (pair_in (view key.now) (PairData.Dsa x.now))) }
+    ensures { OnOk result
+        (out.new.items ≡ out.old.items ++ text_or_nothing (pair_in (view key.now) (PairData.Dsa x.now))) }
 {
     match key {
         KeyData::Dsa { p, q, g, y } => {
@@ -36,7 +37,8 @@ fn put_dsa_pair(out: &mut Vec<u8>, key: &KeyData, x: &Octets) -> Result<(), NoMe
 }
 
 fn put_ecdsa_pair(out: &mut Vec<u8>, key: &KeyData, d: &Octets) -> Result<(), NoMemory>
-    ensures { OnOk result (out.new.items ≡ out.old.items ++ text_or_nothing (pair_in (view key.now) (PairData.Ecdsa d.now))) }
+    ensures { OnOk result
+        (out.new.items ≡ out.old.items ++ text_or_nothing (pair_in (view key.now) (PairData.Ecdsa d.now))) }
 {
     match key {
         KeyData::Ecdsa { curve, point } => {
@@ -54,7 +56,8 @@ fn put_ecdsa_pair(out: &mut Vec<u8>, key: &KeyData, d: &Octets) -> Result<(), No
 }
 
 fn put_ed25519_pair(out: &mut Vec<u8>, key: &KeyData, private: &Octets) -> Result<(), NoMemory>
-    ensures { OnOk result (out.new.items ≡ out.old.items ++ text_or_nothing (pair_in (view key.now) (PairData.Ed25519 private.now))) }
+    ensures { OnOk result
+        (out.new.items ≡ out.old.items ++ text_or_nothing (pair_in (view key.now) (PairData.Ed25519 private.now))) }
 {
     match key {
         KeyData::Ed25519 { public } => {
@@ -71,7 +74,8 @@ fn put_ed25519_pair(out: &mut Vec<u8>, key: &KeyData, private: &Octets) -> Resul
 }
 
 fn put_three(out: &mut Vec<u8>, a: &Octets, b: &Octets, c: &Octets) -> Result<(), NoMemory>
-    ensures { OnOk result (out.new.items ≡ out.old.items ++ (string_text a.now ++ (string_text b.now ++ string_text c.now))) }
+    ensures { OnOk result
+        (out.new.items ≡ out.old.items ++ (string_text a.now ++ (string_text b.now ++ string_text c.now))) }
 {
     put_bytes(out, a.as_slice())?;
     put_bytes(out, b.as_slice())?;
@@ -86,7 +90,9 @@ fn put_rsa_pair(
     p: &Octets,
     q: &Octets,
 ) -> Result<(), NoMemory>
-    ensures { OnOk result (out.new.items ≡ out.old.items ++ text_or_nothing (pair_in (view key.now) (PairData.Rsa d.now iqmp.now p.now q.now))) }
+    ensures { OnOk result
+        (out.new.items
+        ≡ out.old.items ++ text_or_nothing (pair_in (view key.now) (PairData.Rsa d.now iqmp.now p.now q.now))) }
 {
     match key {
         KeyData::Rsa { e, n } => {
@@ -118,7 +124,8 @@ fn put_pair(out: &mut Vec<u8>, key: &PrivateKey) -> Result<(), NoMemory>
 pub fn write_key_pair(out: &mut Vec<u8>, key: &PrivateKey) -> Result<(), NoMemory>
     ensures ok { OnOk result (out.new.items ≡ out.old.items ++ key_pair_text key.now) }
     // What was written of a pair of the grammar is read again, whatever follows it.
-    ensures again { OnOk result ((p : Pair) (rest : List ℕ) → pair_in key.now.public.0 key.now.pair ≡ Some p → PairFits p
+    ensures again { OnOk result
+        ((p : Pair) (rest : List ℕ) → pair_in key.now.public.0 key.now.pair ≡ Some p → PairFits p
         → pair_at (drop (length out.old.items) out.new.items ++ rest) ≡ Ok (p, rest)) }
     ensures err { OnErr result (out.new.items ≡ out.old.items) }
 {

@@ -34,7 +34,8 @@ impl Channel {
     ) -> Result<(), NoMemory>
         ensures said { OnOk result (said.new.items ≡ said.old.items ++ payloads self.now.head.recipient
             (if self.now.head.established && is_empty then due_of self.now.flow else [])) }
-        ensures succeeds { (if self.now.head.established && is_empty then due_of self.now.flow else []) ≡ [] → IsOk result }
+        ensures succeeds { (if self.now.head.established && is_empty then due_of self.now.flow else []) ≡ []
+            → IsOk result }
     {
         if !self.is_established || !is_empty {
             return Ok(());

@@ -37,8 +37,10 @@ impl ChannelTable {
         exchanging: bool,
         out: &mut Outbox,
     ) -> Result<(), NoMemory>
-        ensures did { Did (Bytes id.0 (Stream.Extended ext) body.now exchanging) self.old self.new out.old out.new result }
-        ensures part { OnOk result (DidItsPart (Bytes id.0 (Stream.Extended ext) body.now exchanging) self.old self.new) }
+        ensures did { Did (Bytes id.0 (Stream.Extended ext) body.now exchanging)
+            self.old self.new out.old out.new result }
+        ensures part { OnOk result
+            (DidItsPart (Bytes id.0 (Stream.Extended ext) body.now exchanging) self.old self.new) }
         ensures succeeds { (takes_at id.0 self.old && not (length body.now == 0)) ≡ false → IsOk result }
     {
         self.take(id, Stream::Extended(ext), body, exchanging, out)

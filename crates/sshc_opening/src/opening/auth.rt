@@ -37,7 +37,8 @@ impl Opening {
     /// Packet 60, by the class of the request.
     #[tactic(auto, unfolding(crate::specs::OpeningTable::answer_row))]
     fn answer(&mut self, body: &[u8], out: &mut Outbox) -> Result<Flow, Error>
-        ensures row { Follows (answer_row self.old.class self.old body.now) (span self.old self.new out.old out.new) result }
+        ensures row { Follows (answer_row self.old.class self.old body.now)
+            (span self.old self.new out.old out.new) result }
     {
         match self.class {
             Class::Prompts => self.info_request(body, out),
@@ -52,7 +53,8 @@ impl Opening {
     /// The packets that belong to GSSAPI alone.
     #[tactic(auto, unfolding(crate::specs::OpeningTable::gssapi_row))]
     fn gssapi(&mut self, number: u8, body: &[u8], out: &mut Outbox) -> Result<Flow, Error>
-        ensures row { Follows (gssapi_row self.old.class self.old number body.now) (span self.old self.new out.old out.new) result }
+        ensures row { Follows (gssapi_row self.old.class self.old number body.now)
+            (span self.old self.new out.old out.new) result }
     {
         if self.class != Class::Gssapi {
             return Err(Error::Inconsistent);
@@ -139,7 +141,8 @@ impl Opening {
         method: &Method,
         out: &mut Outbox,
     ) -> Result<Flow, Error>
-        ensures row { Follows (authenticate_again_row self.old ticket user.now method.now) (span self.old self.new out.old out.new) result }
+        ensures row { Follows (authenticate_again_row self.old ticket user.now method.now)
+            (span self.old self.new out.old out.new) result }
     {
         let user = user.copy()?;
         let request = request_packet(self.alloc, &user, method)?;

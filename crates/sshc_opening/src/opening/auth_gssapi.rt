@@ -141,7 +141,8 @@ impl Opening {
         mic: &Octets,
         out: &mut Outbox,
     ) -> Result<Flow, Error>
-        ensures row { Follows (user_mic_row self.old token.now mic.now) (span self.old self.new out.old out.new) result }
+        ensures row { Follows (user_mic_row self.old token.now mic.now)
+            (span self.old self.new out.old out.new) result }
     {
         if !self.is_gssapi() {
             return Ok(Flow::Went);

@@ -25,7 +25,9 @@ impl Opening {
         signer: &mut S,
         out: &mut Outbox,
     ) -> Result<Flow, Error>
-        ensures row { FollowsAsking (pk_ok_row self.old body.now) (signer_at (S.calls signer.old) (S.refusals signer.old)) (signer_at (S.calls signer.new) (S.refusals signer.new)) (span self.old self.new out.old out.new) result }
+        ensures row { FollowsAsking (pk_ok_row self.old body.now)
+            (signer_at (S.calls signer.old) (S.refusals signer.old))
+            (signer_at (S.calls signer.new) (S.refusals signer.new)) (span self.old self.new out.old out.new) result }
     {
         if !is_pk_ok(body) {
             return Err(Error::SshEncoding);
@@ -39,7 +41,9 @@ impl Opening {
         signer: &mut S,
         out: &mut Outbox,
     ) -> Result<Flow, Error>
-        ensures row { FollowsAsking (key_row self.old self.old.method) (signer_at (S.calls signer.old) (S.refusals signer.old)) (signer_at (S.calls signer.new) (S.refusals signer.new)) (span self.old self.new out.old out.new) result }
+        ensures row { FollowsAsking (key_row self.old self.old.method)
+            (signer_at (S.calls signer.old) (S.refusals signer.old))
+            (signer_at (S.calls signer.new) (S.refusals signer.new)) (span self.old self.new out.old out.new) result }
     {
         match self.sign_stored(signer, out) {
             Ok(Some(bytes)) => {
@@ -63,7 +67,10 @@ impl Opening {
         signer: &mut S,
         out: &mut Outbox,
     ) -> Result<Option<Octets>, Error>
-        ensures row { FollowsAsking (key_row self.now self.now.method) (signer_at (S.calls signer.old) (S.refusals signer.old)) (signer_at (S.calls signer.new) (S.refusals signer.new)) (signing_span self.now out.old out.new result) (flow_of result) }
+        ensures row { FollowsAsking (key_row self.now self.now.method)
+            (signer_at (S.calls signer.old) (S.refusals signer.old))
+            (signer_at (S.calls signer.new) (S.refusals signer.new)) (signing_span self.now out.old out.new result)
+            (flow_of result) }
     {
         match &self.method {
             Some(stored) => self.sign_method(stored.as_method(), signer, out),
@@ -79,7 +86,10 @@ impl Opening {
         signer: &mut S,
         out: &mut Outbox,
     ) -> Result<Option<Octets>, Error>
-        ensures row { FollowsAsking (key_row self.now (Some method.now)) (signer_at (S.calls signer.old) (S.refusals signer.old)) (signer_at (S.calls signer.new) (S.refusals signer.new)) (signing_span self.now out.old out.new result) (flow_of result) }
+        ensures row { FollowsAsking (key_row self.now (Some method.now))
+            (signer_at (S.calls signer.old) (S.refusals signer.old))
+            (signer_at (S.calls signer.new) (S.refusals signer.new)) (signing_span self.now out.old out.new result)
+            (flow_of result) }
     {
         match method {
             Method::PublicKey { key } => {
@@ -111,7 +121,10 @@ impl Opening {
         signer: &mut S,
         out: &mut Outbox,
     ) -> Result<Option<Octets>, Error>
-        ensures row { (key : Key) → IsKeyPart part.now key hash → FollowsAsking (sign_row self.now pair.now key hash) (signer_at (S.calls signer.old) (S.refusals signer.old)) (signer_at (S.calls signer.new) (S.refusals signer.new)) (signing_span self.now out.old out.new result) (flow_of result) }
+        ensures row { (key : Key) → IsKeyPart part.now key hash → FollowsAsking (sign_row self.now pair.now key hash)
+            (signer_at (S.calls signer.old) (S.refusals signer.old))
+            (signer_at (S.calls signer.new) (S.refusals signer.new)) (signing_span self.now out.old out.new result)
+            (flow_of result) }
     {
         let bytes = part_to_sign(
             self.alloc,
@@ -130,7 +143,8 @@ impl Opening {
         answer: Result<Vec<u8>, SignRefused>,
         out: &mut Outbox,
     ) -> Result<Option<Octets>, Error>
-        ensures row { (key : Key) (hash : Option Hash) → IsKeyPart part.now key hash → SignedBy self.now key hash answer out.old out.new result }
+        ensures row { (key : Key) (hash : Option Hash) → IsKeyPart part.now key hash
+            → SignedBy self.now key hash answer out.old out.new result }
     {
         match answer {
             Ok(signature) => {
@@ -156,7 +170,8 @@ impl Opening {
         hash: Option<HashAlg>,
         out: &mut Outbox,
     ) -> Result<Option<Octets>, Error>
-        ensures row { (key : Key) → IsKeyPart part key hash → Handed (ask_key_row self.now key hash) self.now out.old out.new result }
+        ensures row { (key : Key) → IsKeyPart part key hash
+            → Handed (ask_key_row self.now key hash) self.now out.old out.new result }
     {
         let bytes = part_to_sign(
             self.alloc,
@@ -184,7 +199,8 @@ impl Opening {
         hash: Option<HashAlg>,
         out: &mut Outbox,
     ) -> Result<Option<Octets>, Error>
-        ensures row { (key : Key) → IsKeyPart part key hash → Handed (ask_certificate_row self.now key hash) self.now out.old out.new result }
+        ensures row { (key : Key) → IsKeyPart part key hash
+            → Handed (ask_certificate_row self.now key hash) self.now out.old out.new result }
     {
         let bytes = part_to_sign(
             self.alloc,

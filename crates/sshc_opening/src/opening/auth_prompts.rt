@@ -59,7 +59,8 @@ impl Opening {
         packet: &mut Cursor<'_>,
         out: &mut Outbox,
     ) -> Result<Flow, Error>
-        ensures row { Follows (prompts_row self.old name.now instructions.now n packet.old) (span self.old self.new out.old out.new) result }
+        ensures row { Follows (prompts_row self.old name.now instructions.now n packet.old)
+            (span self.old self.new out.old out.new) result }
     {
         if n as usize > packet.rest().len() / 5 {
             return Err(Error::Inconsistent);
@@ -87,7 +88,8 @@ impl Opening {
         responses: &List<Text>,
         out: &mut Outbox,
     ) -> Result<Flow, Error>
-        ensures row { Follows (info_response_row self.old responses.now) (span self.old self.new out.old out.new) result }
+        ensures row { Follows (info_response_row self.old responses.now)
+            (span self.old self.new out.old out.new) result }
     {
         let packet = info_response_packet(self.alloc, responses)?;
         out.push(Record::Payload(packet))?;

@@ -29,7 +29,8 @@ impl Opening {
     }
 
     fn answer_awaited(&mut self, event: &Event, out: &mut Outbox) -> Result<Flow, Error>
-        ensures row { Follows (answer_row_in self.old.phase self.old event.now) (span self.old self.new out.old out.new) result }
+        ensures row { Follows (answer_row_in self.old.phase self.old event.now)
+            (span self.old self.new out.old out.new) result }
     {
         match self.phase {
             Phase::AwaitResponses => self.responses(event, out),

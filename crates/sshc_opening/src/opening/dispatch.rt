@@ -50,7 +50,9 @@ impl Opening {
         signer: &mut S,
         out: &mut Outbox,
     ) -> Result<Flow, Error>
-        ensures row { FollowsAsking (open_row self.old event.now told) (signer_at (S.calls signer.old) (S.refusals signer.old)) (signer_at (S.calls signer.new) (S.refusals signer.new)) (span self.old self.new out.old out.new) result }
+        ensures row { FollowsAsking (open_row self.old event.now told)
+            (signer_at (S.calls signer.old) (S.refusals signer.old))
+            (signer_at (S.calls signer.new) (S.refusals signer.new)) (span self.old self.new out.old out.new) result }
     {
         if self.is_out_of_turn(event) {
             return Err(Error::OutOfTurn);
@@ -152,7 +154,8 @@ impl Opening {
         method: &Method,
         out: &mut Outbox,
     ) -> Result<Flow, Error>
-        ensures row { Follows (authenticate_row_in self.old.phase self.old ticket user.now method.now) (span self.old self.new out.old out.new) result }
+        ensures row { Follows (authenticate_row_in self.old.phase self.old ticket user.now method.now)
+            (span self.old self.new out.old out.new) result }
     {
         match self.phase {
             Phase::Service => self.authenticate_first(ticket, user, method, out),

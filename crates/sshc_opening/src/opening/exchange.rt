@@ -38,7 +38,8 @@ impl Opening {
         told: Told,
         out: &mut Outbox,
     ) -> Result<Flow, Error>
-        ensures row { Follows (exchange_done_row self.old exchange.now told) (span self.old self.new out.old out.new) result }
+        ensures row { Follows (exchange_done_row self.old exchange.now told)
+            (span self.old self.new out.old out.new) result }
     {
         match self.phase {
             Phase::Exchanging => self.first_exchange(exchange, told, out),
@@ -53,7 +54,8 @@ impl Opening {
         told: Told,
         out: &mut Outbox,
     ) -> Result<Flow, Error>
-        ensures row { Follows (first_exchange_row self.old exchange.now told) (span self.old self.new out.old out.new) result }
+        ensures row { Follows (first_exchange_row self.old exchange.now told)
+            (span self.old self.new out.old out.new) result }
     {
         if told != Told::Went {
             return Err(Error::UnknownKey);
@@ -91,7 +93,8 @@ impl Opening {
 
     /// A later exchange keeps the session id, and nobody judges it.
     fn later_exchange(&mut self, exchange: &ExchangeResult, out: &mut Outbox) -> Result<Flow, Error>
-        ensures row { Follows (later_exchange_row self.old exchange.now) (span self.old self.new out.old out.new) result }
+        ensures row { Follows (later_exchange_row self.old exchange.now)
+            (span self.old self.new out.old out.new) result }
     {
         let kex = exchange.names.kex.copy()?;
         out.push(Record::KexDone { kex })?;

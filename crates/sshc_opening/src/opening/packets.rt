@@ -22,7 +22,9 @@ impl Opening {
         signer: &mut S,
         out: &mut Outbox,
     ) -> Result<Flow, Error>
-        ensures row { FollowsAsking (payload_row self.old packet.now) (signer_at (S.calls signer.old) (S.refusals signer.old)) (signer_at (S.calls signer.new) (S.refusals signer.new)) (span self.old self.new out.old out.new) result }
+        ensures row { FollowsAsking (payload_row self.old packet.now)
+            (signer_at (S.calls signer.old) (S.refusals signer.old))
+            (signer_at (S.calls signer.new) (S.refusals signer.new)) (span self.old self.new out.old out.new) result }
     {
         match packet.as_slice() {
             [] => Ok(Flow::Went),
@@ -42,7 +44,9 @@ impl Opening {
         signer: &mut S,
         out: &mut Outbox,
     ) -> Result<Flow, Error>
-        ensures row { FollowsAsking (numbered_row self.old len number body.now) (signer_at (S.calls signer.old) (S.refusals signer.old)) (signer_at (S.calls signer.new) (S.refusals signer.new)) (span self.old self.new out.old out.new) result }
+        ensures row { FollowsAsking (numbered_row self.old len number body.now)
+            (signer_at (S.calls signer.old) (S.refusals signer.old))
+            (signer_at (S.calls signer.new) (S.refusals signer.new)) (span self.old self.new out.old out.new) result }
     {
         if number == msg::DISCONNECT {
             return self.peer_disconnect(body, out);
@@ -79,7 +83,8 @@ impl Opening {
         rest: &[u8],
         out: &mut Outbox,
     ) -> Result<Flow, Error>
-        ensures row { Follows (disconnect_reason_row (Some reason_code) rest.now) (span self.old self.new out.old out.new) result }
+        ensures row { Follows (disconnect_reason_row (Some reason_code) rest.now)
+            (span self.old self.new out.old out.new) result }
     {
         let _ = out;
         let mut packet = Cursor::new(rest);
@@ -112,7 +117,9 @@ impl Opening {
         signer: &mut S,
         out: &mut Outbox,
     ) -> Result<Flow, Error>
-        ensures row { FollowsAsking (held_packet_row self.old.flag self.old len number body.now) (signer_at (S.calls signer.old) (S.refusals signer.old)) (signer_at (S.calls signer.new) (S.refusals signer.new)) (span self.old self.new out.old out.new) result }
+        ensures row { FollowsAsking (held_packet_row self.old.flag self.old len number body.now)
+            (signer_at (S.calls signer.old) (S.refusals signer.old))
+            (signer_at (S.calls signer.new) (S.refusals signer.new)) (span self.old self.new out.old out.new) result }
     {
         match self.flag {
             ExchangeFlag::Idle => self.phase_packet(number, body, signer, out),
@@ -156,7 +163,10 @@ impl Opening {
         signer: &mut S,
         out: &mut Outbox,
     ) -> Result<Flow, Error>
-        ensures row { FollowsAsking (phase_packet_row (record self.old { counted = counted_with self.old len }) number body.now) (signer_at (S.calls signer.old) (S.refusals signer.old)) (signer_at (S.calls signer.new) (S.refusals signer.new)) (span self.old self.new out.old out.new) result }
+        ensures row { FollowsAsking
+            (phase_packet_row (record self.old { counted = counted_with self.old len }) number body.now)
+            (signer_at (S.calls signer.old) (S.refusals signer.old))
+            (signer_at (S.calls signer.new) (S.refusals signer.new)) (span self.old self.new out.old out.new) result }
     {
         let before = self.pending_so_far();
         self.count(len);
@@ -182,7 +192,9 @@ impl Opening {
         signer: &mut S,
         out: &mut Outbox,
     ) -> Result<Flow, Error>
-        ensures row { FollowsAsking (phase_packet_row self.old number body.now) (signer_at (S.calls signer.old) (S.refusals signer.old)) (signer_at (S.calls signer.new) (S.refusals signer.new)) (span self.old self.new out.old out.new) result }
+        ensures row { FollowsAsking (phase_packet_row self.old number body.now)
+            (signer_at (S.calls signer.old) (S.refusals signer.old))
+            (signer_at (S.calls signer.new) (S.refusals signer.new)) (span self.old self.new out.old out.new) result }
     {
         match self.phase {
             Phase::Service => self.service_packet(number, body, out),
@@ -200,7 +212,9 @@ impl Opening {
         signer: &mut S,
         out: &mut Outbox,
     ) -> Result<Flow, Error>
-        ensures row { FollowsAsking (auth_packet_row self.old number body.now) (signer_at (S.calls signer.old) (S.refusals signer.old)) (signer_at (S.calls signer.new) (S.refusals signer.new)) (span self.old self.new out.old out.new) result }
+        ensures row { FollowsAsking (auth_packet_row self.old number body.now)
+            (signer_at (S.calls signer.old) (S.refusals signer.old))
+            (signer_at (S.calls signer.new) (S.refusals signer.new)) (span self.old self.new out.old out.new) result }
     {
         if self.class == Class::Key && number == msg::USERAUTH_PK_OK {
             self.pk_ok(body, signer, out)

@@ -22,7 +22,8 @@ impl Opening {
         body: &[u8],
         out: &mut Outbox,
     ) -> Result<Flow, Error>
-        ensures row { Follows (service_packet_row self.old number body.now) (span self.old self.new out.old out.new) result }
+        ensures row { Follows (service_packet_row self.old number body.now)
+            (span self.old self.new out.old out.new) result }
     {
         match number {
             msg::SERVICE_ACCEPT => self.service_accept(body, out),
@@ -73,7 +74,8 @@ impl Opening {
         method: &Method,
         out: &mut Outbox,
     ) -> Result<Flow, Error>
-        ensures row { Follows (authenticate_first_row self.old ticket user.now method.now) (span self.old self.new out.old out.new) result }
+        ensures row { Follows (authenticate_first_row self.old ticket user.now method.now)
+            (span self.old self.new out.old out.new) result }
     {
         let user = user.copy()?;
         let request = self.asking_for_service()?;

@@ -31,7 +31,8 @@ impl Opening {
         resolution: Resolution,
         out: &mut Outbox,
     ) -> Result<Flow, Error>
-        ensures row { Follows (answered_row self.old ticket resolution) (span self.old self.new out.old out.new) result }
+        ensures row { Follows (answered_row self.old ticket resolution)
+            (span self.old self.new out.old out.new) result }
     {
         out.push_both(resolved(ticket, resolution), None)?;
         Ok(Flow::Went)
@@ -56,7 +57,8 @@ impl Opening {
         name: &Text,
         out: &mut Outbox,
     ) -> Result<Flow, Error>
-        ensures row { Follows (await_extension_info_row self.old ticket name.now) (span self.old self.new out.old out.new) result }
+        ensures row { Follows (await_extension_info_row self.old ticket name.now)
+            (span self.old self.new out.old out.new) result }
     {
         if self.was_seen(name.as_str()) {
             return self.answered(ticket, Resolution::ExtInfoSeen, out);
@@ -92,7 +94,8 @@ impl Opening {
         ticket: Ticket,
         out: &mut Outbox,
     ) -> Result<Flow, Error>
-        ensures row { Follows (get_server_sig_algs_row self.old ticket) (span self.old self.new out.old out.new) result }
+        ensures row { Follows (get_server_sig_algs_row self.old ticket)
+            (span self.old self.new out.old out.new) result }
     {
         let answer = self.sig_algs_answer()?;
         self.answered(ticket, answer, out)
@@ -105,7 +108,8 @@ impl Opening {
         keys: &List<PublicKey>,
         out: &mut Outbox,
     ) -> Result<Flow, Error>
-        ensures row { Follows (answered_row self.old ticket (host_keys_answer keys.now)) (span self.old self.new out.old out.new) result }
+        ensures row { Follows (answered_row self.old ticket (host_keys_answer keys.now))
+            (span self.old self.new out.old out.new) result }
     {
         match keys.as_slice() {
             [] => self.answered(ticket, Resolution::HostKeysProved, out),
@@ -122,7 +126,8 @@ impl Opening {
         language: &Text,
         out: &mut Outbox,
     ) -> Result<Flow, Error>
-        ensures row { Follows (user_disconnect_row reason description.now language.now) (span self.old self.new out.old out.new) result }
+        ensures row { Follows (user_disconnect_row reason description.now language.now)
+            (span self.old self.new out.old out.new) result }
     {
         let packet = disconnect_packet(self.alloc, reason, description, language)?;
         out.push(Record::Payload(packet))?;

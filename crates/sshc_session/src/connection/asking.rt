@@ -51,7 +51,10 @@ impl Connection {
     #[tactic(auto, using(crate::proofs::LiveLemmas::live_unmuted, crate::proofs::LiveLemmas::shown_open))]
     fn push_asked(&mut self, packet: Octets, entry: Option<Awaited>) -> Result<(), NoMemory>
         requires { is_live self.old ≡ true }
-        ensures ok { OnOk result (self.new ≡ record self.old { replies = self.old.replies ++ listed entry; records = self.old.records ++ Payload packet ∷ [] }) }
+        ensures ok { OnOk result
+            (self.new
+            ≡ record self.old
+            { replies = self.old.replies ++ listed entry; records = self.old.records ++ Payload packet ∷ [] }) }
         ensures err { OnErr result (self.new ≡ self.old) }
     {
         self.replies.reserve(1)?;

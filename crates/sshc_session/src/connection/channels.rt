@@ -70,7 +70,8 @@ impl Connection {
     #[tactic(auto, using(crate::proofs::LiveLemmas::live_unmuted, crate::proofs::LiveLemmas::shown_open, crate::proofs::MoveLemmas::after_grants, sshc_moves::specs::MoveLaws::not_done))]
     pub fn grant(&mut self, id: ChannelId, amount: u32) -> Result<Option<u32>, NoMemory>
         ensures moved { Moved (Grants id.0 amount) self.old self.new result }
-        ensures left { is_live self.old ≡ true → IfOk result (λ left. left ≡ granted_at id.0 amount (exchanging self.old) self.old.table) }
+        ensures left { is_live self.old ≡ true
+            → IfOk result (λ left. left ≡ granted_at id.0 amount (exchanging self.old) self.old.table) }
     {
         if !self.is_live() {
             return Ok(None);
@@ -84,7 +85,8 @@ impl Connection {
     #[tactic(auto, using(crate::proofs::LiveLemmas::live_unmuted, crate::proofs::LiveLemmas::shown_open, crate::proofs::MoveLemmas::after_receives, sshc_moves::specs::MoveLaws::not_done))]
     pub fn receive(&mut self, id: ChannelId, len: u64) -> Result<bool, NoMemory>
         ensures moved { Moved (Receives id.0 len) self.old self.new result }
-        ensures adjusted { is_live self.old ≡ true → IfOk result (λ adjusted. adjusted ≡ adjusted_at id.0 len (own_window self.old) self.old.table) }
+        ensures adjusted { is_live self.old ≡ true
+            → IfOk result (λ adjusted. adjusted ≡ adjusted_at id.0 len (own_window self.old) self.old.table) }
     {
         if !self.is_live() {
             return Ok(false);
