@@ -13,7 +13,7 @@ use Rattle.sshc_key.specs.Nesting.{key_or_fault}
 pub whole_field : (text : List ℕ) → position_or_len is_space text ≡ length text → before_first is_space text ≡ text
 whole_field text h = ap (λ (n : ℕ). take n text) h ∙ take-length text
 
--- ---- no text answers that a read failed
+-- ---- no text is a failed read
 
 abbrev read_failed : Result Key Error
 read_failed = Err ReadFault

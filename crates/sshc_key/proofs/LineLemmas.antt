@@ -1,4 +1,4 @@
--- The lines of public key files: parts at the first white space, and no text answers that a read failed.
+-- The lines of public key files: parts at the first white space, and no text is a failed read.
 use Rattle.std.proofs.Common.{◌≡◌, ℕ, ◌+◌, Bool, true, false, nat_lt, List, [], ◌∷◌, ◌++◌, length, take, drop, Option, Some, None, Result, Ok, Err, MatchOption, Bor, refl, ap, sym, subst, ◌∙◌, arith, append_assoc, length-append}
 use Rattle.std.proofs.Math.Seq.{take-append_seam, drop-append-add}
 use Rattle.std.proofs.lemmas.Bool.Decides.{nat_tests}
@@ -63,7 +63,7 @@ white_space_some text i j utf8 ((cs, spells, none), (c, is, at)) =
     let (es, parts, tail) = chars_at cs ds c (drop j text) (all ∙ whole) in
     parts_of_chars text cs es c (take i text) (drop j text) (sym (chars_from_encodes ds text utf8 all) ∙ parts) none is spells tail
 
--- what `split_once` gives by a pattern that is asked for white space
+-- what `split_once` returns for the pattern of white space
 pub white_space_parts : (text : List ℕ) → IsUtf8 text → (asks : (ℕ → Bool) → Type 0) → asks is_whitespace
     → (r : Option (Bor (List ℕ) × Bor (List ℕ))) → MatchOption r ((k : ℕ → Bool) → asks k → FindsBy k text None) (λ x. SplitsAroundMatch (λ s o. (k : ℕ → Bool) → asks k → FindsBy k s o) text x.0.now x.1.now)
     → MatchOption r (at_white_space text ≡ None) (λ x. at_white_space text ≡ Some (x.0.now, x.1.now))
@@ -71,7 +71,7 @@ white_space_parts text utf8 asks white None h = white_space_none text utf8 (h is
 white_space_parts text utf8 asks white (Some x) (i, j, found, front, back, within, before, behind) =
     rw (front, back) (white_space_some text i j utf8 (found is_whitespace white))
 
--- ---- no text answers that a read failed
+-- ---- no text is a failed read
 
 abbrev read_failed : Result (Key × List ℕ) Error
 read_failed = Err ReadFault

@@ -15,12 +15,12 @@ abbrev pub certified_key : Key → Key
 certified_key (plain k) = plain k
 certified_key (certificate nonce key says signer signature) = key
 
--- the key and its comment; the key in a certificate has none
+-- the key and its comment; the key in a certificate has no comment
 abbrev pub identity_key : AgentIdentity → Key × List ℕ
 identity_key (PublicKey key comment) = key
 identity_key (Certificate c comment) = (certified_key c, [])
 
--- the key that is lent or owned
+-- the borrowed or owned key
 abbrev pub referred : KeyRef → Key × List ℕ
 referred (Borrowed key) = key.now
 referred (Owned key) = key

@@ -1,6 +1,6 @@
 -- The names of algorithms, of curves and of certificates (RFC 4253, section 6.6; RFC 5656, sections 3.1 and 10.1; RFC 8709;
 -- OpenSSH's PROTOCOL.certkeys and PROTOCOL.u2f), and the grammar of names that have a domain (RFC 4251, section 6).
--- A name is defined by the text that is written for it; the code goes through a table and parts a name at its sign.
+-- A name is defined by the text that is written for it; the code searches a table and splits a name at its sign.
 use Rattle.std.specs.Prelude.{◌≡◌, ℕ, ◌+◌, ◌-◌, ◌≤◌, Bool, true, false, ◌&&◌, not, nat_eq, nat_le, nat_lt, ◌==◌, List, [], ◌∷◌, ◌++◌, length, take, drop, codes, find, Option, Some, None, bytes_eq, if◌then◌else◌}
 use Rattle.std.specs.List.{list_all, ends_with, position_or_len, before_first, after_first}
 use Rattle.std.specs.Option.{is_some}
@@ -70,7 +70,7 @@ known_certified name = find (λ k. bytes_eq (known_certificate_name k) name) all
 
 -- ---- names with a domain
 
--- what stands before and after a text's first `@`
+-- the texts before and after a text's first `@`
 pub record Parted : Type 0 where
   pub front : List ℕ
   pub domain : List ℕ
@@ -115,7 +115,7 @@ is_opaque_name name = opaque_parts (parted name)
 
 -- ---- the names of certificates
 
--- the mark stands right before the `@`
+-- the mark is right before the `@`
 abbrev pub with_mark : Parted → Parted
 with_mark p = record { front = p.front ++ mark; domain = p.domain }
 

@@ -38,7 +38,7 @@ kept_hash (plain (sk_ed25519 public application)) hash = None
 kept_hash (plain (opaque name body)) hash = None
 kept_hash (certificate nonce key says signer signature) hash = None
 
--- the algorithm of a pair; keys of an algorithm with a domain and certificates have none, and answer the empty name
+-- the algorithm of a pair; keys of an algorithm with a domain and certificates have no algorithm, and the empty name
 abbrev pub pair_algorithm : Key → Option HashAlg → Algorithm
 pair_algorithm (plain (opaque name body)) hash = algorithms.Other []
 pair_algorithm (plain (dsa p q g y)) hash = algorithms.Dsa

@@ -1,4 +1,4 @@
--- What asks the signer: it is done, or it asks and goes on by the answer.
+-- A computation that may ask the signer: it is done, or it asks and continues with the answer.
 -- A tree of questions; the code calls the signer as it comes to each.
 use Rattle.std.specs.Prelude.{◌≡◌, ℕ, List, [], ◌∷◌, Option}
 use Rattle.sshc_key.specs.Signers.{SignCall}
@@ -13,11 +13,11 @@ pub record SignRequest : Type 0 where
   pub hash : Option HashAlg
   pub bytes : List ℕ
 
--- a signer's answer, none where it refused
+-- a signer's answer; `None` where it refused
 abbrev pub Answer : Type 0
 Answer = Option (List ℕ)
 
--- the call that is kept once it is answered
+-- the entry of a call, once it has its answer
 abbrev pub call_of : SignRequest → Answer → SignCall
 call_of asked answer = record { by = asked.by; key = asked.key; hash = asked.hash; bytes = asked.bytes; answer = answer }
 
@@ -25,7 +25,7 @@ pub data Asking (A : Type 0) : Type 0 where
   done : A → Asking A
   asks : SignRequest → (Answer → Asking A) → Asking A
 
--- these are the calls that it makes, and so answered it comes to this
+-- with these calls and their answers the computation has this result
 abbrev pub Makes : {A : Type 0} → Asking A → List SignCall → A → Type 0
 Makes (done y) [] x = y ≡ x
 Makes (done y) (call ∷ calls) x = ⊥

@@ -1,4 +1,4 @@
--- What a call answers, and what reading on lists gives. Running out of memory says nothing.
+-- The result of a call is what reading on lists yields. Where memory runs out, nothing is said.
 use Rattle.std.specs.Prelude.{◌≡◌, ℕ, List, Result, Ok, Err}
 use Rattle.sshc_key.specs.declared.error.Error.{Error}
 use Rattle.sshc_key.specs.declared.error.Error.TheVariants.{CouldNotReadKey, NoHomeDir, KeyChanged, AgentProtocolError, AgentFailure, Decode, SshKey, SshEncoding, EnvVar, BadAuthSock, Utf8, ReadFault, WriteFault, UnexpectedEnd, NoMemory}
@@ -20,7 +20,7 @@ Fails ReadFault read = read ≡ Err ReadFault
 Fails WriteFault read = read ≡ Err WriteFault
 Fails UnexpectedEnd read = read ≡ Err UnexpectedEnd
 
--- what a call answers, seen by view, and what it leaves
+-- the result of a call, by its view, and the bytes that remain
 abbrev pub Gives : {X Y : Type 0} → (X → Y) → Result X Error → List ℕ → Result (Y × List ℕ) Error → Type 0
 Gives view (Ok x) new read = read ≡ Ok (view x, new)
 Gives view (Err e) new read = Fails e read

@@ -1,4 +1,4 @@
--- A key as a list of marks that gives it back, by which proofs tell keys apart.
+-- A key as a list of marks from which it can be recovered, by which proofs compare keys.
 use Rattle.std.specs.Prelude.{◌≡◌, ℕ, zero, suc, ◌+◌, List, [], ◌∷◌, ◌++◌, ◌⊎◌, Option, refl}
 use Rattle.std.specs.Coded.{Coded, code_by, coded_ℕ, coded_list, coded×, coded⊎, coded_option}
 use Rattle.std.proofs.Common.{append_assoc, append-nil, ◌∙◌, ap, subst, inl, inr}
@@ -11,7 +11,7 @@ use Rattle.sshc_key.specs.declared.signature.SkFields.{SkFields}
 use Rattle.sshc_key.specs.declared.statement.Statement.{Statement}
 use Rattle.sshc_key.specs.KeyGrammar.{Plain, Key, dsa, ecdsa, ed25519, rsa, sk_ecdsa, sk_ed25519, opaque, plain, certificate, type_number}
 
--- how many certificates stand in a key
+-- how many certificates are in a key
 abbrev pub key_size : Key → ℕ
 key_size (plain k) = 0
 key_size (certificate nonce key says signer signature) = key_size key + key_size signer + 1
@@ -149,7 +149,7 @@ Mark = Plain ⊎ Around
 abbrev pub mark_code : Coded Mark
 mark_code = coded⊎ plain_code (coded× bytes_code (coded× statement_code signature_code))
 
--- the keys in a certificate stand before what is around them
+-- the keys in a certificate come before the fields around them
 abbrev pub marks : Key → List Mark
 marks (plain k) = inl k ∷ []
 marks (certificate nonce key says signer signature) = marks key ++ (marks signer ++ (inr (nonce, (says, signature)) ∷ []))

@@ -1,4 +1,4 @@
--- Keys in files: what a loader answers by the files as they are told, and which faults it may answer.
+-- Keys in files: what a loader returns for known files, and which faults it may return.
 -- The definitions look the path up in a list of files and part a whole text; the code asks the files for it.
 use Rattle.std.specs.Prelude.{◌≡◌, ℕ, Bool, false, not, ◌≤◌, List, [], ◌∷◌, length, map, find, nat_lt, ◌==◌, bytes_eq, Option, Some, None, option_map, Result, Ok, Err, IsErrOf, if◌then◌else◌}
 use Rattle.std.specs.List.{position_or_len, before_first, after_first}
@@ -15,13 +15,13 @@ use Rattle.sshc_key.specs.Gives.{Fails}
 use Rattle.sshc_key.specs.KeyGrammar.{Key, plain, certificate, key_name}
 use Rattle.sshc_key.specs.KeyText.{decoded_key}
 
--- ---- what a loader answers
+-- ---- what a loader returns
 
 -- paths and their bytes
 abbrev pub Told : Type 0
 Told = List (List ℕ × List ℕ)
 
--- a failed read is answered as such, and each other error is the one said
+-- a failed read is returned as such, and each other error is the one that is named
 abbrev pub FailsReading : {Y : Type 0} → Error → Result Y Error → Type 0
 FailsReading ReadFault said = Unit {0}
 FailsReading e said = Fails e said
@@ -30,18 +30,18 @@ abbrev pub GivesReading : {X Y : Type 0} → (X → Y) → Result X Error → Re
 GivesReading view (Ok x) said = said ≡ Ok (view x)
 GivesReading view (Err e) said = FailsReading e said
 
--- where the files are told, what the call answers is what is said of them, or that a read failed
+-- where the files are known, the result is the one for these files, or that a read failed
 abbrev pub AnswersBy : {X Y : Type 0} → (X → Y) → Result X Error → Option Told → (Told → Result Y Error) → Type 0
 AnswersBy view result None said = Unit {0}
 AnswersBy view result (Some files) said = GivesReading view result (said files)
 
--- a count never falls; a failed read is answered only where it rose, and with every other answer it stays
+-- a count never falls; a failed read is returned only where it rose, and with every other result it stays
 pub record HasReadCause {T : Type 0} (before now : ℕ) (result : Result T Error) : Type 0 where
   pub later : before ≤ now
   pub fault : IsErrOf result ReadFault → Rose before now
   pub same : (IsErrOf result ReadFault → ⊥) → now ≡ before
 
--- what stands before and after the first that passes
+-- the texts before and after the first character that passes
 abbrev pub at_first : (ℕ → Bool) → List ℕ → Option (List ℕ × List ℕ)
 at_first test all = if nat_lt (position_or_len test all) (length all) then Some (before_first test all, after_first test all) else None
 
@@ -50,7 +50,7 @@ at_first test all = if nat_lt (position_or_len test all) (length all) then Some 
 abbrev pub is_space : ℕ → Bool
 is_space b = b == 32
 
--- what stands before and after the first space
+-- the texts before and after the first space
 unfoldable pub at_space : List ℕ → Option (List ℕ × List ℕ)
 at_space text = at_first is_space text
 
@@ -92,7 +92,7 @@ is_key_line (b ∷ line) = not (b == 35)
 unfoldable pub key_line : List ℕ → Option (List ℕ)
 key_line text = find is_key_line (map trim (lines text))
 
--- what stands before and after the first character that is white space
+-- the texts before and after the first character that is white space
 unfoldable pub at_white_space : List ℕ → Option (List ℕ × List ℕ)
 at_white_space text = option_map (λ parts. (encode_utf8_all parts.0, encode_utf8_all parts.1)) (at_first is_whitespace (chars text))
 

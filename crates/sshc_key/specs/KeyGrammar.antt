@@ -56,7 +56,7 @@ abbrev pub said : Key → Option Statement
 said (plain k) = None
 said (certificate nonce key says signer signature) = Some says
 
--- how many certificates stand in one another
+-- how many certificates are nested
 abbrev pub depth : Key → ℕ
 depth (plain k) = 0
 depth (certificate nonce key says signer signature) = depth signer + 1

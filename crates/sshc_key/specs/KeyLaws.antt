@@ -18,7 +18,7 @@ use Rattle.sshc_key.specs.Nesting.{IsBlobOf, IsReadable, blob_key, markers, whol
 use Rattle.sshc_key.specs.KeyLaws.Blobs as blobs
 use Rattle.sshc_key.specs.KeyLaws.Base64 as base64
 
--- the key that is found at a blob's front is the key of the grammar whose text stands there
+-- the key that is found at a blob's front is the key of the grammar whose text is there
 pub front_key_is : (blob : List ℕ) → IsBytes blob → (k : Key) → (blob_key blob ≡ Some k) ↔ IsReadable blob k
 front_key_is = blobs.is_front
 

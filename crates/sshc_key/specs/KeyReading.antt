@@ -1,6 +1,6 @@
 -- Reading keys, certificates and signatures from the front of a list of bytes, part after part, up to the first fault.
--- Reading is a function on whole lists; the code moves a cursor. That it gives just the values of the key grammar is a
--- law, on which the clauses of `parse_public_key` stand.
+-- Reading is a function on whole lists; the code moves a cursor. That it yields just the values of the key grammar is a
+-- law, on which the clauses of `parse_public_key` depend.
 use Rattle.std.specs.Prelude.{ℕ, zero, suc, List, [], ◌∷◌, length, Option, Some, None, Result, Ok, Err, ◌==◌, bytes_eq, find, cond}
 use Rattle.std.specs.Int.{w32, w64}
 use Rattle.sshc_wire.specs.declared.error.WireError.{WireError}

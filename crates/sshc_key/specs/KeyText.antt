@@ -19,7 +19,7 @@ decoded (Err e) = Err Decode
 unfoldable pub decoded_key : List ℕ → Result Key Error
 decoded_key text = decoded (decode_of standard (filter is_no_line_end text))
 
--- the text, without its line ends, is the padded base64 of a blob at whose front the key stands
+-- the text, without its line ends, is the padded base64 of a blob that begins with the key
 pub record IsKeyText (text : List ℕ) (key : Key) : Type 0 where
   pub blob : List ℕ
   pub base64 : decode_of standard (filter is_no_line_end text) ≡ Ok blob

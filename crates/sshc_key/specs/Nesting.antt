@@ -13,7 +13,7 @@ use Rattle.sshc_key.specs.KeyReading.{key_at}
 abbrev pub marker : List ℕ
 marker = codes "-cert-v01@"
 
--- at how many places the marker stands
+-- at how many places the marker occurs
 abbrev pub markers : List ℕ → ℕ
 markers [] = 0
 markers (b ∷ bytes) = (if starts_with nat_eq (b ∷ bytes) marker then 1 else 0) + markers bytes
@@ -23,7 +23,7 @@ abbrev pub outside : Error → Error
 outside NoMemory = NoMemory
 outside e = SshKey
 
--- the key stands at the front of the blob, which has at most eight markers
+-- the blob begins with the key, and has at most eight markers
 pub record IsReadable (blob : List ℕ) (key : Key) : Type 0 where
   pub nesting : markers blob ≤ 8
   pub fits : Fits key
@@ -40,7 +40,7 @@ whole_of (Ok (key, [])) = Some key
 whole_of (Ok (key, (b ∷ bytes))) = None
 whole_of (Err e) = None
 
--- what stands at the front, where there are at most eight markers; all that is outside the grammar is SshKey
+-- the key at the front, where there are at most eight markers; all that is outside the grammar is SshKey
 unfoldable pub front_at : Reader Error Key
 front_at blob = if nat_le (markers blob) 8 then part_at (λ e. SshKey) (key_at 9) blob else Err SshKey
 
@@ -57,7 +57,7 @@ abbrev pub key_or_fault : Option Key → Result Key Error
 key_or_fault None = Err SshKey
 key_or_fault (Some key) = Ok key
 
--- the call answers this key with no comment, or this fault
+-- the result is this key with no comment, or this fault
 abbrev pub Parses : Result (Key × List ℕ) Error → Result Key Error → Type 0
 Parses (Ok k) read = (read ≡ Ok k.0) × (k.1 ≡ [])
 Parses (Err e) read = Fails e read

@@ -1,4 +1,4 @@
--- A key pair, and the code by which proofs tell key pairs apart.
+-- A key pair, and the code by which proofs compare key pairs.
 use Rattle.std.specs.Prelude.{◌≡◌, ℕ, List, ◌⊎◌, refl}
 use Rattle.std.specs.Coded.{Coded, code_by, coded×, coded⊎}
 use Rattle.std.proofs.Common.{inl, inr}

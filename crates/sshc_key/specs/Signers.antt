@@ -13,7 +13,7 @@ use Rattle.sshc_key.specs.PairCode.{KeyPair}
 abbrev pub IsSignature : List ℕ → Type 0
 IsSignature bytes = (s : Signature) × SignatureFits s × (bytes ≡ signature_text s)
 
--- a call of a signer that found memory: who asked, what was asked, and the answer, none where it was refused
+-- a call of a signer that found memory: who asked, what was asked, and the answer, `None` where it refused
 pub record SignCall : Type 0 where
   pub by : Asker
   pub key : KeyPair

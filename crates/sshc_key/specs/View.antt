@@ -1,4 +1,4 @@
--- What the types of the code stand for.
+-- What the types of the code represent.
 use Rattle.sshc_key.specs.declared.key_data.KeyData.{KeyData}
 use Rattle.sshc_key.specs.declared.key_data.KeyData.TheVariants.{Dsa, Ecdsa, Ed25519, Rsa, SkEcdsaSha2NistP256, SkEd25519, Other, Certificate}
 use Rattle.sshc_key.specs.declared.key_data.Certificate.TheInside.{Inside}

@@ -49,7 +49,7 @@ pub enum AgentIdentity {
     },
 }
 
-/// A public key that is lent, or one that was made for the caller.
+/// A borrowed public key, or one that was made for the caller.
 #[derive(Debug, Drop)]
 pub enum KeyRef<'a> {
     Borrowed(&'a PublicKey),

@@ -19,7 +19,7 @@ pub enum Error {
     /// The known hosts have another key of this algorithm at this line, counted from 1.
     #[error("KeyChanged")]
     KeyChanged { line: u64 },
-    /// The agent's answer is none that its protocol has there.
+    /// The agent's answer isn't one that its protocol allows there.
     #[error("AgentProtocolError")]
     AgentProtocolError,
     /// The agent refused.
@@ -31,7 +31,7 @@ pub enum Error {
     /// The bytes are outside the grammar of keys.
     #[error("SshKey")]
     SshKey,
-    /// A part is short, is not text, or has bytes left over.
+    /// A part is short, isn't text, or has bytes behind its value.
     #[error("SshEncoding")]
     SshEncoding,
     /// The environment names no agent.

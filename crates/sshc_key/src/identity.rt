@@ -42,7 +42,7 @@ impl Model for PrivateKeyWithHashAlg {
 }
 
 impl PrivateKeyWithHashAlg {
-    /// The pair with this hash, which a key that isn't RSA has none of.
+    /// The pair with this hash; a key that isn't RSA has no hash.
     pub fn new(key: PrivateKey, hash_alg: Option<HashAlg>) -> PrivateKeyWithHashAlg
         ensures { result ≡ (key, kept_hash key.public.0 hash_alg) }
     {

@@ -12,7 +12,7 @@ use crate::public_key::PublicKey;
 use sshc_wire::{Failed, Files, Found, Text};
 use std::alloc::Global;
 
-/// What stands before and after the first space.
+/// The texts before and after the first space.
 #[tactic(auto, unfolding(crate::specs::KeyFiles::at_space))]
 fn space_parts(text: &str) -> Option<(&str, &str)>
     ensures { MatchOption result (at_space text.now ≡ None) (λ x. at_space text.now ≡ Some (x.0.now, x.1.now)) }
@@ -20,7 +20,7 @@ fn space_parts(text: &str) -> Option<(&str, &str)>
     text.split_once(' ')
 }
 
-/// What stands before the first space, or all of the text.
+/// The text before the first space, or all of it.
 #[tactic(auto, using(crate::proofs::FieldLemmas::whole_field))]
 fn first_field(text: &str) -> &str
     ensures { result.now ≡ before_first is_space text.now }
@@ -62,7 +62,7 @@ fn certificate_text(alloc: Global, text: &str) -> Result<Certificate, Error>
     }
 }
 
-/// Reads the certificate of a file: a name, the base64 of the certificate and what follows, with single spaces between them.
+/// Reads the certificate of a file: a name, the base64 of the certificate and a rest, with single spaces between them.
 pub fn load_openssh_certificate<F: Files>(
     alloc: Global,
     files: &mut F,
@@ -102,7 +102,7 @@ fn key_line(text: &str) -> Option<&str>
         .find(|line| is_key_line(line))
 }
 
-/// What stands before and after the first white space.
+/// The texts before and after the first white space.
 #[tactic(auto, unfolding(crate::specs::KeyFiles::at_white_space))]
 fn white_space_parts(text: &str) -> Option<(&str, &str)>
     ensures { MatchOption result (at_white_space text.now ≡ None)

@@ -150,7 +150,7 @@ pub trait PublicKeyExt {
 }
 
 impl PublicKeyExt for PublicKey {
-    /// The key at the front of the bytes, as `parse_public_key` answers it.
+    /// The key at the front of the bytes, as `parse_public_key` returns it.
     fn decode(alloc: Global, bytes: &[u8]) -> Result<PublicKey, Error>
         ensures key { Parses result (key_or_fault (blob_key bytes.now)) }
         ensures grammar { (k : Key) → (blob_key bytes.now ≡ Some k) ↔ IsReadable bytes.now k }

@@ -1,4 +1,4 @@
-//! The kinds of blobs, as their names tell them.
+//! The kinds of blobs, by their names.
 
 ghost use Rattle.std.specs.Prelude.{◌≡◌};
 ghost use Rattle.sshc_key.specs.AlgorithmNames.{known_name, known_stem, known_certificate_name, known_stemmed, known_named, known_certified};
@@ -21,7 +21,7 @@ pub enum Known {
 #[derive(Debug, Drop, PartialEq, Eq)]
 pub enum Kind {
     Known(Known),
-    /// An algorithm that stands in no table, by its name, which has a domain.
+    /// An algorithm that isn't in the table, by its name, which has a domain.
     Opaque(Text),
 }
 

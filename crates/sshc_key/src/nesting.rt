@@ -8,7 +8,7 @@ use crate::error::Error;
 /// What the name of each certificate has.
 const MARKER: &[u8] = b"-cert-v01@";
 
-/// The most places at which it may stand.
+/// The most places at which it may occur.
 const MOST: usize = 8;
 
 fn marker_count(blob: &[u8]) -> usize
@@ -25,7 +25,7 @@ fn marker_count(blob: &[u8]) -> usize
     count
 }
 
-/// Refuses a blob in which more than eight certificates could stand in one another.
+/// Refuses a blob in which more than eight certificates could be nested.
 pub fn check_cert_nesting(blob: &[u8]) -> Result<(), Error>
     ensures ok { IsOk result ↔ (markers blob.now ≤ 8) }
     ensures err { OnErr result (result ≡ Err Error.SshKey) }

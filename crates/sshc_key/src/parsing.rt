@@ -14,7 +14,7 @@ use crate::reading::key_of;
 use sshc_wire::{Cursor, Text};
 use std::alloc::Global;
 
-/// One more than how many certificates may stand in one another.
+/// One more than how many certificates may be nested.
 const LEVELS: u8 = 9;
 
 fn as_outside(error: Error) -> Error
@@ -53,7 +53,7 @@ fn bare(alloc: Global, key: KeyData) -> PublicKey
 #[tactic(auto, unfolding(crate::specs::Nesting::blob_key), using(crate::specs::KeyLaws::Blobs::fails_key))]
 pub fn parse_public_key(alloc: Global, blob: &[u8]) -> Result<PublicKey, Error>
     ensures key { Parses result (key_or_fault (blob_key blob.now)) }
-    // That is the key of the grammar which stands there, and there is no other.
+    // That is the key of the grammar at this place, and there is no other.
     ensures grammar { (k : Key) → (blob_key blob.now ≡ Some k) ↔ IsReadable blob.now k }
     ensures faults { IfErr result (λ e. (e ≡ Error.SshKey) ⊎ (e ≡ Error.NoMemory)) }
 {

@@ -1,4 +1,4 @@
-//! Reads keys, certificates and signatures from the front of what a cursor has left.
+//! Reads keys, certificates and signatures from the front of a cursor's remaining bytes.
 
 mod certificate;
 mod fields;

@@ -28,7 +28,7 @@ pub trait LocalSigner {
 
     ghost refusals: { Self → ℕ };
 
-    /// Signs the bytes. The answer is one whole signature. The hash counts for RSA keys alone.
+    /// Signs the bytes, and returns one whole signature. The hash counts for RSA keys alone.
     fn sign(
         &mut self,
         by: Asker,

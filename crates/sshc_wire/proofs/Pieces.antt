@@ -18,14 +18,14 @@ take_two_put f n k buf piece fits within =
     let short : take n (piece ++ post_of f k buf) ≡ take n piece = take-append-le n piece (post_of f k buf) within in
     rw (same, short) at front
 
--- a read that goes on behind what is filled
+-- a read that continues behind the filled bytes
 pub filled_more : (f n k : ℕ) (buf piece : List ℕ) (a b c : Option (List ℕ)) → f ≤ length buf → n ≤ length piece →
     a ≡ prepend (take f buf) b → b ≡ prepend (take n piece) c → a ≡ prepend (take (f + n) (put_mid f k buf piece)) c
 filled_more f n k buf piece a b c fits within first second =
     first ∙ ap (λ o. prepend (take f buf) o) second ∙ prepend-prepend (take f buf) (take n piece) c
     ∙ ap (λ t. prepend t c) (sym (take_two_put f n k buf piece fits within))
 
--- a write that goes on behind what is written
+-- a write that continues behind the written bytes
 pub written_more : (f n : ℕ) (piece : List ℕ) (a b c : Option (List ℕ)) → f ≤ length piece → n ≤ length (take (length piece - f) (drop f piece)) →
     b ≡ append a (take f piece) → c ≡ append b (take n (take (length piece - f) (drop f piece))) → c ≡ append a (take (f + n) piece)
 written_more f n piece a b c fits within first second =

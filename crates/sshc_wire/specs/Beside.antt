@@ -2,7 +2,7 @@
 -- still to be read.
 use Rattle.std.specs.Prelude.{ℕ, List, Option, None}
 
--- bytes, where the stream tells them, and how many calls were made, moved nothing and failed
+-- bytes, where they are known, and how many calls were made, moved nothing and failed
 pub record Beside : Type 0 where
   pub bytes : Option (List ℕ)
   pub calls : ℕ

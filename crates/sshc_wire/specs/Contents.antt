@@ -1,5 +1,5 @@
--- What sources, sinks and files tell of the bytes that they hold. What isn't told is none.
--- One equation serves told and untold contents; the code keeps positions and buffers.
+-- The bytes that sources, sinks and files hold: `None` where they aren't known.
+-- One equation serves known and unknown contents; the code keeps positions and buffers.
 use Rattle.std.proofs.Common.{◌≡◌, ℕ, ◌+◌, ◌≤◌, List, [], ◌∷◌, ◌++◌, length, Option, Some, None, refl, ap, sym, ◌∙◌, append_assoc, length-append, arith}
 use Rattle.std.proofs.lemmas.List.{append-nil}
 use Rattle.std.specs.Prelude.{bytes_eq, if◌then◌else◌}
@@ -8,7 +8,7 @@ use Rattle.std.specs.Str.{is_utf8}
 use Rattle.sshc_wire.specs.declared.files.Found.{Found}
 use Rattle.sshc_wire.specs.declared.files.Found.TheVariants as found
 
--- the bytes, and then what is left
+-- the bytes, and then those that remain
 abbrev pub prepend : List ℕ → Option (List ℕ) → Option (List ℕ)
 prepend bytes left = option_map (λ rest. bytes ++ rest) left
 
@@ -16,7 +16,7 @@ prepend bytes left = option_map (λ rest. bytes ++ rest) left
 abbrev pub append : Option (List ℕ) → List ℕ → Option (List ℕ)
 append held bytes = option_map (λ before. before ++ bytes) held
 
--- nothing is left
+-- no bytes remain
 abbrev pub IsAtEnd : Option (List ℕ) → Type 0
 IsAtEnd left = IfSome left (λ rest. rest ≡ [])
 
@@ -48,7 +48,7 @@ abbrev pub found_in : Option (List ℕ) → Found
 found_in None = found.NotOpened
 found_in (Some bytes) = if is_utf8 bytes then found.Text bytes else found.NotText
 
--- what is found agrees with what the files tell
+-- the result agrees with the files, where they are known
 abbrev pub IsFound : Option (List (List ℕ × List ℕ)) → List ℕ → Found → Type 0
 IsFound None path answer = Unit {0}
 IsFound (Some files) path answer = answer ≡ found_in (bytes_of files path)

@@ -1,4 +1,4 @@
--- Formats of counted lists and of the bytes that are left, and how booleans are read (RFC 4251, section 5).
+-- Formats of counted lists and of all remaining bytes, and how booleans are read (RFC 4251, section 5).
 -- A counted list is its number and its values one after another; the code counts down.
 use Rattle.std.proofs.Common.{◌≡◌, ℕ, zero, suc, ◌+◌, ◌*◌, ◌<◌, ◌≤◌, ◌^◌, Bool, true, false, cond, List, [], ◌∷◌, ◌++◌, length, Ok, Err, Result, refl, sym, ap, subst, ◌∙◌, append_assoc, arith, length-append}
 use Rattle.std.specs.Prelude.{not, nat_lt, ◌==◌, if◌then◌else◌}
@@ -100,14 +100,14 @@ boolean-takes (n ∷ bytes) flag rest e =
     let is = ok_is {E = WireError} (not (n == 0), bytes) (flag, rest) e in
     (n, (ap (λ (p : Bool × List ℕ). n ∷ p.1) is, ap (λ (p : Bool × List ℕ). p.0) is))
 
--- the bytes that are left
+-- all remaining bytes
 abbrev pub rest_at : {E : Type 0} → WholeReader E (List ℕ)
 rest_at bytes = Ok bytes
 
 pub rests : {E : Type 0} → IsWhole {E = E} (λ bytes. bytes) (λ bytes. Unit {0}) rest_at
 rests {E} = record { takes = λ bytes x fits e. (ok_is {E = E} bytes x e, tt); again = λ x fits. refl }
 
--- a part, and then what takes all that is left
+-- a part, and then a format that takes all remaining bytes
 abbrev pub last_at : {E A B : Type 0} → Reader E A → WholeReader E B → WholeReader E (A × B)
 last_at f g bytes = f bytes >>= λ x. g x.1 >>= λ y. Ok (x.0, y)
 

@@ -1,14 +1,14 @@
--- Counts of what fails outside, and of the calls that were made. A count never falls; at its type's end it stands still.
+-- Counts of I/O faults, and of the calls that were made. A count never falls; at its type's end it is saturated.
 -- The code keeps a number; the definitions compare it before a call and after it.
 use Rattle.std.specs.Prelude.{◌≡◌, ℕ, ◌+◌, ◌-◌, ◌^◌, ◌≤◌, ◌==◌, ◌&&◌, Bool, true, nat_lt, if◌then◌else◌, min, Result, Ok, Err, IsErrOf}
 use Rattle.sshc_wire.specs.declared.source.Failed.{Failed}
 use Rattle.sshc_wire.specs.declared.source.Failed.TheVariants.{Fault}
 
--- the count has risen, or stands at its type's end
+-- the count has risen, or is saturated
 abbrev pub Rose : ℕ → ℕ → Type 0
 Rose before now = min (before + 1) (2 ^ 64 - 1) ≤ now
 
--- the count has gained one, or stands at its type's end
+-- the count has gained one, or is saturated
 abbrev pub CountsOne : ℕ → ℕ → Type 0
 CountsOne before now = now ≡ min (before + 1) (2 ^ 64 - 1)
 
@@ -21,7 +21,7 @@ moved_nothing (Err e) size = true
 abbrev pub CountsEmpty : Result ℕ Failed → ℕ → ℕ → ℕ → Type 0
 CountsEmpty result size before now = now ≡ (if moved_nothing result size then min (before + 1) (2 ^ 64 - 1) else before)
 
--- a count never falls; a fault is answered only where it rose, and with every other answer it stays
+-- a count never falls; a fault is returned only where it rose, and with every other result it stays
 pub record HasCause {T : Type 0} (before now : ℕ) (result : Result T Failed) : Type 0 where
   pub later : before ≤ now
   pub fault : IsErrOf result Fault → Rose before now

@@ -109,7 +109,7 @@ partly {E} {A} {B} {t} {F} {f} u G make there back p = record {
       rw (a.3, p.again a.0 rest a.2, a.1) refl;
 }
 
--- a tag, and what goes with that tag
+-- a tag, and the fields of that tag
 abbrev pub chosen_at : {E T B : Type 0} → Reader E T → (T → Reader E B) → Reader E B
 chosen_at f g bytes = f bytes >>= λ x. g x.0 x.1
 
@@ -175,7 +175,7 @@ followed {E} {A} {B} {t} {F} {f} {u} {G} {g} p q = record {
 abbrev pub no_bytes_at : {E A : Type 0} → A → Reader E A
 no_bytes_at x bytes = Ok (x, bytes)
 
--- the same values, told in another way
+-- the same values by another type
 pub told_as : {E A : Type 0} {t : A → List ℕ} {F : A → Type 0} {f : Reader E A} (u : A → List ℕ) (G : A → Type 0)
     → ((a : A) → F a → (u a ≡ t a) × G a) → ((a : A) → G a → (u a ≡ t a) × F a) → IsFormat t F f → IsFormat u G f
 told_as u G there back p = record {
@@ -189,7 +189,7 @@ nothing {E} x = record {
   again = λ y rest fits. rw fits refl;
 }
 
--- what a format's reader answers, and what stands at the front
+-- a format's reader returns just the value whose text is at the front
 pub reads_just : {E A : Type 0} {t : A → List ℕ} {F : A → Type 0} {f : Reader E A} → IsFormat t F f → (bytes : List ℕ) → IsBytes bytes → (x : A) (rest : List ℕ)
     → (f bytes ≡ Ok (x, rest)) ↔ (F x × (bytes ≡ t x ++ rest))
 reads_just {f = f} p bytes fits x rest = (

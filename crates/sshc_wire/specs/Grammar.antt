@@ -132,7 +132,7 @@ converted {E} {A} {B} {S} {f} convert p = record {
   again = λ y front rest h. rw (p.again h.0 front rest h.1, h.2) refl;
 }
 
--- a tag, and what goes with that tag
+-- a tag, and the fields of that tag
 abbrev pub Tagged : {T B : Type 0} → (T → List ℕ → Type 0) → (B → T) → (B → List ℕ → Type 0) → B → List ℕ → Type 0
 Tagged S tag_of U b bytes = (a : List ℕ) × (c : List ℕ) × (bytes ≡ a ++ c) × S (tag_of b) a × U b c
 
@@ -288,7 +288,7 @@ spelled_whole T there back p = record {
 
 -- ---- a value at the end of the bytes
 
--- nothing is left over behind the value
+-- no bytes follow the value
 abbrev pub finished : {E A : Type 0} → E → A × List ℕ → Result A E
 finished fault (x, []) = Ok x
 finished fault (x, (b ∷ rest)) = Err fault

@@ -6,7 +6,7 @@ use Rattle.std.specs.List.{list_any}
 abbrev pub is_failing : List ℕ → ℕ → Bool
 is_failing failing call = list_any (λ n. n == call) failing
 
--- the bytes that are left, the numbers of the calls that fail, and how many calls were made, moved nothing and failed
+-- the bytes that remain, the numbers of the calls that fail, and how many calls were made, moved nothing and failed
 pub record HeldSource : Type 0 where
   pub left : List ℕ
   pub failing : List ℕ

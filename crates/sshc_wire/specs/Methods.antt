@@ -28,15 +28,15 @@ is_method a b = bytes_eq (method_name a) (method_name b)
 pub method_equiv : IsEquivalence is_method
 method_equiv = on_texts_equal method_name
 
--- whether the method stands in the list
+-- whether the method is in the list
 unfoldable pub has_method : List MethodKind → MethodKind → Bool
 has_method ms m = list_any (λ held. is_method held m) ms
 
--- the list with the method at its end, unless it stands there already
+-- the list with the method at its end, unless it has it already
 unfoldable pub with_method : List MethodKind → MethodKind → List MethodKind
 with_method ms m = if has_method ms m then ms else ms ++ m ∷ []
 
--- no method stands in the list twice
+-- no method is in the list twice
 abbrev pub HasNoDoubles : List MethodKind → Type 0
 HasNoDoubles [] = Unit {0}
 HasNoDoubles (m ∷ ms) = (has_method ms m ≡ false) × HasNoDoubles ms

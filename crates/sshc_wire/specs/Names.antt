@@ -1,5 +1,5 @@
 -- The names in a list: the parts between its commas, without the empty ones (RFC 4251, section 5).
--- The parts of the whole text at once; the code goes from comma to comma.
+-- The parts of the whole text at once; the code reads from comma to comma.
 use Rattle.std.specs.Prelude.{ℕ, Bool, List, ◌∷◌, length, nat_lt, ◌==◌, filter}
 use Rattle.std.specs.List.{slice_split}
 use Rattle.sshc_wire.specs.declared.error.WireError.{WireError}

@@ -10,7 +10,7 @@ pub record Outgoing : Type 0 where
   pub room : ℕ
   pub muted : Bool
 
--- the room of an outbox that keeps records one by one: for any text, or for none
+-- the room of an outbox that keeps records one by one: for any text, or for no text
 abbrev pub any_text : ℕ → ℕ → ℕ
 any_text held capacity = if nat_lt held capacity then 2 ^ 64 else 0
 
@@ -24,12 +24,12 @@ abbrev pub packet_in : Option Record → Option (List ℕ)
 packet_in (Some (Payload packet)) = Some packet
 packet_in said = None
 
--- the first record was taken, or there was none
+-- the first record was taken, or there was no record
 abbrev pub Takes : Option Record → List Record → List Record → Type 0
 Takes None old new = (old ≡ []) × (new ≡ [])
 Takes (Some said) old new = old ≡ said ∷ new
 
--- one value or none, as a list
+-- an optional value as a list
 abbrev pub listed : {A : Type 0} → Option A → List A
 listed None = []
 listed (Some x) = x ∷ []

@@ -1,4 +1,4 @@
--- Reading wire text from left to right: a part at the front, and the first fault that is met (RFC 4251, section 5).
+-- Reading wire text from left to right: a part at the front, and the first fault (RFC 4251, section 5).
 -- Each reader is a function on the whole list, to the value and the bytes after it; the code moves a cursor.
 use Rattle.std.specs.Prelude.{◌≡◌, ℕ, Bool, not, List, [], ◌∷◌, length, take, drop, Result, Ok, Err, nat_lt, ◌==◌, if◌then◌else◌}
 use Rattle.std.specs.Int.{Width, w32, byte_len, from_be_bytes}
@@ -15,7 +15,7 @@ abbrev pub ◌>>=◌ : {A B E : Type 0} → Result A E → (A → Result B E) �
 (Ok x) >>= f = f x
 (Err e) >>= f = Err e
 
--- What a cursor's call answers, seen by view, and what it leaves, is what reading gives. A refused cursor is unmoved.
+-- A cursor's call returns the value that reading yields, and moves behind it. A refused cursor is unmoved.
 abbrev pub Reads : {X A E : Type 0} → (X → A) → Result X E → List ℕ → List ℕ → Result (A × List ℕ) E → Type 0
 Reads view (Ok x) old new read = read ≡ Ok (view x, new)
 Reads view (Err e) old new read = (read ≡ Err e) × (new ≡ old)

@@ -1,5 +1,5 @@
 -- Records: what a session or an agent reports, as a number and fields. A record below 40 (hexadecimal) is a session's.
--- Each definition gives the whole text; the code appends part by part.
+-- Each definition is the whole text; the code appends part by part.
 use Rattle.std.specs.Prelude.{ℕ, Option, Some, None, List, [], ◌∷◌, ◌++◌, map}
 use Rattle.sshc_wire.specs.Wire.{bool_text, counted_text, names_text, string_text, u32_text}
 use Rattle.sshc_wire.specs.Methods.{method_name}

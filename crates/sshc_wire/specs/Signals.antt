@@ -1,5 +1,5 @@
 -- Signals by their names (RFC 4254, section 6.10).
--- A table of names; each other name stands for itself.
+-- A table of names; each other name represents itself.
 use Rattle.std.specs.Prelude.{ℕ, List, codes, bytes_eq, if◌then◌else◌}
 use Rattle.sshc_wire.specs.declared.signal.Sig.{Sig}
 use Rattle.sshc_wire.specs.declared.signal.Sig.TheVariants as signals

@@ -13,7 +13,7 @@ pub struct Prompt {
     pub echo: bool,
 }
 
-/// What the user is asked for before the authentication goes on.
+/// What the user is asked for before the authentication continues.
 #[derive(Debug, PartialEq, Eq, Drop)]
 pub enum AuthRecord {
     /// A signature by the key of this blob over the body.

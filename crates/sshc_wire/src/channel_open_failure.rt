@@ -28,7 +28,7 @@ impl ChannelOpenFailure {
         self as u32
     }
 
-    /// The reason of this number; none outside 1 to 4.
+    /// The reason of this number; `None` outside 1 to 4.
     pub fn from_u32(code: u32) -> Option<ChannelOpenFailure>
         ensures { result ≡ open_failure_of code }
     {

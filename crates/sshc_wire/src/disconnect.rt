@@ -50,7 +50,7 @@ impl Disconnect {
         self as u32
     }
 
-    /// The reason of this number; none outside 1 to 15.
+    /// The reason of this number; `None` outside 1 to 15.
     pub fn from_u32(code: u32) -> Option<Disconnect>
         ensures { result ≡ disconnect_of code }
     {

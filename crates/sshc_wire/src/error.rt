@@ -25,13 +25,13 @@ impl<T: Drop> From<AllocFailed<T>> for NoMemory {
 /// Why a part can't be read.
 #[derive(Clone, Copy, Debug, PartialEq, Eq, Error)]
 pub enum WireError {
-    /// Fewer bytes are left than the part needs.
+    /// Fewer bytes remain than the part needs.
     #[error("Short")]
     Short = 1,
     /// The string isn't UTF-8.
     #[error("NotText")]
     NotText = 2,
-    /// Bytes are left where nothing may follow.
+    /// Bytes follow where nothing may.
     #[error("Trailing")]
     Trailing = 3,
 }

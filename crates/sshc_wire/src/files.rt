@@ -22,7 +22,7 @@ pub enum Found {
 pub trait Files {
     ghost use Rattle.sshc_wire.specs.Contents.{IsFound};
 
-    /// The paths and their bytes, where the files are told. Of two with one path the first counts.
+    /// The paths and their bytes, where they are known. Of two with one path the first counts.
     ghost contents: { Self → Option (List (List ℕ × List ℕ)) };
 
     /// How often a read has failed.
@@ -38,7 +38,7 @@ pub trait Files {
         ensures cause { HasCause (read_faults self.old) (read_faults self.new) result }
         ensures others { append_faults self.new ≡ append_faults self.old };
 
-    /// Adds text at a file's end. Makes the file and its parent folders where there are none.
+    /// Adds text at a file's end. Makes the file and its parent folders where they don't exist.
     fn append(&mut self, path: &str, text: &str) -> Result<(), Failed>
         ensures added { OnOk result
             (contents self.new ≡ option_map (λ files. with_text files path.now text.now) (contents self.old)) }

@@ -1,4 +1,4 @@
-//! A source, a sink and files over memory, which fail where they are told to.
+//! A source, a sink and files over memory, which fail at the calls that a test names.
 
 ghost use Rattle.std.specs.Prelude.{◌≡◌, ◌≤◌, ℕ, List, [], Option, Some, Err, IfOk, OnOk, OnErr, drop, length, option_copied, min};
 ghost use Rattle.std.specs.Prelude.{◌++◌, IsErrOf, take, true, ◌<◌};
@@ -16,7 +16,7 @@ use crate::text::Text;
 use std::alloc::{AllocError, Global};
 use std::marker::Model;
 
-/// Bytes in memory, which contracts see as the bytes that are left, with the numbers of the calls that fail.
+/// Bytes in memory, which contracts see as the bytes that remain, with the numbers of the calls that fail.
 #[derive(Debug, Drop)]
 pub struct MemSource {
     contents: Vec<u8>,
@@ -75,7 +75,7 @@ impl Source for MemSource {
 
     ghost beside = { λ s. no_side };
 
-    /// Fails exactly at the calls that are told to.
+    /// Fails exactly at the calls whose numbers were named.
     fn read(&mut self, buf: &mut [u8]) -> Result<usize, Failed>
         ensures bound { IfOk result (λ n. n ≤ length buf.new) }
         ensures bytes { IfOk result (λ n. self.old.left ≡ take n buf.new ++ self.new.left) }
@@ -154,7 +154,7 @@ impl Sink for MemSink {
 
     ghost beside = { λ s. no_side };
 
-    /// Takes the whole piece. Fails exactly at the calls that are told to, or out of memory.
+    /// Takes the whole piece. Fails exactly at the calls whose numbers were named, or out of memory.
     fn write(&mut self, piece: &[u8]) -> Result<usize, Failed>
         ensures bound { IfOk result (λ n. n ≡ length piece.now) }
         ensures bytes { OnOk result (self.new.contents ≡ self.old.contents ++ piece.now) }
@@ -272,7 +272,7 @@ impl Files for MemFiles {
 
     ghost append_faults = { λ s. s.append_faults };
 
-    /// Fails exactly at the calls that are told to, or out of memory.
+    /// Fails exactly at the calls whose numbers were named, or out of memory.
     fn read_text(&mut self, path: &str) -> Result<Found, Failed>
         ensures found { IfOk result (λ answer. answer ≡ found_in (bytes_of self.old.contents path.now)) }
         ensures same { self.new.contents ≡ self.old.contents }
@@ -294,7 +294,7 @@ impl Files for MemFiles {
         }
     }
 
-    /// Fails exactly at the calls that are told to, or out of memory.
+    /// Fails exactly at the calls whose numbers were named, or out of memory.
     fn append(&mut self, path: &str, text: &str) -> Result<(), Failed>
         ensures added { OnOk result (self.new.contents ≡ with_text self.old.contents path.now text.now) }
         ensures none { OnErr result (self.new.contents ≡ self.old.contents) }

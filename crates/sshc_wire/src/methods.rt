@@ -48,7 +48,7 @@ impl MethodKind {
         }
     }
 
-    /// The method of this name; none for another name.
+    /// The method of this name; `None` for another name.
     pub fn from_name(name: &str) -> Option<MethodKind>
         ensures { result ≡ method_of name.now }
     {

@@ -50,7 +50,7 @@ impl<'a> Iterator for Names<'a> {
     }
 }
 
-/// What stands before and after the first comma.
+/// The texts before and after the first comma.
 fn cut(text: &str) -> Option<(&str, &str)>
     ensures { MatchOption result (position_or_len is_comma text.now ≡ length text.now)
         (λ x. (position_or_len is_comma text.now < length text.now) × (x.0.now ≡ before_first is_comma text.now)

@@ -137,7 +137,7 @@ impl Outbox {
         Ok(())
     }
 
-    /// Writes the text of the record at this place, and nothing where there is none.
+    /// Writes the text of the record at this place; nothing behind the last record.
     pub fn put_text(&self, at: usize, out: &mut Vec<u8>) -> Result<(), NoMemory>
         ensures ok { OnOk result (out.new.items ≡ out.old.items ++ text_in (slice_get self.now.records at)) }
         ensures err { OnErr result (out.new.items ≡ out.old.items) }
@@ -148,7 +148,7 @@ impl Outbox {
         }
     }
 
-    /// The packet at this place, if a packet stands there.
+    /// The packet at this place, if that record is a packet.
     pub fn packet(&self, at: usize) -> Option<&[u8]>
         ensures same { option_copied result ≡ packet_in (slice_get self.now.records at) }
         ensures bytes { IfSome result (λ p. IsBytes p.now) }

@@ -62,7 +62,7 @@ pub enum Record {
     HostKeysAnnounced {
         keys: List<Octets>,
     },
-    /// What the agent answers on a connection.
+    /// The agent's answer on a connection.
     Agent {
         conn: u32,
         answer: AgentRecord,

@@ -9,7 +9,7 @@ use crate::source::Failed;
 
 /// Takes bytes one piece after another.
 pub trait Sink {
-    /// The bytes that it holds, where the sink tells them.
+    /// The bytes that it holds, where they are known.
     ghost contents: { Self → Option (List ℕ) };
 
     /// How often a write has failed.

@@ -18,7 +18,7 @@ pub enum Failed {
 
 /// Bytes that come one piece after another.
 pub trait Source {
-    /// The bytes that are left, where the source tells them.
+    /// The bytes that remain to be read, where they are known.
     ghost left: { Self → Option (List ℕ) };
 
     /// How often a read has failed.

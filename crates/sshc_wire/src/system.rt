@@ -1,4 +1,5 @@
-//! Real streams and files, which tell no contents. Each is proved against its trait; that the real thing behaves so is not.
+//! Real streams and files, whose contents no contract knows. Each is proved against its trait; that the real thing
+//! behaves so is not.
 
 ghost use Rattle.std.specs.Prelude.{None, Err, OnErr, IfOk, ◌≡◌, ◌≤◌, length};
 ghost use Rattle.sshc_wire.specs.Beside.{no_side};
@@ -106,7 +107,8 @@ impl<R: Read> Source for StdSource<R> {
     }
 }
 
-/// Any writer of std, with nothing held back. A write that a signal interrupted is made again. A writer that takes no byte of a piece counts as failed.
+/// Any writer of std, with no buffer of its own. A write that a signal interrupted is made again. A writer that takes no
+/// byte of a piece counts as failed.
 #[derive(Drop)]
 pub struct StdSink<W> {
     inner: W,
@@ -199,7 +201,7 @@ impl<'a, R: std::rt::Files + AllocGlobal> StdFiles<'a, R> {
     }
 }
 
-/// What a failed call answers: out of memory by itself, anything else as a fault that is counted.
+/// The error of a failed call: out of memory is itself, anything else is a fault that is counted.
 fn failed(error: io::Error, faults: &mut u64) -> Failed
     ensures later { faults.old ≤ faults.new }
     ensures fault { result ≡ Failed.Fault → Rose faults.old faults.new }
@@ -268,7 +270,7 @@ impl<'a, R: std::rt::Files> Files for StdFiles<'a, R> {
     }
 }
 
-/// Adds the text at the file's end. Makes the file and its parent folders where there are none.
+/// Adds the text at the file's end. Makes the file and its parent folders where they don't exist.
 fn add_to_file<R: std::rt::Files>(system: &R, path: &str, text: &str) -> io::Result<()> {
     if let Some(parent) = Path::new(path).parent() {
         fs::create_dir_all(system, parent)?;

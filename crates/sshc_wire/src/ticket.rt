@@ -1,4 +1,4 @@
-//! The number that an answer is given under.
+//! The number that joins an answer to what the user asked.
 
 /// The number under which the user is answered. 0 means that no answer is wanted.
 #[derive(Clone, Copy, Debug, PartialEq, Eq)]

@@ -52,7 +52,7 @@ unfolding decoded_key
 key_text_read text key is =
     ap decoded is.base64 ∙ ap key_or_fault (front_found is.blob key is.readable)
 
--- the key that was found stands in the blob of which the text is the base64
+-- the key that was found is in the blob of which the text is the base64
 pub key_text_found : (text blob : List ℕ) (key : Key) → decode_of standard (filter is_no_line_end text) ≡ Ok blob → IsReadable blob key → IsKeyText text key
 key_text_found text blob key decodes stands = record { blob = blob; base64 = decodes; readable = stands }
 

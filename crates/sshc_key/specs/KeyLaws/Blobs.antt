@@ -13,7 +13,7 @@ use Rattle.sshc_key.specs.Nesting.{markers, IsReadable, IsBlobOf, outside, front
 use Rattle.sshc_key.specs.KeyLaws.Keys.{keys}
 use Rattle.sshc_key.specs.KeyLaws.Markers.{depth_marked, markers_append}
 
--- a fault of reading, and the one that is answered
+-- a fault of reading, and the error that is returned for it
 pub fails_outside : {A : Type 0} (e : Error) (r : Result A Error) → Fails e r → Fails (outside e) (faults_as (λ d. SshKey) r)
 fails_outside errors.NoMemory r h = tt
 fails_outside errors.CouldNotReadKey r h = rw h refl
@@ -31,7 +31,7 @@ fails_outside errors.ReadFault r h = rw h refl
 fails_outside errors.WriteFault r h = rw h refl
 fails_outside errors.UnexpectedEnd r h = rw h refl
 
--- ---- what stands at the front
+-- ---- the key at the front
 
 abbrev Front : Type 0
 Front = Result (Key × List ℕ) Error
@@ -113,7 +113,7 @@ pub written_is_read : (k : Key) (rest : List ℕ) → Fits k → markers (key_te
 unfolding blob_key
 written_is_read k rest fits few = ap front_of (front_back (key_text k ++ rest) k rest few fits refl)
 
--- the key that stands at the front is found
+-- the key at the front is found
 pub front_found : (blob : List ℕ) (k : Key) → IsReadable blob k → blob_key blob ≡ Some k
 unfolding blob_key
 front_found blob k stands = ap front_of (front_back blob k stands.rest stands.nesting stands.fits stands.front)

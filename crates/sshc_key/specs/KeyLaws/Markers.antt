@@ -1,4 +1,4 @@
--- Each certificate has a marker, so eight markers bound how deep certificates stand in one another.
+-- Each certificate has a marker, so eight markers bound how deeply certificates are nested.
 use Rattle.std.proofs.Common.{◌≡◌, ℕ, ◌+◌, ◌≤◌, Bool, true, false, cond, List, [], ◌∷◌, ◌++◌, length, take, refl, sym, ap, subst, ◌∙◌, append_assoc, arith}
 use Rattle.std.specs.Prelude.{nat_eq, bytes_eq, codes}
 use Rattle.std.specs.List.{starts_with}

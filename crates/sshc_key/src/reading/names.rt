@@ -16,7 +16,7 @@ const MARK: &[u8] = b"-cert-v01";
 /// The most bytes of a name with a domain.
 const LONGEST: usize = 64;
 
-/// What stands before and after the first `@`.
+/// The texts before and after the first `@`.
 #[tactic(auto, unfolding(crate::specs::AlgorithmNames::parted))]
 pub(crate) fn parts_of(name: &str) -> Option<(&str, &str)>
     ensures { MatchOption result (parted name.now ≡ None)
@@ -45,7 +45,7 @@ fn are_name_chars(bytes: &[u8]) -> bool
     bytes.iter().all(|byte| is_name_char(*byte))
 }
 
-/// Whether these bytes may stand on one side of the `@`.
+/// Whether these bytes may be one side of the `@`.
 #[tactic(auto, unfolding(crate::specs::AlgorithmNames::is_side))]
 fn is_name_side(bytes: &[u8]) -> bool
     ensures { result ≡ is_side bytes.now }
@@ -60,7 +60,7 @@ fn ends_marked(front: &[u8]) -> bool
     front.ends_with(MARK)
 }
 
-/// Whether these are the two sides of the name of an algorithm that stands in no table.
+/// Whether these are the two sides of the name of an algorithm that isn't in the table.
 #[tactic(auto, unfolding(crate::specs::AlgorithmNames::is_opaque))]
 fn is_opaque_pair(front: &[u8], domain: &[u8]) -> bool
     ensures { result ≡ is_opaque (record { front = front.now; domain = domain.now }) }
@@ -83,7 +83,7 @@ fn joined(alloc: Global, front: &str, domain: &str) -> Result<Text, NoMemory>
     Text::from_string(name)
 }
 
-/// What stands before the mark of certificates at the end.
+/// The text before the mark of certificates at the end.
 #[tactic(auto, using(crate::specs::KeyLaws::Names::unmarked_of_suffix))]
 fn unmarked_of(front: &str) -> Option<&str>
     ensures { MatchOption result (unmarked front.now ≡ None) (λ own. unmarked front.now ≡ Some own.now) }

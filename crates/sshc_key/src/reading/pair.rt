@@ -96,7 +96,7 @@ fn rsa_pair_of(alloc: Global, c: &mut Cursor<'_>) -> Result<PrivateKey, Error>
     ))
 }
 
-/// The kind of pair that has this name. Security keys have none.
+/// The kind of pair that has this name; `None` for security keys, which have no pair.
 #[tactic(auto, unfolding(crate::specs::PairGrammar::pair_named))]
 fn pair_kind(name: &[u8]) -> Option<Known>
     ensures { result ≡ pair_named name.now }

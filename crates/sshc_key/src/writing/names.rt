@@ -136,7 +136,7 @@ impl KeyData {
         }
     }
 
-    /// The algorithm that a request names for the key or certificate; of an RSA key it goes by the hash.
+    /// The algorithm that a request names for the key or certificate; of an RSA key it depends on the hash.
     #[tactic(auto, unfolding(crate::specs::RequestNames::request_name))]
     pub fn request_algorithm(
         &self,
@@ -154,7 +154,7 @@ impl KeyData {
 }
 
 impl Certificate {
-    /// The algorithm that a request names for the certificate; of one for an RSA key it goes by the hash.
+    /// The algorithm that a request names for the certificate; of one for an RSA key it depends on the hash.
     #[tactic(auto, unfolding(crate::specs::RequestNames::request_name))]
     pub fn request_algorithm(
         &self,
