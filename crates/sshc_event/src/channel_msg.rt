@@ -9,7 +9,7 @@ pub struct TerminalMode {
     pub value: u32,
 }
 
-/// A message on a channel. Those behind the line in the middle are reported alone: a user can't ask for them.
+/// A message on a channel. Those below the line `only reported` can't be asked for by a user.
 #[derive(Debug, PartialEq, Eq, Drop)]
 pub enum ChannelMsg {
     /// Bytes for the peer (RFC 4254, section 5.2).
@@ -78,7 +78,7 @@ pub enum ChannelMsg {
     AgentForward {
         want_reply: bool,
     },
-    // ---- reported alone
+    // ---- only reported
     /// The channel is open; sizes are the peer's, in bytes.
     Open {
         id: ChannelId,

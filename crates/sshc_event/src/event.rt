@@ -6,8 +6,8 @@ use sshc_key::PublicKey;
 use sshc_transport::ExchangeResult;
 use sshc_wire::{ChannelId, ChannelOpenFailure, Disconnect, List, Octets, Text, Ticket};
 
-/// What happens to a session: the transport's results first, then timers, then what the user asks. Ticket 0 asks for no
-/// answer.
+/// What happens to a session: the transport's results first, then timers, then what the user asks. Ticket 0 means that
+/// the user wants no answer.
 #[derive(Debug, PartialEq, Eq, Drop)]
 pub enum Event {
     /// The peer's KEXINIT came (RFC 4253, section 7.1).
@@ -47,7 +47,7 @@ pub enum Event {
     AuthGssapiExchangeComplete {
         token: Option<Octets>,
     },
-    /// What an outside signer hands back: the bytes that it was handed, and the signature as a string behind them.
+    /// What an outside signer returns: the bytes that it was handed, followed by the signature as a string.
     Signed {
         body: Octets,
     },
@@ -127,11 +127,11 @@ pub enum Event {
     GetServerSigAlgs {
         ticket: Ticket,
     },
-    /// A keepalive, with an answer or without.
+    /// A keepalive, which asks for a reply or not.
     Keepalive {
         want_reply: bool,
     },
-    /// A keepalive whose answer resolves the ticket.
+    /// A keepalive whose reply resolves the ticket.
     Ping {
         ticket: Ticket,
     },
@@ -144,7 +144,7 @@ pub enum Event {
         ticket: Ticket,
         keys: List<PublicKey>,
     },
-    /// A global request by its name and the bytes behind (RFC 4254, section 4).
+    /// A global request: its name and the bytes that follow it (RFC 4254, section 4).
     SendGlobalRequest {
         ticket: Ticket,
         name: Text,

@@ -10,7 +10,7 @@ use sshc_transport::ExchangeKey;
 use sshc_wire::NoMemory;
 use std::alloc::Global;
 
-/// The key that the whole blob is, if any.
+/// The key that the whole blob encodes, if it is a key.
 fn whole_key(alloc: Global, blob: &[u8]) -> Result<Option<PublicKey>, NoMemory>
     ensures { IfOk result (λ o. o ≡ bare (whole_blob_key blob.now)) }
 {
@@ -79,7 +79,7 @@ fn certificate_of(key: KeyData) -> Option<PublicKeyOrCertificate>
     }
 }
 
-/// The key of an exchange; none where its whole blob isn't a key of its sort, which counts as missing.
+/// The host key of an exchange; `None` if the key is missing or the whole blob isn't a key of its sort.
 pub fn host_key_of(
     alloc: Global,
     key: &ExchangeKey,

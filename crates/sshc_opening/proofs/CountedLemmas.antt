@@ -11,12 +11,12 @@ use Rattle.sshc_opening.specs.Reading.{IsBroken}
 abbrev pub Values : Type 0 → Type 0
 Values A = Result (List A × List ℕ) WireError
 
--- these values before those that are read
+-- these values before those that are read next
 abbrev pub behind : {A : Type 0} → List A → Values A → Values A
 behind xs (Ok ys) = Ok (xs ++ ys.0, ys.1)
 behind xs (Err e) = Err e
 
--- the value and those behind it
+-- the value and those after it
 abbrev pub and_then : {A : Type 0} → (List ℕ → Values A) → Result (A × List ℕ) WireError → Values A
 and_then on r = r >>= λ x. on x.1 >>= λ xs. Ok (x.0 ∷ xs.0, xs.1)
 
@@ -41,14 +41,14 @@ broken_then : {A : Type 0} (xs : List A) (on : List ℕ → Values A) (r : Resul
 broken_then xs on (Ok x) broken = absurd broken
 broken_then xs on (Err e) broken = tt
 
--- a value that can't be read ends them all
+-- if a value can't be read, the whole list can't
 pub stuck : {A : Type 0} (f : Reader WireError A) (n k : ℕ) (xs : List A) (all : Values A) (body : List ℕ) (e : Error) → k < n → behind xs (times_at (n - k) f body) ≡ all →
     ((e ≡ NoMemory) ⊎ ((e ≡ SshEncoding) × IsBroken (f body))) → (e ≡ NoMemory) ⊎ ((e ≡ SshEncoding) × IsBroken all)
 stuck f n k xs all body e below is (inl memory) = inl memory
 stuck {A} f n k xs all body e below is (inr (encoding, broken)) =
     inr (encoding, subst (λ (r : Values A). IsBroken r) (ap (behind xs) (sym (next_is f n k body below)) ∙ is) (broken_then xs (λ rest. times_at (n - (k + 1)) f rest) (f body) broken))
 
--- at the end none are left
+-- at the end no values remain to be read
 pub all_taken : {A : Type 0} (f : Reader WireError A) (n k : ℕ) (xs : List A) (all : Values A) (body : List ℕ) → n - k ≡ 0 → behind xs (times_at (n - k) f body) ≡ all → all ≡ Ok (xs, body)
 all_taken {A} f n k xs all body done is =
     sym is ∙ ap (λ (m : ℕ). behind xs (times_at m f body)) done ∙ ap (λ (l : List A). Ok (l, body)) (append-nil xs)

@@ -1,4 +1,5 @@
--- The signer's fault: a call that follows its row is refused so only where the signer refused, whose count then rose.
+-- `SignerFault`: a call that follows its row is refused with it only where the signer refused and its count of refusals
+-- rose.
 use Rattle.std.proofs.Common.{◌≡◌, ◌≢◌, ◌⊎◌, ◌≤◌, ◌+◌, inl, inr, ℕ, Bool, true, false, List, [], ◌∷◌, length, Option, Some, None, Result, Ok, Err, refl, sym, ◌∙◌, subst, arith}
 use Rattle.std.specs.Prelude.{min, if◌then◌else◌}
 use Rattle.sshc_wire.specs.Faults.{Rose}

@@ -1,4 +1,4 @@
--- What each row keeps to, every step keeps to.
+-- What each row of the table satisfies, every step satisfies.
 use Rattle.std.proofs.Common.{◌≡◌, ◌≢◌, ◌⊎◌, inl, inr, ℕ, Bool, true, false, List, [], ◌∷◌, ◌++◌, Option, Some, None, Result, Ok, Err, refl, ap, sym, ◌∙◌, subst, append-nil, append_assoc}
 use Rattle.std.proofs.Math.Seq.{drop-length}
 use Rattle.std.specs.List.{AllByRecursion}
@@ -83,7 +83,7 @@ none_handed : (k : Kept) (said : Record) → IsResolved said → HandsStored k s
 none_handed k (records.Resolved ticket resolution) is = tt
 none_handed k said never = absurd never
 
--- the gate's answers, and then the row's records
+-- the gate's records, and then the row's
 adds_both : (P : Record → Type 0) (was is : Lent) (mid : Outgoing) (said : List Record) → ((one : Record) → IsResolved one → P one) → GateAdds was.outbox mid → is.outbox.records ≡ mid.records ++ shown mid.muted said → AllByRecursion P said → AddsOnly P was is
 adds_both P was is mid said each gate added holds = (
   gate.more ++ shown mid.muted said,
@@ -141,9 +141,9 @@ settled_by : (t : OpeningState) (calls : List SignCall) (next : Next) → Settle
 settled_by t [] next settles is = inr refl
 settled_by t (call ∷ calls) next settles is = inl (is settles)
 
--- ---- a step by its answer
+-- ---- a step by its result
 
--- what the table gives for it
+-- what the table says of the step
 record KeptSo (k : Kept) (event : Event) (calls : List SignCall) (to : OpeningState) : Type 0 where
   session : KeepsSession k to
   request : KeepsRequest k event to
@@ -200,7 +200,7 @@ row_adds Q row calls at steps.Closed each never = absurd never
 
 -- ---- the first exchange
 
--- the gate accepted the host key where it let the first exchange's row go on
+-- if the gate let the row of the first exchange continue, it accepted the host key
 judged_true : {E : Type 0} (gate : GateAnswers E) (x : Option ExchangeResult) (old mid : Outgoing) (told : Told) (wanted : Asks) → IsKeyAtMost wanted → Answered gate x old mid (Ok told) wanted → told ≡ telling.Went →
     (key : PublicKeyOrCertificate) × (wanted ≡ asking.HostKey key) × gate.judges key (Ok true)
 judged_true gate x old mid told asking.Nothing most (is, same) went = let clash : telling.Went ≡ telling.NotAsked = sym went ∙ cc in absurd cc
@@ -295,6 +295,6 @@ by_closed : {E : Type 0} (gate : GateAnswers E) (event : Event) (was is : Lent) 
 by_closed gate event was is result true is_so closed row = closed_keeps gate event was is result is_so closed
 by_closed gate event was is result false is_so closed row = by_told gate event was is result (row is_so)
 
--- a step that is the table's keeps to it
+-- a step of the table satisfies it
 pub step_keeps : {E : Type 0} (gate : GateAnswers E) (event : Event) (was is : Lent) (result : Step E) → StaysClosed was is result → (was.opening.closed ≡ false → StepsBy gate event was is result) → KeepsTo gate event was is result
 step_keeps gate event was is result closed row = by_closed gate event was is result was.opening.closed refl closed row

@@ -1,4 +1,4 @@
--- A password is written at most as often as it was asked for: what each row keeps to, every step keeps to.
+-- A password is written at most as often as it was asked for: every step satisfies what each row satisfies.
 use Rattle.std.proofs.Common.{◌≡◌, ◌≤◌, ◌+◌, inl, inr, ℕ, Bool, true, false, List, [], ◌∷◌, ◌++◌, Result, Ok, Err, refl, ap, sym, ◌∙◌, subst, append-nil, append_assoc, arith}
 use Rattle.std.specs.List.{AllByRecursion}
 use Rattle.sshc_wire.specs.Outgoing.{Outgoing, kept, shown}
@@ -42,9 +42,9 @@ shown_at_most packet muted [] = omega arith
 shown_at_most packet muted (one ∷ said) =
     omega (arith, written_two packet (kept muted one) (shown muted said), kept_at_most packet muted one, shown_at_most packet muted said, written_two packet (one ∷ []) said)
 
--- ---- a step by its answer
+-- ---- a step by its result
 
--- what the table gives for it: what was added behind what the gate added, and the state
+-- what the table says of the step: the records after those that the gate added, and the state
 record Written (packet : List ℕ) (event : Event) (at : Span) : Type 0 where
   more : List Record
   added : at.new.records ≡ at.old.records ++ more
@@ -98,7 +98,7 @@ module _ (user password : List ℕ) (short : IsShort user) where
 
 -- ---- a step with a gate
 
--- the gate's answers, and then what was added behind them
+-- the gate's records, and then those added after them
 both_added : (packet : List ℕ) (event : Event) (was is : Lent) (mid : Outgoing) → GateAdds was.outbox mid → Written packet event (span_of (record was { outbox = mid }) is) → WritesAsAsked packet event was is
 both_added packet event was is mid gate written = (
   gate.more ++ written.more,
@@ -140,6 +140,6 @@ by_closed gate event was is result true is_so closed row =
     }
 by_closed gate event was is result false is_so closed row = by_told gate event was is result (row is_so)
 
--- a step that is the table's keeps to it
+-- a step of the table satisfies it
 pub step_passwords : {E : Type 0} (gate : GateAnswers E) (event : Event) (was is : Lent) (result : Step E) → StaysClosed was is result → (was.opening.closed ≡ false → StepsBy gate event was is result) → KeepsPasswords event was is
 step_passwords gate event was is result closed row = by_closed gate event was is result was.opening.closed refl closed row

@@ -10,7 +10,7 @@ use Rattle.sshc_opening.specs.OpeningTable.AuthPrompts.{prompt_at, prompts_at, p
 abbrev pub Prompts : Type 0
 Prompts = Result (List Prompt × List ℕ) WireError
 
--- those that were read stand before
+-- the prompts that were read come first
 abbrev pub behind_all : List Prompt → Prompts → Prompts
 behind_all prompts (Ok more) = Ok (prompts ++ more.0, more.1)
 behind_all prompts (Err e) = Err e
@@ -23,7 +23,7 @@ pub behind_one : (prompts : List Prompt) (prompt : Prompt) (read : Prompts) → 
 behind_one prompts prompt (Ok more) = ap (λ (ps : List Prompt). Ok (ps, more.1)) (sym (append_assoc prompts (prompt ∷ []) more.0))
 behind_one prompts prompt (Err e) = refl
 
--- the next prompt of those that are left
+-- the next of the prompts that are still to be read
 next_at : (left : ℕ) (body : List ℕ) → prompts_at (suc left) body ≡ prompts_from (λ rest. prompts_at left rest) (prompt_at body)
 unfolding prompts_at
 next_at left body = refl
@@ -43,7 +43,7 @@ broken_behind : (prompts : List Prompt) (read : Prompts) → IsBroken read → I
 broken_behind prompts (Ok more) broken = absurd broken
 broken_behind prompts (Err e) broken = tt
 
--- where the next one is broken, all are
+-- if the next prompt is broken, all of them are
 pub broken_prompt : (n k : ℕ) (start body : List ℕ) (prompts : List Prompt) → k < n → prompts_at n start ≡ behind_all prompts (prompts_at (n - k) body) → IsBroken (prompt_at body) → IsBroken (prompts_at n start)
 broken_prompt n k start body prompts below is broken =
     let next : prompts_at (n - k) body ≡ prompts_from (λ rest. prompts_at (n - (k + 1)) rest) (prompt_at body) = ap (λ (m : ℕ). prompts_at m body) (one_of n k below) ∙ next_at (n - (k + 1)) body in
@@ -53,12 +53,12 @@ none_left : (body : List ℕ) → prompts_at 0 body ≡ Ok ([], body)
 unfolding prompts_at
 none_left body = refl
 
--- at the end none are left
+-- at the end no prompts remain to be read
 pub all_read : (n k : ℕ) (start body : List ℕ) (prompts : List Prompt) → n - k ≡ 0 → prompts_at n start ≡ behind_all prompts (prompts_at (n - k) body) → prompts_at n start ≡ Ok (prompts, body)
 all_read n k start body prompts done is =
     is ∙ ap (λ (m : ℕ). behind_all prompts (prompts_at m body)) done ∙ ap (behind_all prompts) (none_left body) ∙ ap (λ (ps : List Prompt). Ok (ps, body)) (append-nil prompts)
 
--- a prompt that can't be read ends them all
+-- if a prompt can't be read, none of them can
 pub err_prompt : (n k : ℕ) (start body : List ℕ) (prompts : List Prompt) (e : Error) → k < n → prompts_at n start ≡ behind_all prompts (prompts_at (n - k) body) →
     ((e ≡ NoMemory) ⊎ ((e ≡ SshEncoding) × IsBroken (prompt_at body))) → (e ≡ NoMemory) ⊎ ((e ≡ SshEncoding) × IsBroken (prompts_at n start))
 err_prompt n k start body prompts e below is (inl memory) = inl memory

@@ -17,7 +17,7 @@ use Rattle.sshc_opening.specs.Stepping.{SignerGrows}
 
 -- ---- by the calls that were gained
 
--- the calls lead to a row that was followed, or memory ran out behind the first of them
+-- the calls lead to a row that was followed, or they are the first calls, after which memory ran out
 abbrev Gained : Asking Row → List SignCall → Span → Result Flow Error → Type 0
 Gained asking gained s result =
     ((row : Row) × Makes asking gained row × Follows row s result)

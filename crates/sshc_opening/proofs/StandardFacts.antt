@@ -1,4 +1,5 @@
--- A password login step by step, computed from the rows: two exchanges of packets, and the session is open. And extensions.
+-- A password login step by step, computed from the rows: two exchanges of packets, and the session is open. And
+-- extensions.
 use Rattle.std.proofs.Common.{◌≡◌, ℕ, true, false, List, [], ◌∷◌, Some, None, refl}
 use Rattle.std.specs.Prelude.{codes}
 use Rattle.sshc_wire.specs.Reads.{number_at, string_at}
@@ -30,7 +31,7 @@ use Rattle.sshc_opening.specs.Row.{goes, refused, passed_over, opens}
 abbrev settings : Settings
 settings = record { window_size = 2097152; anonymous = false; inactivity = false }
 
--- an exchange that gave the hash `session-id`; its host key is looked at by the gate alone
+-- an exchange with the hash `session-id`; only the gate looks at its host key
 abbrev exchange : ExchangeResult
 exchange = record {
   key = Missing;
@@ -89,7 +90,7 @@ logged_in = refl
 
 -- ---- refusals
 
--- without a host key nobody is asked, and the session is refused
+-- without a host key the gate isn't asked, and the session is refused
 keyless_asks : asked_of exchanging (events.ExchangeDone exchange) ≡ asking.Nothing
 unfolding asked_of
 keyless_asks = refl
@@ -98,7 +99,7 @@ keyless : open_row exchanging (events.ExchangeDone exchange) telling.NotAsked �
 unfolding open_row plain_row user_row payload_row numbered_row held_packet_row peer_kexinit_row exchange_done_row authenticate_first_row authenticate_again_row service_packet_row service_accept_row auth_packet_row auth_row userauth_success_row
 keyless = refl
 
--- the gate says no
+-- the gate rejects the host key
 unaccepted : open_row exchanging (events.ExchangeDone exchange) telling.No ≡ done (refused UnknownKey)
 unfolding open_row plain_row user_row payload_row numbered_row held_packet_row peer_kexinit_row exchange_done_row authenticate_first_row authenticate_again_row service_packet_row service_accept_row auth_packet_row auth_row userauth_success_row
 unaccepted = refl
@@ -116,7 +117,7 @@ early : open_row (start settings) (events.Authenticate (record { 0 = 1 }) (codes
 unfolding open_row plain_row user_row payload_row numbered_row held_packet_row peer_kexinit_row exchange_done_row authenticate_first_row authenticate_again_row service_packet_row service_accept_row auth_packet_row auth_row userauth_success_row
 early = refl
 
--- the service is accepted before it was asked for; another service is passed over; a byte stands behind the success
+-- the service is accepted before it was asked for; another service is ignored; a byte follows the success
 unasked : open_row in_service (events.Payload accepted) telling.NotAsked ≡ done (refused Inconsistent)
 unfolding open_row plain_row user_row payload_row numbered_row held_packet_row peer_kexinit_row exchange_done_row authenticate_first_row authenticate_again_row service_packet_row service_accept_row auth_packet_row auth_row userauth_success_row
 unasked = refl
@@ -140,16 +141,16 @@ again = refl
 abbrev waits : OpeningState
 waits = record in_service { waiters = (record { ticket = record { 0 = 9 }; extension_name = codes "x" }) ∷ [] }
 
--- who waits for an extension is answered when it comes
+-- a waiter's ticket is resolved when its extension comes
 answered_when_seen : extensions_row waits ((record { name = codes "x"; sig_algs = None }) ∷ [])
     ≡ goes (Resolved (record { 0 = 9 }) ExtInfoSeen ∷ []) (record in_service { ext_infos = 1; seen = codes "x" ∷ [] })
 answered_when_seen = refl
 
--- and who waits for another waits on
+-- a waiter for another extension keeps waiting
 waits_on : extensions_row waits ((record { name = codes "y"; sig_algs = None }) ∷ []) ≡ goes [] (record waits { ext_infos = 1; seen = codes "y" ∷ [] })
 waits_on = refl
 
--- a third one is refused, whatever it says
+-- a third EXT_INFO is refused, whatever it contains
 third : open_row (record in_auth { ext_infos = 2 }) (events.Payload (7 ∷ [])) telling.NotAsked ≡ done (refused Inconsistent)
 unfolding open_row plain_row user_row payload_row numbered_row held_packet_row auth_packet_row auth_row ext_info_row
 third = refl

@@ -1,4 +1,5 @@
--- A call that follows its row, and a step with a gate: why it refuses or ends, and what it asked and was told.
+-- A call that follows its row, and a step with a gate: why it refuses or ends, what it asked the gate, and what the
+-- gate returned.
 use Rattle.std.proofs.Common.{◌≡◌, ◌≢◌, ◌⊎◌, ◌<◌, ◌≤◌, ◌+◌, ◌-◌, ◌*◌, ◌^◌, inl, inr, ℕ, Bool, true, false, List, [], ◌∷◌, ◌++◌, ◌/◌, length, Option, Some, None, Result, Ok, Err, refl, ap, sym, ◌∙◌, subst, arith}
 use Rattle.std.specs.Prelude.{min, not, ◌==◌, ◌||◌, nat_le, nat_lt, if◌then◌else◌, bytes_eq, codes}
 use Rattle.std.specs.Int.{w32}
@@ -90,7 +91,7 @@ ended_cause s event told was is at e follows = ended_by (why (WasToldNo told) s 
 
 -- ---- a step with a gate
 
--- where the gate wasn't told of the first exchange, it has no host key, or the gate said no to it
+-- if the gate didn't accept the first exchange, the exchange has no host key, or the gate rejected the key
 no_key : {E : Type 0} (gate : GateAnswers E) (o : Option ExchangeResult) (old mid : Outgoing) (told : Told) (key : Option PublicKeyOrCertificate) → Answered gate o old mid (Ok told) (key_asked key) → told ≢ telling.Went → SaysNoTo gate.judges key
 no_key gate o old mid told None answered never = tt
 no_key gate o old mid told (Some key) (Ok true, judges, (went, adds)) never = absurd (never went)
@@ -102,7 +103,7 @@ said_no gate s event old mid told fresh answered = λ x is peer first no.
     let asked : asked_of s event ≡ key_asked (host_key x.key) = first_asks s event x fresh is peer first in
     no_key gate (exchange_in event) old mid told (host_key x.key) (subst (λ (asks : Asks). Answered gate (exchange_in event) old mid (Ok told) asks) asked answered) no
 
--- the rest of a row, told as the gate tells it
+-- the rest of a row, with its error as the gate reports it
 pub told_cause : {E : Type 0} (gate : GateAnswers E) (event : Event) (was is : LentGate) (old mid : Outgoing) (told : Told) (answer : Step Error) (result : Step E) →
     result ≡ map_step gate.told_as answer → was.rest.opening.closed ≡ false → Answered gate (exchange_in event) old mid (Ok told) (asked_of was.rest.opening event) →
     HasCause told event (record was.rest { outbox = mid }) is.rest answer → HasGateCause gate event was is result
@@ -113,7 +114,7 @@ told_cause gate event was is old mid told (steps.Refused e) result same fresh an
     rw same (inl (e, refl, cause_also (WasToldNo told) (GateSaysNo gate) was.rest.opening event e (said_no gate was.rest.opening event old mid told fresh answered) reason.0, reason.1))
 told_cause gate event was is old mid told steps.Closed result same fresh answered reason = rw same tt
 
--- ---- what was asked and told
+-- ---- what the gate was asked and what it returned
 
 fits_told : {E : Type 0} (tells : Result (Unit {0}) E → List Record → Type 0) (old mid : Outgoing) (told : Told) → Tells tells old mid (Ok told) → told ≡ telling.Went
 fits_told tells old mid told (went, adds) = went
@@ -123,7 +124,7 @@ fits_judged tells old mid told key (Ok true) (went, adds) = rw went tt
 fits_judged tells old mid told key (Ok false) (is, same) = let no : told ≡ telling.No = cc in rw no tt
 fits_judged tells old mid told key (Err e) (is, same) = absurd cc
 
--- what a gate said is an answer to what it was asked
+-- what a gate returned fits what it was asked
 pub fits_asked : {E : Type 0} (gate : GateAnswers E) (o : Option ExchangeResult) (old mid : Outgoing) (told : Told) (wanted : Asks) → Answered gate o old mid (Ok told) wanted → FitsAsked wanted told
 fits_asked gate o old mid told asking.Nothing (is, same) = cc
 fits_asked gate o old mid told (asking.HostKey key) (verdict, judges, judged) = fits_judged (told_of gate o) old mid told key verdict judged

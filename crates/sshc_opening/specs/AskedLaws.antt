@@ -1,4 +1,5 @@
--- What the table asks of the gate: the host key of the first exchange alone, and an exchange only of an event that is one.
+-- What the table asks of the gate: the host key of the first exchange alone, and an exchange only of an event that is
+-- one.
 use Rattle.std.proofs.Common.{◌≡◌, ℕ, ◌+◌, Bool, true, false, List, [], ◌∷◌, length, Option, Some, None, Result, Ok, Err, refl, ap, sym, ◌∙◌, subst}
 use Rattle.std.specs.Prelude.{◌==◌, if◌then◌else◌}
 use Rattle.sshc_wire.specs.Reads.{text_at}
@@ -20,7 +21,7 @@ use Rattle.sshc_opening.specs.OpeningTable.Order.{is_out_of_turn}
 use Rattle.sshc_opening.specs.Row.{with_part}
 use Rattle.sshc_opening.specs.Stepping.{HasExchange, exchange_in}
 
--- what an event asks that may come
+-- what an event asks, if it may come
 asks_in_turn : (s : OpeningState) (event : Event) → s.closed ≡ false → is_out_of_turn s event ≡ false → asked_of s event ≡ event_asks s event
 unfolding asked_of
 asks_in_turn s event fresh turn = rw (fresh, turn) refl
@@ -31,7 +32,7 @@ has_some (asking.HostKey key) x = tt
 has_some asking.Exchange x = tt
 has_some (asking.Banner shown) x = tt
 
--- a packet wanted for a banner alone
+-- a packet asks the gate for a banner at most
 abbrev IsNoExchange : Asks → Type 0
 IsNoExchange asking.Nothing = Unit {0}
 IsNoExchange (asking.Banner shown) = Unit {0}
@@ -78,20 +79,20 @@ has_by s event true early = tt
 has_by s event false true = tt
 has_by s event false false = event_has s event
 
--- a gate is asked for an exchange by an event that is one alone
+-- only an event that is an exchange asks the gate for an exchange
 pub has_exchange : (s : OpeningState) (event : Event) → HasExchange (asked_of s event) (exchange_in event)
 unfolding asked_of
 has_exchange s event = has_by s event s.closed (is_out_of_turn s event)
 
 -- ---- the first exchange
 
--- the first exchange that may come asks for its host key
+-- the first exchange, if it may come, asks for its host key
 pub first_asks : (s : OpeningState) (event : Event) (x : ExchangeResult) → s.closed ≡ false → event ≡ events.ExchangeDone x → s.flag ≡ flags.Peer → s.phase ≡ phases.Exchanging → asked_of s event ≡ key_asked (host_key x.key)
 first_asks s event x fresh is peer first =
     let turn : is_out_of_turn s event ≡ false = rw (is, first, peer) refl in
     asks_in_turn s event fresh turn ∙ rw (is, first) refl
 
--- what a host key is asked for by
+-- why the gate is asked for a host key
 pub record AsksFor (s : OpeningState) (event : Event) (key : PublicKeyOrCertificate) : Type 0 where
   pub exchange : ExchangeResult
   pub is : event ≡ events.ExchangeDone exchange
@@ -116,7 +117,7 @@ for_by s event key true early asked = absurd cc
 for_by s event key false true asked = absurd cc
 for_by s event key false false asked = event_for s event key asked
 
--- a host key is asked for by the first exchange alone, which has it
+-- only the first exchange asks for a host key, and for its own
 pub asks_for : (s : OpeningState) (event : Event) (key : PublicKeyOrCertificate) → asked_of s event ≡ asking.HostKey key → AsksFor s event key
 unfolding asked_of
 asks_for s event key asked = for_by s event key s.closed (is_out_of_turn s event) asked
@@ -153,7 +154,7 @@ at_most_by s event true early is = tt
 at_most_by s event false true is = tt
 at_most_by s event false false is = event_at_most s event is
 
--- while the first exchange runs nothing but a host key is asked for
+-- while the first exchange runs, only a host key is asked for
 pub first_at_most : (s : OpeningState) (event : Event) → s.phase ≡ phases.Exchanging → IsKeyAtMost (asked_of s event)
 unfolding asked_of
 first_at_most s event is = at_most_by s event s.closed (is_out_of_turn s event) is

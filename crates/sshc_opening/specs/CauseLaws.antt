@@ -1,4 +1,4 @@
--- Each row that refuses or ends has its cause: a law above the table, for whoever runs it.
+-- Each row that refuses or ends has its cause: a law about the table, independent of the code that runs it.
 use Rattle.std.proofs.Common.{◌≡◌, ◌≢◌, ◌⊎◌, ◌<◌, ◌≤◌, ◌+◌, ◌-◌, ◌*◌, ◌^◌, inl, inr, ℕ, Bool, true, false, List, [], ◌∷◌, ◌++◌, ◌/◌, length, Option, Some, None, Result, Ok, Err, refl, ap, sym, ◌∙◌, subst, arith}
 use Rattle.std.specs.Prelude.{min, not, ◌==◌, ◌||◌, nat_le, nat_lt, if◌then◌else◌, bytes_eq, codes}
 use Rattle.std.specs.Int.{w32}
@@ -73,7 +73,7 @@ by_error P x cause = cause
 
 -- ---- parts
 
--- a part that can't be read is broken; else what follows it is
+-- a packet is broken if a part of it can't be read; else the cause is that of what follows the part
 pub part_cause : {A : Type 0} (P : Why) (parts : List Part) (read : Result (A × List ℕ) WireError) (on : A → List ℕ → Row) →
     (BreaksBehind (λ rest. Breaks parts rest) (rest_of read) → P.refusal errors.SshEncoding) →
     ((x : A) (rest : List ℕ) → read ≡ Ok (x, rest) → (Breaks parts rest → P.refusal errors.SshEncoding) → Caused P (on x rest).next) →
@@ -130,7 +130,7 @@ accept_cause P s body breaks unasked =
 
 -- ---- Auth
 
--- a list that isn't empty stays so
+-- a list that isn't empty doesn't become empty
 grows_by : (known : List MethodKind) (m method : MethodKind) (has : Bool) → (first : MethodKind) × (rest : List MethodKind) × ((if has then m ∷ known else (m ∷ known) ++ method ∷ []) ≡ first ∷ rest)
 grows_by known m method true = (m, known, refl)
 grows_by known m method false = (m, known ++ method ∷ [], refl)
@@ -150,7 +150,7 @@ first_known : (m : MethodKind) → with_method [] m ≡ m ∷ []
 unfolding with_method has_method
 first_known m = refl
 
--- no method is known where none is found
+-- a name for which no method is found isn't a known method
 unknown_by : (name : List ℕ) (names : List (List ℕ)) (found : Option MethodKind) → method_of name ≡ found → known_behind (add_known [] found) names ≡ [] →
     (known_behind [] names ≡ [] → AllByRecursion (λ other. method_of other ≡ None) names) → AllByRecursion (λ other. method_of other ≡ None) (name ∷ names)
 unknown_by name names None is none others = (is, others none)
@@ -313,7 +313,7 @@ key_cause P s (Some (methods.FuturePublicKey key hash)) signs = tt
 key_cause P s (Some (methods.FutureCertificate cert hash)) signs = tt
 key_cause P s method signs = tt
 
--- the packet of a key that would do
+-- USERAUTH_PK_OK
 breaks_behind_end : (P : Why) (left : List ℕ) → is_at_end left ≡ false → (Breaks (end ∷ []) left → P.refusal errors.SshEncoding) → P.refusal errors.SshEncoding
 breaks_behind_end P [] is breaks = let clash : true ≡ false = is in absurd cc
 breaks_behind_end P (b ∷ left) is breaks = breaks tt
@@ -538,9 +538,9 @@ open_cause s event told =
     (λ early. by_error (why (WasToldNo told) s event) errors.OutOfTurn (turn_by s event (is_awaiting s.phase) refl early))
     (λ turn. turn_cause s event told (is_awaiting s.phase) refl turn)
 
--- ---- what says no, in other words
+-- ---- the rejection of a host key, defined in two ways
 
--- what says no of an exchange that may come says so in the other words too
+-- for an exchange that may come, the first definition of a rejection implies the second
 abbrev pub SaysAlso : (ExchangeResult → Type 0) → (ExchangeResult → Type 0) → OpeningState → Event → Type 0
 SaysAlso N M s event = (x : ExchangeResult) → event ≡ events.ExchangeDone x → s.flag ≡ flags.Peer → s.phase ≡ phases.Exchanging → N x → M x
 
@@ -552,7 +552,7 @@ pub cause_also : (N M : ExchangeResult → Type 0) (s : OpeningState) (event : E
 cause_also N M s event errors.UnknownKey also why = unknown_also N M s event also why
 cause_also N M s event e also why = why
 
--- and so what becomes of the opening has its reason in the other words
+-- and so an outcome that has its cause by the first definition has it by the second
 pub caused_also : (N M : ExchangeResult → Type 0) (s : OpeningState) (event : Event) (next : Next) → SaysAlso N M s event → Caused (why N s event) next → Caused (why M s event) next
 caused_also N M s event (stays to) also reason = tt
 caused_also N M s event (opens to) also reason = tt

@@ -1,5 +1,5 @@
--- Why the opening refuses, by its state and the event alone (RFC 4252, sections 5 to 8; RFC 4253, sections 7, 10 and 11;
--- RFC 4256; RFC 4462, section 3). Stated apart from the table of rows, so that an error made in both shows.
+-- Why the opening refuses, by its state and the event alone (RFC 4252, sections 5 to 8; RFC 4253, sections 7, 10 and
+-- 11; RFC 4256; RFC 4462, section 3). Stated apart from the table of rows, so that an error made in both shows.
 use Rattle.std.specs.Prelude.{◌≡◌, ◌≢◌, ◌⊎◌, ℕ, ◌+◌, ◌-◌, ◌*◌, ◌/◌, ◌^◌, ◌<◌, ◌≤◌, min, Bool, true, false, ◌||◌, List, [], ◌∷◌, length, Option, Some, None, Result, Ok, Err, ◌==◌, if◌then◌else◌}
 use Rattle.std.specs.Int.{w32}
 use Rattle.std.specs.List.{AllByRecursion}
@@ -64,7 +64,7 @@ IsEarly flag events.KeepaliveTimer = ⊥
 IsEarly flag events.InactivityTimer = ⊥
 IsEarly flag event = flag ≢ flags.Idle
 
--- while an answer is awaited only the user has a turn; else the exchange flag decides
+-- while an answer is awaited only the user's events may come; else the exchange flag decides
 abbrev pub IsOutOfTurn : OpeningState → Event → Type 0
 IsOutOfTurn s event = ((is_awaiting s.phase ≡ true) × IsNotUsers event) ⊎ ((is_awaiting s.phase ≡ false) × IsEarly s.flag event)
 
@@ -85,7 +85,7 @@ is_answer classes.Gssapi number =
 is_answer class number =
     (number == USERAUTH_FAILURE) || (number == USERAUTH_SUCCESS) || (number == USERAUTH_BANNER) || (number == USERAUTH_PK_OK) || (number == EXT_INFO)
 
--- and to one who asks for the service
+-- and to a user who asks for the service
 abbrev pub is_service : ℕ → Bool
 is_service number = (number == SERVICE_ACCEPT) || (number == EXT_INFO)
 
@@ -93,7 +93,7 @@ is_service number = (number == SERVICE_ACCEPT) || (number == EXT_INFO)
 abbrev pub IsThird : OpeningState → ℕ → Type 0
 IsThird s number = (number ≡ EXT_INFO) × (MOST_EXT_INFOS ≤ s.ext_infos)
 
--- a number of prompts that the bytes behind it can't hold, since a prompt has five at least
+-- a number of prompts that is too large for the remaining bytes, since a prompt has at least five
 abbrev pub AreTooMany : Result (ℕ × List ℕ) WireError → Type 0
 AreTooMany (Ok n) = length n.1 / 5 < n.0
 AreTooMany (Err e) = ⊥
@@ -102,7 +102,7 @@ abbrev pub behind : {A : Type 0} → Result (A × List ℕ) WireError → List �
 behind (Ok x) = x.1
 behind (Err e) = []
 
--- three texts stand before the number
+-- three texts precede the number
 abbrev pub HasTooManyPrompts : List ℕ → Type 0
 HasTooManyPrompts body = AreTooMany (number_at w32 (behind (text_at (behind (text_at (behind (text_at body)))))))
 
@@ -145,7 +145,7 @@ abbrev pub after_end : List ℕ → Option (List ℕ)
 after_end [] = Some []
 after_end (b ∷ left) = None
 
--- the bytes behind a part; none where it is short or isn't text, and where bytes are left behind the end
+-- the bytes after a part; `None` where it is short or isn't text, or where bytes remain at the end
 abbrev pub after : Part → List ℕ → Option (List ℕ)
 after number body = rest_of (number_at w32 body)
 after boolean body = rest_of (boolean_at body)
@@ -186,7 +186,7 @@ parts_in phases.Service class n = if n == SERVICE_ACCEPT then string ∷ end ∷
 parts_in phases.Auth class n = auth_parts class n
 parts_in phase class n = []
 
--- the parts of a packet of this number; a disconnection may come in any phase, and later bytes pass
+-- the parts of a packet of this number; a disconnection may come in any phase, and the bytes after it are ignored
 abbrev pub parts_of : OpeningState → ℕ → List Part
 parts_of s n = if n == DISCONNECT then number ∷ text ∷ text ∷ [] else parts_in s.phase s.class n
 
@@ -222,13 +222,13 @@ IsChannelOpen (events.ChannelOpenDirectTcpIp ticket host port address own) = Uni
 IsChannelOpen (events.ChannelOpenDirectStreamLocal ticket path) = Unit {0}
 IsChannelOpen event = ⊥
 
--- a pair is at hand with which the stored request is signed
+-- the stored request is signed with a local key pair
 abbrev pub IsLocal : Option Method → Type 0
 IsLocal (Some (methods.PublicKey key)) = Unit {0}
 IsLocal (Some (methods.OpenSshCertificate key cert)) = Unit {0}
 IsLocal method = ⊥
 
--- the server would take a key of which the pair is at hand
+-- the server would accept a key whose pair is local
 abbrev pub IsSigned : OpeningState → Event → Type 0
 IsSigned s (events.Payload (n ∷ body)) = (s.phase ≡ phases.Auth) × (s.class ≡ classes.Key) × (n ≡ USERAUTH_PK_OK) × IsLocal s.method
 IsSigned s event = ⊥
@@ -254,11 +254,11 @@ IsCause SaysNo s event e = ⊥
 
 -- ---- why a session ends
 
--- a message and its language, and later bytes that pass
+-- a message and its language; the bytes after them are ignored
 abbrev pub ReadsTexts : RemoteDisconnectInfo → List ℕ → Type 0
 ReadsTexts info rest = (after' left : List ℕ) × (text_at rest ≡ Ok (info.message, after')) × (text_at after' ≡ Ok (info.lang_tag, left))
 
--- the peer's disconnection says so (RFC 4253, section 11.1)
+-- the peer's disconnection contains this (RFC 4253, section 11.1)
 abbrev pub Disconnects : RemoteDisconnectInfo → List ℕ → Type 0
 Disconnects info body = (code : ℕ) × (rest : List ℕ) × (number_at w32 body ≡ Ok (code, rest)) × (disconnect_of code ≡ Some info.reason_code) × ReadsTexts info rest
 
@@ -271,7 +271,7 @@ abbrev pub IsUsersEnd : Event → Type 0
 IsUsersEnd (events.Disconnect reason description language) = Unit {0}
 IsUsersEnd event = ⊥
 
--- the peer or the user disconnects, or the user is gone; no event is a script's end
+-- the peer or the user disconnects, or the user is gone; no event causes `ScriptEnd`
 abbrev pub IsEndCause : OpeningState → Event → Ended → Type 0
 IsEndCause s event (ends.RemoteDisconnect info) = IsPeersEnd event info
 IsEndCause s event ends.Disconnected = IsUsersEnd event
@@ -286,14 +286,14 @@ pub record Why : Type 1 where
 abbrev pub why : (ExchangeResult → Type 0) → OpeningState → Event → Why
 why SaysNo s event = record { refusal = λ e. IsCause SaysNo s event e; end = λ e. IsEndCause s event e }
 
--- what becomes of the opening has its reason
+-- an outcome has its cause
 abbrev pub Caused : Why → Next → Type 0
 Caused reason (stays s) = Unit {0}
 Caused reason (opens s) = Unit {0}
 Caused reason (ends_with e) = reason.end e
 Caused reason (refuses e) = reason.refusal e
 
--- the same of each row that may be come to, whatever the signer answers
+-- the same for each row that can be reached, whatever the signer returns
 abbrev pub AllCaused : Why → Asking Row → Type 0
 AllCaused reason asking = Always (λ (row : Row). Caused reason row.next) asking
 
@@ -304,7 +304,7 @@ abbrev pub CountRose : ℕ → ℕ → Error → Type 0
 CountRose before now errors.SignerFault = Rose before now
 CountRose before now e = Unit {0}
 
--- once it is told what the gate said
+-- the gate, as far as it was asked, didn't let the row continue
 abbrev pub WasToldNo : Told → ExchangeResult → Type 0
 WasToldNo told x = told ≢ Went
 
@@ -313,7 +313,7 @@ HasCause told event was is (steps.Refused e) = IsCause (WasToldNo told) was.open
 HasCause told event was is (steps.Ended e) = IsEndCause was.opening event e
 HasCause told event was is answer = Unit {0}
 
--- there is no host key, or the gate says no to it
+-- there is no host key, or the gate rejects it
 abbrev pub SaysNoTo : {E : Type 0} → (PublicKeyOrCertificate → Result Bool E → Type 0) → Option PublicKeyOrCertificate → Type 0
 SaysNoTo judges None = Unit {0}
 SaysNoTo judges (Some key) = judges key (Ok false)
@@ -321,8 +321,8 @@ SaysNoTo judges (Some key) = judges key (Ok false)
 abbrev pub GateSaysNo : {E : Type 0} → GateAnswers E → ExchangeResult → Type 0
 GateSaysNo gate x = SaysNoTo gate.judges (host_key x.key)
 
--- a step is refused for a cause, told as the gate tells it, or because the gate refused, whose count of refusals then rose; an end
--- has its cause
+-- a step is refused for a cause, with its error as the gate reports it, or because the gate refused, whose count of
+-- refusals then rose; an end has its cause
 abbrev pub HasGateCause : {E : Type 0} → GateAnswers E → Event → LentGate → LentGate → Step E → Type 0
 HasGateCause gate event was is (steps.Refused e) =
     ((why : Error) × (e ≡ gate.told_as why) × IsCause (GateSaysNo gate) was.rest.opening event why × CountRose was.rest.refusals is.rest.refusals why)

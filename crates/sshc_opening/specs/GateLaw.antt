@@ -1,5 +1,5 @@
--- Until the host key of the first exchange is accepted, no packet of the session is written and the session doesn't go on
--- (RFC 4253, sections 7 and 8): a law above the table.
+-- Until the host key of the first exchange is accepted, no packet of the session is written and the session doesn't get
+-- past that exchange (RFC 4253, sections 7 and 8): a law about the table.
 use Rattle.std.proofs.Common.{◌≡◌, ◌≢◌, ◌⊎◌, inl, inr, ℕ, ◌+◌, Bool, true, false, List, [], ◌∷◌, length, Option, Some, None, Result, Ok, Err, refl, sym, ◌∙◌}
 use Rattle.std.specs.Prelude.{◌==◌, if◌then◌else◌}
 use Rattle.std.specs.Int.{w32}
@@ -31,7 +31,7 @@ use Rattle.sshc_opening.specs.declared.error.Error.TheVariants.{InactivityTimeou
 use Rattle.sshc_opening.specs.Row.{Row, Next, stays, opens, ends, refuses, refused, passed_over, with_part, broken_row}
 use Rattle.sshc_opening.specs.SessionWords.{IsFirst, IsNoPacket}
 
--- ---- what is said
+-- ---- what the law says
 
 -- none of these is a packet
 abbrev pub NonePayload : List Record → Type 0
@@ -46,7 +46,7 @@ abbrev pub IsNoExchange : Event → Type 0
 IsNoExchange (events.ExchangeDone x) = ⊥
 IsNoExchange event = Unit {0}
 
--- the session doesn't go on behind the first exchange, and where it goes on this was none
+-- the session doesn't get past the first exchange; if it isn't over, the event was no finished exchange
 abbrev pub FirstNext : Event → Next → Type 0
 FirstNext event (stays s) = IsFirst s × IsNoExchange event
 FirstNext event (opens s) = ⊥
@@ -133,13 +133,14 @@ turn_first : (s : OpeningState) (event : Event) (told : Told) (awaits : Bool) �
 turn_first s event told true is first denied early = let clash : true ≡ false = sym is ∙ calm s.phase first.exchanging in absurd cc
 turn_first s event told false is first denied early = event_first s event told first denied early
 
--- while the first exchange runs, no packet is written and the session doesn't go on, but by an exchange whose host key is accepted
+-- while the first exchange runs, no packet is written and the session doesn't get past that exchange, unless the event
+-- is an exchange whose host key is accepted
 pub first_law : (s : OpeningState) (event : Event) (told : Told) → IsFirst s → (IsAccepted event told → ⊥) → Always (StaysFirst event) (open_row s event told)
 unfolding open_row
 first_law s event told first denied =
     cond_first event (is_out_of_turn s event) _ _ (tt, tt) (λ turn. turn_first s event told (is_awaiting s.phase) refl first denied turn)
 
--- ---- the first exchange, whatever the gate says
+-- ---- the first exchange, whatever the gate returns
 
 -- an exchange is done that was accepted, and its hash is the session id
 abbrev pub TakesFirst : Event → Told → OpeningState → Type 0
@@ -151,7 +152,7 @@ FirstOrTaken event told (opens t) = TakesFirst event told t
 FirstOrTaken event told (ends e) = Unit {0}
 FirstOrTaken event told (refuses e) = Unit {0}
 
--- no packet, and the session goes on behind the first exchange only where it is accepted
+-- no packet is written, and the session gets past the first exchange only if the exchange is accepted
 abbrev pub FirstRow : Event → Told → Row → Type 0
 FirstRow event told row = NonePayload row.records × FirstOrTaken event told row.next
 
@@ -186,7 +187,7 @@ unfolding open_row
 went_first s x first =
     cond_row (FirstRow (events.ExchangeDone x) telling.Went) (is_out_of_turn s (events.ExchangeDone x)) _ _ (tt, tt) (turn_went s x (is_awaiting s.phase) refl first)
 
--- while the first exchange runs, no packet is written, and the session goes on only where the exchange is accepted
+-- while the first exchange runs, no packet is written, and the session gets past it only if the exchange is accepted
 pub first_row : (s : OpeningState) (event : Event) (told : Told) → IsFirst s → Always (FirstRow event told) (open_row s event told)
 first_row s (events.ExchangeDone x) telling.Went first = went_first s x first
 first_row s (events.ExchangeDone x) told first =

@@ -1,5 +1,5 @@
--- Each row keeps the session id, signs the stored request alone, and stores no request but an event's: a law above the table, for
--- whoever runs it (RFC 4252, section 7; RFC 4253, section 7).
+-- Each row keeps the session id, signs only the stored request, and stores no request but an event's: a law about the
+-- table, independent of the code that runs it (RFC 4252, section 7; RFC 4253, section 7).
 use Rattle.std.proofs.Common.{◌≡◌, ◌≢◌, ◌⊎◌, inl, inr, ℕ, ◌+◌, Bool, true, false, List, [], ◌∷◌, ◌++◌, length, Option, Some, None, Result, Ok, Err, refl, sym, ◌∙◌}
 use Rattle.std.specs.Prelude.{not, ◌==◌, if◌then◌else◌, bytes_eq, codes}
 use Rattle.std.specs.Int.{w32}
@@ -55,7 +55,7 @@ use Rattle.sshc_opening.specs.OpeningTable.User.{rekey_row, await_extension_info
 use Rattle.sshc_opening.specs.Row.{Row, Next, stays, opens, ends, refuses, refused, goes, passed_over, resolved, ends_at, with_part, broken_row}
 use Rattle.sshc_opening.specs.SessionWords.{Kept, kept_of, HandsStored, HandsKey, HandsCertificate, SignsStored, KeepsSession, KeepsRequest, Stores}
 
--- ---- what is said
+-- ---- what the law says
 
 abbrev pub KeepsState : Kept → Event → OpeningState → Type 0
 KeepsState s event t = KeepsSession s t × KeepsRequest s event t
@@ -66,17 +66,17 @@ KeepsNext s event (opens t) = KeepsState s event t
 KeepsNext s event (ends e) = Unit {0}
 KeepsNext s event (refuses e) = Unit {0}
 
--- what is handed out is the stored request's, and what is kept is as it was or an event's
+-- what is handed out belongs to the stored request, and what is kept is as it was or comes from the event
 abbrev pub Keeps : Kept → Event → Row → Type 0
 Keeps s event row = AllByRecursion (HandsStored s) row.records × KeepsNext s event row.next
 
--- no request is stored any more, or the session doesn't go on
+-- no request is stored any more, or the session is over
 abbrev pub SettledNext : Next → Type 0
 SettledNext (stays t) = t.method ≡ None
 SettledNext (opens t) = t.method ≡ None
 SettledNext next = Unit {0}
 
--- a row that keeps to it and asks nothing; or one question for the stored request, and then a row that settles it
+-- a row that satisfies this and asks nothing; or one question for the stored request, and then a row that settles it
 abbrev pub KeepsAsked : Kept → Event → Asking Row → Type 0
 KeepsAsked s event (done row) = Keeps s event row × SettledNext row.next
 KeepsAsked s event (asks asked on) = ⊥
@@ -406,7 +406,7 @@ turn_keeps : (s : OpeningState) (event : Event) (told : Told) (awaits : Bool) �
 turn_keeps s event told true = awaiting_keeps s event
 turn_keeps s event told false = event_keeps s event told
 
--- each row keeps to it
+-- each row satisfies it
 pub open_keeps : (s : OpeningState) (event : Event) (told : Told) → KeepsAsking (kept_of s) event (open_row s event told)
 unfolding open_row
 open_keeps s event told = cond_keeps (KeepsAsking (kept_of s) event) (is_out_of_turn s event) _ _ (tt, tt) (turn_keeps s event told (is_awaiting s.phase))

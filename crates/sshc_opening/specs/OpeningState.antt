@@ -26,7 +26,8 @@ pub record OpeningState : Type 0 where
   -- of the last request that was written
   pub class : Class
   pub ticket : Ticket
-  -- how many EXT_INFO came, the signature names of the last `server-sig-algs`, the names of extensions, and who waits for one
+  -- how many EXT_INFO came, the signature names of the last `server-sig-algs`, the names of extensions, and who waits
+  -- for one
   pub ext_infos : ℕ
   pub sig_algs : Option (List (List ℕ))
   pub seen : List (List ℕ)
@@ -63,7 +64,7 @@ start settings = record {
   closed = false;
 }
 
--- each later step answers Closed
+-- each later step returns `Closed`
 abbrev pub shut : OpeningState → OpeningState
 shut s = record s { closed = true }
 
@@ -73,7 +74,8 @@ is_awaiting phases.AwaitResponses = true
 is_awaiting phases.AwaitSignature = true
 is_awaiting phase = false
 
--- the class of a method, which says what packet 60 means (RFC 4252, section 7; RFC 4256, section 3.2; RFC 4462, section 3.3)
+-- the class of a method, which says what packet 60 means (RFC 4252, section 7; RFC 4256, section 3.2; RFC 4462, section
+-- 3.3)
 abbrev pub class_of : Method → Class
 class_of methods.None = classes.Plain
 class_of (methods.Password password) = classes.Plain

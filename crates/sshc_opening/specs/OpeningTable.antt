@@ -1,6 +1,7 @@
--- The opening table: a row for each event, by phase and flag (RFC 4252; RFC 4253, sections 7 and 10), in the order of its tests:
--- out of turn; the answers that are awaited; then by kind, packets by number and phase. By cases on plain data; each row has its
--- name in the code.
+-- The opening table: a row for each event, by phase and flag (RFC 4252; RFC 4253, sections 7 and 10), in the order of
+-- its tests:
+-- out of turn; the answers that are awaited; then by kind, packets by number and phase. By cases on plain data; each
+-- row has its name in the code.
 pub mod Order
 pub mod Exchange
 pub mod Transport
@@ -53,7 +54,7 @@ use Rattle.sshc_opening.specs.OpeningTable.Awaiting.{awaiting_row}
 
 -- ---- packets of phase Auth
 
--- 60 is another message for each class of method; to a plain method it says nothing
+-- 60 is another message for each class of method; for the other classes it only clears the stored method
 unfoldable pub answer_row : Class → OpeningState → List ℕ → Row
 answer_row classes.Prompts s body = info_request_row s body
 answer_row classes.Gssapi s body = gssapi_response_row s body
@@ -114,7 +115,7 @@ numbered_row s len number body =
     else (if waits_for_exchange number then held_packet_row s.flag s len number body
     else phase_packet_row s number body)))
 
--- an empty packet is passed over
+-- an empty packet is ignored
 unfoldable pub payload_row : OpeningState → List ℕ → Asking Row
 payload_row s [] = done (passed_over s)
 payload_row s (number ∷ body) = numbered_row s (length body + 1) number body
@@ -127,7 +128,7 @@ authenticate_row_in phases.Service s ticket user method = authenticate_first_row
 authenticate_row_in phases.Auth s ticket user method = authenticate_again_row s ticket user method
 authenticate_row_in phase s ticket user method = passed_over s
 
--- what needs an open session: channels are refused, and other questions denied
+-- what needs an open session: channels are refused, and other requests denied
 unfoldable pub unopened_row : OpeningState → Event → Row
 unopened_row s (events.ChannelOpenSession ticket) = refused NotAuthenticated
 unopened_row s (events.ChannelOpenX11 ticket address port) = refused NotAuthenticated
@@ -172,7 +173,7 @@ abbrev pub turn_row : Bool → OpeningState → Event → Told → Asking Row
 turn_row true s event told = done (awaiting_row s event)
 turn_row false s event told = event_row s event told (packet_in event)
 
--- the row of an event, with what the gate said, by what the signer answers
+-- the row of an event, with what the gate returned, by what the signer returns
 unfoldable pub open_row : OpeningState → Event → Told → Asking Row
 open_row s event told = if is_out_of_turn s event then done (refused OutOfTurn) else turn_row (is_awaiting s.phase) s event told
 
@@ -188,7 +189,7 @@ abbrev pub exchange_asks : Phase → ExchangeResult → Asks
 exchange_asks phases.Exchanging x = key_asked (host_key x.key)
 exchange_asks phase x = asking.Exchange
 
--- a banner asks where its row isn't refused
+-- a banner is passed to the gate if its row isn't refused
 abbrev pub banner_at_end : List ℕ → List ℕ → Asks
 banner_at_end banner [] = asking.Banner banner
 banner_at_end banner (b ∷ left) = asking.Nothing
@@ -223,7 +224,7 @@ event_asks s event = asking.Nothing
 unfoldable pub asked_of : OpeningState → Event → Asks
 asked_of s event = if s.closed then asking.Nothing else (if is_out_of_turn s event then asking.Nothing else event_asks s event)
 
--- what was told is an answer to what was asked
+-- what the gate returned fits what it was asked
 abbrev pub FitsAsked : Asks → Told → Type 0
 FitsAsked asking.Nothing told = told ≡ tells.NotAsked
 FitsAsked (asking.HostKey key) tells.NotAsked = ⊥

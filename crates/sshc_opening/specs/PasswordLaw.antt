@@ -1,4 +1,5 @@
--- A password is written at most as often as it was asked for (RFC 4252, section 8): a law above the table, for whoever runs it.
+-- A password is written at most as often as it was asked for (RFC 4252, section 8): a law about the table, independent
+-- of the code that runs it.
 use Rattle.std.proofs.Common.{◌≡◌, ◌≢◌, ◌≤◌, inl, inr, ℕ, ◌+◌, Bool, true, false, List, [], ◌∷◌, ◌++◌, length, drop, Option, Some, None, Result, Ok, Err, refl, ap, sym, ◌∙◌, subst, append_assoc, arith}
 use Rattle.std.specs.Prelude.{not, ◌==◌, ◌&&◌, nat_eq, nat_lt, if◌then◌else◌, bytes_eq, codes}
 use Rattle.std.specs.Int.{w32, to_be_bytes}
@@ -62,7 +63,7 @@ use Rattle.sshc_opening.specs.OpeningTable.User.{rekey_row, await_extension_info
 use Rattle.sshc_opening.specs.Passwords.{FitsIn, FitsRequest, HasShortUser, once_if, password_packet, times_asked, times_waiting, times_waiting_in, times_written}
 use Rattle.sshc_opening.specs.Row.{Row, Next, stays, opens, ends, refuses, refused, goes, passed_over, resolved, ends_at, with_part, broken_row}
 
--- ---- a request by key is no request by password
+-- ---- a request by key is not a request by password
 
 -- what follows a string at the front of two equal lists
 string_same : (a b x y : List ℕ) → IsShort a → IsShort b → string_text a ++ x ≡ string_text b ++ y → (a ≡ b) × (x ≡ y)
@@ -120,9 +121,9 @@ none_resolved packet ticket resolution = by (ticket.0 == 0)
     by true = refl
     by false = refl
 
--- ---- what is said of a row
+-- ---- what the law says of a row
 
--- how often it waits behind a row; where the session is over it stays as it was
+-- how often the packet waits after a row; as often as before if the session is over
 abbrev pub waits_next : List ℕ → OpeningState → Next → ℕ
 waits_next packet s (stays t) = times_waiting packet t
 waits_next packet s (opens t) = times_waiting packet t
@@ -135,7 +136,8 @@ FitsNext (opens t) = FitsRequest t
 FitsNext (ends e) = Unit {0}
 FitsNext (refuses e) = Unit {0}
 
--- the row writes the packet at most as often as it waited and is asked for, less where it waits then
+-- the packet is written at most as often as it waited before, plus as often as the event asks for it, minus as often as
+-- it waits afterwards
 abbrev pub Sound : List ℕ → OpeningState → Event → Row → Type 0
 Sound packet s event row = (times_written packet row.records + waits_next packet s row.next ≤ times_waiting packet s + times_asked packet event) × FitsNext row.next
 
@@ -171,11 +173,11 @@ none_waits : (packet : List ℕ) (phase : Phase) (user : List ℕ) → times_wai
 none_waits packet phases.Service user = refl
 none_waits packet phase user = refl
 
--- the method is taken out
+-- the method is cleared
 settled : (packet : List ℕ) (s : OpeningState) → FitsRequest s → Calm packet s (record s { method = None })
 settled packet s fits = (omega (arith, none_waits packet s.phase s.user), record { short = fits.short; handed = fits.handed; fresh = λ is. refl })
 
--- nothing waits behind phase Service
+-- no packet waits after phase Service
 in_auth : (packet : List ℕ) (s : OpeningState) → FitsRequest s → Calm packet s (record s { phase = phases.Auth })
 in_auth packet s fits = (omega arith, record { short = fits.short; handed = λ same. absurd cc; fresh = λ same. absurd cc })
 
@@ -322,7 +324,7 @@ exchange_quiet : (packet : List ℕ) (s : OpeningState) (x : ExchangeResult) (to
 exchange_quiet packet s x told phases.Exchanging is fits = first_quiet packet s x told is fits
 exchange_quiet packet s x told phase is fits = (refl, (omega arith, fits))
 
--- ---- what was handed out, and what stands behind the session id
+-- ---- what was handed out, and what follows the session id
 
 second_true : (a b : Bool) → (a && b) ≡ true → b ≡ true
 second_true true b is = is
@@ -530,7 +532,7 @@ module _ (user password : List ℕ) (short : IsShort user) where
       quiet_sound packet s (events.AuthInfoResponse responses) (info_response_row s responses) (none_responses responses, in_auth packet s fits)
   responses_sound s event fits = answered_sound s event (ticket_of event) answers.Dropped fits
 
-  -- what was handed out is a signed text, behind whose session id stands a request by key
+  -- what was handed out is a signed text, in which a request by key follows the session id
   signed_body : (s : OpeningState) (body : List ℕ) → is_signed s.handed body ≡ true → s.phase ≡ phases.AwaitSignature → FitsRequest s → times_written packet (records.Payload (behind_session_id s body) ∷ []) ≡ 0
   unfolding signed string_text
   signed_body s body is awaits fits =
@@ -577,7 +579,7 @@ module _ (user password : List ℕ) (short : IsShort user) where
   turn_sound s event told true is fits has = awaiting_sound s event is fits
   turn_sound s event told false is fits has = event_sound s event told fits has
 
-  -- each row keeps to it
+  -- each row satisfies it
   pub open_sound : (s : OpeningState) (event : Event) (told : Told) → FitsRequest s → HasShortUser event → Always (Sound packet s event) (open_row s event told)
   unfolding open_row
   open_sound s event told fits has = cond_holds (Always (Sound packet s event)) (is_out_of_turn s event) _ _ (omega arith, tt) (turn_sound s event told (is_awaiting s.phase) refl fits has)

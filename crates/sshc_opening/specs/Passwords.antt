@@ -1,5 +1,6 @@
--- How often a password is written (RFC 4252, section 8): a packet that asks for a user by a password is written at most as often as
--- events asked for it. No row of the table is named, so that an error made both in the table and in the code shows.
+-- How often a password is written (RFC 4252, section 8): a packet that asks for a user by a password is written at most
+-- as often as events asked for it. No row of the table is named, so that an error made both in the table and in the
+-- code shows.
 use Rattle.std.specs.Prelude.{◌≡◌, ◌≤◌, ◌+◌, ℕ, Bool, true, false, List, [], ◌∷◌, ◌++◌, Option, Some, None, bytes_eq}
 use Rattle.sshc_wire.specs.Wire.{IsShort}
 use Rattle.sshc_wire.specs.declared.hash_alg.HashAlg.{HashAlg}
@@ -45,9 +46,10 @@ times_waiting_in phase packet user method = 0
 abbrev pub times_waiting : List ℕ → OpeningState → ℕ
 times_waiting packet s = times_waiting_in s.phase packet s.user s.method
 
--- ---- what every state that a session comes to is like
+-- ---- what holds in every state that a session reaches
 
--- what is handed out to be signed is the signed text of a key, and before the first exchange is done no request is stored
+-- what is handed out to be signed is the signed text of a key, and before the first exchange is done no request is
+-- stored
 pub record FitsIn (phase : Phase) (session_id user : List ℕ) (method : Option Method) (bytes : List ℕ) : Type 0 where
   pub short : IsShort user
   pub handed : phase ≡ phases.AwaitSignature → (key : Key) × (hash : Option HashAlg) × (bytes ≡ signed session_id user key hash)
@@ -61,9 +63,10 @@ abbrev pub HasShortUser : Event → Type 0
 HasShortUser (Authenticate ticket user method) = IsShort user
 HasShortUser event = Unit {0}
 
--- ---- what a step keeps to
+-- ---- what a step satisfies
 
--- what was added has the packet at most as often as it waited and was asked for, less where it waits now
+-- the packet was added at most as often as it waited before, plus as often as the event asked for it, minus as often as
+-- it waits now
 abbrev pub WritesAsAsked : List ℕ → Event → Lent → Lent → Type 0
 WritesAsAsked packet event was is =
     (more : List Record) × (is.outbox.records ≡ was.outbox.records ++ more)

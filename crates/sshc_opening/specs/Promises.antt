@@ -11,31 +11,33 @@ use Rattle.sshc_opening.specs.Row.{Steps}
 use Rattle.sshc_opening.specs.SessionWords.{KeepsTo}
 use Rattle.sshc_opening.specs.Stepping.{Lent, LentGate, GateAnswers, span_of, gained, StaysClosed, StepsBy, SignerGrows, GateKeeps}
 
--- the rest of an event's row, with what the gate said
+-- the rest of an event's row, with what the gate returned
 pub record Applied (told : Told) (event : Event) (was is : Lent) (result : Step Error) : Type 0 where
   pub closed : StaysClosed was is result
   -- the row of the table
   pub row : was.opening.closed ≡ false → Steps (open_row was.opening event told) (gained was is) (span_of was is) result
-  -- a refusal's cause, by the opening and the event alone; the signer's fault only where its count rose
+  -- a refusal's cause, by the opening and the event alone; `SignerFault` only if the signer's count of refusals rose
   pub cause : HasCause told event was is result
   pub signer : SignerGrows was.calls is.calls was.refusals is.refusals
 
--- a step with a gate that is the table's; the gate's answers are those that its relations allow
+-- a step with a gate, by the table; the gate's results are those that its relations allow
 pub record ByTable {E : Type 0} (gate : GateAnswers E) (event : Event) (was is : LentGate) (result : Step E) : Type 0 where
   pub closed : StaysClosed was.rest is.rest result
-  -- the row of the table, with what the gate said
+  -- the row of the table, with what the gate returned
   pub row : was.rest.opening.closed ≡ false → StepsBy gate event was.rest is.rest result
-  -- a refusal's cause, by the opening and the event alone, the signer's fault only where its count rose; or the gate's refusal
+  -- a refusal's cause, by the opening and the event alone, `SignerFault` only if the signer's count of refusals rose;
+  -- or the gate's refusal
   pub cause : HasGateCause gate event was is result
   pub signer : SignerGrows was.rest.calls is.rest.calls was.rest.refusals is.rest.refusals
   pub keeps : GateKeeps was.refusals is.refusals was.setting is.setting
 
--- the same, and what each step keeps to, apart from the table
+-- the same, and what each step satisfies, stated apart from the table
 pub record Stepped {E : Type 0} (gate : GateAnswers E) (event : Event) (was is : LentGate) (result : Step E) : Type 0 where
   pub closed : StaysClosed was.rest is.rest result
-  -- the row of the table, with what the gate said
+  -- the row of the table, with what the gate returned
   pub row : was.rest.opening.closed ≡ false → StepsBy gate event was.rest is.rest result
-  -- a refusal's cause, by the opening and the event alone, the signer's fault only where its count rose; or the gate's refusal
+  -- a refusal's cause, by the opening and the event alone, `SignerFault` only if the signer's count of refusals rose;
+  -- or the gate's refusal
   pub cause : HasGateCause gate event was is result
   pub signer : SignerGrows was.rest.calls is.rest.calls was.rest.refusals is.rest.refusals
   pub keeps : GateKeeps was.refusals is.refusals was.setting is.setting

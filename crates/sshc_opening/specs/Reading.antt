@@ -1,4 +1,4 @@
--- What a reader of a part that is kept leaves: the part and the bytes behind it, the fault of the packet, or no memory.
+-- What reading a part that is stored results in: the part and the bytes after it, the packet's error, or out of memory.
 use Rattle.std.specs.Prelude.{◌≡◌, ◌⊎◌, ℕ, List, Result, Ok, Err}
 use Rattle.sshc_wire.specs.declared.error.WireError.{WireError}
 use Rattle.sshc_opening.specs.declared.error.Error.{Error}

@@ -1,5 +1,6 @@
 -- What one row of the opening table returns, and what a call that follows it does.
--- A row is plain data: records, and what becomes of the opening. Where the signer is asked, the row depends on its answer.
+-- A row is plain data: records, and what becomes of the opening. Where the signer is asked, the row depends on its
+-- answer.
 use Rattle.std.specs.Prelude.{◌≡◌, ◌⊎◌, ◌≤◌, ℕ, Bool, Some, None, List, [], ◌∷◌, ◌++◌, if◌then◌else◌, ◌==◌, Result, Ok, Err}
 use Rattle.std.specs.Int.{w32}
 use Rattle.sshc_wire.specs.Faults.{Rose}
@@ -33,7 +34,7 @@ pub record Row : Type 0 where
   pub records : List Record
   pub next : Next
 
--- ---- the table's own words
+-- ---- the table's own vocabulary
 
 -- records are added, and the opening goes on from a state
 abbrev pub goes : List Record → OpeningState → Row
@@ -46,11 +47,11 @@ passed_over s = goes [] s
 abbrev pub refused : Error → Row
 refused e = record { records = []; next = refuses e }
 
--- the record that ends a ticket; ticket 0 gets none
+-- the record that resolves a ticket; no record for ticket 0
 abbrev pub resolved : Ticket → Resolution → List Record
 resolved ticket resolution = if ticket.0 == 0 then [] else Resolved ticket resolution ∷ []
 
--- it goes on with the part at the front, and what follows it; where the part is short or isn't text it is broken
+-- continues with the part at the front and the bytes after it; where the part is short or isn't text, it is `broken`
 abbrev pub with_part : {A B : Type 0} → B → Result (A × List ℕ) WireError → (A → List ℕ → B) → B
 with_part broken (Ok x) on = on x.0 x.1
 with_part broken (Err e) on = broken
@@ -73,14 +74,14 @@ reads_number body row = with_part broken_row (number_at w32 body) row
 abbrev pub reads_boolean : List ℕ → (Bool → List ℕ → Row) → Row
 reads_boolean body row = with_part broken_row (boolean_at body) row
 
--- nothing is left over
+-- no bytes remain
 abbrev pub ends_at : List ℕ → Row → Row
 ends_at [] row = row
 ends_at (b ∷ rest) row = broken_row
 
 -- ---- what a call does
 
--- what a call of the opening is lent and leaves
+-- the opening and the outbox before and after a call
 pub record Span : Type 0 where
   pub before : OpeningState
   pub after : OpeningState
@@ -90,11 +91,11 @@ pub record Span : Type 0 where
 abbrev pub span : OpeningState → OpeningState → Outgoing → Outgoing → Span
 span before after old new = record { before = before; after = after; old = old; new = new }
 
--- the records were added behind what was there, but for packets that a muted outbox drops
+-- the records were added after those that were there, except packets that a muted outbox drops
 abbrev pub Adds : List Record → Span → Type 0
 Adds records s = (s.new.records ≡ s.old.records ++ shown s.old.muted records) × (s.new.muted ≡ s.old.muted)
 
--- a call followed a row. An end or a refusal leaves the opening; out of memory adds nothing.
+-- a call followed a row. An end or a refusal leaves the opening unchanged; out of memory adds no records.
 abbrev pub Follows : Row → Span → Result Flow Error → Type 0
 Follows row s (Ok flows.Went) = Adds row.records s × (row.next ≡ stays s.after)
 Follows row s (Ok flows.Opened) = Adds row.records s × (row.next ≡ opens s.after)
@@ -110,18 +111,18 @@ pub record SignerAt : Type 0 where
 abbrev pub signer_at : List SignCall → ℕ → SignerAt
 signer_at calls refusals = record { calls = calls; refusals = refusals }
 
--- the signer kept one call more, with its answer; its count never falls, and rose where it refused
+-- the signer's list gained one call, with its answer; its count never falls, and rose if it refused
 pub record KeepsAnswer (asked : SignRequest) (answer : Answer) (was is : SignerAt) : Type 0 where
   pub call : is.calls ≡ was.calls ++ call_of asked answer ∷ []
   pub later : was.refusals ≤ is.refusals
   pub rose : answer ≡ None → Rose was.refusals is.refusals
 
--- memory ran out, and nothing was added
+-- memory ran out, and no records were added
 abbrev pub RanOut : SignerAt → SignerAt → Span → Result Flow Error → Type 0
 RanOut was is s result = (is.calls ≡ was.calls) × (was.refusals ≤ is.refusals) × (result ≡ Err errors.NoMemory) × (s.after ≡ s.before) × Adds [] s
 
--- the same of a row that may ask the signer: each question in turn, and then the row of the answers. Memory may run out before
--- each of the calls.
+-- the same of a row that may ask the signer: each question in turn, and then the row of the answers. Memory may run out
+-- before each of the calls.
 abbrev pub FollowsAsking : Asking Row → SignerAt → SignerAt → Span → Result Flow Error → Type 0
 FollowsAsking (done row) was is s result = (is ≡ was) × Follows row s result
 FollowsAsking (asks asked on) was is s result =
@@ -132,7 +133,7 @@ FollowsAsking (asks asked on) was is s result =
 abbrev pub Did : Asking Row → Row → List SignCall → Span → Type 0
 Did asking row gained s = Makes asking gained row × Adds row.records s
 
--- a step followed the row. Where it doesn't go on, each later step returns Closed.
+-- a step followed the row. Unless it returns `Went`, each later step returns `Closed`.
 abbrev pub Steps : Asking Row → List SignCall → Span → Step Error → Type 0
 Steps asking gained s steps.Went = (row : Row) × Did asking row gained s × (row.next ≡ stays s.after)
 Steps asking gained s steps.Opened = (row : Row) × (to : OpeningState) × Did asking row gained s × (row.next ≡ opens to) × (s.after ≡ shut to)

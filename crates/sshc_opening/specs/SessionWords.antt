@@ -1,6 +1,6 @@
--- What each step of the opening keeps to, in the session's own words (RFC 4252, section 7; RFC 4253, sections 7, 8 and 10):
--- the first exchange, the session id, what is signed, and whose request is stored. No row of the table is named, so that an
--- error made both in the table and in the code shows.
+-- What each step of the opening satisfies, stated in terms of the session (RFC 4252, section 7; RFC 4253, sections 7, 8
+-- and 10): the first exchange, the session id, what is signed, and whose request is stored. No row of the table is
+-- named, so that an error made both in the table and in the code shows.
 use Rattle.std.specs.Prelude.{◌≡◌, ◌≢◌, ◌⊎◌, ℕ, Bool, true, false, List, [], ◌∷◌, ◌++◌, Option, Some, None, Result, Ok}
 use Rattle.std.specs.List.{AllByRecursion}
 use Rattle.sshc_wire.specs.Records.{IsPayload}
@@ -30,7 +30,7 @@ use Rattle.sshc_opening.specs.Stepping.{Lent, GateAnswers, gained}
 
 -- ---- records that were added
 
--- of all that a step added this holds
+-- this holds of every record that a step added
 abbrev pub AddsOnly : (Record → Type 0) → Lent → Lent → Type 0
 AddsOnly P was is = (more : List Record) × (is.outbox.records ≡ was.outbox.records ++ more) × AllByRecursion P more
 
@@ -56,7 +56,7 @@ pub record IsFirst (s : OpeningState) : Type 0 where
   pub runs : s.flag ≢ flags.Idle
   pub fresh : s.closed ≡ false
 
--- it goes on running, or the session is over
+-- it is still running, or the session is over
 abbrev pub GoesOnFirst : {E : Type 0} → OpeningState → Step E → Type 0
 GoesOnFirst s steps.Went = IsFirst s
 GoesOnFirst s steps.Opened = ⊥
@@ -71,18 +71,19 @@ pub record AcceptsFirst {E : Type 0} (gate : GateAnswers E) (event : Event) (s :
   pub accepted : gate.judges key (Ok true)
   pub session_id : s.session_id ≡ exchange.session_hash
 
--- while the first exchange runs no packet is written, and the session goes on behind it only by a host key that the gate accepts
+-- while the first exchange runs no packet is written, and the session gets past it only with a host key that the gate
+-- accepts
 pub record KeepsFirst {E : Type 0} (gate : GateAnswers E) (event : Event) (was is : Lent) (result : Step E) : Type 0 where
   pub unwritten : AddsOnly IsNoPacket was is
   pub behind : GoesOnFirst is.opening result ⊎ AcceptsFirst gate event is.opening
 
--- behind the first exchange the session id stays, and no first exchange comes again
+-- after the first exchange the session id stays, and no first exchange comes again
 abbrev pub KeepsSession : Kept → OpeningState → Type 0
 KeepsSession s t = s.phase ≢ phases.Exchanging → (t.session_id ≡ s.session_id) × (t.phase ≢ phases.Exchanging)
 
 -- ---- what is signed
 
--- the bytes are the signed text of the session id, the user and the key of the stored request, of which the pair is at hand
+-- the bytes are the signed text of the session id, the user and the key of the stored request, whose pair is local
 abbrev pub SignsStored : Option Method → Kept → KeyPair → Option HashAlg → List ℕ → Type 0
 SignsStored (Some (methods.PublicKey key)) s pair hash bytes = (pair ≡ key.0) × (hash ≡ key.1) × (bytes ≡ signed s.session_id s.user key.0.public.0 key.1)
 SignsStored (Some (methods.OpenSshCertificate key cert)) s pair hash bytes = (pair ≡ key) × (hash ≡ None) × (bytes ≡ signed s.session_id s.user cert None)
@@ -124,7 +125,7 @@ Stores event t = ⊥
 abbrev pub KeepsRequest : Kept → Event → OpeningState → Type 0
 KeepsRequest s event t = ((t.user ≡ s.user) × ((t.method ≡ s.method) ⊎ (t.method ≡ None))) ⊎ Stores event t
 
--- ---- what a step keeps to
+-- ---- what a step satisfies
 
 pub record KeepsTo {E : Type 0} (gate : GateAnswers E) (event : Event) (was is : Lent) (result : Step E) : Type 0 where
   -- no packet before the host key of the first exchange is accepted

@@ -1,5 +1,5 @@
--- The names of signatures that are kept of a server's list (RFC 8308, section 3.1; RFC 8332, section 3): those of the known
--- algorithms of keys, RSA's with SHA-2, and names with a domain; no certificate's name (RFC 4251, section 6).
+-- The signature names that are kept of a server's list (RFC 8308, section 3.1; RFC 8332, section 3): the names of the
+-- known algorithms of keys, RSA's with SHA-2, and names with a domain; no certificate's name (RFC 4251, section 6).
 -- By the grammar of algorithms' names; the code tests parts of a name.
 use Rattle.std.specs.Prelude.{ℕ, Bool, ◌||◌, List, [], ◌∷◌, ◌++◌, map, codes, bytes_eq}
 use Rattle.std.specs.List.{list_any}

@@ -1,6 +1,8 @@
--- Over many steps (RFC 4252, section 7): all that the session asks the signer is the signed text of one session id and of the user
--- and key of a request that an earlier event asked for, and there are at most as many questions as requests.
--- Steps in a row, each from the state that the one before left. Whoever runs them shows of each what `step` promises of it.
+-- Over many steps (RFC 4252, section 7): all that the session asks the signer to sign is the signed text of one session
+-- id and of the user and key of a request that an earlier event asked for, and there are at most as many calls as
+-- requests.
+-- Steps that follow one another, each from the state after the one before. Whoever runs them shows for each what `step`
+-- promises.
 use Rattle.std.proofs.Common.{◌≡◌, ◌≢◌, ◌⊎◌, ◌≤◌, ◌+◌, inl, inr, ℕ, Bool, true, false, List, [], ◌∷◌, ◌++◌, length, length-append, Option, Some, None, refl, sym, ◌∙◌, subst, arith}
 use Rattle.std.specs.Prelude.{if◌then◌else◌}
 use Rattle.std.specs.List.{AllByRecursion}
@@ -20,7 +22,7 @@ use Rattle.sshc_opening.specs.SessionWords.{Kept, kept_of, HandsCertificate, Han
 
 -- ---- steps in a row
 
--- a step's event, the calls that the signer's list gained, and the state that is left
+-- a step's event, the calls that the signer's list gained, and the state afterwards
 pub record Taken : Type 0 where
   pub event : Event
   pub calls : List SignCall
@@ -121,7 +123,8 @@ asked_next s event past t asked (inl (user, inl method)) = rw (user, method) (as
 asked_next s event past t asked (inl (user, inr none)) = rw none tt
 asked_next s event past t asked (inr stores) = asked_now event past t stores
 
--- behind the first exchange each call of the session is for the signed text of its hash and of a request that was asked for
+-- after the first exchange each call of the session is for the signed text of its hash and of a request that was asked
+-- for
 pub all_signed : (id : List ℕ) (past : List Event) (s : OpeningState) (xs : List Taken) → s.phase ≢ phases.Exchanging → s.session_id ≡ id → IsAskedFor past s.user s.method → InRow s xs → AllSigned id past xs
 all_signed id past s [] later is asked row = tt
 all_signed id past s (x ∷ xs) later is asked (keeps, row) =
@@ -136,7 +139,7 @@ abbrev pub all_calls : List Taken → List SignCall
 all_calls [] = []
 all_calls (x ∷ xs) = x.calls ++ all_calls xs
 
--- how often it is asked to authenticate
+-- 1 for an event that asks to authenticate, 0 for any other
 abbrev pub is_request : Event → ℕ
 is_request (events.Authenticate ticket user method) = 1
 is_request event = 0
@@ -149,7 +152,7 @@ abbrev stored_in : Option Method → ℕ
 stored_in None = 0
 stored_in (Some method) = 1
 
--- whether a request is stored in a session that isn't over
+-- 1 if a request is stored in a session that isn't over, else 0
 abbrev pub stored_by : Bool → Option Method → ℕ
 stored_by true method = 0
 stored_by false method = stored_in method

@@ -1,4 +1,4 @@
--- What the calls do that sign a stored request: a row of which the opening's change is still to be made.
+-- What the calls that sign a stored request do: a row whose change of the opening is made afterwards.
 use Rattle.std.specs.Prelude.{◌≡◌, ℕ, List, [], Option, Some, None, Result, Ok, Err, Vec}
 use Rattle.std.specs.declared.alloc.Global.{Global}
 use Rattle.sshc_wire.specs.Outgoing.{Outgoing}
@@ -15,12 +15,12 @@ use Rattle.sshc_opening.specs.OpeningState.{OpeningState}
 use Rattle.sshc_opening.specs.OpeningTable.AuthKey.{taken, signed_by_row}
 use Rattle.sshc_opening.specs.Row.{Row, Span, Adds, Follows, span}
 
--- bytes that were handed out are kept until the answer comes; the method is taken out
+-- bytes that were handed out are kept until the answer comes; the method is cleared
 abbrev pub signing_leaves : OpeningState → Option (List ℕ) → OpeningState
 signing_leaves s None = taken s
 signing_leaves s (Some bytes) = record (taken s) { phase = AwaitSignature; handed = bytes }
 
--- the opening that is left, and the flow
+-- the opening afterwards
 abbrev pub leaves : OpeningState → Result (Option (List ℕ)) Error → OpeningState
 leaves s (Ok handed) = signing_leaves s handed
 leaves s (Err e) = s
@@ -36,7 +36,7 @@ signing_span s old new result = span s (leaves s result) old new
 abbrev pub Handed : Row → OpeningState → Outgoing → Outgoing → Result (Option (List ℕ)) Error → Type 0
 Handed row s old new result = Follows row (signing_span s old new result) (flow_of result)
 
--- by what the signer answered: the row of that answer, or it found no memory
+-- by what the signer returned: the row of that answer, or out of memory
 abbrev pub SignedBy : OpeningState → Key → Option HashAlg → Result (Vec ℕ Global) SignRefused → Outgoing → Outgoing → Result (Option (List ℕ)) Error → Type 0
 SignedBy s key hash (Ok signature) old new result = Handed (signed_by_row s key hash (Some signature.items)) s old new result
 SignedBy s key hash (Err refusals.Refused) old new result = Handed (signed_by_row s key hash None) s old new result

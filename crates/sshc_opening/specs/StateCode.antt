@@ -1,4 +1,4 @@
--- The codes by which proofs tell methods and states apart; nothing else depends on them.
+-- The codes by which proofs distinguish methods and states; nothing else depends on them.
 use Rattle.std.specs.Coded.{Coded, codes}
 use Rattle.sshc_key.specs.KeyCode.{key_code}
 use Rattle.sshc_key.specs.PairCode.{key_pair_code}

@@ -1,5 +1,6 @@
--- What a step does with a gate: the gate is asked what the event's row asks, and the row follows what it was told.
--- The gate's answers are whatever its relations allow; the code calls it in between.
+-- What a step does with a gate: the gate is asked what the event's row asks, and the row depends on what the gate
+-- returned.
+-- The gate's results are whatever its relations allow; the code calls it in between.
 use Rattle.std.specs.Prelude.{◌≡◌, ◌≤◌, ◌⊎◌, ℕ, Bool, true, false, List, ◌++◌, Option, Some, None, Result, Ok, Err}
 use Rattle.std.specs.List.{AllByRecursion}
 use Rattle.sshc_wire.specs.declared.record.Record.{Record}
@@ -55,10 +56,10 @@ pub record LentGate : Type 0 where
 abbrev pub with_gate : Lent → ℕ → List (List ℕ) → LentGate
 with_gate rest refusals setting = record { rest = rest; refusals = refusals; setting = setting }
 
--- ---- what a gate may answer
+-- ---- what a gate may return
 
--- the relations of a gate: how an error of the opening is told, what it may answer for a host key, and what it may answer and add
--- when it is told of an exchange, by its secret and its names, or of a banner, by its text
+-- the relations of a gate: how it reports an error of the opening, what it may return for a host key, and what it may
+-- return and add for an exchange, by its secret and its names, or for a banner, by its text
 pub record GateAnswers (E : Type 0) : Type 1 where
   pub told_as : Error → E
   pub judges : PublicKeyOrCertificate → Result Bool E → Type 0
@@ -78,23 +79,23 @@ abbrev pub exchange_in : Event → Option ExchangeResult
 exchange_in (ExchangeDone x) = Some x
 exchange_in event = None
 
--- what a gate may answer that is told of an exchange
+-- what a gate may return and add when its `kex_done` is called
 abbrev pub told_of : {E : Type 0} → GateAnswers E → Option ExchangeResult → Result (Unit {0}) E → List Record → Type 0
 told_of gate (Some x) answer more = gate.tells x.secret x.names answer more
 told_of gate None answer more = ⊥
 
--- a gate that was told let the row go on, or refused
+-- a gate that was notified let the row continue, or refused
 abbrev pub Tells : {E : Type 0} → (Result (Unit {0}) E → List Record → Type 0) → Outgoing → Outgoing → Result Told E → Type 0
 Tells tells old new (Ok told) = (told ≡ telling.Went) × ((u : Unit {0}) × Adds tells old new (Ok u))
 Tells tells old new (Err e) = Adds tells old new (Err e)
 
--- by what the gate said of the host key: it is told of the exchange where it accepts the key
+-- by the gate's verdict on the host key: its `kex_done` is called if it accepts the key
 abbrev pub Judged : {E : Type 0} → (Result (Unit {0}) E → List Record → Type 0) → Outgoing → Outgoing → Result Told E → Result Bool E → Type 0
 Judged tells old new result (Ok true) = Tells tells old new result
 Judged tells old new result (Ok false) = (result ≡ Ok telling.No) × (new ≡ old)
 Judged tells old new result (Err e) = (result ≡ Err e) × (new ≡ old)
 
--- by what the row asks, what was told and added
+-- by what the row asks: what the gate returned and added
 abbrev pub Answered : {E : Type 0} → GateAnswers E → Option ExchangeResult → Outgoing → Outgoing → Result Told E → Asks → Type 0
 Answered gate x old new result asking.Nothing = (result ≡ Ok telling.NotAsked) × (new ≡ old)
 Answered {E = E} gate x old new result (asking.HostKey key) = (verdict : Result Bool E) × gate.judges key verdict × Judged (told_of gate x) old new result verdict
@@ -109,7 +110,7 @@ HasExchange asks x = Unit {0}
 
 -- ---- the step
 
--- a step's answer, with its error as a gate tells it
+-- a step's result, with its error as a gate reports it
 abbrev pub map_step : {E : Type 0} → (Error → E) → Step Error → Step E
 map_step told_as steps.Went = steps.Went
 map_step told_as steps.Opened = steps.Opened
@@ -121,20 +122,21 @@ map_step told_as steps.Closed = steps.Closed
 abbrev pub GateRefused : {E : Type 0} → E → Lent → Lent → Step E → Type 0
 GateRefused e was is result = (result ≡ steps.Refused e) × (is.opening ≡ shut was.opening) × (is.outbox ≡ was.outbox) × (is.calls ≡ was.calls)
 
--- by what was told: the step is the row's, with its error as the gate tells it, or the gate refused
+-- by what the gate returned: the step is the row's, with its error as the gate reports it, or the gate refused
 abbrev pub StepsTold : {E : Type 0} → GateAnswers E → Event → Lent → Lent → Step E → Result Told E → Type 0
 StepsTold gate event was is result (Ok told) =
     (answer : Step Error) × (result ≡ map_step gate.told_as answer) × Steps (open_row was.opening event told) (gained was is) (span_of was is) answer
 StepsTold gate event was is result (Err e) = GateRefused e was is result
 
--- memory ran out before the gate was asked; or it was asked what the row asks, and the row follows what it added
+-- memory ran out before the gate was asked; or it was asked what the row asks, and the row's records follow those it
+-- added
 abbrev pub StepsBy : {E : Type 0} → GateAnswers E → Event → Lent → Lent → Step E → Type 0
 StepsBy {E = E} gate event was is result =
     GateRefused (gate.told_as NoMemory) was is result
     ⊎ ((told : Result Told E) × (mid : Outgoing) × Answered gate (exchange_in event) was.outbox mid told (asked_of was.opening event)
     × StepsTold gate event (record was { outbox = mid }) is result told)
 
--- a closed opening answers Closed, nothing changes, and the signer isn't asked
+-- a closed opening returns `Closed`, nothing changes, and the signer isn't asked
 abbrev pub StaysClosed : {E : Type 0} → Lent → Lent → Step E → Type 0
 StaysClosed was is result =
     (was.opening.closed ≡ true) → (result ≡ steps.Closed) × (is.opening ≡ was.opening) × (is.outbox ≡ was.outbox) × (is.calls ≡ was.calls)

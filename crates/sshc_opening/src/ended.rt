@@ -1,4 +1,4 @@
-//! How a session ends where nothing refuses it.
+//! How a session ends without an error.
 
 use sshc_wire::{Disconnect, Text};
 
@@ -19,6 +19,6 @@ pub enum Ended {
     Disconnected,
     /// No user is left.
     Closed,
-    /// The script that was run is at its end. A step never answers so.
+    /// The script that was run is at its end. A step never returns this.
     ScriptEnd,
 }

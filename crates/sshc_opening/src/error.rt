@@ -7,7 +7,7 @@ use sshc_wire::{ChannelOpenFailure, NoMemory, WireError};
 use std::alloc::{AllocError, AllocFailed};
 use thiserror::Error as StdError;
 
-/// Why a session is refused. Each comes by its cause; the last five are answers of the handle alone.
+/// Why a session is refused. The last five variants are returned only by the handle.
 #[derive(Clone, Copy, Debug, PartialEq, Eq, StdError)]
 pub enum Error {
     /// Memory ran out.
@@ -22,7 +22,7 @@ pub enum Error {
     /// The transport failed.
     #[error("TransportFailed")]
     TransportFailed,
-    /// The host key is missing, or nobody knows it.
+    /// The host key is missing, or it wasn't accepted.
     #[error("UnknownKey")]
     UnknownKey,
     /// The peer sent a packet that its state doesn't allow.
@@ -31,7 +31,7 @@ pub enum Error {
     /// Too many bytes came while an exchange runs.
     #[error("Pending")]
     Pending,
-    /// The server names no method that is known.
+    /// The server names no known method.
     #[error("NoAuthMethod")]
     NoAuthMethod,
     /// A channel was asked for before the session is open.

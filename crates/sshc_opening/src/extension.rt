@@ -20,27 +20,27 @@ pub const MOST_EXT_INFOS: u32 = 2;
 /// The fewest bytes of an extension: two strings that are empty.
 pub const LEAST_EXTENSION: u32 = 8;
 
-/// An extension of the server: its name and, where it is `server-sig-algs`, the names in its list that are known.
+/// An extension of the server: its name and, if it is `server-sig-algs`, the known names in its list.
 #[derive(Debug, Drop)]
 pub struct Extension {
     pub name: Text,
     pub sig_algs: Option<List<Text>>,
 }
 
-/// What the extensions so far have come to.
+/// The state after the extensions so far.
 #[derive(Debug, Drop)]
 pub struct Announced {
     /// The names of the last `server-sig-algs`.
     pub sig_algs: Option<List<Text>>,
     /// The names of the extensions.
     pub seen: List<Text>,
-    /// Who still waits for one.
+    /// Those who still wait for an extension.
     pub waiters: List<Waiter>,
     /// The answers to those who don't wait any more.
     pub answers: List<Record>,
 }
 
-/// The names that are known, in their order.
+/// The known names, in their order.
 fn known_names(alloc: Global, names: Names<'_>) -> Result<List<Text>, NoMemory>
     ensures { IfOk result (λ l. l ≡ filter is_signature_name names.entry) }
 {
@@ -76,7 +76,7 @@ fn read_extension(alloc: Global, packet: &mut Cursor<'_>) -> Result<Extension, E
     }
 }
 
-/// So many extensions.
+/// Reads `n` extensions.
 fn read_so_many(alloc: Global, packet: &mut Cursor<'_>, n: u32) -> Result<List<Extension>, Error>
     ensures { ReadsOr (times_at n extension_at packet.old) packet.new result }
 {
@@ -90,8 +90,8 @@ fn read_so_many(alloc: Global, packet: &mut Cursor<'_>, n: u32) -> Result<List<E
     Ok(extensions)
 }
 
-/// The number of extensions and the extensions. A number that the bytes behind it can't hold is refused before anything
-/// is allocated for it.
+/// Reads the number of extensions and the extensions. A number that is too large for the remaining bytes is refused
+/// before anything is allocated for it.
 #[tactic(auto, unfolding(crate::specs::Extensions::extensions_at, sshc_wire::specs::Counted::counted_at))]
 pub fn read_extensions(alloc: Global, packet: &mut Cursor<'_>) -> Result<List<Extension>, Error>
     ensures { ReadsOr (extensions_at packet.old) packet.new result }
@@ -103,7 +103,7 @@ pub fn read_extensions(alloc: Global, packet: &mut Cursor<'_>) -> Result<List<Ex
     read_so_many(alloc, packet, n)
 }
 
-/// Tells who waited that the extension was seen.
+/// Adds the record that resolves a waiter's ticket.
 fn answer(ticket: Ticket, answers: &mut List<Record>) -> Result<(), NoMemory>
     ensures { OnOk result (answers.new ≡ answers.old ++ resolved ticket ExtInfoSeen) }
 {
@@ -113,7 +113,7 @@ fn answer(ticket: Ticket, answers: &mut List<Record>) -> Result<(), NoMemory>
     }
 }
 
-/// Answers those who wait for this extension, and returns the others.
+/// Resolves the tickets of those who wait for this extension, and returns the other waiters.
 fn answer_waiters(
     waiters: List<Waiter>,
     name: &str,

@@ -1,4 +1,4 @@
-//! Who judges host keys, and is told how the opening goes.
+//! The gate: it judges host keys, and is notified of key exchanges and banners.
 
 ghost use Rattle.std.specs.Prelude.{◌≡◌, ◌≤◌, ℕ, List, Option, Result, Bool, OnErr, option_copied};
 ghost use Rattle.sshc_wire.specs.Faults.{Rose};
@@ -13,24 +13,23 @@ use sshc_key::PublicKeyOrCertificate;
 use sshc_transport::NamesChosen;
 use sshc_wire::Outbox;
 
-/// Judges the host key of the first exchange, and is told of exchanges and banners.
+/// Judges the host key of the first exchange, and is notified of key exchanges and banners.
 pub trait Gate {
     type Error;
 
-    /// What the gate judges by, which each call keeps.
+    /// What the gate judges by; no call changes it.
     ghost setting: { Self → List (List ℕ) };
 
-    /// The answers that a gate may give for a host key.
+    /// What `check_server_key` may return for a host key.
     ghost judges: { Self → HostKey → Result Bool Self.Error → Type 0 };
 
-    /// What a gate may answer that is told of an exchange, by its secret and its names, and the answers to tickets that
-    /// it then adds.
+    /// What `kex_done` may return for an exchange's secret and names, and the answers to tickets that it then adds.
     ghost tells: { Option (List ℕ) → Names → Result (Unit {0}) Self.Error → List Said → Type 0 };
 
-    /// The same of a banner, by its text.
+    /// The same for `auth_banner`, by the banner's text.
     ghost tells_banner: { List ℕ → Result (Unit {0}) Self.Error → List Said → Type 0 };
 
-    /// How an error of the opening is told.
+    /// The gate's error for an error of the opening.
     ghost told_as: { Refusal → Self.Error };
 
     /// How often the gate has refused.
@@ -62,7 +61,7 @@ pub trait Gate {
         ensures later { refusals self.old ≤ refusals self.new }
         ensures kept { setting self.new ≡ setting self.old };
 
-    /// How an error of the opening is answered.
+    /// The gate's error for an error of the opening.
     fn from_auth(e: Error) -> Self::Error
         ensures { result ≡ told_as e };
 }

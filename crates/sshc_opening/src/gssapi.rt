@@ -1,4 +1,4 @@
-//! Who authenticates the user by GSSAPI for a login (RFC 4462, section 3).
+//! Authenticates the user by GSSAPI for a login (RFC 4462, section 3).
 
 ghost use Rattle.std.specs.Prelude.{◌≤◌, ℕ, OnErr};
 ghost use Rattle.sshc_wire.specs.Faults.{Rose};
@@ -12,7 +12,7 @@ pub enum GssapiStep {
     Continue {
         token: Octets,
     },
-    /// The context is established: a last token, if there is one, and the MIC, where integrity is at hand (RFC 4462,
+    /// The context is established: a last token, if there is one, and the MIC, if integrity is available (RFC 4462,
     /// section 3.5); without a MIC the exchange is complete (section 3.6).
     Complete {
         token: Option<Octets>,
@@ -39,9 +39,9 @@ pub trait GssapiAuthenticator {
 
     ghost refusals: { Self → ℕ };
 
-    /// The next step: at first with the mechanism that the server chose and no token, then with the server's tokens. The
-    /// bytes are those of which a MIC is made (RFC 4462, section 3.5). Each error is a refusal that is counted, also out
-    /// of memory.
+    /// The next step: at first with the mechanism that the server chose and no token, then with the server's tokens.
+    /// The bytes are those of which a MIC is made (RFC 4462, section 3.5). Each error is a refusal that is counted,
+    /// also out of memory.
     fn gssapi_step(
         &mut self,
         selected_mechanism: Option<Octets>,

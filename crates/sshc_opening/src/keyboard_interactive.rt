@@ -1,17 +1,18 @@
-//! What a login by prompts comes to.
+//! The result of a login by prompts.
 
 use sshc_wire::{List, MethodSet, Prompt, Text};
 
-/// What a request to log in by prompts comes to (RFC 4256, section 3).
+/// The result of a request to log in by prompts (RFC 4256, section 3).
 #[derive(Debug, PartialEq, Eq, Drop)]
 pub enum KeyboardInteractiveAuthResponse {
     Success,
-    /// Refused, with the methods that can go on; with partial success the request itself was right and more is wanted.
+    /// The request failed, with the methods that can continue; with partial success it succeeded, but another is
+    /// required.
     Failure {
         remaining_methods: MethodSet,
         partial_success: bool,
     },
-    /// The server asks; one answer for each prompt is due.
+    /// The server asks, and expects one answer for each prompt.
     InfoRequest {
         name: Text,
         instructions: Text,

@@ -52,7 +52,7 @@ pub enum Phase {
 /// What kind of request was written last: it says which message packet 60 is.
 #[derive(Clone, Copy, Debug, PartialEq, Eq)]
 pub enum Class {
-    /// None and password, which have no answer 60.
+    /// `none` and `password`, for which the content of packet 60 is ignored.
     Plain,
     /// RFC 4252, section 7.
     Key,
@@ -69,7 +69,7 @@ pub struct Settings {
     pub window_size: u32,
     /// No user is authenticated: the first exchange opens the session.
     pub anonymous: bool,
-    /// The session ends where nothing comes for too long.
+    /// The session ends if nothing comes for too long.
     pub inactivity: bool,
 }
 
@@ -228,7 +228,7 @@ impl Opening {
         self.is_closed
     }
 
-    /// Each later step and apply answers Closed.
+    /// Closes the opening: each later `step` and `apply` returns `Closed`.
     pub fn shut(&mut self)
         ensures { self.new ≡ shut self.old }
     {
@@ -260,7 +260,7 @@ impl Opening {
         self.flag = ExchangeFlag::Peer;
     }
 
-    /// The rest of the event's row, once the gate was asked what `asks` names.
+    /// Does the rest of the event's row, after the gate was asked what `asks` returned.
     pub fn apply<S: LocalSigner>(
         &mut self,
         event: &Event,
@@ -294,7 +294,7 @@ impl Opening {
     }
 }
 
-/// The record that answers a ticket; there is none for ticket 0.
+/// The record that resolves a ticket; `None` for ticket 0.
 pub fn resolved(ticket: Ticket, resolution: Resolution) -> Option<Record>
     ensures { listed result ≡ resolved ticket resolution }
 {

@@ -1,4 +1,4 @@
-//! What is told of an event before its row is done: where it comes from, its packet and its ticket.
+//! What is known of an event before its row is done: where it comes from, its packet and its ticket.
 
 ghost use Rattle.std.specs.Prelude.{◌≡◌, option_copied};
 ghost use Rattle.sshc_opening.specs.OpeningTable.Order.{sort_of, packet_in, ticket_of};

@@ -21,7 +21,7 @@ fn are_name_chars(bytes: &[u8]) -> bool
     bytes.iter().all(|byte| is_name_char(*byte))
 }
 
-/// Whether these bytes may stand on one side of the `@`.
+/// Whether these bytes may be one side of the `@`.
 #[tactic(auto, unfolding(sshc_key::specs::AlgorithmNames::is_side))]
 fn is_name_side(bytes: &[u8]) -> bool
     ensures { result ≡ is_side bytes.now }
@@ -29,7 +29,7 @@ fn is_name_side(bytes: &[u8]) -> bool
     !bytes.is_empty() && are_name_chars(bytes)
 }
 
-/// Whether the name of a known algorithm begins so, before its domain.
+/// Whether this is how the name of a known algorithm begins, before its domain.
 #[tactic(auto, unfolding(sshc_key::specs::AlgorithmNames::known_stemmed))]
 fn is_stem(front: &[u8]) -> bool
     ensures { result ≡ is_some (known_stemmed front.now) }
@@ -44,7 +44,7 @@ fn is_stem(front: &[u8]) -> bool
         || "sk-ssh-ed25519".as_bytes() == front
 }
 
-/// Whether OpenSSH's domain stands behind the name of a known algorithm.
+/// Whether this is the name of a known algorithm followed by OpenSSH's domain.
 #[tactic(auto, unfolding(sshc_key::specs::AlgorithmNames::is_taken))]
 fn is_taken_name(front: &[u8], domain: &[u8]) -> bool
     ensures { result ≡ is_taken (record { front = front.now; domain = domain.now }) }
@@ -59,7 +59,7 @@ fn ends_marked(front: &[u8]) -> bool
     front.ends_with(b"-cert-v01")
 }
 
-/// Whether these are the two sides of the name of an algorithm that stands in no table.
+/// Whether these are the two sides of the name of an algorithm that isn't in any table.
 #[tactic(auto, unfolding(sshc_key::specs::AlgorithmNames::is_opaque))]
 fn is_opaque_pair(front: &[u8], domain: &[u8]) -> bool
     ensures { result ≡ is_opaque (record { front = front.now; domain = domain.now }) }
@@ -81,7 +81,7 @@ fn is_opaque_name(name: &str) -> bool
     }
 }
 
-/// Whether it is in the table.
+/// Whether the name is in the table.
 fn is_listed(name: &str) -> bool
     ensures { result ≡ list_any (λ known. bytes_eq known name.now) signature_names }
 {
@@ -97,7 +97,8 @@ fn is_listed(name: &str) -> bool
         || "rsa-sha2-512" == name
 }
 
-/// Whether it names a known algorithm, RSA's with a hash among them, or has a domain. A certificate's name doesn't count.
+/// Whether it names a known algorithm, RSA's with a hash among them, or has a domain. A certificate's name doesn't
+/// count.
 #[tactic(auto, unfolding(crate::specs::SignatureNames::is_signature_name))]
 pub fn is_signature_name(name: &str) -> bool
     ensures { result ≡ is_signature_name name.now }

@@ -1,4 +1,4 @@
-//! What a step asks, is told and answers.
+//! What a step asks the gate, what the gate returned, and what the step returns.
 
 ghost use Rattle.std.specs.Prelude.{◌≡◌};
 
@@ -19,21 +19,21 @@ pub enum Asks {
     Banner(Text),
 }
 
-/// What the gate said.
+/// What the gate returned.
 #[derive(Clone, Copy, Debug, PartialEq, Eq)]
 pub enum Told {
     /// It wasn't asked.
     NotAsked,
     /// It doesn't accept the host key.
     No,
-    /// It was asked, and let the row go on.
+    /// It was asked, and let the row continue.
     Went,
 }
 
-/// What a step answers.
+/// The result of a step.
 #[derive(Debug, Drop)]
 pub enum Step<E> {
-    /// The session goes on.
+    /// The session continues.
     Went,
     /// The user is authenticated.
     Opened,
@@ -45,7 +45,7 @@ pub enum Step<E> {
     Closed,
 }
 
-/// How a row goes on unless it is refused.
+/// The result of a row that isn't refused.
 #[derive(Debug, Drop)]
 pub enum Flow {
     Went,

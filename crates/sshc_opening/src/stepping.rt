@@ -15,7 +15,7 @@ use sshc_key::{LocalSigner, PublicKeyOrCertificate};
 use sshc_transport::ExchangeResult;
 use sshc_wire::{NoMemory, Outbox, Text};
 
-/// A step's answer, with its error as the gate tells it.
+/// A step's result, with its error as the gate reports it.
 fn as_told<G: Gate>(step: Step<Error>) -> Step<G::Error>
     ensures { result ≡ map_step G.told_as step }
 {
@@ -28,7 +28,7 @@ fn as_told<G: Gate>(step: Step<Error>) -> Step<G::Error>
     }
 }
 
-/// The shared secret of an exchange, if the transport told it.
+/// The shared secret of an exchange, if the transport reported it.
 fn secret_of(exchange: &ExchangeResult) -> Option<&[u8]>
     ensures { option_copied result ≡ exchange.now.secret }
 {
@@ -48,7 +48,7 @@ fn exchange_of(event: &Event) -> Option<&ExchangeResult>
     }
 }
 
-/// Tells the gate of an exchange.
+/// Calls the gate's `kex_done` with an exchange.
 fn tell_exchange<G: Gate>(
     exchange: &ExchangeResult,
     gate: &mut G,
@@ -64,7 +64,7 @@ fn tell_exchange<G: Gate>(
     }
 }
 
-/// Hands a banner on to the gate.
+/// Calls the gate's `auth_banner` with a banner.
 fn tell_banner<G: Gate>(text: &Text, gate: &mut G, out: &mut Outbox) -> Result<Told, G::Error>
     ensures told { Tells (G.tells_banner text.now) out.old out.new result }
     ensures cause { OnErr result (Rose (G.refusals gate.old) (G.refusals gate.new)) }
@@ -76,7 +76,7 @@ fn tell_banner<G: Gate>(text: &Text, gate: &mut G, out: &mut Outbox) -> Result<T
     }
 }
 
-/// Asks the gate for the host key, and tells it of the exchange where it accepts the key.
+/// Asks the gate for the host key, and calls `kex_done` if it accepts the key.
 fn judge<G: Gate>(
     key: &PublicKeyOrCertificate,
     exchange: &ExchangeResult,
@@ -123,7 +123,7 @@ fn ask_gate<G: Gate>(
 }
 
 impl Opening {
-    /// What an event does, with the gate's answers.
+    /// Does an event's row, with what the gate returns.
     pub fn step<G: Gate, S: LocalSigner>(
         &mut self,
         event: &Event,
@@ -141,7 +141,7 @@ impl Opening {
         self.step_by_table(event, gate, signer, out)
     }
 
-    /// The row of the table, with what the gate says.
+    /// The row of the table, with what the gate returns.
     fn step_by_table<G: Gate, S: LocalSigner>(
         &mut self,
         event: &Event,

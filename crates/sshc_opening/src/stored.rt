@@ -39,14 +39,14 @@ impl StoredMethod {
     }
 }
 
-/// Nothing is held any more.
+/// Empties the slot.
 pub fn clear<T: Drop>(slot: &mut Option<T>)
     ensures { slot.new ≡ None }
 {
     *slot = None;
 }
 
-/// The value takes the place of what was held, unless memory ran out before.
+/// Replaces the slot's value, unless memory ran out before.
 pub fn put_unless<T: Drop>(
     slot: &mut Option<T>,
     value: T,

@@ -1,5 +1,5 @@
--- Request texts: the packets by which a user is authenticated (RFC 4252, sections 5, 7 and 8; RFC 4253, sections 10 and 11.1;
--- RFC 4256, sections 3.1 and 3.4; RFC 4462, section 3). Plain concatenations; the code appends part by part.
+-- Request texts: the packets by which a user is authenticated (RFC 4252, sections 5, 7 and 8; RFC 4253, sections 10 and
+-- 11.1; RFC 4256, sections 3.1 and 3.4; RFC 4462, section 3). Plain concatenations; the code appends part by part.
 use Rattle.std.specs.Prelude.{ℕ, List, [], ◌∷◌, ◌++◌, length, Option, Some, None, codes}
 use Rattle.std.specs.List.{flat_map}
 use Rattle.sshc_wire.specs.Wire.{u32_text, string_text}
@@ -18,15 +18,16 @@ use Rattle.sshc_request.specs.SigningNames.{signing_name}
 unfoldable pub service_request : List ℕ
 service_request = SERVICE_REQUEST ∷ string_text (codes "ssh-userauth")
 
--- the strings one behind the other, after their number
+-- the number of strings, and then the strings one after another
 abbrev pub counted_strings : List (List ℕ) → List ℕ
 counted_strings strings = u32_text (length strings) ++ flat_map string_text strings
 
--- a key in a request: 0 asks whether it would do, 1 signs (RFC 4252, section 7)
+-- a key in a request: 0 asks whether the key is acceptable, 1 comes with a signature (RFC 4252, section 7)
 abbrev pub key_part : ℕ → Key → Option HashAlg → List ℕ
 key_part flag key hash = string_text (codes "publickey") ++ (flag ∷ string_text (signing_name key hash)) ++ string_text (key_text key)
 
--- a method's name and fields; a password isn't changed (RFC 4252, section 8), and no language is asked for (RFC 4256, section 3.1)
+-- a method's name and fields; a password isn't changed (RFC 4252, section 8), and no language is asked for (RFC 4256,
+-- section 3.1)
 abbrev pub method_text : Method → List ℕ
 method_text methods.None = string_text (codes "none")
 method_text (methods.Password password) = string_text (codes "password") ++ 0 ∷ string_text password
@@ -49,15 +50,15 @@ request user method = request_head user ++ method_text method
 unfoldable pub unsigned_request : List ℕ → Key → Option HashAlg → List ℕ
 unsigned_request user key hash = request_head user ++ key_part 1 key hash
 
--- the bytes that are signed: the session id stands before the request (RFC 4252, section 7)
+-- the bytes that are signed: the session id, followed by the request (RFC 4252, section 7)
 unfoldable pub signed : List ℕ → List ℕ → Key → Option HashAlg → List ℕ
 signed session_id user key hash = string_text session_id ++ unsigned_request user key hash
 
--- the signed request: the signature stands behind it
+-- the signed request: the request, followed by the signature
 abbrev pub signed_request : List ℕ → Key → Option HashAlg → List ℕ → List ℕ
 signed_request user key hash signature = unsigned_request user key hash ++ string_text signature
 
--- a plain key goes by its own hash
+-- a plain key is signed with its own hash, a certificate with this hash
 abbrev pub signed_by : List ℕ → List ℕ → PublicKeyOrCertificate → Option HashAlg → List ℕ
 signed_by session_id user (identities.PublicKey key own) hash = signed session_id user key.0 own
 signed_by session_id user (identities.Certificate cert) hash = signed session_id user cert hash

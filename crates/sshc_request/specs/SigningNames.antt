@@ -1,5 +1,5 @@
 -- The algorithm's name in a request by key (RFC 4252, section 7; RFC 8332, section 3; OpenSSH's PROTOCOL.certkeys).
--- By cases on the key; the code goes by the kind of key, and takes any other name from the key.
+-- By cases on the key; the code matches on the kind of key, and takes any other name from the key.
 use Rattle.std.specs.Prelude.{ℕ, Bool, true, false, List, ◌++◌, Option, Some, None, codes, if◌then◌else◌}
 use Rattle.sshc_key.specs.AlgorithmNames.{known_name}
 use Rattle.sshc_key.specs.KeyGrammar.{Key, plain, certificate, rsa, key_name}
@@ -9,7 +9,7 @@ use Rattle.sshc_wire.specs.declared.hash_alg.HashAlg.{HashAlg}
 use Rattle.sshc_wire.specs.declared.hash_alg.HashAlg.TheVariants.{Sha256, Sha512}
 use Rattle.sshc_key.specs.declared.kind.Known.TheVariants as known
 
--- an RSA key signs by the name of its hash
+-- the name of an RSA key's algorithm depends on the hash
 abbrev pub rsa_name : Option HashAlg → List ℕ
 rsa_name None = codes "ssh-rsa"
 rsa_name (Some Sha256) = codes "rsa-sha2-256"
@@ -24,7 +24,8 @@ abbrev pub is_rsa_certificate : Key → Bool
 is_rsa_certificate (plain k) = false
 is_rsa_certificate (certificate nonce key says signer signature) = is_rsa key
 
--- an RSA key goes by its hash, and so does a certificate of one; all others by the name with which their blob begins
+-- the name of an RSA key or an RSA certificate depends on the hash; any other is the name with which the key's blob
+-- begins
 abbrev pub signing_name : Key → Option HashAlg → List ℕ
 signing_name key hash =
     if is_rsa key then rsa_name hash

@@ -118,7 +118,7 @@ pub struct KeyPart {
     pub blob: Octets,
 }
 
-/// The name by which a key signs, for RSA with the hash.
+/// The name of the algorithm by which a key signs; for RSA it depends on the hash.
 #[tactic(auto, using(crate::proofs::NameLemmas::named))]
 fn signing_name(alloc: Global, key: &PublicKey, hash: Option<HashAlg>) -> Result<Text, NoMemory>
     ensures { IfOk result (λ t. t ≡ signing_name key.now.0 hash) }
@@ -132,7 +132,7 @@ fn signing_name(alloc: Global, key: &PublicKey, hash: Option<HashAlg>) -> Result
     }
 }
 
-/// Of a public key, or of a certificate in its place.
+/// The key part of a public key, or of the certificate in its place.
 pub fn key_part(alloc: Global, key: &PublicKey, hash: Option<HashAlg>) -> Result<KeyPart, NoMemory>
     ensures { IfOk result (λ p. IsKeyPart p key.now.0 hash) }
 {
@@ -141,7 +141,7 @@ pub fn key_part(alloc: Global, key: &PublicKey, hash: Option<HashAlg>) -> Result
     Ok(KeyPart { algorithm, blob })
 }
 
-/// Of a certificate.
+/// The key part of a certificate.
 pub fn certificate_part(
     alloc: Global,
     certificate: &Certificate,

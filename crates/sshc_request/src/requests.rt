@@ -10,7 +10,7 @@ use sshc_key::{Certificate, HashAlg, PublicKey};
 use sshc_wire::{List, NoMemory, Octets, Text, put_bytes, put_text};
 use std::alloc::Global;
 
-/// Asks whether a key would do.
+/// Asks whether the server would accept a key.
 fn put_probe(out: &mut Vec<u8>, key: &PublicKey, hash: Option<HashAlg>) -> Result<(), NoMemory>
     ensures { OnOk result (out.new.items ≡ out.old.items ++ key_part 0 key.now.0 hash) }
 {
@@ -18,7 +18,7 @@ fn put_probe(out: &mut Vec<u8>, key: &PublicKey, hash: Option<HashAlg>) -> Resul
     put_key(out, 0, &part)
 }
 
-/// Asks whether a certificate would do.
+/// Asks whether the server would accept a certificate.
 fn put_certificate_probe(
     out: &mut Vec<u8>,
     certificate: &Certificate,
@@ -30,14 +30,14 @@ fn put_certificate_probe(
     put_key(out, 0, &part)
 }
 
-/// The empty string.
+/// Writes the empty string.
 fn put_empty(out: &mut Vec<u8>) -> Result<(), NoMemory>
     ensures { OnOk result (out.new.items ≡ out.old.items ++ string_text []) }
 {
     put_bytes(out, b"".as_slice())
 }
 
-/// Prompts, in any language (RFC 4256, section 3.1).
+/// Asks for prompts, in any language (RFC 4256, section 3.1).
 #[tactic(auto, using(std::proofs::lemmas::List::append_assoc))]
 fn put_keyboard_interactive(out: &mut Vec<u8>, submethods: &Text) -> Result<(), NoMemory>
     ensures { OnOk result (out.new.items ≡ out.old.items ++ (string_text (codes "keyboard-interactive") ++ string_text [] ++ string_text submethods.now)) }
@@ -48,7 +48,7 @@ fn put_keyboard_interactive(out: &mut Vec<u8>, submethods: &Text) -> Result<(), 
     Ok(())
 }
 
-/// GSSAPI by these mechanisms (RFC 4462, section 3.2).
+/// Asks for GSSAPI by these mechanisms (RFC 4462, section 3.2).
 #[tactic(auto, using(std::proofs::lemmas::List::append_assoc))]
 fn put_gssapi(out: &mut Vec<u8>, mechanism_oids: &List<Octets>) -> Result<(), NoMemory>
     ensures { OnOk result (out.new.items ≡ out.old.items ++ (string_text (codes "gssapi-with-mic") ++ counted_strings mechanism_oids.now)) }

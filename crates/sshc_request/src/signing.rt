@@ -53,7 +53,7 @@ pub fn signed_packet(
     Octets::from_vec(packet)
 }
 
-/// The bytes that a user signs with a key. The hash counts for a certificate alone; a plain key goes by its own.
+/// The bytes that a user signs with a key. `hash` is used only for a certificate; a plain key has its own.
 pub fn to_sign(
     alloc: Global,
     session_id: &[u8],

@@ -1,4 +1,4 @@
--- Reading an event's fields is reading its grammar: the parts, what stands in a row, and each kind.
+-- Reading an event's fields agrees with their grammar: single parts, lists, and parts that follow one another.
 use Rattle.std.proofs.Common.{◌≡◌, ℕ, ◌+◌, ◌<◌, ◌≤◌, ◌^◌, Bool, true, false, List, [], ◌∷◌, length, Option, Some, None, Result, Ok, Err, refl, sym, ap, subst, ◌∙◌, arith, length-append}
 use Rattle.sshc_wire.specs.Format.{IsFormat, part}
 use Rattle.sshc_wire.specs.Grammar.{IsGrammar, IsFlag, InRow, Converted, IsCounted, TakesAtLeast, of_format, flags, in_row, made_of, converted, faults_seen, counted_parts, spelled_so}
@@ -118,7 +118,7 @@ pub some_modes : IsGrammar (IsCounted IsMode) modes_at
 unfolding modes_at
 some_modes = counted_parts 5 Bad mode_takes counts a_mode
 
--- ---- rows
+-- ---- parts that follow one another
 
 pub a_secret : IsGrammar IsSecret secret_at
 unfolding secret_at

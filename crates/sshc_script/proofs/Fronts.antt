@@ -1,4 +1,4 @@
--- What the front of a script is, by its first four bytes and what follows them.
+-- The front of a script, by its first four bytes and the bytes after them.
 use Rattle.std.proofs.Common.{◌≡◌, ℕ, zero, suc, ◌+◌, ◌<◌, ◌≤◌, eqb, false, List, [], ◌∷◌, ◌++◌, length, drop, Option, Some, None, Result, Ok, Err, refl, ap, sym, ◌∙◌, inl, inr, ◌⊎◌, arith, length-append, append_assoc}
 use Rattle.std.specs.Result.{IsErr}
 use Rattle.std.specs.Int.{w32, w64, from_be_bytes}
@@ -33,13 +33,13 @@ rest_at body b rest d moment number h k =
     let same : rest ≡ d = ap (λ (p : ℕ × List ℕ). p.1) pair in
     sym {a = rest} same ∙ ap (drop 1) (sym eight) ∙ drop_more 8 body
 
--- the fields stand behind a moment and a kind
+-- the fields follow a moment and a kind
 pub fields_at : (body c d : List ℕ) (moment number : ℕ) → number_at w64 body ≡ Ok (moment, c) → byte_at c ≡ Ok (number, d) → d ≡ drop 9 body
 unfolding number_at byte_at
 fields_at body [] d moment number h k = cc
 fields_at body (b ∷ rest) d moment number h k = rest_at body b rest d moment number h k
 
--- a moment that isn't below the last, a kind, and the fields behind them
+-- a moment that isn't below the last, a kind, and the fields after them
 pub head_is : (last : ℕ) (body c d : List ℕ) (moment number : ℕ) (kind : EventKind) → number_at w64 body ≡ Ok (moment, c) → byte_at c ≡ Ok (number, d) → kind_numbered number ≡ Some kind →
     last ≤ moment → head_at last body ≡ Ok (moment, (kind, drop 9 body))
 unfolding head_at
@@ -155,12 +155,12 @@ whole_event last n reads reads' taken head body old mid new size is low high ful
   ),
 )
 
--- a length and so many bytes are one event, or none
+-- a length and as many bytes as it says are one event, or no event
 one_by : (last : ℕ) (bytes : List ℕ) (r : Result Head EventError) → front last bytes ≡ whole_front r [] → IsOneAtMost last bytes
 one_by last bytes (Ok head) is = inr (head, is)
 one_by last bytes (Err e) is = inl (inr is)
 
--- an event that was refused, as the reader tells it
+-- an event that was refused, with the reader's error
 pub event_failed : (last n reads reads' : ℕ) (x : EventError) (e : NextError) (head body : List ℕ) (old mid new : Option (List ℕ)) → length head ≡ 4 → n ≡ from_be_bytes w32 head → 9 ≤ n → n ≤ 262144 → length body ≡ n →
     old ≡ prepend head mid → mid ≡ prepend body new → Fails x (head_at last body) → reads' ≤ reads + length head + length body + 1 →
     e ≡ (elim x [ events.NoMemory ↦ nexts.NoMemory | events.Bad ↦ nexts.Bad ]) → NextGives last old new reads reads' (Err e)
@@ -176,7 +176,7 @@ event_failed last n reads reads' events.NoMemory e head body old mid new size is
 event_failed last n reads reads' events.Bad e head body old mid new size is low high full first second fails count told =
     rw told (bad_event last n reads reads' head body old mid new size is low high full first second (rw fails refl) count)
 
--- a read that failed, as the reader tells it
+-- a read that failed, with the reader's error
 pub first_failed : (last reads reads' : ℕ) (failed : Failed) (e : NextError) (old new : Option (List ℕ)) →
     e ≡ (elim failed [ failures.Fault ↦ nexts.ReadFault | failures.NoMemory ↦ nexts.NoMemory ]) →
     (given : List ℕ) × (length given < 4) × (old ≡ prepend given new) × (reads' ≤ reads + length given + 1) → NextGives last old new reads reads' (Err e)

@@ -1,4 +1,4 @@
--- Reading the fields of each kind of event is reading its grammar.
+-- Reading the fields of each kind of event agrees with their grammar.
 use Rattle.std.proofs.Common.{◌≡◌, ◌↔◌, ℕ, zero, ◌<◌, ◌≤◌, Bool, true, false, List, [], ◌∷◌, Option, Some, None, Result, Ok, Err, refl, sym, ap, subst, ◌∙◌, arith, eqb, cond}
 use Rattle.std.proofs.lemmas.Bool.{eqb-true}
 use Rattle.std.specs.Prelude.{is_some}
@@ -163,7 +163,7 @@ a_method = tagged method_sort method_tag method_of
 abbrev pub OfKind : EventKind → Event → List ℕ → Type 0
 OfKind kind e bytes = (kind_of e ≡ kind) × IsFields e bytes
 
--- a kind alone
+-- a kind without fields
 abbrev AloneIs : EventKind → Event → Type 0
 AloneIs kind alone = (e : Event) (bytes : List ℕ) → OfKind kind e bytes → (e ≡ alone) × (bytes ≡ [])
 
@@ -540,7 +540,7 @@ close_none : (e : Event) → kind_of e ≡ kinds.AgentClose → ⊥
 close_none events.PeerKexinit h = absurd cc
 close_none e h = absurd cc
 
--- reading the fields of any kind is reading the grammar of its events
+-- reading the fields of any kind agrees with the grammar of its events
 pub event_read : (kind : EventKind) → IsWholeGrammar (OfKind kind) (event_of kind)
 unfolding event_of request_of
 event_read kinds.PeerKexinit = alone_of kinds.PeerKexinit events.PeerKexinit (refl, refl) peer_kexinit_alone
@@ -583,6 +583,6 @@ event_read kinds.AgentRequestAnswer = none_of kinds.AgentRequestAnswer request_n
 event_read kinds.AgentKeyAnswer = none_of kinds.AgentKeyAnswer answer_none
 event_read kinds.AgentClose = none_of kinds.AgentClose close_none
 
--- the event of these fields is the one that the grammar spells so
+-- reading these fields returns an event exactly if they are that event's fields by the grammar
 pub event_just : (kind : EventKind) (bytes : List ℕ) → IsBytes bytes → (e : Event) → (event_of kind bytes ≡ Ok e) ↔ ((kind_of e ≡ kind) × IsFields e bytes)
 event_just kind bytes fits e = ((λ h. (event_read kind).takes bytes e fits h), (λ h. (event_read kind).again e bytes h))

@@ -1,4 +1,4 @@
--- Facts that the answers cite.
+-- Lemmas that the proofs of the contracts use.
 pub mod Fronts
 pub mod Lists
 pub mod EventGrammar

@@ -1,11 +1,11 @@
--- Taking the parts of a list one at a time: those that were taken, and then the rest.
+-- Reading the parts of a list one at a time: the parts read so far, and then the rest.
 use Rattle.std.proofs.Common.{◌≡◌, ℕ, suc, ◌+◌, ◌-◌, ◌<◌, List, [], ◌∷◌, ◌++◌, Result, Ok, Err, refl, ap, sym, ◌∙◌, arith, append_assoc}
 use Rattle.std.proofs.lemmas.List.{append-nil}
 use Rattle.sshc_wire.specs.Reads.{Reader, ◌>>=◌}
 use Rattle.sshc_wire.specs.Format.{done}
 use Rattle.sshc_wire.specs.Counted.{times_at}
 
--- these values before those that are read
+-- these values before those that are read next
 abbrev pub behind : {E A : Type 0} → List A → Result (List A × List ℕ) E → Result (List A × List ℕ) E
 behind xs (Ok ys) = Ok (xs ++ ys.0, ys.1)
 behind xs (Err e) = Err e

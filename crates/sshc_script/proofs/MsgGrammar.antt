@@ -1,4 +1,4 @@
--- Reading what is asked of a channel is reading its grammar.
+-- Reading what is asked of a channel agrees with its grammar.
 use Rattle.std.proofs.Common.{◌≡◌, ℕ, ◌<◌, Bool, List, [], ◌∷◌, ◌++◌, Option, Some, None, Ok, refl, sym, ap, subst, ◌∙◌, arith, append_assoc}
 use Rattle.sshc_wire.specs.Format.{bind_ok, behind_are_bytes}
 use Rattle.sshc_wire.specs.Grammar.{IsGrammar, IsFlag, InRow, Converted, IsCounted, in_row, made_of, converted, no_bytes, spelled_so}

@@ -1,5 +1,6 @@
 -- The grammar of an event's fields: which bytes spell them, part after part (docs/FORMATS.md, "Events").
--- A line for each event, in terms of the event itself. How fields are read (EventReading) is defined apart from it; a law joins the two.
+-- A line for each event, in terms of the event itself. How fields are read (EventReading) is defined apart from it; a
+-- law joins the two.
 use Rattle.std.specs.Prelude.{◌≡◌, ℕ, ◌≤◌, true, false, List, [], ◌∷◌, Option, Some, None, Result, Ok, Err, is_some}
 use Rattle.sshc_wire.specs.Grammar.{IsFlag, InRow, Tagged, Converted, IsCounted}
 use Rattle.sshc_wire.specs.Signals.{signal_of}
@@ -28,7 +29,7 @@ use Rattle.sshc_script.specs.ChannelSorts.{channel_sort_number}
 use Rattle.sshc_script.specs.MethodSorts.{method_sort_number}
 use Rattle.sshc_script.specs.EventParts.{IsU8, IsU32, IsString, IsText, IsTicket, IsChannel, IsMode, hash_numbered, reason_numbered, failure_numbered, token_of, plain_key, whole_certificate, whole_pair}
 
--- ---- parts that stand for something
+-- ---- parts that represent something
 
 abbrev pub IsHash : Option HashAlg → List ℕ → Type 0
 IsHash hash bytes = Converted hash_numbered IsU8 hash bytes
@@ -44,7 +45,7 @@ IsExchangeKey exchange_keys.Missing bytes = InRow IsU8 IsString (0, []) bytes
 IsExchangeKey (exchange_keys.Key blob) bytes = InRow IsU8 IsString (1, blob) bytes × (is_some (host_key (exchange_keys.Key blob)) ≡ true)
 IsExchangeKey (exchange_keys.Certificate blob) bytes = InRow IsU8 IsString (2, blob) bytes × (is_some (host_key (exchange_keys.Certificate blob)) ≡ true)
 
--- a secret, or a flag that says that there is none, with no bytes
+-- a secret, or a flag that says that there is no secret, and then no bytes
 abbrev pub IsSecret : Option (List ℕ) → List ℕ → Type 0
 IsSecret (Some secret) bytes = InRow IsFlag IsString (true, secret) bytes
 IsSecret None bytes = InRow IsFlag IsString (false, []) bytes
@@ -55,7 +56,7 @@ IsNames n bytes = InRow IsText (InRow IsText (InRow IsText (InRow IsText (InRow 
 abbrev pub IsExchange : ExchangeResult → List ℕ → Type 0
 IsExchange x bytes = InRow IsExchangeKey (InRow IsString (InRow IsString (InRow IsSecret IsNames))) (x.key, (x.session_hash, (x.signature, (x.secret, x.names)))) bytes
 
--- packets of an exchange's own types, 20 to 49, don't cross over
+-- packets of an exchange's own types, 20 to 49, aren't events
 abbrev pub IsPacket : List ℕ → List ℕ → Type 0
 IsPacket packet [] = packet ≡ []
 IsPacket packet (number ∷ body) = (packet ≡ number ∷ body) × ((20 ≤ number) × (number ≤ 49) → ⊥)
@@ -93,7 +94,7 @@ IsMethodSort sort bytes = bytes ≡ method_sort_number sort ∷ []
 abbrev pub IsMethod : Method → List ℕ → Type 0
 IsMethod m bytes = Tagged IsMethodSort method_sort IsMethodFields m bytes
 
--- ---- what is asked of a channel; the other messages are reported alone
+-- ---- what is asked of a channel; the other messages are only reported
 
 abbrev pub channel_sort : ChannelMsg → Option ChannelSort
 channel_sort (msgs.Data body) = Some channel_sorts.Data
@@ -184,7 +185,7 @@ kind_of (events.HostKeysProve ticket keys) = kinds.HostKeysProve
 kind_of (events.SendGlobalRequest ticket name body) = kinds.SendGlobalRequest
 kind_of events.Gone = kinds.Gone
 
--- a kind alone
+-- no fields
 abbrev pub IsBare : List ℕ → Type 0
 IsBare bytes = bytes ≡ []
 

@@ -1,4 +1,5 @@
--- Parts of events: which bytes spell each, and how it is read from the front (docs/FORMATS.md, "Events"; RFC 4251, section 5).
+-- Parts of events: which bytes spell each, and how it is read from the front (docs/FORMATS.md, "Events"; RFC 4251,
+-- section 5).
 -- The spellings are relations on whole lists; the code moves a cursor.
 use Rattle.std.specs.Prelude.{◌≡◌, ℕ, ◌<◌, ◌^◌, Bool, true, List, [], ◌∷◌, Option, Some, None, Result, Ok, Err, ◌==◌, if◌then◌else◌}
 use Rattle.std.specs.Int.{w32}
@@ -33,7 +34,7 @@ use Rattle.sshc_script.specs.MethodSorts.{method_sort_numbered}
 abbrev pub as_bad : WireError → EventError
 as_bad e = Bad
 
--- what is found, or bytes outside the grammar
+-- the value, or `Bad` if there isn't one
 abbrev pub or_bad : {A : Type 0} → Option A → Result A EventError
 or_bad None = Err Bad
 or_bad (Some x) = Ok x
@@ -96,9 +97,9 @@ modes_at bytes = counted_at 5 Bad u32_at mode_at bytes
 abbrev pub IsMode : TerminalMode → List ℕ → Type 0
 IsMode m bytes = InRow IsU8 IsU32 (m.mode.0, m.value) bytes
 
--- ---- what a number or a string stands for
+-- ---- what a number or a string represents
 
--- 0 none, 1 SHA-256, 2 SHA-512
+-- 0 for no hash, 1 for SHA-256, 2 for SHA-512
 abbrev pub hash_numbered : ℕ → Result (Option HashAlg) EventError
 hash_numbered n = if n == 0 then Ok None else (if n == 1 then Ok (Some Sha256) else (if n == 2 then Ok (Some Sha512) else Err Bad))
 
@@ -129,7 +130,7 @@ channel_sorted n = or_bad (channel_sort_numbered n)
 unfoldable pub channel_sort_at : Reader EventError ChannelSort
 channel_sort_at bytes = converted_at channel_sorted u8_at bytes
 
--- an empty string says that there is none
+-- an empty string means that there is no token
 abbrev pub token_of : List ℕ → Result (Option (List ℕ)) EventError
 token_of [] = Ok None
 token_of (b ∷ bytes) = Ok (Some (b ∷ bytes))

@@ -1,5 +1,5 @@
--- Reading an event's fields, part after part, up to the first that can't be read; nothing may be left over.
--- Readings of the whole bytes; the code moves a cursor. That they are just the grammar (EventFields) read is a law.
+-- Reading an event's fields, part after part, up to the first that can't be read; no bytes may remain at the end.
+-- Readings of the whole bytes; the code moves a cursor. A law says that this reads exactly the grammar (EventFields).
 use Rattle.std.specs.Prelude.{ℕ, Bool, true, false, ◌&&◌, List, [], ◌∷◌, Option, Some, None, Result, Ok, Err, nat_le, ◌==◌, if◌then◌else◌, is_some}
 use Rattle.sshc_wire.specs.Format.{both_at, made_at, chosen_at, no_bytes_at}
 use Rattle.sshc_wire.specs.Grammar.{converted_at, finished, finished_at}
@@ -260,7 +260,7 @@ open_direct_tcpip_of bytes = finished_at Bad direct_tcpip_at bytes
 unfoldable pub open_direct_streamlocal_of : WholeReader EventError Event
 open_direct_streamlocal_of bytes = finished_at Bad (made_at (λ x. events.ChannelOpenDirectStreamLocal x.0 x.1) named_at) bytes
 
--- what the user asks beside authentication and channels that it opens; other kinds have no such fields
+-- what the user asks, other than authentication and opening channels; other kinds are `Bad`
 unfoldable pub request_of : EventKind → WholeReader EventError Event
 request_of kinds.TcpIpForward bytes = tcpip_forward_of bytes
 request_of kinds.CancelTcpIpForward bytes = cancel_tcpip_forward_of bytes
@@ -281,7 +281,7 @@ request_of kinds.SendGlobalRequest bytes = global_request_of bytes
 request_of kinds.Gone bytes = finished Bad (events.Gone, bytes)
 request_of kind bytes = Err Bad
 
--- the session's event of this kind and these fields; an agent's kinds have none
+-- the session's event of this kind and these fields; an agent's kinds are `Bad`
 unfoldable pub event_of : EventKind → WholeReader EventError Event
 event_of kinds.PeerKexinit bytes = finished Bad (events.PeerKexinit, bytes)
 event_of kinds.ExchangeDone bytes = exchange_done_of bytes

@@ -1,4 +1,4 @@
--- What stands at the front of few bytes, and behind the last.
+-- The front of fewer than four bytes, and the end of the bytes.
 use Rattle.std.proofs.Common.{◌≡◌, ℕ, ◌<◌, List, [], ◌∷◌, length, Option, Some, None, refl, sym, ◌∙◌, inl, inr, arith}
 use Rattle.sshc_wire.specs.Contents.{IsAtEnd}
 use Rattle.sshc_script.specs.Reading.{IsNoEvent}
@@ -13,7 +13,7 @@ front_short last (a ∷ b ∷ []) h = inr refl
 front_short last (a ∷ b ∷ c ∷ []) h = inr refl
 front_short last (a ∷ b ∷ c ∷ d ∷ more) h = absurd (omega (arith, h))
 
--- what is left is nothing
+-- at the end no bytes remain
 pub none_more : (new : Option (List ℕ)) (more : List ℕ) → new ≡ Some more → IsAtEnd new → more ≡ []
 none_more None more e end = cc
 none_more (Some x) more e end = (let same : x ≡ more = cc in sym same) ∙ end

@@ -1,11 +1,11 @@
--- What taking an event from a source gives, by the bytes that the source gave.
+-- What taking an event from a source returns, in terms of the bytes that were read from the source.
 use Rattle.std.specs.Prelude.{◌≡◌, ℕ, ◌+◌, ◌≤◌, ◌⊎◌, List, [], ◌++◌, length, Option, Some, None, Result, Ok, Err}
 use Rattle.sshc_wire.specs.Contents.{prepend, IsAtEnd}
 use Rattle.sshc_script.specs.declared.error.NextError.{NextError}
 use Rattle.sshc_script.specs.declared.error.NextError.TheVariants as nexts
 use Rattle.sshc_script.specs.Script.{Head, End, Bad, Whole, front, size_of}
 
--- these bytes were given, and it holds of them
+-- these bytes were read, and `P` holds of them
 abbrev pub Gave : Option (List ℕ) → Option (List ℕ) → (List ℕ → Type 0) → Type 0
 Gave old new P = (bytes : List ℕ) × (old ≡ prepend bytes new) × P bytes
 
@@ -15,7 +15,7 @@ pub record IsWhole (last : ℕ) (head : Head) (bytes : List ℕ) : Type 0 where
   pub size : length bytes ≡ size_of head
   pub is : (more : List ℕ) → front last (bytes ++ more) ≡ Whole head more
 
--- these bytes are no event, nor are they with what is left
+-- these bytes begin no event, neither alone nor followed by the bytes that remain
 pub record IsBad (last : ℕ) (new : Option (List ℕ)) (bytes : List ℕ) : Type 0 where
   pub given : front last bytes ≡ Bad
   pub all : (more : List ℕ) → new ≡ Some more → front last (bytes ++ more) ≡ Bad
@@ -24,11 +24,11 @@ pub record IsBad (last : ℕ) (new : Option (List ℕ)) (bytes : List ℕ) : Typ
 abbrev pub IsNoEvent : ℕ → List ℕ → Type 0
 IsNoEvent last bytes = (front last bytes ≡ End) ⊎ (front last bytes ≡ Bad)
 
--- these bytes are at most one event, and nothing behind it
+-- these bytes are at most one event, with nothing after it
 abbrev pub IsOneAtMost : ℕ → List ℕ → Type 0
 IsOneAtMost last bytes = IsNoEvent last bytes ⊎ ((head : Head) × (front last bytes ≡ Whole head []))
 
--- the reads that were made, but for the last, moved at least a byte each
+-- there were at most as many reads as bytes came, and one more
 abbrev pub ReadFor : ℕ → ℕ → List ℕ → Type 0
 ReadFor before now bytes = now ≤ before + length bytes + 1
 

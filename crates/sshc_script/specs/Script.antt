@@ -10,7 +10,8 @@ use Rattle.sshc_script.specs.declared.event_kind.EventKind.{EventKind}
 use Rattle.sshc_script.specs.EventKinds.{kind_numbered}
 use Rattle.sshc_script.specs.EventParts.{as_bad}
 
--- an event before its fields are read: the place of its length, its moment in milliseconds, its kind and the fields' bytes
+-- an event before its fields are read: the place of its length, its moment in milliseconds, its kind and the fields'
+-- bytes
 pub record Frame : Type 0 where
   pub place : ℕ
   pub moment : ℕ
@@ -35,7 +36,7 @@ head_at last body = do
   number ← part_at as_bad byte_at moment.1
   head_of last moment.0 (kind_numbered number.0) number.1
 
--- nothing, no event, or a whole event and what follows it
+-- the end, no event, or a whole event and the bytes after it
 pub data Front : Type 0 where
   End : Front
   Bad : Front
@@ -45,13 +46,13 @@ abbrev pub whole_front : Result Head EventError → List ℕ → Front
 whole_front (Ok head) rest = Whole head rest
 whole_front (Err e) rest = Bad
 
--- the event of this length, 9 to 262144 bytes, behind its length
+-- the event of this length, 9 to 262144 bytes, which follows the length
 unfoldable pub sized_front : ℕ → ℕ → List ℕ → Front
 sized_front last n rest =
     if nat_lt n 9 || nat_lt 262144 n || nat_lt (length rest) n then Bad
     else whole_front (head_at last (take n rest)) (drop n rest)
 
--- what stands at the front of a script, where the moment before was `last`
+-- the front of a script, if the event before had the moment `last`
 unfoldable pub front : ℕ → List ℕ → Front
 front last [] = End
 front last (a ∷ []) = Bad
@@ -77,7 +78,8 @@ events (suc n) place last bytes = elim (front last bytes) [
   | Whole head rest ↦ frame_at place head ∷ events n (place + size_of head) head.0 rest
 ]
 
--- what stands behind these events: nothing, no event at a place, or one event or more than were to be taken
+-- what follows these events: the end of the script, bytes at a place that are no event, or more bytes although as many
+-- events were taken as allowed
 pub data ScriptStop : Type 0 where
   whole : ScriptStop
   bad : ℕ → ScriptStop
@@ -95,7 +97,7 @@ stop (suc n) place last bytes = elim (front last bytes) [
   | Whole head rest ↦ stop n (place + size_of head) head.0 rest
 ]
 
--- the first events of a script, and what stands behind them
+-- the first events of a script, and what follows them
 abbrev pub taken : ℕ → List ℕ → List Frame
 taken max script = events max 0 0 script
 

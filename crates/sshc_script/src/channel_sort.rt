@@ -22,7 +22,7 @@ pub enum ChannelSort {
 }
 
 impl ChannelSort {
-    /// The sort of this number; none outside the table.
+    /// The sort with this number; `None` for any other number.
     pub fn from_u8(number: u8) -> Option<ChannelSort>
         ensures { result ≡ channel_sort_numbered number }
     {

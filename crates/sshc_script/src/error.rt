@@ -7,7 +7,7 @@ use sshc_wire::{Failed, NoMemory, WireError};
 use std::alloc::{AllocError, AllocFailed};
 use thiserror::Error;
 
-/// Why an event's bytes are no event.
+/// Why an event's bytes can't be read.
 #[derive(Clone, Copy, Debug, PartialEq, Eq, Error)]
 pub enum EventError {
     /// Memory ran out.
@@ -64,7 +64,7 @@ impl From<WireError> for EventError {
     }
 }
 
-/// A failed read, as no event.
+/// The error for a failed read.
 pub(crate) fn read_failed(failed: Failed) -> NextError
     ensures { result ≡ (elim failed [ Failed.Fault ↦ NextError.ReadFault | Failed.NoMemory ↦ NextError.NoMemory ]) }
 {
@@ -74,7 +74,7 @@ pub(crate) fn read_failed(failed: Failed) -> NextError
     }
 }
 
-/// An event that can't be read, as no event.
+/// The error for an event that can't be read.
 pub(crate) fn not_read(e: EventError) -> NextError
     ensures { result ≡ (elim e [ EventError.NoMemory ↦ NextError.NoMemory | EventError.Bad ↦ NextError.Bad ]) }
 {

@@ -159,7 +159,7 @@ fn agent_kind(number: u8) -> Option<EventKind>
 }
 
 impl EventKind {
-    /// The kind of this number; none outside the table.
+    /// The kind with this number; `None` for any other number.
     pub fn from_u8(number: u8) -> Option<EventKind>
         ensures { result ≡ kind_numbered number }
     {

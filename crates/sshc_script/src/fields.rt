@@ -40,7 +40,7 @@ fn addressed(alloc: Global, c: &mut Cursor<'_>) -> Result<(Ticket, Text, u32), E
     Ok((ticket, address, port))
 }
 
-/// A packet; those of an exchange's own types, 20 to 49, don't cross over.
+/// A packet; those of an exchange's own types, 20 to 49, are refused.
 #[tactic(auto, unfolding(crate::specs::EventReading::payload_of))]
 fn payload(alloc: Global, fields: &[u8]) -> Result<Event, EventError>
     ensures { GivesAll (λ e. e) result (payload_of fields.now) }
@@ -99,11 +99,11 @@ fn read_fields(alloc: Global, kind: EventKind, fields: &[u8]) -> Result<Event, E
     }
 }
 
-/// The session's event of this kind and these fields (docs/FORMATS.md, "Events"); an agent's kinds have none. A part that
-/// is short, isn't text or is outside its table is `Bad`, and so is a byte left over.
+/// Reads the session's event of this kind from its fields (docs/FORMATS.md, "Events"). `Bad` for an agent's kind, for a
+/// part that is short, isn't text or is outside its table, and for bytes that remain at the end.
 pub fn read_event(alloc: Global, kind: EventKind, fields: &[u8]) -> Result<Event, EventError>
     ensures reads { GivesAll (λ e. e) result (event_of kind fields.now) }
-    // What is read is the event that the grammar spells so, and there is no other.
+    // The fields are read as an event exactly if the grammar has them for that event.
     ensures grammar { (e : Event) → (event_of kind fields.now ≡ Ok e) ↔ ((kind_of e ≡ kind) × IsFields e fields.now) }
 {
     read_fields(alloc, kind, fields)

@@ -17,7 +17,7 @@ pub enum MethodSort {
 }
 
 impl MethodSort {
-    /// The sort of this number; none outside the table.
+    /// The sort with this number; `None` for any other number.
     pub fn from_u8(number: u8) -> Option<MethodSort>
         ensures { result ≡ method_sort_numbered number }
     {

@@ -1,4 +1,4 @@
-//! Parts of events: numbers, strings, texts and what they stand for.
+//! Parts of events: numbers, strings, texts and what they represent.
 
 ghost use Rattle.std.specs.Prelude.{◌≡◌, ◌↔◌, [], Err, IsOk, IfOk, OnErr};
 ghost use Rattle.sshc_script.specs.EventParts.{u8_at, u32_at, flag_at, octets_at, words_at, ticket_at, channel_at, hash_numbered, hash_at, reason_numbered, reason_at, failure_numbered, failure_at, method_sort_at, channel_sort_at, token_of, token_at, mode_at};
@@ -12,7 +12,7 @@ use sshc_key::HashAlg;
 use sshc_wire::{ChannelId, ChannelOpenFailure, Cursor, Disconnect, Octets, Pty, Text, Ticket};
 use std::alloc::Global;
 
-/// The value, where nothing is left over behind it.
+/// Returns the value if no bytes remain after it.
 pub fn at_end<T: Drop>(value: T, c: &Cursor<'_>) -> Result<T, EventError>
     ensures end { IsOk result ↔ (c.now ≡ []) }
     ensures same { IfOk result (λ x. x ≡ value) }
@@ -152,7 +152,7 @@ fn token_in(alloc: Global, token: &[u8]) -> Result<Option<Octets>, EventError>
     }
 }
 
-/// A token; an empty string says that there is none.
+/// A token; an empty string means that there is no token.
 #[tactic(auto, unfolding(crate::specs::EventParts::token_at))]
 pub fn token_field(alloc: Global, c: &mut Cursor<'_>) -> Result<Option<Octets>, EventError>
     ensures { Gives (λ t. t) result c.new (token_at c.old) }

@@ -59,7 +59,7 @@ impl RawEvent {
         &self.body[9..]
     }
 
-    /// How many bytes the event takes, with its length.
+    /// How many bytes the event has, with its length field.
     pub fn size(&self) -> u64
         ensures size { result ≡ size_of self.now }
         ensures within { result ≤ 262148 }
@@ -68,7 +68,7 @@ impl RawEvent {
     }
 }
 
-/// The length that four bytes say, where an event may have it.
+/// The length that four bytes encode, if an event may have that length.
 fn length_of(head: &[u8]) -> Option<usize>
     ensures within { IfSome result (λ n. (9 ≤ n) × (n ≤ 262144)) }
     ensures some { IfSome result (λ n. n ≡ from_be_bytes w32 head.now) }
@@ -103,7 +103,7 @@ fn moment_and_kind(last: u64, body: &[u8]) -> Result<(u64, EventKind), EventErro
     Ok((moment, kind))
 }
 
-/// The event of these bytes, which stand behind its length.
+/// The event of these bytes, which follow its length.
 fn raw_event(last: u64, body: Vec<u8>) -> Result<RawEvent, EventError>
     requires low { 9 ≤ length body.items }
     requires high { length body.items ≤ 262144 }
@@ -114,7 +114,7 @@ fn raw_event(last: u64, body: Vec<u8>) -> Result<RawEvent, EventError>
     Ok(RawEvent { moment, kind, body })
 }
 
-/// The next event, or none at the script's end. Its moment may not be below the last one.
+/// Returns the next event, or `None` at the script's end. The event's moment must not be below `last`.
 pub fn next_event<S: Source>(
     alloc: Global,
     source: &mut S,
@@ -125,7 +125,7 @@ pub fn next_event<S: Source>(
     ensures later { S.faults source.old ≤ S.faults source.new }
     ensures fault { result ≡ Err NextError.ReadFault → Rose (S.faults source.old) (S.faults source.new) }
     ensures told { (result ≡ Err NextError.ReadFault → ⊥) → S.faults source.new ≡ S.faults source.old }
-    // A whole event is taken by reads that each move a byte; else at most one read moves nothing.
+    // If a whole event is returned, each read returned at least one byte; otherwise at most one read returned none.
     ensures moving { IfOk result (λ taken. IfSome taken (λ _. S.empty_reads source.new ≡ S.empty_reads source.old)) }
     ensures last { S.empty_reads source.new ≤ S.empty_reads source.old + 1 }
 {

@@ -1,5 +1,5 @@
--- What a transport tells: its answers, and what it was handed, as lists that grow at the end.
--- What isn't told is none; the code keeps sockets and buffers.
+-- A transport's history as two lists that grow at the end: what `next` returned, and what the transport was handed.
+-- A list that isn't known is `None`; the code keeps sockets and buffers.
 use Rattle.std.specs.Prelude.{◌≡◌, ◌≤◌, ℕ, List, [], ◌∷◌, ◌++◌, length, Option, Some, None, Result, Ok, Err}
 use Rattle.std.specs.Option.{option_map, IfSome}
 use Rattle.sshc_wire.specs.declared.source.Failed.{Failed}
@@ -11,7 +11,7 @@ use Rattle.sshc_transport.specs.declared.exchange.NamesChosen.{NamesChosen}
 use Rattle.sshc_transport.specs.declared.transport.TransportEvent.{TransportEvent}
 use Rattle.sshc_transport.specs.declared.transport.TransportEvent.TheVariants as events
 
--- an answer of `next` that found memory
+-- a result of `next` other than out of memory
 pub data Answer : Type 0 where
   came : TransportEvent → Answer
   ended : Answer
@@ -22,7 +22,7 @@ pub data Handing : Type 0 where
   payload : List ℕ → Handing
   exchange_begun : Handing
 
--- one more at the end, where it is told
+-- the list with one more element at the end, if the list is known
 abbrev pub gains : {A : Type 0} → Option (List A) → A → Option (List A)
 gains told x = option_map (λ before. before ++ x ∷ []) told
 
@@ -32,12 +32,12 @@ AnswersNext old new (Ok None) = new ≡ gains old ended
 AnswersNext old new (Err Fault) = new ≡ gains old failed
 AnswersNext old new (Err NoMemory) = new ≡ old
 
--- what a failed call was handed isn't taken
+-- a failed call adds nothing to the list
 abbrev pub Hands : Handing → Option (List Handing) → Option (List Handing) → Result (Unit {0}) Failed → Type 0
 Hands handing old new (Ok u) = new ≡ gains old handing
 Hands handing old new (Err e) = new ≡ old
 
--- ---- the bound on what a transport hands in
+-- ---- the bound on the parts of an event that `next` returns
 
 abbrev pub IsShortPart : List ℕ → Type 0
 IsShortPart part = length part ≤ 262144

@@ -30,7 +30,7 @@ pub struct NamesChosen {
     pub strict_kex: bool,
 }
 
-/// What a key exchange came to. The transport has verified the signature over the hash.
+/// The result of a key exchange. The transport has verified the signature over the hash.
 #[derive(Debug, PartialEq, Eq, Drop)]
 pub struct ExchangeResult {
     pub key: ExchangeKey,
@@ -38,7 +38,7 @@ pub struct ExchangeResult {
     pub session_hash: Octets,
     /// The host key's signature over the hash.
     pub signature: Octets,
-    /// The shared secret K, where the transport hands it on.
+    /// The shared secret K, if the transport reports it.
     pub secret: Option<Octets>,
     pub names: NamesChosen,
 }

@@ -1,5 +1,5 @@
-//! The face of the transport: what its key exchanges come to, what it hands to a session and what it is handed
-//! (RFC 4253, section 7).
+//! The interface of the transport layer: the results of its key exchanges, the events that it reports to a session, and
+//! the packets that it takes (RFC 4253, section 7).
 #![tactic(auto)]
 
 mod exchange;

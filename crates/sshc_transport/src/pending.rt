@@ -1,10 +1,10 @@
-//! How many bytes of packets came while an exchange of ours runs.
+//! Counts the bytes of the packets that come while a key exchange of ours runs.
 
 ghost use Rattle.std.specs.Prelude.{◌≡◌, ◌+◌, ◌*◌, ◌-◌, ◌^◌, min, nat_lt};
 
 use std::marker::Model;
 
-/// A count of bytes, which contracts see as that number. It stands still at 2^64 - 1.
+/// A count of bytes, which contracts see as that number. It saturates at 2^64 - 1.
 #[derive(Debug, Drop)]
 pub struct PendingCount {
     bytes: u64,
@@ -31,7 +31,7 @@ impl PendingCount {
         PendingCount { bytes: self.bytes }
     }
 
-    /// The bytes that were counted.
+    /// The number of bytes counted so far.
     pub fn counted(&self) -> u64
         ensures { result ≡ self.now }
     {
@@ -44,7 +44,7 @@ impl PendingCount {
         self.bytes = 0;
     }
 
-    /// Counts the bytes of one packet more, and returns whether the sum passes twice the window.
+    /// Adds the bytes of one more packet, and returns whether the sum is greater than twice the window.
     pub fn add(&mut self, len: u64, window: u32) -> bool
         ensures counted { self.new ≡ min (self.old + len) (2 ^ 64 - 1) }
         ensures passes { result ≡ nat_lt (2 * window) self.new }

@@ -1,4 +1,4 @@
-//! The transport below a session, by what it answered and was handed.
+//! The transport below a session. Its contracts are about what `next` returned and what the transport was handed.
 
 ghost use Rattle.std.specs.Prelude.{◌≡◌, ℕ, List, Option, IfOk, IfSome};
 ghost use Rattle.sshc_wire.specs.Faults.{HasCause};
@@ -7,7 +7,7 @@ ghost use Rattle.sshc_transport.specs.Transports.{Answer, Handing, payload, exch
 use crate::exchange::ExchangeResult;
 use sshc_wire::{Failed, Octets};
 
-/// What a transport says next.
+/// What `next` returns: an event of the transport.
 #[derive(Debug, PartialEq, Eq, Drop)]
 pub enum TransportEvent {
     /// The peer's KEXINIT came (RFC 4253, section 7.1).
@@ -18,25 +18,25 @@ pub enum TransportEvent {
     Payload(Octets),
     /// The transport failed.
     Failed,
-    /// As much was sent under one key as may be (RFC 4253, section 9).
+    /// As much was sent under one key as is allowed (RFC 4253, section 9).
     RekeyLimit,
-    /// Nothing has come yet. It isn't given to a session.
+    /// Nothing has come yet. This event isn't passed to a session.
     Quiet,
 }
 
-/// A transport: it hands in what comes, takes packets and begins key exchanges. It holds the packets that it is handed while
-/// an exchange runs, and keeps the packets of an exchange to itself.
+/// A transport: it returns the events that come, takes packets and begins key exchanges. It holds back the packets that
+/// it is handed while an exchange runs, and doesn't report an exchange's own packets.
 pub trait Transport {
-    /// What `next` answered, in order and but for answers of no memory, where the transport tells it.
+    /// What `next` returned, in order, without the results that are out of memory; `None` if it isn't known.
     ghost answers: { Self → Option (List Answer) };
 
-    /// What was handed, in order, where the transport tells it.
+    /// The packets and the beginnings of exchanges that the transport took, in order; `None` if they aren't known.
     ghost handed: { Self → Option (List Handing) };
 
     /// How often a call has failed.
     ghost faults: { Self → ℕ };
 
-    /// The next event; none at the end. Each of its lists and texts has at most 262144 bytes.
+    /// Returns the next event, or `None` at the end. Each of its lists and texts has at most 262144 bytes.
     fn next(&mut self) -> Result<Option<TransportEvent>, Failed>
         ensures answered { AnswersNext (answers self.old) (answers self.new) result }
         ensures handed { handed self.new ≡ handed self.old }

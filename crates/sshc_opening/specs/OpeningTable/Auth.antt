@@ -15,11 +15,11 @@ use Rattle.sshc_opening.specs.OpeningTable.Service.{asked_by}
 use Rattle.sshc_request.specs.RequestTexts.{request}
 use Rattle.sshc_opening.specs.Row.{Row, Next, stays, goes, opens, refuses, resolved, reads_boolean, reads_text, ends_at}
 
--- the request was answered: its method and its ticket are gone
+-- the request was answered: its method and its ticket are cleared
 abbrev pub answered : OpeningState → OpeningState
 answered s = record s { method = None; ticket = no_ticket }
 
--- the methods that are known, in the order in which they first stand
+-- the known methods, in the order in which they first occur
 abbrev pub add_known : List MethodKind → Option MethodKind → List MethodKind
 add_known known None = known
 add_known known (Some method) = with_method known method
@@ -31,12 +31,13 @@ known_behind known (name ∷ names) = known_behind (add_known known (method_of n
 abbrev pub known_methods : List (List ℕ) → List MethodKind
 known_methods names = known_behind [] names
 
--- without a method that is known the session is refused
+-- without a known method the session is refused
 abbrev pub next_without : OpeningState → List MethodKind → Next
 next_without s [] = refuses NoAuthMethod
 next_without s (method ∷ methods) = stays (answered s)
 
--- 51, USERAUTH_FAILURE (RFC 4252, section 5.1): the methods that can continue, partial success, end; the ticket resolves as AuthFailure
+-- 51, USERAUTH_FAILURE (RFC 4252, section 5.1): the methods that can continue, partial success, end; the ticket
+-- resolves as AuthFailure
 unfoldable pub userauth_failure_row : OpeningState → List ℕ → Row
 userauth_failure_row s body =
     reads_text body (λ list rest.
@@ -54,7 +55,7 @@ userauth_success_row s body =
       next = opens (record (answered s) { phase = Open });
     })
 
--- 53, USERAUTH_BANNER (RFC 4252, section 5.4): text, language, end; the banner is handed on
+-- 53, USERAUTH_BANNER (RFC 4252, section 5.4): text, language, end; the banner is passed to the user
 unfoldable pub userauth_banner_row : OpeningState → List ℕ → Row
 userauth_banner_row s body =
     reads_text body (λ banner rest.

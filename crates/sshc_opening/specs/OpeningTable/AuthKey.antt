@@ -21,7 +21,7 @@ use Rattle.sshc_opening.specs.Row.{Row, goes, refused, with_part, broken_row}
 abbrev pub taken : OpeningState → OpeningState
 taken s = record s { method = None }
 
--- ---- by the signer at hand
+-- ---- by the local signer
 
 abbrev pub sign_question : OpeningState → KeyPair → Key → Option HashAlg → Question
 sign_question s pair key hash = record { by = askers.Session; key = pair; hash = hash; bytes = signed s.session_id s.user key hash }
@@ -48,7 +48,7 @@ ask_certificate_row s cert hash = let bytes = signed s.session_id s.user cert ha
 
 -- ---- the row
 
--- by the method that is stored, which is taken out; without one nothing follows
+-- by the stored method, which is cleared; a method without a key has no other effect
 unfoldable pub key_row : OpeningState → Option Method → Asking Row
 key_row s (Some (methods.PublicKey key)) = sign_row s key.0 key.0.public.0 key.1
 key_row s (Some (methods.OpenSshCertificate key cert)) = sign_row s key cert None
@@ -56,7 +56,7 @@ key_row s (Some (methods.FuturePublicKey key hash)) = done (ask_key_row s key.0 
 key_row s (Some (methods.FutureCertificate cert hash)) = done (ask_certificate_row s cert hash)
 key_row s method = done (goes [] (taken s))
 
--- the two parts of the packet, and nothing behind them
+-- the two parts of the packet, and nothing after them
 abbrev pub is_at_end : List ℕ → Bool
 is_at_end [] = true
 is_at_end (b ∷ left) = false
@@ -67,6 +67,7 @@ is_pk_ok_body body =
     with_part false (string_at rest) (λ blob left.
     is_at_end left))
 
--- 60, USERAUTH_PK_OK (RFC 4252, section 7): the algorithm's name and the key's blob, which aren't compared with those asked for, end
+-- 60, USERAUTH_PK_OK (RFC 4252, section 7): the algorithm's name and the key's blob, which aren't compared with those
+-- asked for, end
 unfoldable pub pk_ok_row : OpeningState → List ℕ → Asking Row
 pk_ok_row s body = if is_pk_ok_body body then key_row s s.method else done broken_row

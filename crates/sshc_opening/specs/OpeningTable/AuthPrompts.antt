@@ -27,7 +27,7 @@ abbrev pub behind_prompt : Prompt → Result (List Prompt × List ℕ) WireError
 behind_prompt prompt (Ok prompts) = Ok (prompt ∷ prompts.0, prompts.1)
 behind_prompt prompt (Err e) = Err e
 
--- so many prompts
+-- as many prompts as the number says
 abbrev pub prompts_from : (List ℕ → Result (List Prompt × List ℕ) WireError) → Result (Prompt × List ℕ) WireError → Result (List Prompt × List ℕ) WireError
 prompts_from on (Ok prompt) = behind_prompt prompt.0 (on prompt.1)
 prompts_from on (Err e) = Err e
@@ -36,7 +36,7 @@ unfoldable pub prompts_at : ℕ → List ℕ → Result (List Prompt × List ℕ
 prompts_at zero body = Ok ([], body)
 prompts_at (suc n) body = prompts_from (λ rest. prompts_at n rest) (prompt_at body)
 
--- a prompt has five bytes at least, so the bytes can't hold more prompts than that
+-- a prompt has five bytes at least; this number of prompts is too large for the bytes
 abbrev pub is_too_many : ℕ → List ℕ → Bool
 is_too_many n rest = nat_lt (length rest / 5) n
 
@@ -47,7 +47,8 @@ prompts_row s name instructions n rest =
     else with_part broken_row (prompts_at n rest) (λ prompts left.
     ends_at left (goes (Auth s.ticket (AuthInfoRequest name instructions prompts) ∷ []) (record s { phase = phases.AwaitResponses })))
 
--- 60, USERAUTH_INFO_REQUEST (RFC 4256, section 3.2): name, instructions, language, the prompts' number and the prompts, end
+-- 60, USERAUTH_INFO_REQUEST (RFC 4256, section 3.2): name, instructions, language, the prompts' number and the prompts,
+-- end
 unfoldable pub info_request_row : OpeningState → List ℕ → Row
 info_request_row s body =
     reads_text body (λ name rest.

@@ -18,7 +18,7 @@ use Rattle.sshc_opening.specs.Row.{Row, goes, refused, resolved}
 abbrev pub unsigned_row : OpeningState → Row
 unsigned_row s = goes (resolved s.ticket Dropped) (record s { phase = phases.Auth; ticket = no_ticket })
 
--- the bytes that were handed out, and a signature behind them
+-- the bytes that were handed out, followed by a signature
 abbrev pub is_signed : List ℕ → List ℕ → Bool
 is_signed handed body = nat_lt (length handed) (length body) && starts_with nat_eq body handed
 
@@ -26,7 +26,7 @@ is_signed handed body = nat_lt (length handed) (length body) && starts_with nat_
 abbrev pub behind_session_id : OpeningState → List ℕ → List ℕ
 behind_session_id s body = drop (4 + length s.session_id) body
 
--- the outside signer hands back what it was handed, with the signature as a string behind it
+-- the outside signer returns what it was handed, followed by the signature as a string
 unfoldable pub signed_row : OpeningState → List ℕ → Row
 signed_row s body =
     if is_signed s.handed body then goes (Payload (behind_session_id s body) ∷ []) (record s { phase = phases.Auth })
@@ -35,7 +35,7 @@ signed_row s body =
 abbrev pub gone_awaiting_row : Row
 gone_awaiting_row = refused RecvError
 
--- an event that nobody awaits is passed over; its ticket resolves as Dropped
+-- an event that isn't awaited is ignored; its ticket resolves as Dropped
 abbrev pub unawaited_row : OpeningState → Event → Row
 unawaited_row s event = answered_row s (ticket_of event) Dropped
 

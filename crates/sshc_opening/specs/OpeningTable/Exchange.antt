@@ -12,7 +12,7 @@ use Rattle.sshc_opening.specs.declared.step.Told.TheVariants as tells
 use Rattle.sshc_opening.specs.OpeningState.{OpeningState}
 use Rattle.sshc_opening.specs.Row.{Row, goes, refused, opens}
 
--- the peer's KEXINIT (RFC 4253, section 7.1): it answers ours, or the transport is told to begin
+-- the peer's KEXINIT (RFC 4253, section 7.1): it answers ours, or the transport is asked to begin an exchange
 abbrev pub peer_kexinit_row_at : ExchangeFlag → OpeningState → Row
 peer_kexinit_row_at flags.Idle s = goes (records.BeginExchange ∷ []) (record s { flag = flags.Peer; counted = 0 })
 peer_kexinit_row_at flag s = goes [] (record s { flag = flags.Peer })
@@ -24,7 +24,7 @@ peer_kexinit_row s = peer_kexinit_row_at s.flag s
 abbrev pub exchanged : OpeningState → OpeningState
 exchanged s = record s { flag = flags.Idle; counted = 0 }
 
--- after the first exchange the session id is its hash, and the user may be authenticated, or is open to without
+-- after the first exchange the session id is its hash, and the user may be authenticated; an anonymous session is open
 abbrev pub accepted_row : Bool → OpeningState → ExchangeResult → Row
 accepted_row false s x = goes (records.KexDone x.names.kex ∷ []) (record (exchanged s) { phase = phases.Service; session_id = x.session_hash })
 accepted_row true s x = record {
@@ -32,12 +32,12 @@ accepted_row true s x = record {
   next = opens (record (exchanged s) { phase = phases.Open; session_id = x.session_hash });
 }
 
--- the first exchange: only a host key that the gate accepts lets the session go on
+-- the first exchange: the session continues only with a host key that the gate accepts
 abbrev pub first_exchange_row : OpeningState → ExchangeResult → Told → Row
 first_exchange_row s x tells.Went = accepted_row s.settings.anonymous s x
 first_exchange_row s x told = refused UnknownKey
 
--- a later exchange keeps the session id, and nobody judges it
+-- a later exchange keeps the session id, and its host key isn't judged
 abbrev pub later_exchange_row : OpeningState → ExchangeResult → Row
 later_exchange_row s x = goes (records.KexDone x.names.kex ∷ []) (exchanged s)
 

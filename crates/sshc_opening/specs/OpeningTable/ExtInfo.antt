@@ -22,7 +22,8 @@ extensions_row s extensions = with_announced s (announce_all (announced_before s
 abbrev pub is_third : OpeningState → Bool
 is_third s = nat_le MOST_EXT_INFOS s.ext_infos
 
--- 7, EXT_INFO (RFC 8308, section 2.3): the extensions' number and the extensions, end; who waited for one resolves as ExtInfoSeen
+-- 7, EXT_INFO (RFC 8308, section 2.3): the extensions' number and the extensions, end; who waited for one resolves as
+-- ExtInfoSeen
 unfoldable pub ext_info_row : OpeningState → List ℕ → Row
 ext_info_row s body =
     if is_third s then refused Inconsistent

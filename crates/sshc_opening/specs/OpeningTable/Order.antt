@@ -1,4 +1,5 @@
--- The first tests of the table: whether an event may come now, by its sort, the phase and the exchange flag (RFC 4253, section 7).
+-- The first tests of the table: whether an event may come now, by its sort, the phase and the exchange flag (RFC 4253,
+-- section 7).
 -- A table; the code tests it before anything else.
 use Rattle.std.specs.Prelude.{Bool, true, false, ℕ, List, Option, Some, None}
 use Rattle.sshc_wire.specs.declared.ticket.Ticket.{Ticket}
@@ -22,12 +23,13 @@ sort_of events.KeepaliveTimer = sorts.Transport
 sort_of events.InactivityTimer = sorts.Transport
 sort_of event = sorts.User
 
--- while an answer is awaited only the user has a turn
+-- while an answer is awaited only the user's events may come
 abbrev pub is_early_awaiting : EventSort → Bool
 is_early_awaiting sorts.User = false
 is_early_awaiting sort = true
 
--- else a second KEXINIT of the peer, an exchange that is done without one, and a user's event while an exchange runs are early
+-- else a second KEXINIT of the peer, an exchange that is done without one, and a user's event while an exchange runs
+-- are early
 abbrev pub is_early_at : ExchangeFlag → EventSort → Bool
 is_early_at flags.Peer sorts.PeerKexinit = true
 is_early_at flags.Idle sorts.ExchangeDone = true

@@ -10,7 +10,8 @@ use Rattle.sshc_opening.specs.declared.opening.Phase.TheVariants.{Exchanging}
 use Rattle.sshc_opening.specs.OpeningState.{OpeningState}
 use Rattle.sshc_opening.specs.Row.{Row, ends, refused, reads_number, reads_text}
 
--- 1, DISCONNECT (RFC 4253, section 11.1): a reason from 1 to 15, a text and its language; later bytes pass
+-- 1, DISCONNECT (RFC 4253, section 11.1): a reason from 1 to 15, a text and its language; the bytes after them are
+-- ignored
 abbrev pub disconnect_reason_row : Option Disconnect → List ℕ → Row
 disconnect_reason_row None rest = refused InvalidDisconnect
 disconnect_reason_row (Some reason) rest =

@@ -18,7 +18,8 @@ abbrev pub stored_request : List ℕ → Option Method → List Record
 stored_request user None = []
 stored_request user (Some method) = Payload (request user method) ∷ []
 
--- 6, SERVICE_ACCEPT (RFC 4253, section 10): the service's name, end; another service is passed over; the stored request is written
+-- 6, SERVICE_ACCEPT (RFC 4253, section 10): the service's name, end; another service is ignored; the stored request is
+-- written
 unfoldable pub service_accept_row : OpeningState → List ℕ → Row
 service_accept_row s body =
     if not s.requested then refused Inconsistent
@@ -40,7 +41,7 @@ asked_for_service requested = if requested then [] else Payload service_request 
 abbrev pub asked_by : OpeningState → Ticket → List ℕ → Method → OpeningState
 asked_by s ticket user method = record s { ticket = ticket; user = user; method = Some method; class = class_of method }
 
--- the user asks before the service is there: the request waits in place of an earlier one
+-- the user asks before the service is there: the request replaces an earlier one and waits
 unfoldable pub authenticate_first_row : OpeningState → Ticket → List ℕ → Method → Row
 authenticate_first_row s ticket user method =
     goes (resolved s.ticket Dropped ++ asked_for_service s.requested)

@@ -14,7 +14,7 @@ use Rattle.sshc_opening.specs.OpeningState.{OpeningState}
 use Rattle.sshc_request.specs.RequestTexts.{disconnect}
 use Rattle.sshc_opening.specs.Row.{Row, goes, ends, resolved}
 
--- the event's ticket is answered at once
+-- the event's ticket is resolved at once
 abbrev pub answered_row : OpeningState → Ticket → Resolution → Row
 answered_row s ticket resolution = goes (resolved ticket resolution) s
 
@@ -36,11 +36,11 @@ abbrev pub sig_algs_answer : Option (List (List ℕ)) → Resolution
 sig_algs_answer None = answers.SigAlgs false []
 sig_algs_answer (Some names) = answers.SigAlgs true names
 
--- the server's signature names, if it has told them (RFC 8308, section 3.1)
+-- the server's signature names, if it has sent them (RFC 8308, section 3.1)
 unfoldable pub get_server_sig_algs_row : OpeningState → Ticket → Row
 get_server_sig_algs_row s ticket = answered_row s ticket (sig_algs_answer s.sig_algs)
 
--- no keys are to be proved, or nobody can prove them yet
+-- there are no keys to prove, or they can't be proved yet
 abbrev pub host_keys_answer : List (Key × List ℕ) → Resolution
 host_keys_answer [] = answers.HostKeysProved
 host_keys_answer (key ∷ keys) = answers.Denied

@@ -103,7 +103,7 @@ impl Opening {
         Ok(Flow::Opened)
     }
 
-    /// The request was answered: its method and its ticket are gone.
+    /// The request was answered: its method and its ticket are cleared.
     fn forget_request(&mut self)
         ensures { self.new ≡ answered self.old }
     {
@@ -154,7 +154,7 @@ impl Opening {
     }
 }
 
-/// The methods that are known, in the order in which they first stand.
+/// The known methods, in the order in which they first occur.
 fn known_methods(alloc: Global, list: &str) -> Result<MethodSet, NoMemory>
     ensures { IfOk result (λ m. m ≡ known_behind [] (names_in list.now)) }
 {

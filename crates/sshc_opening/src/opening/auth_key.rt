@@ -35,7 +35,7 @@ impl Opening {
         self.take_method(signer, out)
     }
 
-    /// Signs the stored request, which is taken out.
+    /// Signs the stored request, whose method is cleared.
     fn take_method<S: LocalSigner>(
         &mut self,
         signer: &mut S,

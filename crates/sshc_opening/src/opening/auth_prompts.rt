@@ -21,7 +21,7 @@ fn read_prompt(alloc: Global, packet: &mut Cursor<'_>) -> Result<Prompt, Error>
     Ok(Prompt { prompt, echo })
 }
 
-/// So many prompts.
+/// Reads `n` prompts.
 fn read_prompts(alloc: Global, packet: &mut Cursor<'_>, n: u32) -> Result<List<Prompt>, Error>
     ensures { ReadsOr (prompts_at n packet.old) packet.new result }
 {
@@ -49,7 +49,7 @@ impl Opening {
         self.prompts(name, instructions, n, &mut packet, out)
     }
 
-    /// So many prompts, which are handed to the user.
+    /// Reads the prompts and hands them to the user.
     #[tactic(auto, unfolding(crate::specs::OpeningTable::AuthPrompts::prompts_row))]
     fn prompts(
         &mut self,

@@ -57,7 +57,7 @@ impl Opening {
         }
     }
 
-    /// Whether these are the bytes that were handed out, and a signature behind them.
+    /// Whether these are the bytes that were handed out, followed by a signature.
     fn is_signed(&self, body: &[u8]) -> bool
         ensures { result ≡ is_signed self.now.handed body.now }
     {
@@ -65,7 +65,7 @@ impl Opening {
         handed.len() < body.len() && body.starts_with(handed)
     }
 
-    /// The outside signer hands back what it was handed, with the signature behind it.
+    /// The outside signer returns what it was handed, followed by the signature.
     #[tactic(auto, unfolding(crate::specs::OpeningTable::Awaiting::signed_row))]
     fn signed(&mut self, body: &Octets, out: &mut Outbox) -> Result<Flow, Error>
         ensures row { Follows (signed_row self.old body.now) (span self.old self.new out.old out.new) result }

@@ -16,7 +16,7 @@ use sshc_key::LocalSigner;
 use sshc_transport::ExchangeFlag;
 use sshc_wire::{Outbox, Resolution, Text, Ticket};
 
-/// Whether the exchange flag lets an event of this sort wait (RFC 4253, section 7).
+/// Whether an event of this sort comes too early by the exchange flag (RFC 4253, section 7).
 fn is_early_at(flag: ExchangeFlag, sort: EventSort) -> bool
     ensures { result ≡ is_early_at flag sort }
 {
@@ -28,8 +28,9 @@ fn is_early_at(flag: ExchangeFlag, sort: EventSort) -> bool
 }
 
 impl Opening {
-    /// Whether the event may not come now: while an answer is awaited, anything that isn't the user's; else a second KEXINIT of
-    /// the peer, an exchange that is done without one, and a user's event while an exchange runs (RFC 4253, section 7).
+    /// Whether the event may not come now: while an answer is awaited, anything that isn't the user's; else a second
+    /// KEXINIT of the peer, an exchange that is done without one, and a user's event while an exchange runs (RFC 4253,
+    /// section 7).
     pub fn is_out_of_turn(&self, event: &Event) -> bool
         ensures { result ≡ is_out_of_turn self.now event.now }
     {
@@ -111,7 +112,7 @@ impl Opening {
         }
     }
 
-    /// What needs an open session: channels are refused, and other questions denied.
+    /// What needs an open session: channels are refused, and other requests denied.
     #[tactic(auto, unfolding(crate::specs::OpeningTable::unopened_row))]
     fn unopened(&mut self, event: &Event, out: &mut Outbox) -> Result<Flow, Error>
         ensures row { Follows (unopened_row self.old event.now) (span self.old self.new out.old out.new) result }

@@ -47,7 +47,7 @@ impl Opening {
         }
     }
 
-    /// The first exchange: only a host key that the gate accepts lets the session go on.
+    /// The first exchange: the session continues only with a host key that the gate accepts.
     fn first_exchange(
         &mut self,
         exchange: &ExchangeResult,
@@ -74,7 +74,7 @@ impl Opening {
         }
     }
 
-    /// Keeps the session id, and goes on in a phase.
+    /// Stores the session id, and continues in this phase.
     fn accepted(&mut self, session_id: Octets, phase: Phase)
         ensures { self.new ≡ record (exchanged self.old) { session_id = session_id; phase = phase } }
     {
@@ -91,7 +91,7 @@ impl Opening {
         self.pending.reset();
     }
 
-    /// A later exchange keeps the session id, and nobody judges it.
+    /// A later exchange keeps the session id, and its host key isn't judged.
     fn later_exchange(&mut self, exchange: &ExchangeResult, out: &mut Outbox) -> Result<Flow, Error>
         ensures row { Follows (later_exchange_row self.old exchange.now)
             (span self.old self.new out.old out.new) result }

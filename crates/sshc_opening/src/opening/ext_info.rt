@@ -47,7 +47,7 @@ impl Opening {
         MOST_EXT_INFOS <= self.ext_infos
     }
 
-    /// What was announced before.
+    /// What was announced before this packet.
     fn announced_before(&self) -> Result<Announced, NoMemory>
         ensures { IfOk result (λ a. a ≡ announced_before self.now) }
     {
@@ -63,7 +63,7 @@ impl Opening {
         })
     }
 
-    /// Takes the extensions in order, and answers those who waited for them.
+    /// Takes the extensions in order, and resolves the tickets of those who waited for them.
     fn announce(&mut self, extensions: List<Extension>, out: &mut Outbox) -> Result<Flow, Error>
         requires { self.old.ext_infos < most }
         ensures row { Follows (extensions_row self.old extensions) (span self.old self.new out.old out.new) result }

@@ -34,7 +34,7 @@ impl Opening {
         }
     }
 
-    /// A packet of so many bytes.
+    /// A packet of `len` bytes.
     #[tactic(auto, unfolding(crate::specs::OpeningTable::numbered_row))]
     fn numbered<S: LocalSigner>(
         &mut self,
@@ -147,7 +147,7 @@ impl Opening {
         let _ = self.pending.add(len, self.settings.window_size);
     }
 
-    /// Takes an earlier count.
+    /// Restores an earlier count.
     fn restore(&mut self, pending: PendingCount)
         ensures { self.new ≡ record self.old { counted = pending } }
     {
@@ -203,7 +203,7 @@ impl Opening {
         }
     }
 
-    /// A packet of phase Auth: for a request by key 60 asks the signer.
+    /// A packet of phase Auth. After a request by key, packet 60 asks the signer.
     #[tactic(auto, unfolding(crate::specs::OpeningTable::auth_packet_row))]
     fn auth_packet<S: LocalSigner>(
         &mut self,

@@ -24,7 +24,7 @@ pub(super) fn copied_texts(texts: &List<Text>) -> Result<List<Text>, NoMemory>
 }
 
 impl Opening {
-    /// Answers a ticket at once.
+    /// Resolves a ticket at once.
     pub(super) fn answered(
         &mut self,
         ticket: Ticket,
@@ -71,7 +71,7 @@ impl Opening {
         Ok(Flow::Went)
     }
 
-    /// The answer that tells the signature names, in an open session too.
+    /// The resolution with the server's signature names, used in an open session too.
     pub fn sig_algs_answer(&self) -> Result<Resolution, NoMemory>
         ensures { IfOk result (λ r. r ≡ sig_algs_answer self.now.sig_algs) }
     {
@@ -101,7 +101,7 @@ impl Opening {
         self.answered(ticket, answer, out)
     }
 
-    /// No keys are to be proved, or nobody can prove them yet.
+    /// There are no keys to prove, or they can't be proved yet.
     pub(super) fn host_keys_prove(
         &mut self,
         ticket: Ticket,

@@ -1,5 +1,5 @@
-//! Counted lists: a number below 2^32, and so many parts. A count that the bytes behind can't hold is refused before
-//! anything is allocated for it.
+//! Counted lists: a number below 2^32, and that many parts. A count that is too large for the remaining bytes is
+//! refused before anything is allocated for it.
 
 ghost use Rattle.std.specs.Prelude.{◌≡◌, ◌<◌, ◌≤◌, List as Items, ℕ, Result};
 ghost use Rattle.sshc_wire.specs.Counted.{times_at, counted_at};
@@ -14,7 +14,7 @@ use sshc_key::PublicKey;
 use sshc_wire::{Cursor, List, Octets, Text};
 use std::alloc::Global;
 
-/// A part that may stand in a list.
+/// A part that can be an element of a list.
 pub trait Part: Drop {
     ghost use Rattle.sshc_script.specs.declared.error.EventError.{EventError};
 
@@ -56,7 +56,7 @@ impl Part for PublicKey {
     }
 }
 
-/// So many parts.
+/// Reads `count` parts.
 fn parts<T: Part>(alloc: Global, count: u32, c: &mut Cursor<'_>) -> Result<List<T>, EventError>
     ensures { Gives (λ l. l) result c.new (times_at count T.at c.old) }
 {
@@ -68,7 +68,7 @@ fn parts<T: Part>(alloc: Global, count: u32, c: &mut Cursor<'_>) -> Result<List<
     Ok(parts)
 }
 
-/// A count and so many parts, each of at least so many bytes.
+/// Reads a count and that many parts, of which each has at least `least` bytes.
 #[tactic(auto, unfolding(sshc_wire::specs::Counted::counted_at))]
 pub fn list_of<T: Part>(
     alloc: Global,

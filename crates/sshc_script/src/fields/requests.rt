@@ -250,7 +250,7 @@ fn global_request(alloc: Global, c: &mut Cursor<'_>) -> Result<Event, EventError
     Ok(Event::SendGlobalRequest { ticket, name, body })
 }
 
-/// What the user asks beside authentication and channels that it opens.
+/// What the user asks, other than authentication and opening channels.
 #[tactic(auto, unfolding(crate::specs::EventReading::request_of))]
 pub fn request(alloc: Global, kind: EventKind, c: &mut Cursor<'_>) -> Result<Event, EventError>
     ensures { GivesAll (λ e. e) result (request_of kind c.old) }
