@@ -1,5 +1,5 @@
-//! The program `sshc`: it hands real streams, files, a signer and a verifier to `run_words`, and the words of an agent to
-//! `serve_words`.
+//! The program `sshc`: it passes real streams, files, a signer and a verifier to `run_words`, and the arguments of an
+//! agent to `serve_words`.
 #![tactic(auto)]
 
 use sshc_run::{ToySigner, ToyVerifier};
@@ -13,7 +13,7 @@ use std::{env, io};
 /// The status for out of memory.
 const NO_MEMORY: u8 = 20;
 
-/// The words behind the program's own name; none where they can't be had.
+/// The arguments after the program's own name; no arguments if they can't be read.
 fn words_of(rt: &HostRuntime) -> Result<Vec<Text>, NoMemory> {
     let mut words = Vec::new(rt.alloc());
     let Ok(mut given) = env::args(rt) else {
@@ -26,7 +26,7 @@ fn words_of(rt: &HostRuntime) -> Result<Vec<Text>, NoMemory> {
     Ok(words)
 }
 
-/// Whether the words are `agent` and a path.
+/// Whether the arguments are `agent` and a path.
 fn is_agent(words: &[Text]) -> bool {
     match words {
         [agent, _socket] => agent.as_str() == "agent",

@@ -1,14 +1,14 @@
-//! Bytes through a channel table: on open windows, by grants, after a flush, before a close, in small packets; and channels
-//! that come and go.
+//! Bytes through a channel table: on open windows, by grants, after a flush, before a close, in small packets; and
+//! channels that come and go.
 
 use sshc_mux::{ChannelId, ChannelTable};
 use sshc_wire::{NoMemory, Outbox};
 use std::alloc::Global;
 
-/// How many bytes a call hands in.
+/// How many bytes a call passes in.
 const CALL: usize = 32_768;
 
-/// Our window, which a low one is brought back to.
+/// Our window; a low one is refilled to this.
 const TARGET: u32 = 2_097_152;
 
 /// What the outboxes held, and after how many events bytes waited.
@@ -60,7 +60,7 @@ fn turn_of(call: u32, channels: u32) -> ChannelId {
     ChannelId(call.checked_rem(channels).unwrap_or(0).saturating_add(1))
 }
 
-/// Hands the bytes in, call by call over the channels in turn, on open windows.
+/// Sends the bytes, call by call over the channels in turn, on open windows.
 fn sent(alloc: Global, channels: u32, calls: u32, packet: u32) -> Result<Counts, NoMemory> {
     let mut table = opened(alloc, channels, u32::MAX, packet)?;
     let body = Vec::from_elem(alloc, 0x5a, CALL)?;
@@ -73,7 +73,7 @@ fn sent(alloc: Global, channels: u32, calls: u32, packet: u32) -> Result<Counts,
     Ok(counts)
 }
 
-/// Hands the bytes in without a window, and lets them go by grants of half a call.
+/// Sends the bytes without a window, and lets them out by grants of half a call.
 fn granted(alloc: Global, channels: u32, calls: u32) -> Result<Counts, NoMemory> {
     let mut table = opened(alloc, channels, 0, 32_768)?;
     let body = Vec::from_elem(alloc, 0x5a, CALL)?;
@@ -89,7 +89,7 @@ fn granted(alloc: Global, channels: u32, calls: u32) -> Result<Counts, NoMemory>
     Ok(counts)
 }
 
-/// Hands the bytes in while an exchange runs, a call a channel, and flushes all after each such round.
+/// Sends the bytes while an exchange runs, one call per channel, and flushes all after each such round.
 fn flushed(alloc: Global, channels: u32, calls: u32) -> Result<Counts, NoMemory> {
     let mut table = opened(alloc, channels, u32::MAX, 32_768)?;
     let body = Vec::from_elem(alloc, 0x5a, CALL)?;
@@ -108,7 +108,8 @@ fn flushed(alloc: Global, channels: u32, calls: u32) -> Result<Counts, NoMemory>
     Ok(counts)
 }
 
-/// Opens a channel a call and closes it with a call's bytes waiting, which go by a grant, before EOF and our close.
+/// In each call opens a channel and closes it with a call's bytes waiting, which a grant lets out, before EOF and our
+/// close.
 fn closed(alloc: Global, calls: u32) -> Result<Counts, NoMemory> {
     let mut table = ChannelTable::new(alloc);
     let body = Vec::from_elem(alloc, 0x5a, CALL)?;
@@ -139,7 +140,8 @@ fn churned(alloc: Global, channels: u32) -> Result<Counts, NoMemory> {
     Ok(counts)
 }
 
-/// Small events over the channels in turn: a byte of ours, a byte of the peer's, and a grant, with a look for bytes that wait.
+/// Small events over the channels in turn: a byte of ours, a byte of the peer's, and a grant, with a look for bytes
+/// that wait.
 fn small_events(alloc: Global, channels: u32, events: u32) -> Result<Counts, NoMemory> {
     let mut table = opened(alloc, channels, 0, 32_768)?;
     let mut counts = Counts::new();

@@ -1,7 +1,7 @@
 //! Measurements, printed as counts.
 //!
-//! The arguments NAME FIRST SECOND make one run over a channel table (README.md lists them), `script EVENTS` runs a script
-//! over memory. Without arguments each runs in small.
+//! The arguments NAME FIRST SECOND make one run over a channel table (README.md lists them), `script EVENTS` runs a
+//! script over memory. Without arguments there is a small run of each.
 #![tactic(auto)]
 
 mod channels;
@@ -22,7 +22,7 @@ const SMALL: [(&str, u32, u32); 7] = [
     ("events", 3, 30),
 ];
 
-/// The number in an argument, or the other where there is none.
+/// The number in an argument, or `other` if there is no argument.
 fn number_or(word: Option<String>, other: u32) -> u32 {
     match word {
         Some(word) => word.as_str().parse::<u32>().unwrap_or(other),

@@ -47,7 +47,7 @@ fn script_of(alloc: Global, events: u32) -> Result<Vec<u8>, NoMemory> {
     Ok(script)
 }
 
-/// How a run was answered.
+/// The name of a run's result.
 fn told(answer: &Result<Ended, RunError>) -> &'static str {
     match answer {
         Ok(Ended::ScriptEnd) => "ended script-end",
@@ -57,7 +57,7 @@ fn told(answer: &Result<Ended, RunError>) -> &'static str {
     }
 }
 
-/// Runs a login of so many events, and tells what was written and how it was answered.
+/// Runs a login of so many events, and prints what was written and the result.
 pub(crate) fn tell_script(rt: &HostRuntime, events: u32) -> anyhow::Result<()> {
     let alloc = rt.alloc();
     let mut config = Config::default_in(alloc)?;

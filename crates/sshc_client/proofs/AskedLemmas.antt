@@ -1,4 +1,4 @@
--- What the handler said before the session is open, and the opening's step that goes on with it.
+-- The handler's verdict before the session is open, and the opening's step that continues with it.
 use Rattle.std.proofs.Common.{◌≡◌, ◌⊎◌, ◌≤◌, inl, inr, ℕ, Bool, true, false, not, ◌&&◌, List, [], Option, Some, None, Result, Ok, Err, refl, ap, sym, subst, ◌∙◌, arith}
 use Rattle.std.specs.Prelude.{min, ◌+◌, ◌^◌, ◌-◌}
 use Rattle.sshc_wire.specs.Faults.{Rose}
@@ -33,13 +33,13 @@ use Rattle.sshc_client.specs.Handling.{HandlerAt, HandlerKeeps, Handles}
 use Rattle.sshc_client.specs.HandledStep.{AddsNothing, EndsBy, handler_gate, has_left}
 use Rattle.sshc_client.proofs.HandlerLemmas.{keeps_on, same_handler, rose_later, no_default}
 
--- ---- what the handler said
+-- ---- the handler's verdict
 
 pub not_asked : {E : Type 0} (defaults : Type 0) (judges : PublicKeyOrCertificate → Result Bool E → Type 0) (h : HandlerAt) (s : SessionState) →
     AsksHandler {E = E} defaults judges asking.Nothing h h s s (Ok false)
 not_asked defaults judges h s = record { said = (refl, λ plain. refl); grown = grown_same s; keeps = same_handler h }
 
--- told of an exchange, or of a banner
+-- called for an exchange, or for a banner
 pub told_exchange : {E : Type 0} (defaults : Type 0) (judges : PublicKeyOrCertificate → Result Bool E → Type 0) (was is : HandlerAt) (old new : SessionState) (u : Unit {0}) →
     Handles {E = E} defaults (Ok tt) was is old new (Ok u) → AsksHandler {E = E} defaults judges asking.Exchange was is old new (Ok false)
 told_exchange defaults judges was is old new u h = record { said = (refl, λ plain. (h.default_body plain).1); grown = h.grown; keeps = h.keeps }
@@ -119,7 +119,7 @@ same_verdict key said accepts same = cc
 denied : {E : Type 0} (key : PublicKeyOrCertificate) (accepts : Bool) → accepts ≡ false → Says {E = E} accepts key (Ok true) → ⊥
 denied {E = E} key accepts refused said = let clash : true ≡ false = same_verdict {E = E} key true accepts said ∙ refused in absurd cc
 
--- what the verdict says no to, the handler said no to
+-- if the verdict is no, the handler's was no
 no_of : {E : Type 0} (judges : PublicKeyOrCertificate → Result Bool E → Type 0) (accepts : Bool) (key : Option PublicKeyOrCertificate) →
     IsVerdict judges (key_asked key) accepts → SaysNoTo (Says {E = E} accepts) key → SaysNoTo judges key
 no_of judges accepts None said denies = tt
@@ -178,7 +178,7 @@ kept_first {E = E} told_as judges accepts event was is result said k = record { 
     by (inl goes_on) = inl goes_on
     by (inr accepted) = inr (accepted_first told_as judges accepts event was.opening is.opening (asked_of was.opening event) refl said accepted)
 
--- a step of the opening with the verdict is one with the handler that gave it
+-- a step of the opening with the verdict is one with the handler whose verdict it is
 stepped_with : {E : Type 0} (told_as : Error → E) (judges : PublicKeyOrCertificate → Result Bool E → Type 0) (accepts : Bool) (event : Event) (was is : OpeningLent) (r r2 : ℕ) (setting setting2 : List (List ℕ)) (result : Step E) →
     IsVerdict judges (asked_of was.opening event) accepts → GateKeeps r r2 setting setting2 →
     Stepped (verdict_gate told_as accepts) event (with_gate was 0 []) (with_gate is 0 []) result →

@@ -1,4 +1,4 @@
--- A step before the session is open, by what the handler said.
+-- A step before the session is open, by what the handler returned.
 use Rattle.std.proofs.Common.{◌≡◌, ◌⊎◌, inl, inr, ℕ, Bool, true, false, ◌&&◌, List, [], Option, Some, None, Result, Ok, Err, refl, ap, sym, subst, ◌∙◌}
 use Rattle.std.specs.Prelude.{if◌then◌else◌}
 use Rattle.sshc_wire.specs.Faults.{Rose}
@@ -37,7 +37,7 @@ closed_asks s event closed = rw closed refl
 gate_keeps : (r r2 : ℕ) (setting setting2 : List (List ℕ)) → HandlerKeeps (handler_at r setting) (handler_at r2 setting2) → GateKeeps r r2 setting setting2
 gate_keeps r r2 setting setting2 keeps = record { later = keeps.later; kept = keeps.kept }
 
--- the opening is closed, and nobody is asked
+-- the opening is closed, and nothing is called
 pub steps_closed : {E : Type 0} (defaults : Type 0) (told_as : Error → E) (judges : PublicKeyOrCertificate → Result Bool E → Type 0) (event : Event) (s t : SessionState) (calls calls2 : List SignCall) (x x2 r : ℕ) (setting : List (List ℕ)) (result : Step E) →
     s.opening.closed ≡ true → StepsBefore (verdict_gate told_as false) event (lent_session s calls x 0 []) (lent_session t calls2 x2 0 []) result →
     Before defaults (handler_gate told_as judges) event (lent_session s calls x r setting) (lent_session t calls2 x2 r setting) result
@@ -57,7 +57,7 @@ steps_closed {E = E} defaults told_as judges event s t calls calls2 x x2 r setti
       keeps = keeps;
     }
 
--- the handler let the opening go on
+-- the handler let the opening continue
 pub steps_behind : {E : Type 0} (defaults : Type 0) (told_as : Error → E) (judges : PublicKeyOrCertificate → Result Bool E → Type 0) (event : Event) (asks : Asks) (accepts : Bool) (s mid t : SessionState) (calls calls2 : List SignCall) (x x2 r r2 : ℕ) (setting setting2 : List (List ℕ)) (result : Step E) →
     s.opening.closed ≡ false → asks ≡ asked_of s.opening event →
     AsksHandler {E = E} defaults judges asks (handler_at r setting) (handler_at r2 setting2) s mid (Ok accepts) → is_open s.opening.phase ≡ false →
@@ -130,6 +130,6 @@ first_of_two : (a b : Bool) → a && b ≡ false → b ≡ true → a ≡ false
 first_of_two true b dead holds = let clash : true ≡ false = sym holds ∙ dead in absurd cc
 first_of_two false b dead holds = refl
 
--- a session that goes on and isn't live isn't open
+-- a session that runs and isn't live isn't open
 pub not_live_early : (s : SessionState) → is_live s ≡ false → s.life ≡ Runs → is_open s.opening.phase ≡ false
 not_live_early s dead life = first_of_two (is_open s.opening.phase) (runs s.life) dead (ap runs life)

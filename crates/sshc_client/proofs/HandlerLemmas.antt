@@ -1,4 +1,4 @@
--- A call of the handler within a row, and rows that call nobody.
+-- A call of the handler within a row, and rows that make no call.
 use Rattle.std.proofs.Common.{◌≡◌, ◌≤◌, ◌+◌, ◌⊎◌, inl, inr, ℕ, Bool, true, false, if◌then◌else◌, List, [], ◌∷◌, ◌++◌, Option, Some, None, Result, Ok, Err, refl, ap, sym, subst, ◌∙◌, arith}
 use Rattle.std.specs.Prelude.{IsErrAnd, is_some, min, nat_lt}
 use Rattle.sshc_wire.specs.Faults.{Rose}
@@ -33,7 +33,7 @@ use Rattle.sshc_client.specs.declared.stop.Stop.TheVariants.{Own, Handler}
 use Rattle.sshc_client.specs.Handling.{HandlerAt, HandlerKeeps, Handles, Opines}
 use Rattle.sshc_client.specs.HandledRow.{Accepts, Calls, Cut, CutBehind, FollowsOne, FollowsRow, FollowsWith, Handled, HandlerRefused, LetGo, Retargets, default_answer, is_unknown, lent_result, own_result, served, target_moves, went_result}
 
--- ---- the handler's answer
+-- ---- the handler's result
 
 pub called : {T E : Type 0} (defaults : Type 0) (default : Result T E) (was is : HandlerAt) (old new : SessionState) (answer : Result T E) →
     Handles defaults default was is old new answer → Calls defaults default was is old new (lent_result answer)
@@ -76,7 +76,7 @@ refused_call defaults was is callback back old new (Own e) (memory, same, still)
   keeps = subst (λ (h : HandlerAt). HandlerKeeps was h) (sym still) (same_handler was);
 }
 
--- the handler let the row go on, and the moves behind were done, or some of them
+-- the handler let the row continue, and the moves after its call were done, or some of them
 let_go_moved : {E : Type 0} (defaults : Type 0) (was is : HandlerAt) (callback : Callback) (back : List Move) (old mid new : SessionState) (u : Unit {0}) (moved : Result (Unit {0}) RanOut) →
     Calls {E = E} defaults (Ok tt) was is old mid (Ok u) → Does back mid new moved → FollowsOne {E = E} defaults was is (asking [] callback back) old new (went_result moved)
 unfolding asking
@@ -98,7 +98,7 @@ pub let_go_call : {E : Type 0} (defaults : Type 0) (was is : HandlerAt) (callbac
 let_go_call {E = E} defaults was is callback back old mid new u moved result is_so h m =
     subst (λ (x : Result Flow (Stop E)). FollowsOne {E = E} defaults was is (asking [] callback back) old new x) (sym is_so) (let_go_moved {E = E} defaults was is callback back old mid new u moved h m)
 
--- ---- a row that calls nobody
+-- ---- a row that makes no call
 
 calls_nothing : (defaults : Type 0) (callback : Option Callback) (s : SessionState) → LetGo defaults callback s s Accept
 calls_nothing defaults None s = (refl, refl)
@@ -116,7 +116,7 @@ handled_plain defaults row old new is = record {
   is = is ∙ done_onto row.front (row.back Accept) old;
 }
 
--- some moves of two lists in a row are some of the first, or some of the second behind all of the first
+-- some moves of two lists in sequence are some of the first, or all of the first and some of the second
 behind_first : (m : Move) (a b : List Move) (s t : SessionState) → Fronts a (after m s) t ⊎ Fronts b (done a (after m s)) t → Fronts (m ∷ a) s t ⊎ Fronts b (done (m ∷ a) s) t
 behind_first m a b s t (inl f) = inl (inr f)
 behind_first m a b s t (inr f) = inr f
@@ -194,7 +194,7 @@ pub refused_with : {E : Type 0} (defaults : Type 0) (h : HandlerAt) (row : Opini
     row (default_opinions old) ≡ refused e → new ≡ old → FollowsWith {E = E} defaults h h row old new (Err (Own e))
 refused_with defaults h row old new e is same = own_with defaults h row old new (Err e) (Err (Own e)) refl (refused_follows (row (default_opinions old)) old new e is same)
 
--- memory ran out before anything was done
+-- memory ran out before any move was done
 none_done : (moves : List Move) (s : SessionState) → Fronts moves s s
 none_done [] s = refl
 none_done (m ∷ moves) s = inl refl
@@ -230,13 +230,13 @@ pub front_one : {E : Type 0} (defaults : Type 0) (was is : HandlerAt) (m : Move)
     FollowsOne defaults was is row (after m old) new r → FollowsOne defaults was is (behind_moves (m ∷ []) row) old new r
 front_one defaults was is m row old new r f = record { opinions = default_opinions old; default = λ plain. refl; follows = front_row defaults was is m row old new r f.follows; keeps = f.keeps }
 
--- the same of a call that stands behind a move
+-- the same of a call that follows a move
 pub asked_front : {E : Type 0} (defaults : Type 0) (was is : HandlerAt) (m : Move) (callback : Callback) (back : List Move) (old new : SessionState) (r : Result Flow (Stop E)) →
     FollowsOne defaults was is (asking [] callback back) (after m old) new r → FollowsOne defaults was is (asking (m ∷ []) callback back) old new r
 unfolding asking
 asked_front defaults was is m callback back old new r f = front_one defaults was is m (asking [] callback back) old new r f
 
--- what is said on a channel behind a move
+-- a report on a channel, after a move
 pub reports_front : {E : Type 0} (defaults : Type 0) (was is : HandlerAt) (m : Move) (id : ℕ) (said told : ChannelRecord) (back : List Move) (old new : SessionState) (r : Result Flow (Stop E)) →
     said ≡ told → FollowsOne defaults was is (reports [] id told back) (after m old) new r → FollowsOne defaults was is (reports (m ∷ []) id said back) old new r
 unfolding asking
@@ -252,7 +252,7 @@ called_before defaults was mid is row old new (Ok (flows.Ended e)) keeps f = f
 called_before defaults was mid is row old new (Err (Own e)) keeps f = f
 called_before defaults was mid is row old new (Err (Handler e)) keeps f = record { grown = f.grown; rose = rose_later was.refusals mid.refusals is.refusals keeps.later f.rose; changed = f.changed }
 
--- ---- our window is brought back
+-- ---- our window is refilled
 
 retarget_row : {E : Type 0} (defaults : Type 0) (was is : HandlerAt) (positive : Bool) (id len : ℕ) (said : ChannelRecord) (window : ℕ) (old new : SessionState) (r : Result Flow (Stop E)) →
     FollowsRow defaults was is (reports [] id said []) (done (if positive then Targets window ∷ [] else []) (after (Receives id len) old)) new r →
@@ -309,7 +309,7 @@ failed_one defaults was is None x said old new r waits same f = absurd cc
 failed_one {E = E} defaults was is (Some ticket) x said old new r waits same f =
     front_one defaults was is (Fails x.id.0 x.reason) (reports [] x.id.0 (happened.OpenFailure x.reason x.description x.language) []) old new r (subst (λ (z : ChannelRecord). FollowsOne {E = E} defaults was is (reports [] x.id.0 z []) (after (Fails x.id.0 x.reason) old) new r) same f)
 
--- nothing of ours waits under the number
+-- no open of ours waits under the number
 pub none_confirmed : {E : Type 0} (defaults : Type 0) (h : HandlerAt) (ticket : Option (Option Ticket)) (c : Confirmation) (old new : SessionState) →
     is_some ticket ≡ false → new ≡ old → FollowsOne {E = E} defaults h h (confirmed_row ticket c) old new (Err (Own Inconsistent))
 none_confirmed defaults h None c old new none same = refused_one defaults h (confirmed_row None c) old new Inconsistent refl same
@@ -388,7 +388,7 @@ known_open defaults was is number sender id opened old new r numbered known f = 
   keeps = f.keeps;
 }
 
--- a handler that keeps its defaults accepts an open of a type that is known
+-- a handler that keeps its defaults accepts an open of a known type
 pub known_accepts : (defaults : Type 0) (opened : ServerOpen) → is_unknown opened ≡ false → Accepts defaults (default_answer opened)
 known_accepts defaults opens.Unknown known = absurd cc
 known_accepts defaults opens.Session known = inl refl
@@ -413,11 +413,11 @@ taken_open defaults was mid is number sender id old new r numbered opines f = re
   keeps = keeps_on was mid is opines.keeps f.keeps;
 }
 
--- a handler that takes a type that isn't known keeps no defaults
+-- a handler that takes an unknown type doesn't keep its defaults
 pub taken_accepts : (defaults : Type 0) (was mid : HandlerAt) (default : OpenAnswer) → Opines defaults false was mid true → Accepts defaults default
 taken_accepts defaults was mid default opines = inr (λ plain. not_taken (opines.default_body plain))
 
--- an open of a type that isn't known is refused, since the handler takes none
+-- an open of an unknown type is refused, since the handler doesn't take it
 pub not_taken_open : {E : Type 0} (defaults : Type 0) (was is : HandlerAt) (number : Option ℕ) (sender : Sender) (id : ℕ) (old new : SessionState) →
     number ≡ Some id → Opines defaults false was is false → new ≡ after (Rejects id UnknownChannelType) (after (Reserves sender) old) →
     FollowsWith {E = E} defaults was is (λ o. numbered_open_row o number sender opens.Unknown) old new (Ok flows.Went)
@@ -446,7 +446,7 @@ not_taken_ran_out {E = E} defaults was is number sender id old new (Err e) same 
     subst (λ (x : Stop E). FollowsWith {E = E} defaults was is (λ o. numbered_open_row o number sender opens.Unknown) old new (Err x)) (sym same)
     (not_taken_cut {E = E} defaults was is number sender id old new numbered opines left)
 
--- ---- rows in other words
+-- ---- a row that is equal to another
 
 pub by_row : {E : Type 0} (defaults : Type 0) (was is : HandlerAt) (row told : SessionRow) (old new : SessionState) (r : Result Flow (Stop E)) →
     FollowsOne defaults was is told old new r → row ≡ told → FollowsOne defaults was is row old new r

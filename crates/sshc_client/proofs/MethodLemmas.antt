@@ -1,4 +1,4 @@
--- A method of one move leaves a session grown.
+-- After a method of one move the session is grown.
 use Rattle.std.proofs.Common.{◌≡◌, List, [], ◌∷◌, None, Result, Ok, Err, refl, sym, subst}
 use Rattle.sshc_wire.specs.declared.disconnect.Disconnect.{Disconnect}
 use Rattle.sshc_wire.specs.declared.error.NoMemory.{NoMemory as RanOut}

@@ -1,4 +1,4 @@
--- A packet's row behind a move that is done first, since the row looks at nothing that the move changes.
+-- A packet's row after a move that is done first, since the row reads nothing that the move changes.
 use Rattle.std.proofs.Common.{◌≡◌, ℕ, Bool, true, false, if◌then◌else◌, List, [], ◌∷◌, Result, Ok, Err, refl, ap, sym, subst, ◌∙◌}
 use Rattle.sshc_transport.specs.declared.exchange.ExchangeFlag.{ExchangeFlag}
 use Rattle.sshc_transport.specs.declared.exchange.ExchangeFlag.TheVariants.{Idle, Ours, Peer}
@@ -69,7 +69,7 @@ heard_lives s t heard live = ap is_live (heard ∙ hears s live) ∙ live
 pub counted_lives : (len : ℕ) (s t : SessionState) → t ≡ after (Counts len) s → is_live s ≡ true → is_live t ≡ true
 counted_lives len s t counted_is live = ap is_live (counted_is ∙ counts len s live) ∙ live
 
--- a row with a move before it, by the row that is the same behind the move
+-- a row with a move before it, by the row that is the same after the move
 first_move : {E : Type 0} (defaults : Type 0) (was is : HandlerAt) (m : Move) (late row : Opinions → SessionRow) (s new : SessionState) (r : Result Flow (Stop E)) →
     default_opinions (after m s) ≡ default_opinions s → ((o : Opinions) → late o ≡ row o) →
     FollowsWith defaults was is late (after m s) new r → FollowsWith defaults was is (λ o. behind_moves (m ∷ []) (row o)) s new r

@@ -1,4 +1,4 @@
--- A step with a handler that keeps its defaults is the table's.
+-- A step with a handler that keeps its defaults is the one of the table.
 use Rattle.std.proofs.Common.{◌≡◌, ◌⊎◌, ◌≤◌, inl, inr, ℕ, Bool, true, false, not, ◌&&◌, List, [], ◌∷◌, ◌++◌, Option, Some, None, Result, Ok, Err, refl, ap, sym, subst, ◌∙◌, append-nil, arith}
 use Rattle.std.proofs.Math.Seq.{drop-length}
 use Rattle.sshc_wire.specs.Faults.{Rose}
@@ -172,7 +172,7 @@ none_since calls calls2 same = ap (since calls) same ∙ drop-length calls
 not_more : (x : ℕ) → x ≤ x
 not_more x = omega arith
 
--- a refusal changes nothing but that the opening is shut
+-- a refusal changes nothing except that the opening is shut
 shut_stepped : {E : Type 0} (gate : GateAnswers E) (event : Event) (s : OpeningState) (out : Outgoing) (calls calls2 : List SignCall) (x r r2 : ℕ) (setting setting2 : List (List ℕ)) (e : E) → s.closed ≡ false → calls2 ≡ calls → GateKeeps r r2 setting setting2 →
     StepsBy gate event (lent s out calls x) (lent (shut s) out calls2 x) (steps.Refused e) →
     HasGateCause gate event (with_gate (lent s out calls x) r setting) (with_gate (lent (shut s) out calls2 x) r2 setting2) (steps.Refused e) →

@@ -1,4 +1,4 @@
--- What the handler is asked before the session is open, and the opening's step with what it said of the host key.
+-- What the handler is asked before the session is open, and the opening's step with its verdict on the host key.
 use Rattle.std.specs.Prelude.{◌≡◌, ◌⊎◌, Bool, true, false, ◌&&◌, Result, Ok, Err}
 use Rattle.sshc_wire.specs.Faults.{Rose}
 use Rattle.sshc_key.specs.declared.identity.PublicKeyOrCertificate.{PublicKeyOrCertificate}
@@ -18,16 +18,17 @@ use Rattle.sshc_client.specs.HandledStep.{AddsNothing, EndsBy, has_left}
 abbrev pub Says : {E : Type 0} → Bool → PublicKeyOrCertificate → Result Bool E → Type 0
 Says accepts key answer = answer ≡ Ok accepts
 
--- a gate that says what was said of the host key, and is told nothing
+-- a gate that returns the verdict on the host key, and does nothing with exchanges and banners
 abbrev pub verdict_gate : {E : Type 0} → (Error → E) → Bool → GateAnswers E
 verdict_gate told_as accepts = gate_answers told_as (Says accepts) (λ secret names. AddsNothing) (λ banner. AddsNothing)
 
--- the verdict is the handler's where it was asked, and no where it wasn't
+-- the verdict is the handler's if it was asked, and no if it wasn't
 abbrev pub IsVerdict : {E : Type 0} → (PublicKeyOrCertificate → Result Bool E → Type 0) → Asks → Bool → Type 0
 IsVerdict judges (asking.HostKey key) accepts = judges key (Ok accepts)
 IsVerdict judges asks accepts = accepts ≡ false
 
--- the handler refused the host key, before it was lent the session; or it refused otherwise, by a body of its own
+-- the handler refused the host key, before it was lent the session; or it refused for another reason, by a body of its
+-- own
 abbrev pub RefusesKey : {E : Type 0} → (PublicKeyOrCertificate → Result Bool E → Type 0) → Asks → E → Type 0
 RefusesKey judges (asking.HostKey key) e = judges key (Err e)
 RefusesKey judges asks e = ⊥
@@ -39,7 +40,7 @@ abbrev pub Said : {E : Type 0} → Type 0 → (PublicKeyOrCertificate → Result
 Said defaults judges asks was is old new (Ok accepts) = IsVerdict judges asks accepts × (defaults → new ≡ old)
 Said defaults judges asks was is old new (Err e) = Refuses defaults judges asks old new e × Rose was.refusals is.refusals
 
--- the handler was asked what the row asks
+-- the handler was called as the row asks
 pub record AsksHandler {E : Type 0} (defaults : Type 0) (judges : PublicKeyOrCertificate → Result Bool E → Type 0) (asks : Asks) (was is : HandlerAt) (old new : SessionState) (result : Result Bool E) : Type 0 where
   pub said : Said defaults judges asks was is old new result
   pub grown : Grown old new

@@ -1,4 +1,4 @@
--- The settings of a client that is told no others, and what of them a session and its opening keep.
+-- The default settings of a client, and which of them a session and its opening keep.
 use Rattle.std.specs.Prelude.{◌≡◌, false, None, is_some, codes}
 use Rattle.sshc_opening.specs.declared.opening.Settings.{Settings}
 use Rattle.sshc_moves.specs.declared.settings.SessionSettings.{SessionSettings}
@@ -17,11 +17,11 @@ pub record IsDefault (c : Config) : Type 0 where
   pub max_events : c.max_events ≡ 8192
   pub agent_asks : c.agent_asks ≡ false
 
--- what the opening keeps of the settings
+-- which settings the opening keeps
 abbrev pub settings_of : Config → Settings
 settings_of c = record { window_size = c.window_size; anonymous = c.anonymous; inactivity = is_some c.inactivity_timeout }
 
--- what an open session keeps of them
+-- which settings an open session keeps
 abbrev pub session_settings_of : Config → SessionSettings
 session_settings_of c = record {
   max_packet_size = c.maximum_packet_size;

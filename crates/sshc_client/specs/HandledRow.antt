@@ -1,6 +1,7 @@
 -- What a call does that follows a row of an open session with any handler: the moves before the handler's call, what
--- it does to the session that it is lent, and the moves by what it answers. What the handler does is a list of moves
--- too, of those that the session's methods make. By relations between states; the code does one move after the other.
+-- the handler does to the session that it is lent, and the moves by what it returns. What the handler does is a list of
+-- moves too, of those that the session's methods make. Stated by relations between states; the code does one move after
+-- the other.
 use Rattle.std.specs.Prelude.{◌≡◌, ◌⊎◌, ℕ, nat_lt, Bool, true, false, if◌then◌else◌, List, [], ◌∷◌, Option, Some, None, Result, Ok, Err}
 use Rattle.sshc_wire.specs.Faults.{Rose}
 use Rattle.sshc_wire.specs.declared.channel_open_failure.ChannelOpenFailure.TheVariants.{AdministrativelyProhibited}
@@ -24,20 +25,20 @@ use Rattle.sshc_client.specs.declared.stop.Stop.{Stop}
 use Rattle.sshc_client.specs.declared.stop.Stop.TheVariants.{Own, Handler}
 use Rattle.sshc_client.specs.Handling.{HandlerAt, HandlerKeeps, Handles, Opines}
 
--- where a row calls nobody the session stays; else the handler leaves one grown from it, and one that keeps its
--- defaults leaves it as it is and accepts
+-- if a row makes no call, the session doesn't change; else the session afterwards is grown from the one before, and a
+-- handler that keeps its defaults doesn't change it and accepts
 abbrev pub LetGo : Type 0 → Option Callback → SessionState → SessionState → OpenAnswer → Type 0
 LetGo defaults None lent mid answer = (mid ≡ lent) × (answer ≡ Accept)
 LetGo defaults (Some callback) lent mid answer = Grown lent mid × (defaults → (mid ≡ lent) × (answer ≡ Accept))
 
--- the row to its end
+-- the whole row was followed
 pub record Handled (defaults : Type 0) (row : SessionRow) (old new : SessionState) : Type 0 where
   pub mid : SessionState
   pub answer : OpenAnswer
   pub let_go : LetGo defaults row.asks (done row.front old) mid answer
   pub is : new ≡ done (row.back answer) mid
 
--- memory ran out behind some of the moves after the handler's call
+-- memory ran out after some of the moves that follow the handler's call
 pub record CutBehind (defaults : Type 0) (row : SessionRow) (old new : SessionState) : Type 0 where
   pub mid : SessionState
   pub answer : OpenAnswer
@@ -60,7 +61,7 @@ FollowsRow defaults was is row old new (Err (Own e)) =
     ((e ≡ NoMemory) × Cut defaults row old new) ⊎ ((row.next ≡ refuses e) × Handled defaults row old new)
 FollowsRow defaults was is row old new (Err (Handler e)) = HandlerRefused defaults was is row old new
 
--- a call that follows the row of what the handler answers where it isn't lent the session
+-- a call that follows the row chosen by what the handler returns from a callback that isn't lent the session
 pub record FollowsWith {E : Type 0} (defaults : Type 0) (was is : HandlerAt) (row : Opinions → SessionRow) (old new : SessionState) (result : Result Flow (Stop E)) : Type 0 where
   pub opinions : Opinions
   pub default : defaults → opinions ≡ default_opinions old
@@ -71,7 +72,7 @@ pub record FollowsWith {E : Type 0} (defaults : Type 0) (was is : HandlerAt) (ro
 abbrev pub FollowsOne : {E : Type 0} → Type 0 → HandlerAt → HandlerAt → SessionRow → SessionState → SessionState → Result Flow (Stop E) → Type 0
 FollowsOne defaults was is row old new result = FollowsWith defaults was is (λ opinions. row) old new result
 
--- a call that calls no handler, as one of a row with a handler
+-- the result of a call that calls no handler, as one of a row with a handler
 abbrev pub own_result : {E : Type 0} → Result Flow Error → Result Flow (Stop E)
 own_result (Ok flow) = Ok flow
 own_result (Err e) = Err (Own e)
@@ -87,12 +88,12 @@ Calls defaults default was is old new (Ok x) = Handles defaults default was is o
 Calls defaults default was is old new (Err (Handler e)) = Handles defaults default was is old new (Err e)
 Calls defaults default was is old new (Err (Own e)) = (e ≡ NoMemory) × (new ≡ old) × (is ≡ was)
 
--- an answer of the handler's, as one of a row
+-- the result of a callback, as one of a row
 abbrev pub lent_result : {T E : Type 0} → Result T E → Result T (Stop E)
 lent_result (Ok x) = Ok x
 lent_result (Err e) = Err (Handler e)
 
--- the handler is asked about an open of the peer's that has its number
+-- the handler is called for an open of the peer's under this number
 unfoldable pub served : ℕ → ServerOpen → SessionRow
 served id opened = record {
   front = [];
@@ -105,20 +106,20 @@ abbrev pub is_unknown : ServerOpen → Bool
 is_unknown opens.Unknown = true
 is_unknown opened = false
 
--- what a handler answers that keeps its defaults
+-- what a handler returns that keeps its defaults
 abbrev pub default_answer : ServerOpen → OpenAnswer
 default_answer opens.Unknown = Reject AdministrativelyProhibited
 default_answer opened = Accept
 
--- it is to accept, or the handler doesn't keep its defaults
+-- the result is to accept, or the handler doesn't keep its defaults
 abbrev pub Accepts : Type 0 → OpenAnswer → Type 0
 Accepts defaults answer = (answer ≡ Accept) ⊎ (defaults → ⊥)
 
--- the window target of the next question, by the handler's answer; 0 is none
+-- the window target of the next call, by the handler's result; with 0 it doesn't change
 abbrev pub target_moves : ℕ → List Move
 target_moves window = if nat_lt 0 window then Targets window ∷ [] else []
 
--- the handler was asked with a window target, and its answer is the next one
+-- the handler was called with a window target, and its result is the next one
 pub record Retargets (defaults : Type 0) (target : ℕ) (was is : HandlerAt) (old new : SessionState) : Type 0 where
   pub window : ℕ
   pub opines : Opines defaults target was is window

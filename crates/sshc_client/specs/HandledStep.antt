@@ -1,6 +1,6 @@
 -- What a step of a session does, with any handler. In an open session the event's row is followed, with whatever the
--- handler does to the session that it is lent; before that the opening's step goes on behind what the handler did. By
--- relations between states; the code does one move after the other.
+-- handler does to the session that it is lent; before that the opening's step continues after what the handler did.
+-- Stated by relations between states; the code does one move after the other.
 use Rattle.std.specs.Prelude.{◌≡◌, ◌⊎◌, ℕ, Bool, true, false, ◌&&◌, not, List, [], Result, Ok, Err}
 use Rattle.sshc_wire.specs.Faults.{Rose}
 use Rattle.sshc_wire.specs.declared.record.Record.{Record}
@@ -37,7 +37,7 @@ handler_of l = handler_at l.gate_refusals l.setting
 
 -- ---- how a step ends
 
--- where the user left the session while the handler was called, a step that would go on ends it
+-- if the user left the session during the handler's call, a step that would continue ends it
 abbrev pub EndsBy : {E : Type 0} → Bool → SessionState → SessionState → Step E → Step E → Type 0
 EndsBy false last new step result = (result ≡ step) × (new ≡ last)
 EndsBy true last new step result = (result ≡ steps.Ended Disconnected) × (new ≡ after Stops last)
@@ -48,7 +48,7 @@ has_left life = false
 
 -- ---- in an open session
 
--- by how the row ended; where it doesn't go on, the session is over
+-- by how the row ended; if the row doesn't continue, the session is over
 abbrev pub EndsRow : {E : Type 0} → (Error → E) → SessionState → SessionState → Result Flow (Stop E) → Step E → Type 0
 EndsRow told_as last new (Ok flows.Went) result = EndsBy (has_left last.life) last new steps.Went result
 EndsRow told_as last new (Ok (flows.Ended e)) result = (result ≡ steps.Ended e) × (new ≡ after Stops last)
@@ -63,15 +63,15 @@ pub record StepsOpen {E : Type 0} (defaults : Type 0) (told_as : Error → E) (a
 
 -- ---- before the session is open
 
--- What the handler does to the session stands in the session, so the opening is told nothing more.
+-- What the handler does to the session is already in the session, so the opening gets no more records.
 abbrev pub AddsNothing : {E : Type 0} → Result (Unit {0}) E → List Record → Type 0
 AddsNothing answer more = (answer ≡ Ok tt) × (more ≡ [])
 
--- a handler as a gate of the opening: its answer for the host key
+-- a handler as a gate of the opening: its verdict on the host key
 abbrev pub handler_gate : {E : Type 0} → (Error → E) → (PublicKeyOrCertificate → Result Bool E → Type 0) → GateAnswers E
 handler_gate told_as judges = gate_answers told_as judges (λ secret names. AddsNothing) (λ banner. AddsNothing)
 
--- the handler grew the session, and the opening's step went on from there
+-- the session is grown by the handler, and the opening's step continued from there
 pub record StepsBehind {E : Type 0} (defaults : Type 0) (gate : GateAnswers E) (event : Event) (was is : Lent) (result : Step E) : Type 0 where
   pub mid : SessionState
   pub grown : Grown (was.session) mid
@@ -81,7 +81,7 @@ pub record StepsBehind {E : Type 0} (defaults : Type 0) (gate : GateAnswers E) (
   pub stepped : StepsLent gate event (record was { session = mid }) (record is { session = last }) step
   pub ends : EndsBy (goes_on step && has_left last.life) last (is.session) step result
 
--- the session as it is where it is refused before it is open
+-- the session after a refusal before it is open
 abbrev pub shut_session : SessionState → SessionState
 shut_session s = record s { opening = shut s.opening; life = Over }
 
@@ -112,9 +112,9 @@ pub record Before {E : Type 0} (defaults : Type 0) (gate : GateAnswers E) (event
 -- ---- the step
 
 pub record SessionSteps {E : Type 0} (defaults : Type 0) (gate : GateAnswers E) (accepts : Accepts) (event : Event) (was is : Lent) (result : Step E) : Type 0 where
-  -- a session that is over answers Closed, and stays as it is
+  -- a session that is over returns `Closed`, and doesn't change
   pub closed : was.session.life ≡ Over → (result ≡ steps.Closed) × (is.session ≡ was.session)
-  -- what the user left is over with the next step
+  -- a session that the user left is over with the next step
   pub left : was.session.life ≡ Left → (result ≡ steps.Ended Disconnected) × (is.session ≡ after Stops (was.session))
   -- before the session is open
   pub opening : opens_later (was.session) ≡ true →
@@ -123,5 +123,5 @@ pub record SessionSteps {E : Type 0} (defaults : Type 0) (gate : GateAnswers E) 
   pub row : is_live (was.session) ≡ true →
       StepsOpen defaults gate.told_as accepts event (handler_of was) (handler_of is) (was.session) (is.session) result
       × (is.calls ≡ was.calls)
-  -- the handler's count of refusals never falls, and it keeps what it judges by
+  -- the handler's count of refusals never falls, and what it judges by doesn't change
   pub keeps : HandlerKeeps (handler_of was) (handler_of is)

@@ -1,5 +1,5 @@
 -- What a call of a handler does: what it may do to a session that it is lent, how often it refused, and what its
--- default body answers. By relations between two moments; the code is whatever the handler does.
+-- default body returns. Stated by relations between two moments; the code is any handler's.
 use Rattle.std.specs.Prelude.{◌≡◌, ◌≤◌, ℕ, List, Result, Ok, Err, Bool, OnErr}
 use Rattle.sshc_wire.specs.Faults.{Rose}
 use Rattle.sshc_moves.specs.SessionState.{SessionState}
@@ -15,13 +15,14 @@ pub record HandlerAt : Type 0 where
 abbrev pub handler_at : ℕ → List (List ℕ) → HandlerAt
 handler_at refusals setting = record { refusals = refusals; setting = setting }
 
--- its count of refusals never falls, and it keeps what it judges by
+-- its count of refusals never falls, and what it judges by doesn't change
 pub record HandlerKeeps (was is : HandlerAt) : Type 0 where
   pub later : was.refusals ≤ is.refusals
   pub kept : is.setting ≡ was.setting
 
--- A call that is lent the session leaves one grown from it, and answers an error only where its count of refusals
--- rose. A handler that keeps its defaults answers the default, and does nothing to the session.
+-- After a call that is lent the session, the session is grown from the one before, and the call returns an error only
+-- if the count of refusals rose. A handler that keeps its defaults returns the default, and does nothing to the
+-- session.
 pub record Handles {T E : Type 0} (defaults : Type 0) (default : Result T E) (was is : HandlerAt) (old new : SessionState) (result : Result T E) : Type 0 where
   pub grown : Grown old new
   pub keeps : HandlerKeeps was is
@@ -33,7 +34,7 @@ pub record Opines {T : Type 0} (defaults : Type 0) (default : T) (was is : Handl
   pub keeps : HandlerKeeps was is
   pub default_body : defaults → answer ≡ default
 
--- what a handler answers by default to the end of a session: the error by which it ended, if it was one
+-- what a handler returns by default at the end of a session: the error by which it ended, if it was one
 abbrev pub ended_by : {E : Type 0} → DisconnectReason E → Result (Unit {0}) E
 ended_by (reasons.ReceivedDisconnect info) = Ok tt
 ended_by (reasons.Error e) = Err e

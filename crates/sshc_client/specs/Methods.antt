@@ -11,7 +11,7 @@ use Rattle.sshc_moves.specs.Messages.{Ask}
 use Rattle.sshc_moves.specs.Moves.{Asks, DeniesTicket, Move, Opens, after, done}
 use Rattle.sshc_moves.specs.SessionState.{SessionState, is_live, is_open}
 
--- a call did the moves, or found no memory and did nothing; a move that may not be done does nothing either
+-- a call did the moves, or was out of memory and did nothing; a move that may not be done does nothing either
 abbrev pub Acts : {A : Type 0} → List Move → SessionState → SessionState → Result A Error → Type 0
 Acts moves old new (Ok x) = new ≡ done moves old
 Acts moves old new (Err e) = (e ≡ NoMemory) × (new ≡ old)
@@ -20,7 +20,7 @@ Acts moves old new (Err e) = (e ≡ NoMemory) × (new ≡ old)
 abbrev pub asks_or_denies : Ticket → Ask → SessionState → List Move
 asks_or_denies ticket ask s = if is_open s.opening.phase then Asks ask ∷ [] else DeniesTicket ticket ∷ []
 
--- a channel of ours is opened under the next number; in a session that isn't open it is refused
+-- a channel of ours is opened under the next number; `NotAuthenticated` if the session isn't open
 abbrev pub OpensChannel : ChannelOpen → SessionState → SessionState → Result ChannelId Error → Type 0
 OpensChannel asked old new (Ok id) = (is_live old ≡ true) × (next_number old.table ≡ Some id.0) × (new ≡ after (Opens asked None) old)
 OpensChannel asked old new (Err e) =

@@ -1,6 +1,6 @@
--- What a step of a session does, where the handler keeps its default answers but for what its gate says: before the
--- session is open the opening's step goes on, in an open session the event's row is followed, and one that has ended
--- answers Closed. The code has the opening in its place all along.
+-- What a step of a session does if the handler keeps its default bodies, with its gate's verdict on host keys: before
+-- the session is open the opening's step is done, in an open session the event's row is followed, and a session that
+-- has ended returns `Closed`. In the code the opening is a part of the session all along.
 use Rattle.std.specs.Prelude.{◌≡◌, ◌⊎◌, true}
 use Rattle.sshc_event.specs.declared.event.Event.{Event}
 use Rattle.sshc_opening.specs.declared.ended.Ended.TheVariants.{Disconnected}
@@ -20,7 +20,7 @@ use Rattle.sshc_rows.specs.Follows.{all_moves, default_opinions}
 
 -- ---- in an open session
 
--- the row was followed; where it doesn't go on, the session is over
+-- the row was followed; if it doesn't continue, the session is over
 abbrev pub StepsRow : {E : Type 0} → (Error → E) → SessionRow → SessionState → SessionState → Step E → Type 0
 StepsRow told_as row old new steps.Went = (row.next ≡ goes) × (new ≡ done (all_moves row) old)
 StepsRow told_as row old new (steps.Ended e) = (row.next ≡ ends e) × (new ≡ after Stops (done (all_moves row) old))
@@ -33,9 +33,9 @@ StepsRow told_as row old new steps.Closed = ⊥
 -- ---- the step
 
 pub record SessionStepped {E : Type 0} (gate : GateAnswers E) (accepts : Accepts) (event : Event) (was is : Lent) (result : Step E) : Type 0 where
-  -- a session that is over answers Closed, and stays as it is
+  -- a session that is over returns `Closed`, and doesn't change
   pub closed : was.session.life ≡ Over → (result ≡ steps.Closed) × (is.session ≡ was.session)
-  -- what the user left is over with the next step
+  -- a session that the user left is over with the next step
   pub left : was.session.life ≡ Left → (result ≡ steps.Ended Disconnected) × (is.session ≡ after Stops (was.session))
   -- before the session is open
   pub opening : opens_later (was.session) ≡ true → StepsOpening gate event was is result

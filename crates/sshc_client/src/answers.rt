@@ -1,4 +1,4 @@
-//! What a handler is told at the end of a session.
+//! What a handler is passed at the end of a session.
 
 use sshc_opening::RemoteDisconnectInfo;
 

@@ -1,4 +1,4 @@
-//! Who is asked and told by a session.
+//! The trait of a session's handler.
 
 ghost use Rattle.std.specs.Prelude.{◌≡◌, ◌≤◌, ℕ, List, Result, Bool, false, Ok, OnErr};
 ghost use Rattle.sshc_wire.specs.Faults.{Rose};
@@ -13,31 +13,31 @@ use sshc_moves::OpenAnswer;
 use sshc_opening::{Error, NamesChosen};
 use sshc_wire::{ChannelId, ChannelOpenFailure, Sig};
 
-/// What a session asks its user, and tells it. A callback that is lent the session may call its methods, and nothing
-/// else changes the session meanwhile: it is left grown. An error is answered only where the count of refusals rose;
-/// it ends the session.
+/// The callbacks that a session makes. A callback that is lent the session may call its methods, and nothing else
+/// changes the session meanwhile: the session afterwards is grown from the one before (`Grown`). A callback returns an
+/// error only if the count of refusals rose; the error ends the session.
 ///
-/// `check_server_key` has no body of its own, since what it may answer is the handler's relation `judges`. A handler
-/// that keeps all other bodies says so by `keeps_defaults`, and then a step is the exact row of the event.
+/// `check_server_key` has no default body, since what it may return is the handler's relation `judges`. A handler that
+/// keeps all the other default bodies declares so by `keeps_defaults`, and then a step is exactly the row of the event.
 pub trait Handler: Send {
     type Error: Drop;
 
-    /// What the handler judges host keys by, which each call keeps.
+    /// What the handler judges host keys by. No call changes it.
     ghost setting: { Self → List (List ℕ) };
 
-    /// What it may answer for a host key.
+    /// What the handler may return for a host key.
     ghost judges: { Self → HostKey → Result Bool Self.Error → Type 0 };
 
-    /// How an error of the session is told.
+    /// The handler's error for an error of the session.
     ghost told_as: { Refusal → Self.Error };
 
-    /// How often it has refused.
+    /// How often the handler has refused.
     ghost refusals: { Self → ℕ };
 
-    /// Whether it keeps the bodies below: `Unit {0}` where it does, else `⊥`.
+    /// Whether the handler keeps the default bodies below: `Unit {0}` if it does, else `⊥`.
     ghost keeps_defaults: { Type 0 };
 
-    /// How an error of the session is answered.
+    /// Converts an error of the session to one of the handler.
     fn from_client(e: Error) -> Self::Error
         ensures { result ≡ told_as e };
 
@@ -58,7 +58,8 @@ pub trait Handler: Send {
         }
     }
 
-    /// Whether a channel of a type that isn't known is taken at all; the type is told by its name.
+    /// Whether to take a channel of an unknown type, named `kind`, and so to call `server_channel_open_unknown`. With
+    /// `false` the channel is refused.
     fn should_accept_unknown_server_channel(&mut self, id: ChannelId, kind: &str) -> bool
         ensures { Opines keeps_defaults false
             (handler_at (refusals self.old) (setting self.old)) (handler_at (refusals self.new) (setting self.new))
@@ -67,8 +68,8 @@ pub trait Handler: Send {
         false
     }
 
-    /// Our window of a channel is brought back, and this is the window target. An answer above 0 is the target that the
-    /// next question is asked with, in bytes; the window itself isn't changed by it.
+    /// Our window of a channel was refilled; `window` is the window target, in bytes. A result above 0 is the target
+    /// that the next call is made with; the result doesn't change the window itself.
     fn adjust_window(&mut self, id: ChannelId, window: u32) -> u32
         ensures { Opines keeps_defaults window
             (handler_at (refusals self.old) (setting self.old)) (handler_at (refusals self.new) (setting self.new))
@@ -87,7 +88,7 @@ pub trait Handler: Send {
         Ok(())
     }
 
-    /// A key exchange is done. The session is lent as it was before: at the first exchange it isn't open, and its host key
+    /// A key exchange is done. `session` is as it was before: at the first exchange it isn't open yet, and its host key
     /// has just been accepted.
     #[tactic(auto, using(sshc_moves::specs::GrownLaws::grown_same))]
     fn kex_done(
@@ -391,7 +392,8 @@ pub trait Handler: Send {
         Ok(())
     }
 
-    /// The server granted more bytes: the window that is left, in bytes, after what waited was sent.
+    /// The server granted more bytes: `new_size` is the window that remains, in bytes, after the waiting bytes were
+    /// sent.
     #[tactic(auto, using(sshc_moves::specs::GrownLaws::grown_same))]
     fn window_adjusted(
         &mut self,

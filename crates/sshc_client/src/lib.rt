@@ -1,4 +1,5 @@
-//! A session: its opening and what follows, one event in and records out, with no IO; and the handler that it is lent to.
+//! A session: its opening and what follows, one event in and records out, with no IO; and the handler that the session
+//! is lent to.
 #![tactic(auto)]
 
 mod answers;

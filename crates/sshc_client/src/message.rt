@@ -1,4 +1,4 @@
-//! What a user submits to a session, one message an event.
+//! What a user submits to a session, one message per event.
 
 ghost use Rattle.std.specs.Prelude.{◌≡◌};
 ghost use Rattle.sshc_client.specs.declared.message.Msg.TheVariants as msgs;
@@ -7,7 +7,7 @@ use sshc_key::PublicKey;
 use sshc_opening::{ChannelMsg, Method};
 use sshc_wire::{ChannelId, ChannelOpenFailure, Disconnect, List, Octets, Text, Ticket};
 
-/// What a user submits. A message with a ticket is answered under it; none asks for no answer.
+/// A message that a user submits. One with a ticket gets an answer with that ticket; `None` asks for no answer.
 #[derive(Debug, PartialEq, Eq, Drop)]
 pub enum Msg {
     /// RFC 4252, section 5.
@@ -32,7 +32,7 @@ pub enum Msg {
     AuthGssapiExchangeComplete {
         token: Option<Octets>,
     },
-    /// What an outside signer hands back: the bytes that it was handed, and the signature as a string behind them.
+    /// The result of an outside signer: the bytes that it was asked to sign, followed by the signature as a string.
     Signed {
         body: Octets,
     },
@@ -82,9 +82,9 @@ pub enum Msg {
         description: Text,
         language_tag: Text,
     },
-    /// What is asked of a channel.
+    /// A request or bytes for a channel.
     Channel(ChannelId, ChannelMsg),
-    /// The answer to a channel that the server opens.
+    /// The user's answer to a channel that the server opens.
     ServerChannelOpenReply {
         id: ChannelId,
         result: Result<(), ChannelOpenFailure>,

@@ -55,7 +55,7 @@ impl Session {
         }
     }
 
-    /// What was said since the records were last taken.
+    /// The records since they were last taken.
     pub fn take_records(&mut self) -> Outbox
         ensures taken { result.records ≡ self.old.records }
         ensures rest { self.new ≡ record self.old { records = [] } }
@@ -70,8 +70,8 @@ impl Session {
         self.connection.opening().is_awaiting()
     }
 
-    /// Whether the user may be asked for an event: where an answer is awaited, or where no exchange runs, nothing waits
-    /// on a channel and the session hasn't ended.
+    /// Whether the user may be asked for an event: if an answer is awaited; or if no exchange runs, no bytes wait on a
+    /// channel and the session hasn't ended.
     pub fn wants_user_events(&self) -> bool
         ensures { result ≡ wants_user_events self.now }
     {

@@ -1,4 +1,4 @@
-//! Why a row doesn't go on.
+//! Why a row doesn't continue.
 
 ghost use Rattle.std.specs.Prelude.{◌≡◌};
 ghost use Rattle.sshc_opening.specs.declared.error.Error.TheVariants as errors;
@@ -9,7 +9,7 @@ use sshc_opening::Error;
 use sshc_rows::Flow;
 use sshc_wire::{NoMemory, WireError};
 
-/// Why a row doesn't go on.
+/// Why a row doesn't continue.
 #[derive(Debug, Drop)]
 pub enum Stop<E> {
     /// The session refuses it.
@@ -42,7 +42,7 @@ impl<E> From<WireError> for Stop<E> {
     }
 }
 
-/// A row that calls no handler.
+/// The result of a row that calls no handler.
 pub(crate) fn own<E>(row: Result<Flow, Error>) -> Result<Flow, Stop<E>>
     ensures { result ≡ own_result row }
 {
@@ -52,7 +52,7 @@ pub(crate) fn own<E>(row: Result<Flow, Error>) -> Result<Flow, Stop<E>>
     }
 }
 
-/// The moves at the end of a row.
+/// The result of the moves at the end of a row.
 pub(crate) fn went<E>(moved: Result<(), NoMemory>) -> Result<Flow, Stop<E>>
     ensures { result ≡ went_result moved }
 {
@@ -62,7 +62,7 @@ pub(crate) fn went<E>(moved: Result<(), NoMemory>) -> Result<Flow, Stop<E>>
     }
 }
 
-/// The handler's answer.
+/// The handler's result, as one of a row.
 pub(crate) fn lent<T, E>(answer: Result<T, E>) -> Result<T, Stop<E>>
     ensures { result ≡ lent_result answer }
 {

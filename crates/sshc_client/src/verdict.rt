@@ -1,4 +1,4 @@
-//! What a handler said of a host key, as a gate of the opening.
+//! The handler's verdict on a host key, as a gate of the opening.
 
 use crate::handler::Handler;
 use sshc_key::PublicKeyOrCertificate;
@@ -6,8 +6,8 @@ use sshc_opening::{Error, Gate, NamesChosen};
 use sshc_wire::Outbox;
 use std::marker::PhantomData;
 
-/// Hands on what the handler said of the host key. The handler has been told of exchanges and banners before, so nothing
-/// is done with them here.
+/// Returns the handler's verdict on the host key. The handler has already been called for exchanges and banners, so
+/// this gate does nothing with them.
 pub(crate) struct Verdict<H: Handler> {
     pub(crate) accepts: bool,
     pub(crate) of: PhantomData<H>,

@@ -1,4 +1,4 @@
-//! What is done to a session that is lent.
+//! What is done to a session that the handler is lent.
 
 ghost use Rattle.sshc_moves.specs.Grown.{Grown};
 
@@ -23,7 +23,7 @@ pub fn act(
     put_line(heard, line.as_str())
 }
 
-/// Does what a line of the plan says of a call.
+/// Does what a line of the plan states for a call.
 #[tactic(auto, using(sshc_moves::specs::GrownLaws::grown_same))]
 fn follow_line(
     alloc: Global,
@@ -40,7 +40,7 @@ fn follow_line(
     }
 }
 
-/// Does what the plan says of a call.
+/// Does what the plan states for a call.
 #[tactic(auto, using(sshc_moves::specs::GrownLaws::grown_same, sshc_moves::specs::GrownLaws::grown_next))]
 pub fn follow(
     alloc: Global,

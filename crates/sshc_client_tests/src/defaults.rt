@@ -1,4 +1,4 @@
-//! The settings that a client has unless it is told others, and a channel's message as the user's.
+//! Tests of a client's default settings, and of a channel's message as the user's.
 
 use sshc_client::{ChannelMsg, Config, Msg};
 use sshc_wire::ChannelId;

@@ -4,7 +4,7 @@ use sshc_client::Error;
 use sshc_wire::NoMemory;
 use std::alloc::Global;
 
-/// What a method returned where it didn't fail.
+/// The value that a method returned, if it didn't fail.
 #[derive(Clone, Copy, Debug, PartialEq, Eq)]
 pub enum Gave {
     Nothing,

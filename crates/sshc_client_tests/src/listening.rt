@@ -1,4 +1,4 @@
-//! A handler that keeps the list of its calls, and does in each and answers what its plan says.
+//! A handler that keeps the list of its calls, and in each call does and returns what its plan states.
 
 ghost use Rattle.std.specs.Prelude.{◌≡◌, ◌≤◌, [], Ok, OnErr};
 ghost use Rattle.sshc_wire.specs.Faults.{Rose};
@@ -22,10 +22,10 @@ pub enum Refused {
     /// An error of the session.
     #[error("session {0}")]
     Client(Error),
-    /// The plan says so.
+    /// The plan states it.
     #[error("handler")]
     Planned,
-    /// The list of calls found no memory.
+    /// Memory ran out for the list of calls.
     #[error("NoMemory")]
     NoMemory,
 }
@@ -42,13 +42,13 @@ impl From<AllocError> for Refused {
     }
 }
 
-/// Keeps its calls, which contracts see as how often it refused.
+/// Keeps the list of its calls; contracts see how often it refused.
 #[derive(Debug, Drop)]
 pub struct Listening {
     alloc: Global,
-    /// A line a call, and a line for what each method returned that was called meanwhile.
+    /// A line for each call, and a line for the result of each method that was called meanwhile.
     heard: String,
-    /// What is to be done and answered, in lines.
+    /// What is to be done and returned, in lines.
     plan: String,
     refusals: u64,
 }
@@ -62,7 +62,7 @@ impl Model for Listening {
 }
 
 impl Listening {
-    /// A handler that has heard nothing and plans nothing.
+    /// A handler without calls and plans so far.
     pub fn new(alloc: Global) -> Listening {
         Listening {
             alloc,
@@ -72,17 +72,17 @@ impl Listening {
         }
     }
 
-    /// What it heard.
+    /// The calls so far.
     pub fn heard(&self) -> &str {
         self.heard.as_str()
     }
 
-    /// What it heard, to which lines may be added.
+    /// The calls so far, to which lines may be added.
     pub fn heard_mut(&mut self) -> &mut String {
         &mut self.heard
     }
 
-    /// Forgets what it heard and what was planned.
+    /// Removes the calls so far and the plans.
     pub fn forget(&mut self) {
         self.heard = String::new(self.alloc);
         self.plan_nothing();
@@ -138,7 +138,7 @@ impl Listening {
         why
     }
 
-    /// The answer to a call that answers nothing.
+    /// The result of a callback that returns nothing.
     fn answered(&mut self, call: &str, called: Result<(), NoMemory>) -> Result<(), Refused>
         ensures later { self.old ≤ self.new }
         ensures cause { OnErr result (Rose self.old self.new) }
@@ -152,7 +152,7 @@ impl Listening {
         }
     }
 
-    /// The answer to a call about a channel that the server opens. Where nothing is planned it is accepted.
+    /// The result of a callback for a channel that the server opens. If nothing is planned it is accepted.
     fn open_answered(
         &mut self,
         call: &str,
@@ -170,7 +170,7 @@ impl Listening {
         }
     }
 
-    /// A call that answers nothing.
+    /// A callback that returns nothing.
     #[tactic(auto, using(crate::proofs::HeardLemmas::handles))]
     fn hear(&mut self, call: &str, values: &Values, session: &mut Session) -> Result<(), Refused>
         ensures { Handles ⊥ (Ok tt) (handler_at self.old []) (handler_at self.new [])
@@ -180,7 +180,7 @@ impl Listening {
         self.answered(call, called)
     }
 
-    /// A call about a channel that the server opens.
+    /// A callback for a channel that the server opens.
     #[tactic(auto, using(crate::proofs::HeardLemmas::handles))]
     fn hear_open(
         &mut self,
@@ -196,7 +196,7 @@ impl Listening {
     }
 }
 
-/// An answer to a channel that the server opens, by a word: `later`, `refuse` (none), or a reason's number, which
+/// An answer to a channel that the server opens, by a word: `later`, `refuse` (`None`), or a reason's number, which
 /// rejects it.
 fn open_answer(planned: Option<&str>) -> Option<OpenAnswer> {
     match planned {

@@ -1,5 +1,5 @@
-//! Worked steps of a session with a handler that keeps the list of its calls, and calls of the session's methods:
-//! reads rows from the files that the arguments name, and prints whether each comes out so.
+//! Worked steps of a session with a handler that keeps the list of its calls, and calls of the session's methods: reads
+//! rows from the files that the arguments name, and prints whether each has the expected lines.
 #![tactic(auto)]
 
 mod acting;
@@ -29,7 +29,7 @@ fn text_of(rt: &HostRuntime, path: &str) -> Option<Text> {
     }
 }
 
-/// Prints the verdict on a row, where the text begins with the line of one.
+/// Prints the verdict on a row, if the text begins with the line of one.
 fn print_row(rt: &HostRuntime, fronts: &str, text: &str) -> anyhow::Result<()> {
     let (first, lines) = text.split_once('\n').unwrap_or((text, ""));
     if let Some(head) = first.strip_prefix("row ") {
@@ -58,7 +58,7 @@ fn print_rows(rt: &HostRuntime, text: &str) -> anyhow::Result<()> {
     print_row(rt, fronts.as_str(), row.as_str())
 }
 
-/// Prints how the rows of a file come out.
+/// Prints the verdicts on the rows of a file.
 fn print_file(rt: &HostRuntime, path: &str) -> anyhow::Result<()> {
     match text_of(rt, path) {
         Some(text) => print_rows(rt, text.as_str()),

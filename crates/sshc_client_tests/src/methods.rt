@@ -1,4 +1,4 @@
-//! The methods of a session, called by their names with the words of a line.
+//! The methods of a session, called by the name and the arguments in a line.
 
 ghost use Rattle.sshc_moves.specs.Grown.{Grown};
 
@@ -13,7 +13,7 @@ use crate::words::Words;
 use sshc_client::{Error, Session};
 use std::alloc::Global;
 
-/// What a method returned that returns nothing.
+/// The result of a method that returns nothing.
 fn nothing(answer: Result<(), Error>) -> Result<Gave, Error> {
     match answer {
         Ok(()) => Ok(Gave::Nothing),
@@ -21,7 +21,7 @@ fn nothing(answer: Result<(), Error>) -> Result<Gave, Error> {
     }
 }
 
-/// Calls the method that a line names, with the line's other words.
+/// Calls the method that a line names, with the line's other words as arguments.
 pub fn call_method(alloc: Global, session: &mut Session, line: &str) -> Result<Gave, Error>
     ensures { Grown session.old session.new }
 {

@@ -1,9 +1,9 @@
-//! What a handler of the tests is to do in a call and to answer to it, as lines: `CALL does METHOD WORDS` and
-//! `CALL answers WORDS`.
+//! The plan of a handler of the tests, what to do in a call and to return from it, as lines: `CALL does METHOD WORDS`
+//! and `CALL answers WORDS`.
 
 use sshc_wire::NoMemory;
 
-/// What stands behind the call and the verb, in a line that begins with them.
+/// The text after the call and the verb, in a line that begins with them.
 pub fn behind<'a>(line: &'a str, call: &str, verb: &str) -> Option<&'a str> {
     let (first, rest) = line.split_once(' ')?;
     let (second, rest) = rest.split_once(' ')?;
@@ -14,7 +14,7 @@ pub fn behind<'a>(line: &'a str, call: &str, verb: &str) -> Option<&'a str> {
     }
 }
 
-/// What is to be answered to a call, if the plan says so.
+/// The planned result of a call, if the plan states one.
 pub fn answer<'a>(plan: &'a str, call: &str) -> Option<&'a str> {
     for line in plan.lines() {
         if let Some(rest) = behind(line, call, "answers") {

@@ -1,4 +1,4 @@
-//! A row: a session with its handler, what happens to it, and what is to come of it.
+//! A row: a session with its handler, what happens to it, and the expected lines.
 
 use crate::acting::act;
 use crate::listening::{Listening, Refused};
@@ -17,17 +17,17 @@ use std::alloc::Global;
 #[derive(Debug, Drop)]
 struct Row {
     name: String,
-    /// The name of what came before the row.
+    /// The name of the events that come before the row.
     front: String,
     session: Session,
     handler: Listening,
     signer: ToySigner,
     verifier: ToyVerifier,
-    /// The lines that are to come.
+    /// The expected lines.
     wanted: String,
 }
 
-/// Lets a value go.
+/// Drops a value.
 fn let_go<T: Drop>(_value: T) {}
 
 /// Adds the line of each record.
@@ -64,7 +64,8 @@ impl Row {
         })
     }
 
-    /// Takes the events of the row's front, and keeps nothing of them. A line of fronts is a front's name and an event.
+    /// Takes the events of the row's front, and keeps none of their records and calls. A line of fronts is a front's
+    /// name and an event.
     fn begin(&mut self, alloc: Global, fronts: &str) -> Result<(), NoMemory> {
         for line in fronts.lines() {
             self.front(alloc, line)?;
@@ -80,7 +81,7 @@ impl Row {
         }
     }
 
-    /// Does what the lines say.
+    /// Does what the lines state.
     fn lines(&mut self, alloc: Global, lines: &str) -> Result<(), NoMemory> {
         for line in lines.lines() {
             let (command, rest) = line.split_once(' ').unwrap_or((line, ""));
@@ -89,13 +90,13 @@ impl Row {
         Ok(())
     }
 
-    /// Runs the lines behind the front.
+    /// Runs the lines after the front.
     fn run(&mut self, alloc: Global, fronts: &str, lines: &str) -> Result<(), NoMemory> {
         self.begin(alloc, fronts)?;
         self.lines(alloc, lines)
     }
 
-    /// What came of it, as lines: `ok` with the name, or `WRONG` with the name and what came.
+    /// The verdict, as lines: `ok` with the name, or `WRONG` with the name and the lines that came.
     fn verdict(&self, alloc: Global) -> Result<String, NoMemory> {
         let (name, heard) = (self.name.as_str(), self.handler.heard());
         if heard == self.wanted.as_str() {
@@ -105,9 +106,9 @@ impl Row {
         }
     }
 
-    /// Does what a line says: `at` plans what the handler does and answers at the next event, `event` is an event by
-    /// its kind and fields, `do` a method of the session with its words. `record`, `call`, `gave` and `step` are lines
-    /// that are to come.
+    /// Does what a line states: `at` plans what the handler does and returns at the next event, `event` is an event by
+    /// its kind and fields, `do` a method of the session with its arguments. `record`, `call`, `gave` and `step` are
+    /// expected lines.
     fn line(&mut self, alloc: Global, command: &str, rest: &str) -> Result<(), NoMemory> {
         match command {
             "at" => self.handler.plan(rest),
@@ -124,13 +125,13 @@ impl Row {
         put_line(&mut self.wanted, line.as_str())
     }
 
-    /// Calls a method, with what it says.
+    /// Calls a method, and adds its records.
     fn act(&mut self, alloc: Global, method: &str) -> Result<(), NoMemory> {
         act(alloc, &mut self.session, method, self.handler.heard_mut())?;
         self.tell(alloc)
     }
 
-    /// What the session has said since.
+    /// Adds the records of the session since they were last taken.
     fn tell(&mut self, alloc: Global) -> Result<(), NoMemory> {
         let out = self.session.take_records();
         put_records(alloc, self.handler.heard_mut(), &out)
@@ -169,7 +170,7 @@ impl Row {
             .step(event, &mut self.handler, &mut self.signer, &self.verifier)
     }
 
-    /// What a step said, and how it came out.
+    /// Adds a step's records, and its result.
     fn stepped(&mut self, alloc: Global, step: Step<Refused>) -> Result<(), NoMemory> {
         let line = step_line(alloc, step)?;
         self.handler.plan_nothing();

@@ -1,4 +1,4 @@
-//! What a row's session is made with.
+//! The settings of a row's session.
 
 use sshc_client::{SessionSettings, Settings};
 
@@ -10,7 +10,7 @@ pub struct RowSettings {
 }
 
 impl RowSettings {
-    /// The settings that a client has unless it is told others, but that no user is authenticated.
+    /// The default settings of a client, except that no user is authenticated.
     fn usual() -> RowSettings {
         RowSettings {
             session: SessionSettings {
@@ -26,8 +26,8 @@ impl RowSettings {
         }
     }
 
-    /// What a word says: `window=N`, `packet=N`, `keepalive=N` (the interval), `keepalives=N` (how many), `inactivity`,
-    /// or `user` where a user is authenticated.
+    /// Sets what a word states: `window=N`, `packet=N`, `keepalive=N` (the interval), `keepalives=N` (how many),
+    /// `inactivity`, or `user` for an authenticated user.
     fn set(mut self, word: &str) -> RowSettings {
         let (name, value) = word.split_once('=').unwrap_or((word, ""));
         let number = value.parse::<u32>().unwrap_or(0);

@@ -1,4 +1,4 @@
-//! How a step came out, as a line.
+//! The result of a step, as a line.
 
 use crate::listening::Refused;
 use sshc_client::{Ended, Step};
@@ -20,7 +20,7 @@ fn ended_line(alloc: Global, ended: Ended) -> Result<String, NoMemory> {
     }
 }
 
-/// The line of a step; none where the session goes on as it was.
+/// The line of a step; `None` if the session continues and wasn't opened by the step.
 pub fn step_line(alloc: Global, step: Step<Refused>) -> Result<Option<String>, NoMemory> {
     match step {
         Step::Went => Ok(None),

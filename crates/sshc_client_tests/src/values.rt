@@ -3,7 +3,7 @@
 use sshc_wire::NoMemory;
 use std::alloc::{AllocError, Global};
 
-/// The values of a call, each behind a space.
+/// The values of a call, each after a space.
 #[derive(Debug, Drop)]
 pub struct Values {
     alloc: Global,
@@ -55,7 +55,7 @@ impl Values {
         self
     }
 
-    /// What was put; running out of memory meanwhile is answered here.
+    /// The text so far; `NoMemory` if memory ran out meanwhile.
     pub fn as_str(&self) -> Result<&str, NoMemory> {
         if self.ran_out {
             return Err(NoMemory);

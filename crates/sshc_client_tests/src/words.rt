@@ -2,7 +2,7 @@
 
 use sshc_wire::{ChannelId, Ticket};
 
-/// What is left of a line. Where no word is left, a text is empty, a number 0 and a flag not set.
+/// The rest of a line. If no word remains, a text is empty, a number is 0 and a flag isn't set.
 #[derive(Clone, Copy, Debug)]
 pub struct Words<'a> {
     rest: &'a str,
@@ -31,7 +31,7 @@ impl<'a> Words<'a> {
         ChannelId(self.number())
     }
 
-    /// A ticket; the word `none` is none.
+    /// A ticket; the word `none` is `None`.
     pub fn ticket(&mut self) -> Option<Ticket> {
         match self.text() {
             "none" => None,

@@ -12,7 +12,7 @@ use std::thread;
 use std::thread::Threads;
 use std::time::Clock;
 
-/// What runs a session over a server in memory.
+/// A runner of a session over a server in memory.
 pub type FakeRunner<P> = Runner<
     Keeper,
     FakeTransport<P>,
@@ -21,7 +21,7 @@ pub type FakeRunner<P> = Runner<
     TickingClock,
 >;
 
-/// Runs a session in this thread while another uses its handle. Gives what the use returned, and what `run` answers.
+/// Runs a session in this thread while another uses its handle. Returns what the use returned, and what `run` returned.
 pub fn run_beside<
     P: Server + Drop,
     A: Send,
@@ -33,7 +33,7 @@ pub fn run_beside<
     thread::join(rt, || user(handle), || runner.run(rt))
 }
 
-/// Uses a session from two threads at once, and gives what each use returned.
+/// Uses a session from two threads at once, and returns what each use returned.
 pub fn at_once<
     A: Send,
     B,

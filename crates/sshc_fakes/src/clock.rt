@@ -2,7 +2,7 @@
 
 use sshc_handle::Clock;
 
-/// Always tells the same moment.
+/// Always returns the same moment.
 #[derive(Clone, Copy, Debug, PartialEq, Eq)]
 pub struct StillClock(pub u64);
 
@@ -12,7 +12,7 @@ impl Clock for StillClock {
     }
 }
 
-/// Tells a moment that is later by its step each time.
+/// Returns a moment that is later by its step each time.
 #[derive(Clone, Copy, Debug, PartialEq, Eq)]
 pub struct TickingClock {
     pub now: u64,

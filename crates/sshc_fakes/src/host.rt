@@ -19,8 +19,9 @@ enum Grants {
     Nothing,
 }
 
-/// A server that keeps requests back until so many have come, and then answers them in their order. It keeps logins back in the same way, and answers the last of them alone. It logs in each user but `refused`, and answers
-/// a command with what it writes.
+/// A server that holds requests back until so many have come, and then answers them in their order. It holds logins
+/// back in the same way, and answers only the last of them. It logs in each user but `refused`, and answers a command
+/// with some output.
 #[derive(Debug, Drop)]
 pub struct Host {
     alloc: Global,
@@ -29,15 +30,15 @@ pub struct Host {
     waiting: Vec<Octets>,
     logins: usize,
     grants: Grants,
-    /// What it answers a ping with; no bytes are no answer.
+    /// The packet with which it answers a ping; no bytes are no answer.
     pong: &'static [u8],
-    /// It closes the stream behind its answer to the first of the requests.
+    /// It closes the stream after its answer to the first of the requests.
     closes: bool,
     /// The client's number of the channel that was opened last.
     channel: u32,
 }
 
-/// The number that a packet ends in, or begins with behind its first string.
+/// The number after a packet's first string.
 fn channel_of(packet: &[u8]) -> Result<u32, WireError> {
     let mut cursor = Cursor::new(packet);
     cursor.u8()?;
@@ -45,7 +46,7 @@ fn channel_of(packet: &[u8]) -> Result<u32, WireError> {
     cursor.u32()
 }
 
-/// The name and the flag of a request behind its number.
+/// The name and the flag of a request, after its number.
 fn named(packet: &[u8]) -> Result<(&str, bool), WireError> {
     let mut cursor = Cursor::new(packet);
     cursor.u8()?;
@@ -53,7 +54,7 @@ fn named(packet: &[u8]) -> Result<(&str, bool), WireError> {
     Ok((name, cursor.boolean()?))
 }
 
-/// What of a channel is asked: its number, the name and the flag.
+/// A request of a channel: the channel's number, the name and the flag.
 fn named_on(packet: &[u8]) -> Result<(u32, &str, bool), WireError> {
     let mut cursor = Cursor::new(packet);
     cursor.u8()?;
@@ -99,14 +100,14 @@ impl Host {
         host
     }
 
-    /// One that answers each ping with this packet, or none with no bytes.
+    /// A host that answers each ping with this packet; with no bytes it doesn't answer.
     pub fn ponging(alloc: Global, pong: &'static [u8]) -> Host {
         let mut host = Host::new(alloc, 1);
         host.pong = pong;
         host
     }
 
-    /// One that keeps so many requests back, answers the first, and closes the stream.
+    /// A host that holds so many requests back, answers the first, and closes the stream.
     pub fn closing(alloc: Global, together: usize) -> Host {
         let mut host = Host::new(alloc, together);
         host.closes = true;
@@ -152,7 +153,7 @@ impl Host {
         }
     }
 
-    /// Answers the requests that wait, or the first of them alone where the stream is closed behind it.
+    /// Answers the requests that wait, or only the first of them if the stream is closed after it.
     fn answer_all(&mut self, coming: &mut Coming) -> Result<(), NoMemory> {
         let mut grants = self.grants != Grants::Nothing;
         for at in 0..self.waiting.len() {
@@ -176,7 +177,7 @@ impl Host {
         }
     }
 
-    /// A ping is refused, as servers do, or answered as it was asked for.
+    /// Answers a ping with the host's packet for it, if that has bytes.
     fn answer_ping(&self, coming: &mut Coming) -> Result<(), NoMemory> {
         if self.pong.is_empty() {
             Ok(())
@@ -185,7 +186,7 @@ impl Host {
         }
     }
 
-    /// What a command says on the channel that was opened last: its bytes, its status, and the end of the channel.
+    /// The output of a command on the channel that was opened last: its bytes, its status, and the end of the channel.
     fn run(&self, packet: &[u8], coming: &mut Coming) -> Result<(), NoMemory> {
         let Ok((_, "exec", wants)) = named_on(packet) else {
             return Ok(());
@@ -208,7 +209,7 @@ impl Host {
         coming.packet(&said)
     }
 
-    /// A login waits, until there are enough of them; a request that was replaced isn't answered.
+    /// A login waits, until there are enough of them; a login that was replaced isn't answered.
     fn log_in(&mut self, packet: &[u8], coming: &mut Coming) -> Result<(), NoMemory> {
         self.logins = self.logins.saturating_add(1);
         if self.logins < self.together {
@@ -234,7 +235,7 @@ impl Host {
         }
     }
 
-    /// A key without a signature is asked to sign; one with a signature is taken.
+    /// For a key without a signature a signature is asked for; a key with one is accepted.
     fn probed(&self, packet: &[u8], coming: &mut Coming) -> Result<(), NoMemory> {
         match probe_of(packet) {
             Ok(Some(key)) => {
@@ -258,7 +259,7 @@ fn login_of(packet: &[u8]) -> Result<(&str, &str), WireError> {
     Ok((user, cursor.text()?))
 }
 
-/// The algorithm and the blob of a key that is asked for without a signature; none of one with a signature.
+/// The algorithm and the blob of a key that is asked about without a signature; `None` for one with a signature.
 fn probe_of(packet: &[u8]) -> Result<Option<&[u8]>, WireError> {
     let mut cursor = Cursor::new(packet);
     cursor.u8()?;

@@ -6,7 +6,7 @@ ghost use Rattle.sshc_client.specs.Handling.{ended_by};
 use sshc_client::{DisconnectReason, Error, Handler};
 use sshc_key::PublicKeyOrCertificate;
 
-/// Accepts each host key, and keeps all defaults beside.
+/// Accepts each host key, and keeps all other defaults.
 #[derive(Clone, Copy, Debug, PartialEq, Eq)]
 pub struct Keeper;
 

@@ -36,7 +36,7 @@ fn fake_signature(alloc: Global) -> Result<Signature, NoMemory> {
     })
 }
 
-/// A certificate that speaks of that key.
+/// A certificate of that key.
 pub fn fake_certificate(alloc: Global) -> Result<Certificate, NoMemory> {
     let nonce = Octets::from_slice(alloc, &[1; 32])?;
     let key_id = Text::from_str(alloc, "alice")?;

@@ -1,5 +1,5 @@
-//! Stand-ins for what a session meets outside: a transport over memory with a server behind it, a handler that accepts each host key,
-//! and clocks. For tests, examples and measurements.
+//! Stand-ins for what a session meets outside: a transport over memory with a server behind it, a handler that accepts
+//! each host key, and clocks. For tests, examples and measurements.
 #![tactic(auto)]
 
 mod beside;

@@ -5,12 +5,12 @@ use sshc_wire::{NoMemory, Octets};
 use std::alloc::Global;
 use std::collections::VecDeque;
 
-/// What comes from the server, the oldest first.
+/// The events that come from the server, the oldest first.
 #[derive(Debug, Drop)]
 pub struct Coming {
     alloc: Global,
     events: VecDeque<TransportEvent>,
-    /// The server closes the stream behind them.
+    /// The server closes the stream after them.
     ends: bool,
 }
 
@@ -34,7 +34,7 @@ impl Coming {
         self.event(TransportEvent::Payload(packet))
     }
 
-    /// The stream ends behind what comes.
+    /// The stream ends after the events so far.
     pub fn end(&mut self) {
         self.ends = true;
     }
@@ -48,7 +48,7 @@ impl Coming {
     }
 }
 
-/// A server: it hears each packet, and says what comes.
+/// A server: it is passed each packet, and adds the events that come from it.
 pub trait Server {
     /// The client handed over a packet.
     fn hear(&mut self, packet: &[u8], coming: &mut Coming) -> Result<(), NoMemory>;

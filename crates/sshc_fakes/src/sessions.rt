@@ -11,8 +11,8 @@ use sshc_handle::{Handle, connect_stream};
 use sshc_toy::{RefusingVerifier, ToySigner};
 use std::alloc::Global;
 
-/// A session with these settings over a host from which this comes at first, so many of whose packets are taken, with a clock that
-/// goes by this step.
+/// A session with these settings over a host, with these first events; the transport takes `good` packets before a call
+/// fails, and the clock advances by this step.
 pub fn hosted(
     alloc: Global,
     config: Config,
@@ -32,7 +32,8 @@ pub fn hosted(
     )
 }
 
-/// A session like that whose first exchange opens it, over a host that takes each packet, with a clock that stands still.
+/// A session like that whose first exchange opens it, over a host that takes each packet, with a clock that doesn't
+/// move.
 pub fn opened(alloc: Global, host: Host) -> Result<(Handle<Keeper>, FakeRunner<Host>), Error> {
     let mut config = Config::default_in(alloc)?;
     config.anonymous = true;

@@ -11,18 +11,18 @@ use std::alloc::Global;
 /// The most bytes of one part.
 const LONGEST: usize = 262_144;
 
-/// A transport whose server lives in memory. It tells nothing of what it was handed.
+/// A transport whose server is in memory. Contracts don't see what was passed to it.
 #[derive(Drop)]
 pub struct FakeTransport<P: Server + Drop> {
     server: P,
     coming: Coming,
-    /// How many calls of `hand` go well; the ones behind fail.
+    /// How many calls of `hand` succeed; the later ones fail.
     good: u64,
     faults: u64,
 }
 
 impl<P: Server + Drop> FakeTransport<P> {
-    /// With what comes at first, and so many packets taken before a call fails.
+    /// With these first events, and so many packets taken before a call fails.
     pub fn new(server: P, coming: Coming, good: u64) -> FakeTransport<P> {
         FakeTransport {
             server,
@@ -37,7 +37,7 @@ impl<P: Server + Drop> FakeTransport<P> {
         self.coming.packet(packet)
     }
 
-    /// The server closes the stream behind what it sent.
+    /// The server closes the stream after what it sent.
     pub fn ends(&mut self) {
         self.coming.end();
     }

@@ -1,4 +1,4 @@
--- A script as it is made: event behind event.
+-- A script as it is made, one event after the other.
 use Rattle.std.specs.Prelude.{ℕ, ◌+◌, List, [], ◌∷◌, ◌++◌, length}
 use Rattle.sshc_wire.specs.Wire.{u32_text, u64_text}
 
@@ -26,7 +26,7 @@ no_events = record { text = []; events = 0 }
 abbrev pub with_event : Timed → Script → Script
 with_event e s = record { text = s.text ++ event_text e; events = s.events + 1 }
 
--- with these events behind it, in their order
+-- with these events after it, in their order
 abbrev pub with_events : List Timed → Script → Script
 with_events [] s = s
 with_events (e ∷ events) s = with_events events (with_event e s)

@@ -9,7 +9,8 @@ host_key = string_text (codes "ssh-ed25519")
     ++ string_text (0x97 ∷ 0x43 ∷ 0xef ∷ 0x2d ∷ 0xda ∷ 0x2e ∷ 0xae ∷ 0x39 ∷ 0xe3 ∷ 0x25 ∷ 0x81 ∷ 0x77 ∷ 0x02 ∷ 0xd6 ∷ 0x6e ∷ 0x27
     ∷ 0x94 ∷ 0xd5 ∷ 0xe6 ∷ 0xf3 ∷ 0xf7 ∷ 0xf7 ∷ 0x2e ∷ 0xef ∷ 0xf4 ∷ 0x04 ∷ 0x5e ∷ 0x7f ∷ 0x4e ∷ 0x21 ∷ 0xe6 ∷ 0x49 ∷ [])
 
--- the fields of an exchange: a plain key, the hash, no signature, no secret, the name of the key exchange, no other names, not strict
+-- the fields of an exchange: a plain key, the hash, no signature, no secret, the name of the key exchange, no other
+-- names, not strict
 abbrev pub exchange_fields : List ℕ
 exchange_fields = 1 ∷ string_text host_key ++ string_text (codes "session-id") ++ string_text [] ++ bool_text false ++ string_text []
     ++ string_text (codes "curve25519-sha256") ++ string_text [] ++ string_text [] ++ string_text [] ++ string_text [] ++ bool_text false

@@ -1,4 +1,4 @@
-//! Blocks of events, one of eight by what is drawn.
+//! Blocks of events, each one of eight kinds, by the number that is drawn.
 
 ghost use Rattle.std.specs.Prelude.{◌≡◌, ◌<◌, ◌≤◌, ◌+◌, ◌^◌, ◌++◌, [], length, replicate, IfOk, OnOk};
 ghost use Rattle.sshc_wire.specs.Wire.{string_text, u32_text};
@@ -13,7 +13,7 @@ use sshc_wire::{NoMemory, msg, put_bytes, put_u32};
 use std::alloc::Global;
 use std::marker::Model;
 
-/// What a block is of.
+/// The kind of a block.
 #[derive(Clone, Copy, Debug)]
 pub enum BlockKind {
     /// The user sends bytes on channel 1.
@@ -24,13 +24,13 @@ pub enum BlockKind {
     Window,
     /// A keepalive, and its answer.
     Keepalive,
-    /// A forward is asked for, and granted.
+    /// A forward is requested, and granted.
     Forward,
     /// An agent's connection asks for a listing.
     Listing,
     /// The server exchanges keys again.
     Rekey,
-    /// A packet that says nothing.
+    /// A packet IGNORE, which has no effect.
     Ignored,
 }
 
@@ -51,7 +51,7 @@ fn kind_of(drawn: u32) -> BlockKind
 }
 
 #[tactic(auto, unfolding(sshc_wire::specs::Wire::u32_text, sshc_wire::specs::Wire::string_text))]
-/// The fields of an event with so many bytes of that value behind its beginning.
+/// The fields of an event: its beginning, followed by `count` bytes of that value.
 fn with_alike(alloc: Global, beginning: &[u8], count: u32) -> Result<Vec<u8>, NoMemory>
     requires short { length beginning.now ≤ 16 }
     requires few { count ≤ 200 }
@@ -216,7 +216,7 @@ impl Drawn {
 }
 
 #[tactic(auto, using(crate::proofs::Drawings::next_drawing), unfolding(crate::specs::Blocks::drawing))]
-/// The script of a seed with so many blocks, behind a login and an open channel.
+/// The script of a seed with `count` blocks, after a login and the open of a channel.
 pub fn generate(alloc: Global, seed: u64, count: u32) -> Result<Generated, NoMemory>
     requires { count ≤ 100000 }
     ensures { IfOk result (λ g. g ≡ generated seed count) }

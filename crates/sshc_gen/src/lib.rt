@@ -1,4 +1,4 @@
-//! Large scripts made from a number, and what is counted of their lines.
+//! Large scripts made from a number.
 #![tactic(auto)]
 
 mod blocks;

@@ -1,4 +1,4 @@
--- What a submission and a poll say of their answers, without the value under the lock.
+-- What a submission and a poll state of their results, without the value under the lock.
 use Rattle.std.proofs.Common.{◌≡◌, refl, ℕ, Bool, true, false, List, [], ◌∷◌, Option, Some, None, Result, Ok, Err, sym}
 use Rattle.std.proofs.lemmas.Bool.{eq-eqb}
 use Rattle.std.specs.Prelude.{IfErr, if◌then◌else◌, nat_eq}

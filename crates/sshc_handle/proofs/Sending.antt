@@ -1,5 +1,5 @@
--- What a handle's threads share may go to another thread, field by field. A search over the whole of it stops at its
--- bounds.
+-- That what a handle's threads share may be sent to another thread, field by field. A search over the whole of it stops
+-- at its bounds.
 use denote.RattleType.{RattleType}
 use denote.Param.Send.{IsSend, IsSync, sendable}
 use Rattle.std.proofs.Crossing.{crosses}

@@ -1,4 +1,4 @@
--- What a call of a handle can say of its answer without the value under the lock, which others change meanwhile: that
+-- What a call of a handle can state of its answer without the value under the lock, which others change meanwhile: that
 -- it was read from a record of one ticket, or that nothing was submitted.
 use Rattle.std.specs.Prelude.{◌≡◌, ℕ, Bool, true, false, List, is_some, Option, Some, None, Result, Ok, Err}
 use Rattle.sshc_wire.specs.Faults.{Rose}
@@ -22,7 +22,7 @@ IsDeclined NoMemory = Unit {0}
 IsDeclined SendError = Unit {0}
 IsDeclined e = ⊥
 
--- a submission gives a ticket just where an answer is asked for
+-- a submission returns a ticket if and only if an answer is asked for
 abbrev pub Given : Bool → Result (Option Ticket) Error → Type 0
 Given asks (Ok ticket) = is_some ticket ≡ asks
 Given asks (Err e) = IsDeclined e
@@ -33,7 +33,7 @@ pub record IsRead {A : Type 0} (reads : Record → Option (Result A Error)) (tic
   pub of_ticket : is_of ticket.0 said ≡ true
   pub is_answer : reads said ≡ Some answer
 
--- an answer was read under some ticket, or nothing was submitted
+-- an answer was read for some ticket, or nothing was submitted
 abbrev pub Answers : {A : Type 0} → (Record → Option (Result A Error)) → Result A Error → Type 0
 Answers reads (Err NoMemory) = Unit {0}
 Answers reads (Err SendError) = Unit {0}
@@ -49,7 +49,7 @@ abbrev pub AnswersPrompts : {A : Type 0} → (Record → Option (Result A Error)
 AnswersPrompts reads (Err RecvError) = Unit {0}
 AnswersPrompts reads answer = Answers reads answer
 
--- a global request of the user's own: with an answer asked, one that was read; else none
+-- a global request of the user's own: if an answer is asked for, one that was read; else `None`
 abbrev pub Replies : Bool → Result (Option (List ℕ)) Error → Type 0
 Replies true (Ok None) = ⊥
 Replies true (Ok (Some body)) = Answers reply_answer (Ok body)
@@ -70,7 +70,7 @@ AnswersWith before now (Err (Session e)) = Answers auth_answer (Err e)
 
 -- ---- ends and channels
 
--- how a session ended can't be told: it was refused, or memory ran out
+-- how a session ended isn't known: it was refused, or memory ran out
 abbrev pub IsEndError : Error → Type 0
 IsEndError Disconnect = Unit {0}
 IsEndError NoMemory = Unit {0}

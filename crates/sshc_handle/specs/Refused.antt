@@ -1,4 +1,4 @@
--- Why no stream could be had, and how the end of a session reaches its handler.
+-- Why a stream couldn't be had, and how the end of a session reaches its handler.
 use Rattle.std.specs.Prelude.{ℕ}
 use Rattle.sshc_wire.specs.Faults.{Rose}
 use Rattle.sshc_opening.specs.declared.ended.Ended.TheVariants.{RemoteDisconnect}
@@ -15,7 +15,7 @@ IsMakers before now NoMemory = Unit {0}
 IsMakers before now TransportFailed = Rose before now
 IsMakers before now e = ⊥
 
--- what a handler is told of the last turn: the server's words, the refusal, or Disconnect
+-- the reason that a handler is passed, by the last turn: the server's disconnection, the refusal, or `Disconnect`
 abbrev pub reason_of : {E : Type 0} → (Error → E) → Turn E → DisconnectReason E
 reason_of told_as (turns.Ended (RemoteDisconnect info)) = reasons.ReceivedDisconnect info
 reason_of told_as (turns.Refused e) = reasons.Error e

@@ -1,4 +1,4 @@
-//! How a call reads its answer, one type a reader.
+//! How a call reads its answer, one type per reader.
 
 ghost use Rattle.std.specs.Prelude.{◌≡◌, Option, Result};
 ghost use Rattle.sshc_wire.specs.declared.record.Record.{Record as Said};
@@ -11,7 +11,7 @@ use sshc_tickets::{
 };
 use sshc_wire::{ChannelId, HashAlg, Octets, Record};
 
-/// Reads an answer from a record of its ticket; none where the record isn't one that it reads.
+/// Reads an answer from a record of its ticket; `None` if the record isn't one that it reads.
 pub(crate) trait Reader {
     type Answer;
 
@@ -21,7 +21,7 @@ pub(crate) trait Reader {
         ensures { result ≡ reads said };
 }
 
-/// What a login comes to.
+/// The result of a login.
 pub(crate) struct Login;
 
 impl Reader for Login {
@@ -36,7 +36,7 @@ impl Reader for Login {
     }
 }
 
-/// What a login with prompts comes to, or its next prompts.
+/// The result of a login with prompts, or its next prompts.
 pub(crate) struct Prompted;
 
 impl Reader for Prompted {
@@ -66,7 +66,7 @@ impl Reader for Opened {
     }
 }
 
-/// That a request was granted.
+/// A request was granted.
 pub(crate) struct Done;
 
 impl Reader for Done {

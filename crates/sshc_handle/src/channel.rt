@@ -15,8 +15,8 @@ use std::alloc::Global;
 use std::marker::Model;
 use std::sync::{Arc, Wait};
 
-/// A channel (RFC 4254, section 5), which contracts see as its number. What is asked of it is submitted, and waits
-/// for nobody; what happens on it is given in order.
+/// A channel (RFC 4254, section 5), which contracts see as its number. Requests and bytes are submitted, without
+/// waiting for an answer; what happens on the channel is returned in order.
 #[derive(Drop)]
 pub struct Channel<H: Handler> {
     shared: Arc<Shared<H>, Global>,
@@ -38,15 +38,15 @@ impl<H: Handler> Channel<H> {
         Channel { shared, id }
     }
 
-    /// The channel's number with us.
+    /// Our number of the channel.
     pub fn id(&self) -> ChannelId
         ensures { result ≡ self.now }
     {
         self.id
     }
 
-    /// What happened next on the channel, which it waits for. None once its close was given, and where the session
-    /// has ended and nothing more is held.
+    /// Waits for what happens next on the channel, and returns it. `None` once its close was returned, and if the
+    /// session has ended and nothing more is held.
     pub fn wait<R: Wait>(&mut self, rt: &R) -> Option<ChannelMsg>
         ensures reported { IfSome result (λ msg. IsReported self.old msg) }
         ensures same { self.new ≡ self.old }

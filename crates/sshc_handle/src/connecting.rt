@@ -23,7 +23,7 @@ use std::sync::Arc;
 pub trait Maker {
     type T: Transport + Drop;
 
-    /// The addresses that it was asked for, in order, where it tells them.
+    /// The addresses that it was asked for, in order, if they are known.
     ghost addresses: { Self → Option (List Address) };
 
     /// How often it failed.
@@ -47,7 +47,7 @@ fn shared_over<H: Handler, T: Transport>(
     Ok((shared, other))
 }
 
-/// A handle and its runner over a transport. Nothing is waited for; `NoMemory` is the one refusal.
+/// A handle and its runner over a transport. It doesn't wait; `NoMemory` is the only error.
 pub fn connect_stream<
     H: Handler + Drop,
     T: Transport + Drop,
@@ -81,7 +81,7 @@ pub fn connect_stream<
     }
 }
 
-/// The same over a transport that the maker makes at an address, for which it is asked once. `TransportFailed` where the
+/// The same over a transport that the maker makes for an address; the maker is called once. `TransportFailed` if the
 /// maker counted a fault.
 pub fn connect<
     H: Handler + Drop,

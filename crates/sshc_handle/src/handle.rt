@@ -14,15 +14,15 @@ use sshc_wire::{ChannelId, NoMemory, Record, Ticket};
 use std::alloc::Global;
 use std::sync::{Arc, Wait};
 
-/// A session that a runner takes turns with. Threads share it by reference; each call submits what it asks, and waits
-/// for its answer alone.
+/// A session that a runner takes turns with. Threads share it by reference; each call submits its message, and waits
+/// only for its own answer.
 #[derive(Drop)]
 pub struct Handle<H: Handler> {
     pub(crate) shared: Arc<Shared<H>, Global>,
 }
 
 impl<H: Handler> Handle<H> {
-    /// Submits a message, and gives the ticket of its answer, if it asks for one. `SendError` where the session has
+    /// Submits a message, and returns the ticket of its answer, if it asks for one. `SendError` if the session has
     /// ended.
     pub fn submit<R: Wait>(&self, rt: &R, msg: Msg) -> Result<Option<Ticket>, Error>
         ensures { Given (asks_answer msg) result }
@@ -38,7 +38,7 @@ impl<H: Handler> Handle<H> {
         self.shared.state.lock(rt).poll(ticket)
     }
 
-    /// No user is left.
+    /// Submits that no user is left.
     #[tactic(auto, using(crate::proofs::AnsweringLemmas::event_declined))]
     pub fn gone<R: Wait>(self, rt: &R) -> Result<(), Error>
         ensures { IfErr result IsDeclined }
@@ -48,7 +48,7 @@ impl<H: Handler> Handle<H> {
         submitted
     }
 
-    /// Waits until the session has ended, and tells how. `Disconnect` where it was refused.
+    /// Waits until the session has ended, and returns how. `Disconnect` if it was refused.
     #[tactic(auto, using(crate::proofs::AnsweringLemmas::told_end))]
     pub fn wait_closed<R: Wait>(&self, rt: &R) -> Result<Ended, Error>
         ensures { IfErr result IsEndError }
@@ -68,14 +68,14 @@ impl<H: Handler> Handle<H> {
         self.shared.is_closed()
     }
 
-    /// The channel of this number, as for one that the server opened.
+    /// The channel of this number, for example one that the server opened.
     pub fn channel(&self, id: ChannelId) -> Result<Channel<H>, NoMemory>
         ensures { IfOk result (λ c. c ≡ id) }
     {
         Ok(Channel::over(Arc::try_clone(&self.shared)?, id))
     }
 
-    /// The first exchange's host key, session id and signature; none before it is done.
+    /// The first exchange's host key, session id and signature; `None` before it is done.
     pub fn agent_session_binding<R: Wait>(
         &self,
         rt: &R,

@@ -1,4 +1,4 @@
-//! Logins that ask nobody but the server, the local signer and the user.
+//! Logins that involve only the server, the local signer and the user.
 
 ghost use Rattle.sshc_tickets.specs.Answers.{auth_answer, prompt_answer};
 ghost use Rattle.sshc_handle.specs.Answering.{Answers, AnswersPrompts};
@@ -14,7 +14,7 @@ use sshc_wire::{List, Text};
 use std::sync::Wait;
 
 impl<H: Handler> Handle<H> {
-    /// Logs in by nothing but the name (RFC 4252, section 5.2).
+    /// Logs in by the method `none`, with only the user's name (RFC 4252, section 5.2).
     pub fn authenticate_none<R: Wait>(&self, rt: &R, user: &str) -> Result<AuthResult, Error>
         ensures { Answers auth_answer result }
     {
@@ -66,7 +66,7 @@ impl<H: Handler> Handle<H> {
         self.shared.ask::<Login, R>(rt, msg)
     }
 
-    /// Begins a login with prompts (RFC 4256, section 3.1). Without submethods they are the empty text.
+    /// Begins a login with prompts (RFC 4256, section 3.1). `None` as the submethods is sent as the empty text.
     #[tactic(auto, using(crate::proofs::AnsweringLemmas::answered))]
     pub fn authenticate_keyboard_interactive_start<R: Wait>(
         &self,
@@ -84,8 +84,8 @@ impl<H: Handler> Handle<H> {
         }
     }
 
-    /// Answers the prompts (RFC 4256, section 3.4) of the login with prompts that was begun last, and waits for what
-    /// comes of it. `RecvError` where no such login is open.
+    /// Answers the prompts (RFC 4256, section 3.4) of the login with prompts that was begun last, and waits for its
+    /// result or its next prompts. `RecvError` if no such login is open.
     #[tactic(auto, using(crate::proofs::AnsweringLemmas::prompts_answered))]
     pub fn authenticate_keyboard_interactive_respond<R: Wait>(
         &self,

@@ -17,7 +17,7 @@ use sshc_wire::{ChannelId, Disconnect, Octets};
 use std::sync::Wait;
 
 impl<H: Handler> Handle<H> {
-    /// Asks the server to listen (RFC 4254, section 7.1), and gives the port, 0 for the one that was asked for.
+    /// Asks the server to listen (RFC 4254, section 7.1), and returns the port; 0 if it is the one that was asked for.
     pub fn tcpip_forward<R: Wait>(&self, rt: &R, address: &str, port: u32) -> Result<u32, Error>
         ensures { Answers port_answer result }
     {
@@ -87,7 +87,7 @@ impl<H: Handler> Handle<H> {
         self.shared.tell(rt, Msg::Rekey)
     }
 
-    /// Sends a keepalive, and waits for no answer.
+    /// Sends a keepalive, without waiting for an answer.
     pub fn send_keepalive<R: Wait>(&self, rt: &R, want_reply: bool) -> Result<(), Error>
         ensures { IfErr result IsDeclined }
     {
@@ -102,7 +102,7 @@ impl<H: Handler> Handle<H> {
             .ask::<Done, R>(rt, Msg::Ping { ticket: asked() })
     }
 
-    /// Tells the server that no more sessions are opened (OpenSSH's PROTOCOL, section 2.2).
+    /// Announces to the server that no more sessions will be opened (OpenSSH's PROTOCOL, section 2.2).
     pub fn no_more_sessions<R: Wait>(&self, rt: &R, want_reply: bool) -> Result<(), Error>
         ensures { IfErr result IsDeclined }
     {
@@ -117,8 +117,8 @@ impl<H: Handler> Handle<H> {
         self.shared.ask::<Done, R>(rt, msg)
     }
 
-    /// Sends a global request of the user's own (RFC 4254, section 4). Where an answer is asked it gives the bytes
-    /// behind the answer's number.
+    /// Sends a global request of the user's own (RFC 4254, section 4). If an answer is asked for, it returns the bytes
+    /// after the answer's number.
     pub fn send_global_request<R: Wait>(
         &self,
         rt: &R,
@@ -144,7 +144,7 @@ impl<H: Handler> Handle<H> {
         self.shared.ask::<Reply, R>(rt, msg)
     }
 
-    /// The best hash for RSA by the names that the server announced (RFC 8308, section 3.1); none where it announced
+    /// The best hash for RSA by the names that the server announced (RFC 8308, section 3.1); `None` if it announced
     /// none.
     pub fn best_supported_rsa_hash<R: Wait>(&self, rt: &R) -> Result<Option<Option<HashAlg>>, Error>
         ensures { Answers algs_answer result }

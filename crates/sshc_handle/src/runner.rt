@@ -1,4 +1,4 @@
-//! Who takes turns with a session.
+//! The runner of a session.
 
 ghost use Rattle.std.specs.Prelude.{◌≡◌};
 ghost use Rattle.sshc_handle.specs.Refused.{reason_of};
@@ -13,7 +13,7 @@ use std::alloc::Global;
 use std::sync::{Arc, Wait};
 use std::time;
 
-/// Tells moments in milliseconds.
+/// Returns moments in milliseconds.
 pub trait Clock {
     fn now(&mut self) -> u64;
 }
@@ -35,7 +35,7 @@ pub struct Runner<
     pub(crate) clock: C,
 }
 
-/// What the handler is told of the last turn.
+/// The reason that the handler is passed, by the last turn.
 fn reason_of<H: Handler>(last: Turn<H::Error>) -> DisconnectReason<H::Error>
     ensures { result ≡ reason_of H.told_as last }
 {
@@ -83,8 +83,8 @@ impl<
     V: Verifier + Drop,
     C: Clock + Drop,
 > Runner<H, T, S, V, C> {
-    /// Takes turns until the session has ended, tells the handler how, and answers what that answers. The handler's
-    /// callbacks are called under the handle's lock, so they may not call the handle.
+    /// Takes turns until the session has ended, calls the handler's `disconnected` with the reason, and returns what
+    /// that returns. The handler's callbacks are called under the handle's lock, so they may not call the handle.
     pub fn run<R: Wait + time::Clock>(self, rt: &R) -> Result<(), H::Error> {
         let Runner {
             shared,

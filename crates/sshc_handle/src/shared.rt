@@ -1,4 +1,4 @@
-//! What a handle, its channels and its runner share: the value under its lock, and who waits.
+//! What a handle, its channels and its runner share: the value under its lock, and the means to wait for each other.
 
 ghost use Rattle.std.specs.Prelude.{◌≡◌, IfErr, true};
 ghost use Rattle.sshc_tickets.specs.Tickets.{is_of};
@@ -15,14 +15,15 @@ use std::sync::atomic::{AtomicBool, Ordering};
 use std::sync::{Condvar, Mutex, MutexGuard, Wait};
 use std::time::{Clock, Duration};
 
-/// The session under its lock. Who submits wakes the runner, and the runner wakes those who wait for records.
+/// The session under its lock. A thread that submits wakes the runner, and the runner wakes those that wait for
+/// records.
 #[derive(Drop)]
 pub(crate) struct Shared<H: Handler> {
     pub(crate) alloc: Global,
     pub(crate) state: Mutex<HandleState<H>>,
-    /// Something was submitted.
+    /// Notified when something was submitted.
     submitted: Condvar,
-    /// A turn was taken, or the runner has come to its end.
+    /// Notified when a turn was taken, or the runner has come to its end.
     told: Condvar,
     closed: AtomicBool,
 }
@@ -43,18 +44,18 @@ impl<H: Handler> Shared<H> {
         self.closed.load(Ordering::SeqCst)
     }
 
-    /// The runner has come to its end.
+    /// Marks that the runner has come to its end, and wakes those that wait.
     pub(crate) fn close(&self) {
         self.closed.store(true, Ordering::SeqCst);
         self.told.notify_all();
     }
 
-    /// Something was submitted.
+    /// Wakes the runner: something was submitted.
     pub(crate) fn wake_runner(&self) {
         self.submitted.notify_all();
     }
 
-    /// A turn was taken.
+    /// Wakes those that wait for records: a turn was taken.
     pub(crate) fn wake_waiters(&self) {
         self.told.notify_all();
     }
@@ -68,8 +69,8 @@ impl<H: Handler> Shared<H> {
         self.told.wait(rt, state)
     }
 
-    /// Lets others go on where there was nothing to take: until something is submitted, and for a millisecond at most
-    /// where the transport may have something too.
+    /// Lets other threads run when there was nothing to take: until something is submitted, and for a millisecond at
+    /// most if the transport may have something too.
     pub(crate) fn rest<R: Wait + Clock>(&self, rt: &R, state: MutexGuard<'_, HandleState<H>>) {
         if state.awaits_answer() {
             let _state = self.submitted.wait(rt, state);
@@ -80,7 +81,7 @@ impl<H: Handler> Shared<H> {
         }
     }
 
-    /// Submits a message. A ticket comes just where it asks for an answer.
+    /// Submits a message. It returns a ticket if and only if the message asks for an answer.
     #[tactic(auto, using(crate::proofs::AnsweringLemmas::given))]
     pub(crate) fn submit<R: Wait>(&self, rt: &R, msg: Msg) -> Result<Option<Ticket>, Error>
         ensures { Given (asks_answer msg) result }
@@ -105,7 +106,7 @@ impl<H: Handler> Shared<H> {
         begun
     }
 
-    /// Submits responses to prompts, and gives the ticket of the login that asked.
+    /// Submits responses to prompts, and returns the ticket of the login that asked.
     #[tactic(auto, using(crate::proofs::AnsweringLemmas::responded))]
     pub(crate) fn respond<R: Wait>(&self, rt: &R, responses: List<Text>) -> Result<Ticket, Error>
         ensures { IfErr result CannotRespond }
@@ -115,8 +116,8 @@ impl<H: Handler> Shared<H> {
         responded
     }
 
-    /// The next record of this ticket, which it waits for. Where the session has ended and nothing is held for the
-    /// ticket, it counts as dropped.
+    /// Waits for the next record of this ticket. If the session has ended and nothing is held for the ticket, the
+    /// record is that it was dropped.
     #[tactic(auto, using(crate::proofs::AnsweringLemmas::first_passes, crate::proofs::AnsweringLemmas::own_number))]
     pub(crate) fn record<R: Wait>(&self, rt: &R, ticket: Ticket) -> Record
         ensures { is_of ticket.0 result ≡ true }
@@ -137,7 +138,7 @@ impl<H: Handler> Shared<H> {
         unreachable!()
     }
 
-    /// The answer under this ticket, which it waits for; records that the reader doesn't read are passed over.
+    /// Waits for the answer with this ticket; records that the reader doesn't read are passed over.
     pub(crate) fn answer<A: Reader, R: Wait>(
         &self,
         rt: &R,
@@ -165,7 +166,7 @@ impl<H: Handler> Shared<H> {
         }
     }
 
-    /// Submits a message, and waits for no answer.
+    /// Submits a message, without waiting for an answer.
     pub(crate) fn tell<R: Wait>(&self, rt: &R, msg: Msg) -> Result<(), Error>
         ensures { IfErr result IsDeclined }
     {

@@ -16,7 +16,7 @@ use sshc_wire::{GssapiRecord, List, NoMemory, Octets, Ticket};
 use std::sync::Wait;
 
 impl<H: Handler> Handle<H> {
-    /// Logs in by a key that the signer holds (RFC 4252, section 7). What the signer refuses is answered as `Signer`.
+    /// Logs in by a key that the signer holds (RFC 4252, section 7). A refusal of the signer is returned as `Signer`.
     pub fn authenticate_publickey_with<S: Signer, R: Wait>(
         &self,
         rt: &R,
@@ -116,8 +116,8 @@ impl<H: Handler> Handle<H> {
         unreachable!()
     }
 
-    /// Logs in by GSSAPI with one of these mechanisms (RFC 4462, section 3). What the authenticator refuses is
-    /// answered as `Signer`, and nothing is submitted for it.
+    /// Logs in by GSSAPI with one of these mechanisms (RFC 4462, section 3). A refusal of the authenticator is returned
+    /// as `Signer`, and nothing is submitted for it.
     pub fn authenticate_gssapi_with_mic<G: GssapiAuthenticator, R: Wait>(
         &self,
         rt: &R,
@@ -168,7 +168,7 @@ impl<H: Handler> Handle<H> {
         unreachable!()
     }
 
-    /// Submits the authenticator's step, where there is one.
+    /// Submits the authenticator's step, if there is one.
     fn step<G: GssapiAuthenticator, R: Wait>(
         &self,
         rt: &R,

@@ -12,7 +12,7 @@ use std::sync::Wait;
 use std::thread::Threads;
 use std::time::Clock;
 
-/// Sends so many pings, one after the other, and gives how many were answered.
+/// Sends so many pings, one after the other, and returns how many were answered.
 fn pinged<R: Wait>(rt: &R, handle: &Handle<Keeper>, times: u64) -> u64 {
     let mut answered = 0u64;
     for _ in 0..times {

@@ -1,5 +1,5 @@
 -- What happened on a channel (RFC 4254, sections 5 and 6), as its user sees it: the same fields, with the channel's
--- number where it opens, and without the words of a refusal. A table from records to messages.
+-- number if it opens, and without the description of a refusal. A table from records to messages.
 use Rattle.sshc_wire.specs.declared.channel_id.ChannelId.{ChannelId}
 use Rattle.sshc_wire.specs.declared.channel_record.ChannelRecord.{ChannelRecord}
 use Rattle.sshc_wire.specs.declared.channel_record.ChannelRecord.TheVariants as records

@@ -7,7 +7,7 @@ use Rattle.sshc_key.specs.declared.agent.AgentIdentity.{AgentIdentity}
 use Rattle.sshc_key.specs.declared.agent.AgentIdentity.TheVariants as identities
 use Rattle.sshc_event.specs.declared.channel_msg.TerminalMode.{TerminalMode}
 
--- an answer is asked for; the submission gives the ticket
+-- an answer is asked for; the submission assigns the ticket
 abbrev pub asked_ticket : Option Ticket
 asked_ticket = Some (record { 0 = 0 })
 

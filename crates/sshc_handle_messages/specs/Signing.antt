@@ -1,5 +1,5 @@
--- A login whose signatures or steps the caller's own signer or authenticator makes: what is asked of it, and what its
--- answers submit. By cases on the record and on the answer.
+-- A login whose signatures or steps the caller's own signer or authenticator makes: what it is asked, and what is
+-- submitted for its results. By cases on the record and on the result.
 use Rattle.std.specs.Prelude.{◌≡◌, ℕ, List, Option, Some, None, Result, Ok, Err}
 use Rattle.sshc_wire.specs.Faults.{Rose}
 use Rattle.sshc_wire.specs.declared.auth_record.AuthRecord.TheVariants as asks
@@ -23,13 +23,13 @@ to_sign (Auth ticket (asks.SignRequest key hash_alg body)) = Ok body
 to_sign (Auth ticket (asks.SignRequestCert cert hash_alg body)) = Ok body
 to_sign said = Err said
 
--- a signature is submitted, or that there is none where the login is given up
+-- a signature is submitted, or a message without one if the login is given up
 abbrev pub IsSigned : {E : Type 0} → Msg → Result (Unit {0}) (WithError E) → Type 0
 IsSigned (msgs.Signed body) (Ok u) = Unit {0}
 IsSigned msgs.SignFailed (Err e) = Unit {0}
 IsSigned msg result = ⊥
 
--- the signer's error comes only where its count of refusals rose; else memory ran out
+-- the signer's error comes only if its count of refusals rose; else memory ran out
 abbrev pub IsSigners : {E : Type 0} → ℕ → ℕ → WithError E → Type 0
 IsSigners before now (Signer e) = Rose before now
 IsSigners before now (Session e) = e ≡ NoMemory
@@ -41,7 +41,7 @@ abbrev pub gssapi_said : Record → Result GssapiRecord Record
 gssapi_said (Auth ticket (asks.Gssapi report)) = Ok report
 gssapi_said said = Err said
 
--- the last token, with a MIC where integrity is at hand
+-- the last token, with a MIC if integrity is available
 abbrev pub completed : Option (List ℕ) → Option (List ℕ) → Msg
 completed token (Some mic) = msgs.AuthGssapiMic token mic
 completed token None = msgs.AuthGssapiExchangeComplete token
@@ -54,7 +54,7 @@ step_msg (Complete token mic) = completed token mic
 abbrev pub IsStep : Option Msg → Type 0
 IsStep msg = (step : GssapiStep) × (msg ≡ Some (step_msg step))
 
--- a report of an error submits nothing, and all else a step, unless the authenticator refuses
+-- for a report of an error nothing is submitted, and for all else a step, unless the authenticator refuses
 abbrev pub Submits : {E : Type 0} → GssapiRecord → Result (Option Msg) E → Type 0
 Submits report (Err e) = Unit {0}
 Submits (reports.Error major_status minor_status message) (Ok msg) = msg ≡ None

@@ -1,4 +1,4 @@
-//! What is asked of a channel, as messages of it.
+//! Requests and bytes for a channel, as messages of it.
 
 ghost use Rattle.std.specs.Prelude.{◌≡◌, IfOk, map};
 ghost use Rattle.sshc_handle_messages.specs.Messages.{terminal_mode};

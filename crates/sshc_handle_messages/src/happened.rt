@@ -6,7 +6,7 @@ ghost use Rattle.sshc_handle_messages.specs.Happened.{channel_msg};
 use sshc_opening::ChannelMsg;
 use sshc_wire::{ChannelId, ChannelRecord};
 
-/// What happened on the channel of this number, as a message of it. The words of a refusal are left out.
+/// What happened on the channel of this number, as a message of it. The description in a refusal is left out.
 pub fn channel_msg(id: ChannelId, happened: ChannelRecord) -> ChannelMsg
     ensures { result ≡ channel_msg id happened }
 {

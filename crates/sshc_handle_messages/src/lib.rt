@@ -1,4 +1,5 @@
-//! What the calls of a handle submit, and how what a session reports reaches its user: values alone, with no lock.
+//! The messages that the calls of a handle submit, and how a session's reports reach its user: only values, with no
+//! lock.
 #![tactic(auto)]
 
 mod channel_opens;

@@ -11,14 +11,14 @@ use sshc_opening::Method;
 use sshc_wire::{NoMemory, Text, Ticket};
 use std::alloc::Global;
 
-/// Stands for the ticket that a submission gives.
+/// A placeholder for the ticket that the submission assigns.
 pub fn asked() -> Option<Ticket>
     ensures { result ≡ asked_ticket }
 {
     Some(Ticket(0))
 }
 
-/// Lets a value go whose kinds need not be told apart.
+/// Drops a value; its variants need not be distinguished.
 pub fn let_go<T: Drop>(_value: T) {}
 
 /// A login (RFC 4252, section 5).

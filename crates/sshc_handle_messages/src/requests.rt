@@ -68,7 +68,7 @@ pub fn disconnection(
     })
 }
 
-/// A global request by its name and the bytes behind (RFC 4254, section 4), with an answer asked or not.
+/// A global request by its name and the bytes after it (RFC 4254, section 4), with an answer asked for or not.
 pub fn global_request(
     alloc: Global,
     name: &str,

@@ -10,7 +10,7 @@ use sshc_key::{AgentIdentity, HashAlg, Signer};
 use sshc_opening::{Error, GssapiAuthenticator, GssapiError, GssapiStep};
 use sshc_wire::{AuthRecord, GssapiRecord, NoMemory, Octets, Record};
 
-/// The bytes that a record asks to be signed, or the record where it asks for none (RFC 4252, section 7).
+/// The bytes that a record asks to be signed, or the record if it asks for none (RFC 4252, section 7).
 pub fn to_sign(said: Record) -> Result<Octets, Record>
     ensures { result ≡ to_sign said }
 {
@@ -27,7 +27,7 @@ pub fn to_sign(said: Record) -> Result<Octets, Record>
     }
 }
 
-/// What is submitted once the signer was asked to sign these bytes, and why the login is given up, where it is.
+/// The message to submit after the signer was asked to sign these bytes, and the error if the login is given up.
 pub fn signed<S: Signer>(
     signer: &mut S,
     identity: &AgentIdentity,
@@ -47,7 +47,7 @@ pub fn signed<S: Signer>(
     }
 }
 
-/// What the server said by GSSAPI, or the record where it is none of it (RFC 4462, section 3).
+/// What the server said by GSSAPI, or the record if it is of another kind (RFC 4462, section 3).
 pub fn gssapi_said(said: Record) -> Result<GssapiRecord, Record>
     ensures { result ≡ gssapi_said said }
 {
@@ -93,7 +93,7 @@ fn stepped<G: GssapiAuthenticator>(
     Ok(Some(step_msg(authenticator.gssapi_step(mechanism, token, mic_data)?)))
 }
 
-/// What is submitted once the authenticator heard what the server said: its step, or nothing where an error was
+/// The message to submit after the authenticator was passed what the server said: its step, or `None` if an error was
 /// reported.
 pub fn authenticated<G: GssapiAuthenticator>(
     authenticator: &mut G,

@@ -1,4 +1,4 @@
-//! What a login with a signer or an authenticator of the caller's fails by.
+//! The errors of a login with a signer or an authenticator of the caller's.
 
 ghost use Rattle.std.specs.Prelude.{◌≡◌};
 ghost use Rattle.sshc_handle_messages.specs.declared.with_error.WithError.TheVariants as errors;

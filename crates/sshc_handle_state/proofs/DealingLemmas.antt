@@ -1,4 +1,4 @@
--- Lemmas on what becomes of records: one more behind those that were dealt with.
+-- Lemmas on what is done with records: one more after those that were dealt with.
 use Rattle.std.proofs.Common.{◌≡◌, refl, ℕ, ◌+◌, ◌-◌, ◌^◌, ◌<◌, ◌≤◌, min, arith, Bool, true, false, List, [], ◌∷◌, ◌++◌, length, Option, Some, None, Result, Ok, Err, sym, ap, ◌∙◌, subst, append_assoc}
 use Rattle.std.specs.Prelude.{IsErr, IsErrOf, OnErr, OnOk}
 use Rattle.std.specs.List.{flat_map}
@@ -15,7 +15,7 @@ use Rattle.sshc_tickets.specs.Tickets.{TicketState}
 use Rattle.sshc_handle_state.specs.Picking.{LinkAt, link_at}
 use Rattle.sshc_handle_state.specs.Dealing.{Deals, DealsBy, DealsFront, Hands, HandsOn, gains_all, handing_of, handings, told, told_all}
 
--- ---- what is handed
+-- ---- calls of the transport
 
 gains_none : (handed : Option (List Handing)) → handed ≡ gains_all handed []
 gains_none None = refl
@@ -40,7 +40,7 @@ hands_nothing failed link = record {
 is_fault : (e : Failed) → e ≡ Fault → IsErrOf {T = Unit {0}} (Err e) Fault
 is_fault e h = ap (λ (x : Failed). let r : Result (Unit {0}) Failed = Err x in r) h
 
--- a call that fails hands nothing
+-- a call that fails passes nothing on
 pub hands_fault : (due : Handing) (failed : Bool) (was is : LinkAt) (e : Failed) → failed ≡ false → is.handed ≡ was.handed → is.answers ≡ was.answers → e ≡ Fault
     → HasCause {T = Unit {0}} was.faults is.faults (Err e) → Hands (due ∷ []) failed true was is
 hands_fault due true was is e runs handed answers fault cause = cc
@@ -86,7 +86,7 @@ hands_more due more first second third a b c one two = record {
   cause = cause_more first second third a.faults b.faults c.faults one.later two.later one.cause two.cause;
 }
 
--- ---- what is held
+-- ---- records that are held
 
 told_more : (records more : List Record) (t : TicketState) → told_all (records ++ more) t ≡ told_all more (told_all records t)
 unfolding told_all
@@ -120,7 +120,7 @@ deals_told said failed old new link none e = record {
   hands = subst (λ (due : List Handing). Hands due failed failed link link) (sym (append-nil (handing_of said) ∙ none)) (hands_nothing failed link);
 }
 
--- what is neither a packet nor an exchange isn't handed
+-- a record that is neither a packet nor an exchange makes no call of the transport
 pub no_handing : (said : Record) → ((packet : List ℕ) → said ≡ Payload packet → ⊥) → (said ≡ BeginExchange → ⊥) → handing_of said ≡ []
 no_handing (Payload packet) no_packet no_exchange = absurd (no_packet packet refl)
 no_handing BeginExchange no_packet no_exchange = absurd (no_exchange refl)
@@ -154,7 +154,7 @@ dealt_more all left later said first second third s t u a b c taken so deals = r
   deals = deals_more so.front (said ∷ []) first second third s t u a b c so.deals deals;
 }
 
--- memory ran out with these left
+-- memory ran out with these records remaining
 pub dealt_front : (all left : List Record) (first second third : Bool) (s t u : TicketState) (a b c : LinkAt)
     → DealtSo all left first second s t a b → Deals [] second third t u b c → DealsFront all first third s u a c
 dealt_front all left first second third s t u a b c so deals = record {
@@ -172,7 +172,7 @@ dealt_all all left first second s t a b none so =
     let whole : all ≡ so.front = so.parts ∙ (ap (λ (xs : List Record). so.front ++ xs) none ∙ append-nil so.front) in
     subst (λ (xs : List Record). Deals xs first second s t a b) (sym whole) so.deals
 
--- a fact for one answer from another
+-- a fact about one result from one about another
 pub on_ok : {A E P Q : Type 0} (r : Result A E) → (P → Q) → OnOk r P → OnOk r Q
 on_ok (Ok x) f h = f h
 on_ok (Err e) f h = tt

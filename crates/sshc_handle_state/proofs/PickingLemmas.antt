@@ -1,4 +1,4 @@
--- What a turn takes where the rules don't come to the transport, and where they do.
+-- What a turn takes if the rules don't come to the transport, and if they do.
 use Rattle.std.proofs.Common.{◌≡◌, refl, ℕ, Bool, true, Option, Some, None, Result, Ok, sym, subst}
 use Rattle.sshc_wire.specs.declared.source.Failed.{Failed}
 use Rattle.sshc_transport.specs.declared.transport.TransportEvent.{TransportEvent}

@@ -1,4 +1,4 @@
--- A turn that takes an event, from what each of its parts says.
+-- A turn that takes an event, from what each of its parts does.
 use Rattle.std.proofs.Common.{◌≡◌, ◌∙◌, ap, sym, subst, Bool, Result}
 use Rattle.sshc_wire.specs.declared.error.NoMemory.{NoMemory as RanOut}
 use Rattle.sshc_event.specs.declared.event.Event.{Event}

@@ -1,4 +1,4 @@
--- What the other submissions do, and what is told of the end.
+-- What the other submissions do, and how the end is reported.
 use Rattle.std.specs.Prelude.{◌≡◌, ℕ, Bool, true, false, List, Option, Some, None, IsSome, Result, Ok, Err}
 use Rattle.std.specs.List.{list_any}
 use Rattle.sshc_wire.specs.declared.ticket.Ticket.{Ticket}
@@ -25,7 +25,7 @@ Admits end asks old new (Err e) = ⊥
 
 -- ---- logins with prompts (RFC 4256)
 
--- whose ticket is kept as the one that responses are for
+-- the ticket is kept as the one that responses are for
 abbrev pub kept_prompts : Result (Option Ticket) Error → HandleAt → HandleAt
 kept_prompts (Ok (Some ticket)) s = record s { prompts = Some ticket }
 kept_prompts result s = s
@@ -40,7 +40,7 @@ abbrev pub is_asking : HandleAt → Option Ticket → Bool
 is_asking s None = false
 is_asking s (Some ticket) = list_any (is_ticket ticket.0) s.tickets.due
 
--- SendError where the session has ended; else RecvError where no such ticket is open, and then nothing is submitted
+-- `SendError` if the session has ended; else `RecvError` if no such ticket is open, and then nothing is submitted
 abbrev pub Responds : List (List ℕ) → HandleAt → HandleAt → Result Ticket Error → Type 0
 Responds responses old new (Ok ticket) =
     (old.end ≡ None) × (old.prompts ≡ Some ticket) × (is_asking old old.prompts ≡ true) × (new ≡ with_event (AuthInfoResponse responses) old)

@@ -1,6 +1,6 @@
--- What becomes of the records of a step: packets are handed to the transport and exchanges begun in their order, answers
--- and what happened on channels are held. Once a call of the transport has failed nothing more is handed. The code takes
--- one record after the other.
+-- What is done with the records of a step: packets are passed to the transport and exchanges begun in their order;
+-- answers, and what happened on channels, are held. Once a call of the transport has failed nothing more is passed to
+-- it. The code takes one record after the other.
 use Rattle.std.specs.Prelude.{◌≡◌, ◌≤◌, ℕ, Bool, true, false, List, [], ◌∷◌, ◌++◌, Option, Some, None, Result, Ok, Err}
 use Rattle.std.specs.List.{flat_map}
 use Rattle.std.specs.Option.{option_map}
@@ -12,7 +12,7 @@ use Rattle.sshc_transport.specs.Transports.{Handing, exchange_begun, payload}
 use Rattle.sshc_tickets.specs.Tickets.{TicketState, closed_behind, due_behind, opened_by}
 use Rattle.sshc_handle_state.specs.Picking.{LinkAt}
 
--- ---- what is held
+-- ---- records that are held
 
 -- answers to a ticket, what a login asks, and what happened on a channel
 abbrev pub held_behind : Record → List Record → List Record
@@ -29,7 +29,7 @@ unfoldable pub told_all : List Record → TicketState → TicketState
 told_all [] t = t
 told_all (said ∷ records) t = told_all records (told said t)
 
--- ---- what is handed
+-- ---- calls of the transport
 
 abbrev pub handing_of : Record → List Handing
 handing_of (Payload packet) = payload packet ∷ []
@@ -39,12 +39,12 @@ handing_of said = []
 abbrev pub handings : List Record → List Handing
 handings records = flat_map handing_of records
 
--- more at the end, where it is told
+-- more at the end, if the list is known
 abbrev pub gains_all : Option (List Handing) → List Handing → Option (List Handing)
 gains_all handed more = option_map (λ before. before ++ more) handed
 
--- by whether a call of the transport had failed before, and has failed now: all was handed, or what stood before the call
--- that failed, or nothing
+-- by whether a call of the transport had failed before, and has failed now: all was passed on, or what came before the
+-- call that failed, or nothing
 abbrev pub HandsOn : List Handing → Bool → Bool → Option (List Handing) → Option (List Handing) → Type 0
 HandsOn due true failed old new = (failed ≡ true) × (new ≡ old)
 HandsOn due false false old new = new ≡ gains_all old due
@@ -65,7 +65,7 @@ pub record Deals (records : List Record) (failed_before failed_now : Bool) (old 
   pub tickets : new ≡ told_all records old
   pub hands : Hands (handings records) failed_before failed_now was is
 
--- of all records; where memory ran out, of those that stood before
+-- of all records; if memory ran out, of those that came before
 pub record DealsFront (records : List Record) (failed_before failed_now : Bool) (old new : TicketState) (was is : LinkAt) : Type 0 where
   pub front : List Record
   pub rest : List Record

@@ -1,4 +1,4 @@
--- Ends that hold words of the server's.
+-- Ends that hold text of the server's.
 use Rattle.sshc_opening.specs.declared.ended.Ended.{Ended}
 use Rattle.sshc_opening.specs.declared.ended.Ended.TheVariants.{RemoteDisconnect}
 

@@ -45,17 +45,17 @@ new_handle c sshid = record {
 
 -- ---- submitting
 
--- a ticket is open behind the others
+-- a ticket is open, after the others in the list
 abbrev pub with_ticket : Ticket → TicketState → TicketState
 with_ticket ticket t = record t { due = t.due ++ ticket ∷ []; last = ticket.0 }
 
--- an event stands behind the others
+-- an event is submitted, after the others in the list
 abbrev pub with_event : Event → HandleAt → HandleAt
 with_event event s = record s { submitted = s.submitted ++ event ∷ [] }
 
 -- ---- ending
 
--- each open ticket is answered as dropped
+-- each open ticket is resolved as dropped
 abbrev pub all_dropped : TicketState → TicketState
 all_dropped t = record t { due = []; held = t.held ++ map dropped t.due }
 

@@ -1,4 +1,4 @@
--- The code by which proofs tell such states apart; nothing else depends on it.
+-- The code by which proofs distinguish such states; nothing else depends on it.
 use Rattle.std.specs.Coded.{Coded, codes}
 use Rattle.sshc_key.specs.KeyCode.{key_code}
 use Rattle.sshc_key.specs.PairCode.{key_pair_code}

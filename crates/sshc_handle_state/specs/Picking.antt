@@ -1,5 +1,5 @@
--- Which event a turn takes: by the first rule that fits the moment, what the transport answers and what is submitted. The
--- code asks the transport only where the rules come to it.
+-- Which event a turn takes: by the first rule that applies to the moment, the transport's result and the submitted
+-- events. The code calls the transport only if the rules come to it.
 use Rattle.std.specs.Prelude.{◌≡◌, ℕ, Bool, true, false, not, ◌&&◌, if◌then◌else◌, List, [], ◌∷◌, Option, Some, None, Result, Ok, Err}
 use Rattle.sshc_wire.specs.Faults.{HasCause}
 use Rattle.sshc_wire.specs.declared.source.Failed.{Failed}
@@ -18,7 +18,7 @@ use Rattle.sshc_handle_state.specs.declared.picking.Pick.{Pick}
 use Rattle.sshc_handle_state.specs.declared.picking.Pick.TheVariants as picks
 use Rattle.sshc_handle_state.specs.declared.timers.Timers.{Timers}
 
--- what a turn takes, and what it leaves
+-- what a turn takes, and the state afterwards
 pub record Picked : Type 0 where
   pub pick : Pick
   pub left : HandleAt
@@ -32,7 +32,7 @@ abbrev pub is_reply : Event → Bool
 is_reply (events.ServerChannelOpenReply id result) = true
 is_reply event = false
 
--- the oldest one, where there is one
+-- the oldest one, if there is one
 abbrev pub oldest_of : HandleAt → List Event → Picked
 oldest_of s [] = picked picks.Idle s
 oldest_of s (event ∷ later) = picked (picks.Event event) (record s { submitted = later })
@@ -65,7 +65,7 @@ on_event now came.Failed s = heard now events.TransportFailed s
 on_event now came.RekeyLimit s = heard now events.RekeyLimit s
 on_event now came.Quiet s = users_event s
 
--- by what the transport answers: none is its end, and a call that fails is an event too
+-- by the transport's result: `None` is its end, and a call that fails is an event too
 abbrev pub on_answer : ℕ → Result (Option TransportEvent) Failed → HandleAt → Picked
 on_answer now (Ok (Some event)) s = on_event now event s
 on_answer now (Ok None) s = picked picks.Ended s
@@ -78,8 +78,8 @@ on_answer now (Err NoMemory) s = picked picks.NoMemory s
 abbrev pub struck : ℕ → HandleAt → Picked
 struck now s = picked (picks.Event events.KeepaliveTimer) (timed (record (s.timers) { beat = now }) s)
 
--- where an answer is awaited, what is submitted alone; else the timers, a call of the transport that failed before, and
--- what the transport answers
+-- if an answer is awaited, only submitted events; else the timers, a call of the transport that failed before, and the
+-- transport's result
 abbrev pub rules : ℕ → Result (Option TransportEvent) Failed → HandleAt → Picked
 rules now answer s =
     if is_awaiting s.session.opening.phase then oldest s
@@ -93,7 +93,7 @@ abbrev pub asks_transport : ℕ → HandleAt → Bool
 asks_transport now s =
     not (is_awaiting s.session.opening.phase) && not (is_inactive now s.timers) && not (is_keepalive_due now s.timers) && not s.failed
 
--- what the rules before the transport give, whatever it would answer; none where they come to it
+-- the result of the rules before the transport, whatever it would return; `None` if they come to it
 abbrev pub Ruled : ℕ → HandleAt → HandleAt → Option Pick → Type 0
 Ruled now old new None = (asks_transport now old ≡ true) × (new ≡ old)
 Ruled now old new (Some pick) =
@@ -105,7 +105,7 @@ begun_at now s = timed (begun now s.timers) s
 
 -- ---- with the transport
 
--- what is seen of a transport: what it answered, what it was handed, and how often a call failed
+-- how contracts see a transport: its results, what was passed to it, and how often a call failed
 pub record LinkAt : Type 0 where
   pub answers : Option (List Answer)
   pub handed : Option (List Handing)
@@ -124,7 +124,7 @@ abbrev pub AsksIf : Bool → LinkAt → LinkAt → Result (Option TransportEvent
 AsksIf true was is answer = IsAsked was is answer
 AsksIf false was is answer = is ≡ was
 
--- what a turn takes by its rules, where the transport gives this answer if it is asked
+-- what a turn takes by its rules, if this is the transport's result in case it is called
 pub record Picks (now : ℕ) (old new : HandleAt) (was is : LinkAt) (pick : Pick) : Type 0 where
   pub answer : Result (Option TransportEvent) Failed
   pub asks : AsksIf (asks_transport now (begun_at now old)) was is answer

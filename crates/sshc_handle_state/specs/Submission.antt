@@ -1,5 +1,5 @@
 -- The event of a message that a user submits. A message with a ticket gets a fresh one; one without asks for no answer,
--- which is ticket 0. What is reported alone has no event.
+-- which is ticket 0. A message that only reports what happened has no event.
 use Rattle.std.specs.Prelude.{Bool, true, false, if◌then◌else◌, is_some, Option, Some, None}
 use Rattle.sshc_wire.specs.declared.channel_id.ChannelId.{ChannelId}
 use Rattle.sshc_wire.specs.declared.ticket.Ticket.{Ticket}
@@ -12,7 +12,7 @@ use Rattle.sshc_client.specs.declared.message.Msg.TheVariants as msgs
 
 -- ---- tickets
 
--- the ticket that a message names, where it has one
+-- the ticket that a message names, if it has one
 abbrev pub ticket_in : Msg → Option Ticket
 ticket_in (msgs.Authenticate user method ticket) = ticket
 ticket_in (msgs.ChannelOpenSession ticket) = ticket
@@ -41,7 +41,7 @@ stamped fresh (Some asked) = fresh
 
 -- ---- events
 
--- what is reported of a channel alone, and can't be asked
+-- what only reports what happened on a channel, and can't be submitted as a request
 abbrev pub is_reported : ChannelMsg → Bool
 is_reported (Open id max_packet_size window_size) = true
 is_reported (OpenFailure reason) = true

@@ -1,4 +1,4 @@
--- What a submission does to what the threads share, by what it answers.
+-- What a submission does to what the threads share, by its result.
 use Rattle.std.specs.Prelude.{◌≡◌, ◌+◌, Bool, true, false, length, Option, Some, None, IsSome, Result, Ok, Err}
 use Rattle.sshc_wire.specs.declared.ticket.Ticket.{Ticket}
 use Rattle.sshc_event.specs.declared.event.Event.{Event}
@@ -9,24 +9,24 @@ use Rattle.sshc_tickets.specs.Tickets.{TicketState, free_within}
 use Rattle.sshc_handle_state.specs.HandleAt.{HandleAt, with_event, with_ticket}
 use Rattle.sshc_handle_state.specs.Submission.{asks_answer, event_of}
 
--- the ticket is the first behind the last one given that is neither open nor named by a held record
+-- the ticket is the first after the last one opened that is neither open nor named by a held record
 abbrev pub IsFresh : TicketState → Ticket → Type 0
 IsFresh t ticket = free_within (length t.due + length t.held + 1) t t.last ≡ Some ticket.0
 
--- with an event or none, behind the others
+-- with an event, if there is one, after the others
 abbrev pub with_any : Option Event → HandleAt → HandleAt
 with_any None s = s
 with_any (Some event) s = with_event event s
 
--- where an answer is asked for, its ticket is open and the event has it
+-- if an answer is asked for, its ticket is open and the event has it
 abbrev pub submitted_with : Ticket → Msg → HandleAt → HandleAt
 submitted_with ticket msg s = with_any (event_of ticket msg) (record s { tickets = with_ticket ticket s.tickets })
 
--- where none is asked for; the ticket of the event is 0
+-- if no answer is asked for; the ticket of the event is 0
 abbrev pub submitted_without : Msg → HandleAt → HandleAt
 submitted_without msg s = with_any (event_of (record { 0 = 0 }) msg) s
 
--- a refusal changes nothing: the session has ended, just where it is told so, or memory ran out
+-- a refusal changes nothing: the session has ended, if and only if the error is `SendError`, or memory ran out
 abbrev pub Declines : HandleAt → HandleAt → Error → Type 0
 Declines old new SendError = IsSome old.end × (new ≡ old)
 Declines old new NoMemory = (old.end ≡ None) × (new ≡ old)

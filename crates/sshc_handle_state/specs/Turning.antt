@@ -1,6 +1,6 @@
--- What a turn of the runner does: it takes what its rules give, hands an event to one step of the session, deals with the
--- step's records, and closes the handle where the session has ended. By relations between two moments; the code does one
--- part after the other.
+-- What a turn of the runner does: it takes what its rules yield, passes an event to one step of the session, deals with
+-- the step's records, and closes the handle if the session has ended. Stated by relations between two moments; the code
+-- does one part after the other.
 use Rattle.std.specs.Prelude.{◌≡◌, ◌⊎◌, ℕ, Bool, true, false, List, [], Option, Some, None, is_none, Result, Ok, Err}
 use Rattle.sshc_wire.specs.declared.error.NoMemory.{NoMemory as RanOut}
 use Rattle.sshc_key.specs.Signers.{SignCall}
@@ -33,7 +33,7 @@ use Rattle.sshc_handle_state.specs.HandleAt.{HandleAt, ended_with}
 use Rattle.sshc_handle_state.specs.Picking.{LinkAt, Picks}
 use Rattle.sshc_handle_state.specs.Dealing.{DealsBy}
 
--- ---- who is beside the handle in a turn
+-- ---- the signer and the handler in a turn
 
 -- the signer's calls and refusals, and the handler's refusals with what it judges by
 pub record CallersAt : Type 0 where
@@ -63,7 +63,7 @@ bound_by (Some blob) x = Some (record { host_key = blob; session_id = x.session_
 abbrev pub binding_of : ExchangeResult → Option AgentSessionBinding
 binding_of x = bound_by (key_blob x.key) x
 
--- it is kept where the session goes on behind an exchange, and none was kept before
+-- it is kept if the session continues after an exchange, and none was kept before
 abbrev pub binding_behind : Event → Bool → Option AgentSessionBinding → Option AgentSessionBinding
 binding_behind event goes (Some binding) = Some binding
 binding_behind (ExchangeDone x) true None = binding_of x
@@ -76,14 +76,14 @@ Binds event goes old new (Err e) = new ≡ old
 
 -- ---- how a turn ends
 
--- the end of the handle: a turn that ends or refuses the session answers everyone who waits
+-- the end of the handle: a turn that ends or refuses the session resolves the tickets of all who wait
 abbrev pub closed_by : {E : Type 0} → Turn E → HandleAt → HandleAt
 closed_by (turns.Ended e) s = ended_with (ends.Ended e) s
 closed_by (turns.Refused e) s = ended_with ends.Refused s
 closed_by turn s = s
 
--- by what the step answers; out of memory refuses a session that would go on. A step answers Closed only where an earlier
--- one has ended the session, which no turn leaves so
+-- by the step's result; out of memory refuses a session that would continue. A step returns `Closed` only if an earlier
+-- one has ended the session, and then that one's turn has ended the handle
 abbrev pub turn_by : {E : Type 0} → (Error → E) → Step E → Result (Unit {0}) RanOut → Turn E
 turn_by told_as (steps.Ended e) result = turns.Ended e
 turn_by told_as (steps.Refused e) result = turns.Refused e
@@ -93,7 +93,7 @@ turn_by told_as steps.Opened (Ok u) = turns.Took
 turn_by told_as steps.Went (Err e) = turns.Refused (told_as NoMemory)
 turn_by told_as steps.Opened (Err e) = turns.Refused (told_as NoMemory)
 
--- the end that is kept is a copy: where memory runs out for the server's words, the session counts as refused
+-- the end that is kept is a copy: if memory runs out for the server's text in it, the session counts as refused
 abbrev pub OrRanOut : {E : Type 0} → (Error → E) → Turn E → Turn E → Type 0
 OrRanOut told_as (turns.Ended (RemoteDisconnect info)) turn = (turn ≡ turns.Ended (RemoteDisconnect info)) ⊎ (turn ≡ turns.Refused (told_as NoMemory))
 OrRanOut told_as due turn = turn ≡ due
@@ -133,13 +133,13 @@ pub record TakesEvent {E : Type 0} (defaults : Type 0) (gate : GateAnswers E) (a
 
 -- ---- the turn
 
--- nothing beside the handle changes
+-- the signer and the handler don't change
 pub record Closing {E : Type 0} (told_as : Error → E) (due : Turn E) (last new : HandleAt) (was is : CallersAt) (link_was link_is : LinkAt) (turn : Turn E) : Type 0 where
   pub closes : Closes told_as due last new turn
   pub callers : is ≡ was
   pub link : link_is ≡ link_was
 
--- by what the rules gave
+-- by the result of the rules
 abbrev pub Takes : {E : Type 0} → Type 0 → GateAnswers E → Accepts → Pick → HandleAt → HandleAt → CallersAt → CallersAt → LinkAt → LinkAt → Turn E → Type 0
 Takes defaults gate accepts (picks.Event event) old new was is link_was link_is turn =
     TakesEvent defaults gate accepts event old new was is link_was link_is turn

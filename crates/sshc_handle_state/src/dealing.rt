@@ -1,4 +1,4 @@
-//! What becomes of the records of a step.
+//! What is done with the records of a step.
 
 ghost use Rattle.std.specs.Prelude.{◌≡◌, ◌∷◌, [], OnErr, OnOk, length};
 ghost use Rattle.sshc_transport.specs.Transports.{exchange_begun, payload};
@@ -10,7 +10,7 @@ use sshc_tickets::Tickets;
 use sshc_transport::Transport;
 use sshc_wire::{Failed, NoMemory, Outbox, Record};
 
-/// Hands a packet on, unless a call has failed.
+/// Passes a packet to the transport, unless a call has failed.
 fn hand<T: Transport>(transport: &mut T, packet: &[u8], failed: &mut bool) -> Result<(), NoMemory>
     ensures ok { OnOk result (Hands (payload packet.now ∷ []) failed.old failed.new
         (link_at (T.answers transport.old) (T.handed transport.old) (T.faults transport.old))
@@ -54,7 +54,7 @@ fn begin<T: Transport>(transport: &mut T, failed: &mut bool) -> Result<(), NoMem
     }
 }
 
-/// Holds what is an answer or happened on a channel, and marks what opens.
+/// Holds a record that is an answer or of what happened on a channel; a channel that opens no longer counts as closed.
 fn tell(tickets: &mut Tickets, said: Record) -> Result<(), NoMemory>
     ensures ok { OnOk result (tickets.new ≡ told said tickets.old) }
     ensures err { OnErr result (tickets.new ≡ tickets.old) }
@@ -71,7 +71,7 @@ fn tell(tickets: &mut Tickets, said: Record) -> Result<(), NoMemory>
     }
 }
 
-/// What becomes of one record.
+/// What is done with one record.
 fn deal_one<T: Transport>(
     said: Record,
     transport: &mut T,
@@ -92,7 +92,7 @@ fn deal_one<T: Transport>(
     }
 }
 
-/// Hands on and holds each record, in their order.
+/// Passes on and holds each record, in their order.
 pub(crate) fn deal<T: Transport>(
     said: &mut Outbox,
     transport: &mut T,

@@ -5,7 +5,7 @@ use sshc_opening::Ended;
 /// How the session has ended.
 #[derive(Debug, Drop)]
 pub enum End {
-    /// By the server, by its user, or since the transport is at its end.
+    /// By the server, by its user, or because the transport is at its end.
     Ended(Ended),
     /// It was refused.
     Refused,
@@ -14,7 +14,7 @@ pub enum End {
 /// What a turn of the runner did.
 #[derive(Debug, Drop)]
 pub enum Turn<E> {
-    /// It took an event, and the session goes on.
+    /// It took an event, and the session continues.
     Took,
     /// There was nothing to take.
     Idle,

@@ -1,5 +1,5 @@
-//! What a handle's threads share, as a value without a lock: what is submitted, what is held for those who wait, and the
-//! runner's turns.
+//! What a handle's threads share, as a value without a lock: the events that are submitted, the records that are held
+//! for those who wait, and the runner's turns.
 #![tactic(auto)]
 
 mod dealing;

@@ -99,7 +99,7 @@ impl<H: Handler> HandleState<H> {
         }
     }
 
-    /// What the rules before the transport give; none where they come to it.
+    /// The result of the rules that come before the transport's; `None` if no such rule applies.
     fn ruled(&mut self, now: u64) -> Option<Pick>
         ensures { Ruled now self.old self.new result }
     {
@@ -125,7 +125,7 @@ impl<H: Handler> HandleState<H> {
         self.timers.begin(now);
     }
 
-    /// Takes what the first rule that fits gives.
+    /// Takes what the first rule that applies yields.
     pub(crate) fn pick<T: Transport>(&mut self, now: u64, transport: &mut T) -> Pick
         ensures { Picks now self.old self.new
             (link_at (T.answers transport.old) (T.handed transport.old) (T.faults transport.old))

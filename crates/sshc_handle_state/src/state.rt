@@ -23,8 +23,8 @@ use std::alloc::Global;
 use std::collections::VecDeque;
 use std::marker::{Model, PhantomData};
 
-/// A session with what is submitted to it, the records that are held for those who wait, and its timers. No call of it
-/// waits for anybody.
+/// A session with the events that are submitted to it, the records that are held for those who wait, and its timers.
+/// None of its calls waits for anything.
 #[derive(Drop)]
 pub struct HandleState<H: Handler> {
     pub(crate) session: Session,
@@ -60,7 +60,7 @@ impl<H: Handler> Model for HandleState<H> {
     } };
 }
 
-/// Makes room for an event, and opens a ticket where an answer is asked for.
+/// Makes room for an event, and opens a ticket if an answer is asked for.
 fn admitted(
     end: &Option<End>,
     submitted: &mut VecDeque<Event>,
@@ -82,7 +82,7 @@ fn admitted(
     }
 }
 
-/// Adds an event for which there is room, or none.
+/// Adds an event for which there is room, if there is an event.
 fn add(submitted: &mut VecDeque<Event>, event: Option<Event>)
     requires { deque_len submitted.old < deque_capacity submitted.old }
     ensures { submitted.new.items ≡ submitted.old.items ++ listed event }
@@ -152,8 +152,9 @@ impl<H: Handler> HandleState<H> {
         Ok(())
     }
 
-    /// Submits a message. Where it asks for an answer, its ticket is one that is neither open nor named by a held record;
-    /// where none is left, that counts as out of memory. What is reported of a channel alone submits nothing.
+    /// Submits a message. If it asks for an answer, its ticket is one that is neither open nor named by a held record;
+    /// if no number is free, it returns `NoMemory`. A message that only reports what happened on a channel submits
+    /// nothing.
     pub fn submit(&mut self, msg: Msg) -> Result<Option<Ticket>, Error>
         ensures { Submits msg self.old self.new result }
     {
@@ -222,8 +223,8 @@ impl<H: Handler> HandleState<H> {
         self.tickets.poll(ticket)
     }
 
-    /// Takes the oldest record that is held of what happened on this channel. With its close the channel is marked closed,
-    /// until one of its number opens again.
+    /// Takes the oldest record that is held of what happened on this channel. With its close the channel is marked
+    /// closed, until one of its number opens again.
     pub fn poll_channel(&mut self, id: ChannelId) -> Option<Record>
         ensures taken { result ≡ first_of (is_on id.0) self.old.tickets.held }
         ensures rest { self.new ≡ record self.old { tickets = record (self.old.tickets) { held = without_first (is_on id.0) self.old.tickets.held; closed = closed_with result self.old.tickets.closed } } }
@@ -238,7 +239,7 @@ impl<H: Handler> HandleState<H> {
         self.tickets.is_closed(id)
     }
 
-    /// Whether an answer of the user is awaited, so that only what is submitted is taken.
+    /// Whether an answer of the user is awaited, so that only submitted events are taken.
     pub fn awaits_answer(&self) -> bool
         ensures { result ≡ is_awaiting self.now.session.opening.phase }
     {
@@ -252,7 +253,7 @@ impl<H: Handler> HandleState<H> {
         self.end.is_some()
     }
 
-    /// How the session has ended, where it has; `Disconnect` where it was refused.
+    /// How the session has ended, if it has; `Disconnect` if it was refused.
     pub fn ended(&self) -> Result<Option<Ended>, Error>
         ensures { TellsEnd self.now.end result }
     {

@@ -7,10 +7,10 @@ use sshc_client::Msg;
 use sshc_opening::{ChannelMsg, Event};
 use sshc_wire::{ChannelId, Ticket};
 
-/// Lets a value go whose kinds need not be told apart.
+/// Drops a value; its variants need not be distinguished.
 pub(crate) fn let_go<T: Drop>(_value: T) {}
 
-/// The ticket that a message names, where it has one.
+/// The ticket that a message names, if it has one.
 fn ticket_in(msg: &Msg) -> Option<Ticket>
     ensures { result ≡ ticket_in msg.now }
 {
@@ -49,7 +49,7 @@ fn stamped(fresh: Ticket, asked: Option<Ticket>) -> Ticket
     }
 }
 
-/// Whether the message is reported alone, and can't be asked.
+/// Whether the message only reports what happened, and can't be submitted as a request.
 fn is_reported(msg: &ChannelMsg) -> bool
     ensures { result ≡ is_reported msg.now }
 {
@@ -77,7 +77,8 @@ fn channel_event(id: ChannelId, msg: ChannelMsg) -> Option<Event>
     }
 }
 
-/// The event of a message, with this ticket where an answer is asked for; none for what is reported alone.
+/// The event of a message, with this ticket if an answer is asked for; `None` for a message that only reports what
+/// happened.
 #[tactic(auto, unfolding(crate::specs::Submission::event_of))]
 pub(crate) fn event_of(fresh: Ticket, msg: Msg) -> Option<Event>
     ensures { result ≡ event_of fresh msg }

@@ -6,9 +6,9 @@ ghost use Rattle.sshc_handle_state.specs.Clocks.{begun, has_passed, is_inactive,
 /// The two timers of a session, with the moments by which they run, in milliseconds.
 #[derive(Clone, Copy, Debug, PartialEq, Eq)]
 pub struct Timers {
-    /// For how long nothing may be heard.
+    /// For how long it may be that nothing is heard.
     pub inactivity_timeout: Option<u64>,
-    /// How long after the last sign of life a keepalive is due.
+    /// How long after the last transport event or keepalive timer a keepalive is due.
     pub keepalive_interval: Option<u64>,
     /// The moment of the last transport event. That of the first turn counts as one; before it there is none.
     pub heard: Option<u64>,

@@ -29,7 +29,7 @@ fn key_blob(key: &ExchangeKey) -> Result<Option<Octets>, NoMemory>
     }
 }
 
-/// What binds an agent to the session of this exchange, where it has a host key.
+/// What binds an agent to the session of this exchange, if it has a host key.
 fn binding_of(exchange: &ExchangeResult) -> Result<Option<AgentSessionBinding>, NoMemory>
     ensures { IfOk result (λ binding. binding ≡ binding_of exchange.now) }
 {
@@ -43,14 +43,14 @@ fn binding_of(exchange: &ExchangeResult) -> Result<Option<AgentSessionBinding>, 
     )))
 }
 
-/// Whether the session goes on behind its step.
+/// Whether the session continues after its step.
 fn goes_on<E>(step: &Step<E>) -> bool
     ensures { result ≡ goes_on step.now }
 {
     matches!(step, Step::Went | Step::Opened)
 }
 
-/// Out of memory where one of two parts was.
+/// `NoMemory` if one of two parts ran out of memory.
 fn both(first: Result<(), NoMemory>, second: Result<(), NoMemory>) -> Result<(), NoMemory>
     ensures { result ≡ both first second }
 {
@@ -58,7 +58,7 @@ fn both(first: Result<(), NoMemory>, second: Result<(), NoMemory>) -> Result<(),
     second
 }
 
-/// How a turn is due to end, by what the step answers.
+/// How a turn is due to end, by the step's result.
 fn turn_by<H: Handler>(step: Step<H::Error>, dealt: Result<(), NoMemory>) -> Turn<H::Error>
     ensures { result ≡ turn_by H.told_as step dealt }
 {
@@ -74,7 +74,7 @@ fn turn_by<H: Handler>(step: Step<H::Error>, dealt: Result<(), NoMemory>) -> Tur
 }
 
 impl<H: Handler> HandleState<H> {
-    /// The session has ended: each open ticket is answered as dropped.
+    /// The session has ended: each open ticket is resolved as dropped.
     fn finish(&mut self, end: End)
         ensures { self.new ≡ ended_with end self.old }
     {
@@ -97,7 +97,7 @@ impl<H: Handler> HandleState<H> {
         }
     }
 
-    /// Ends the handle where the turn is due to end it.
+    /// Ends the handle if the turn is due to end it.
     fn close(&mut self, due: Turn<H::Error>) -> Turn<H::Error>
         ensures { Closes H.told_as due self.old self.new result }
     {
@@ -112,7 +112,7 @@ impl<H: Handler> HandleState<H> {
         }
     }
 
-    /// Keeps the binding of the first exchange, where the session goes on behind it.
+    /// Keeps the binding of the first exchange, if the session continues after it.
     fn bind(&mut self, event: &Event, goes: bool) -> Result<(), NoMemory>
         ensures { Binds event.now goes self.old self.new result }
     {
@@ -124,7 +124,7 @@ impl<H: Handler> HandleState<H> {
         Ok(())
     }
 
-    /// Takes the records of the step, hands them on and holds them.
+    /// Takes the records of the step, passes them on and holds them.
     fn deal<T: Transport>(&mut self, transport: &mut T) -> Result<(), NoMemory>
         ensures { DealsWith self.old self.new
             (link_at (T.answers transport.old) (T.handed transport.old) (T.faults transport.old))
@@ -134,7 +134,7 @@ impl<H: Handler> HandleState<H> {
         deal(&mut said, transport, &mut self.tickets, &mut self.failed)
     }
 
-    /// One step of the session, and what becomes of its records.
+    /// One step of the session, and what is done with its records.
     fn take<T: Transport, S: LocalSigner, V: Verifier>(
         &mut self,
         event: Event,
@@ -157,8 +157,8 @@ impl<H: Handler> HandleState<H> {
         self.close(turn_by::<H>(step, both(bound, dealt)))
     }
 
-    /// Takes a turn at a moment in milliseconds: at most one event, by the first of the rules that fits. No earlier turn
-    /// has answered `Ended` or `Refused`.
+    /// Takes a turn at a moment in milliseconds: at most one event, by the first of the rules that applies. No earlier
+    /// turn may have returned `Ended` or `Refused`.
     pub fn turn<T: Transport, S: LocalSigner, V: Verifier>(
         &mut self,
         now: u64,

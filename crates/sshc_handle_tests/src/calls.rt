@@ -27,7 +27,7 @@ enum Call {
 }
 
 impl Call {
-    /// Makes the call. What it gives is its number, where it gives one.
+    /// Makes the call. Returns its number, if it has one, else 0.
     fn make<R: Wait>(self, rt: &R, alloc: Global, handle: &Handle<Keeper>) -> Result<u32, Error> {
         match self {
             Call::Forward => handle.tcpip_forward(rt, "", 0),
@@ -44,18 +44,18 @@ impl Call {
         }
     }
 
-    /// What is answered to the one that the host grants.
+    /// The answer to the call that the host grants.
     fn granted(self) -> Result<u32, Error> {
         match self {
             Call::Forward => Ok(4022),
             Call::Session | Call::X11 | Call::Direct | Call::DirectStreamlocal => Ok(1),
-            // The answer is granted without a proof in it.
+            // The request is granted, but the answer has no proof in it.
             Call::Prove => Err(Error::SshEncoding),
             _ => Ok(0),
         }
     }
 
-    /// What is answered to the one that it refuses, or that is open at the end.
+    /// The answer to the call that the host refuses, or that is open at the end.
     fn refused(self) -> Result<u32, Error> {
         match self {
             Call::Session | Call::X11 | Call::Direct | Call::DirectStreamlocal => {
@@ -97,7 +97,7 @@ fn only<T: Drop>(alloc: Global, item: T) -> Result<Vec<T>, Error> {
     Ok(list)
 }
 
-/// What two calls that were open at once were answered.
+/// The answers to two calls that were open at once.
 #[derive(Clone, Copy, Debug, PartialEq, Eq)]
 struct Both {
     first: Result<u32, Error>,
@@ -122,8 +122,8 @@ fn make_both<R: Threads + Wait + Sync>(
     Both { first, second }
 }
 
-/// Both calls against this host, in a session that is open from the first exchange on, and the second once more behind
-/// its end.
+/// Both calls with this host, in a session that is open from the first exchange on, and the second once more after its
+/// end.
 fn answered<R: Threads + Wait + Sync + Clock>(
     rt: &R,
     alloc: Global,
@@ -141,15 +141,15 @@ fn answered<R: Threads + Wait + Sync + Clock>(
     Ok((both, second.make(rt, alloc, &handle)))
 }
 
-/// Whether one of both was answered so, and the other so.
+/// Whether one of the two answers is the one, and the other is the other.
 fn are(both: Both, one: Result<u32, Error>, other: Result<u32, Error>) -> bool {
     (both.first == one && both.second == other) || (both.first == other && both.second == one)
 }
 
-/// What nobody can submit any more.
+/// The result of a call that can't submit any more.
 const LATE: Result<u32, Error> = Err(Error::SendError);
 
-/// Two threads ask for a forward of port 0 at once: one is granted 4022, and the other refused. One that asks behind the
+/// Two threads ask for a forward of port 0 at once: one is granted 4022, and the other refused. One that asks after the
 /// end can't submit.
 #[test]
 fn grants_one_of_two_forwards(rt: HostRuntime) -> Result<(), Fail> {
@@ -161,7 +161,7 @@ fn grants_one_of_two_forwards(rt: HostRuntime) -> Result<(), Fail> {
     Ok(())
 }
 
-/// Of two calls of a kind the host grants the one that it heard first, and refuses the other. Behind the end none is
+/// Of two calls of a kind the host grants the one that it heard first, and refuses the other. After the end none is
 /// submitted.
 #[test]
 fn answers_each_its_own(rt: HostRuntime) -> Result<(), Fail> {
@@ -235,7 +235,7 @@ fn ping_and_leave<R: Threads + Wait + Sync>(
     both
 }
 
-/// Whether a call was dropped at the end, or came behind it.
+/// Whether a call was dropped at the end, or came after it.
 fn is_over(answer: Result<u32, Error>) -> bool {
     answer == Err(Error::Disconnect) || answer == Err(Error::SendError)
 }

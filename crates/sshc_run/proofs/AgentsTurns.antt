@@ -1,4 +1,5 @@
--- An agent's turn says records of an agent alone, asks the signer as the agent alone, and stops the run only where its fields can't be read.
+-- An agent's turn has only records of an agent, asks the signer only as the agent, and stops the run only if its fields
+-- can't be read.
 use Rattle.std.proofs.Common.{◌≡◌, ℕ, Bool, false, List, [], ◌∷◌, ◌++◌, Result, Ok, Err, refl, ap}
 use Rattle.sshc_wire.specs.declared.record.Record.{Record}
 use Rattle.sshc_key.specs.declared.signer.Asker.{Asker}
@@ -34,7 +35,7 @@ asks_then : {A : Type 0} {B : Type 0} (test : Asker → Bool) (is : Bool) (askin
 asks_then test is (done x) f by each = each x
 asks_then test is (asks asked on) f (here, by) each = (here, λ answer. asks_then test is (on answer) f (by answer) each)
 
--- ---- what is said
+-- ---- records
 
 pub says_two : (test : Record → Bool) (is : Bool) (a b : List Record) → SaysBy test is a → SaysBy test is b → SaysBy test is (a ++ b)
 says_two test is [] b one other = other

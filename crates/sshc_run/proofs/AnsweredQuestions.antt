@@ -1,4 +1,4 @@
--- What asks the signer, answered by the calls that it makes: whatever answers follow, the run behind it is the same.
+-- Calls of the signer, with the answers that they get: whatever answers follow, the run after them is the same.
 use Rattle.std.proofs.Common.{◌≡◌, List, [], ◌∷◌, ◌++◌, refl, ap, sym, ◌∙◌}
 use Rattle.sshc_key.specs.Signers.{SignCall}
 use Rattle.sshc_key.specs.Asking.{Answer, Asking, done, asks, call_of, Makes, MakesFirst}
@@ -8,7 +8,7 @@ pub answers_two : (a b : List SignCall) → answers_of (a ++ b) ≡ answers_of a
 answers_two [] b = refl
 answers_two (call ∷ a) b = ap (λ (answers : List Answer). call.answer ∷ answers) (answers_two a b)
 
--- it comes to this, with the answers that follow, and the calls are kept
+-- this is its result, with the answers that follow, and the calls are kept
 pub asked_made : {A : Type 0} {E : Type 0} (wanting : E) (asking : Asking A) (gained : List SignCall) (x : A) (answers : List Answer) (later : A → List Answer → RunOf E) → Makes asking gained x →
     asked_run wanting asking (answers_of gained ++ answers) later ≡ after [] gained (later x answers)
 asked_made {A = A} wanting (done y) [] x answers later is = ap (λ (z : A). later z answers) is
@@ -18,7 +18,7 @@ asked_made {E = E} wanting (asks asked on) (call ∷ gained) x answers later (is
     ap (λ (r : RunOf E). after [] (call_of asked call.answer ∷ []) r) (asked_made wanting (on call.answer) gained x answers later makes)
     ∙ ap (λ (c : SignCall). after [] (c ∷ gained) (later x answers)) (sym is)
 
--- where only the first calls were made, no others are kept
+-- if only the first calls were made, no others are kept
 pub asked_first : {A : Type 0} {E : Type 0} (wanting : E) (asking : Asking A) (gained : List SignCall) (later : A → List Answer → RunOf E) → ((x : A) → (later x []).calls ≡ []) → MakesFirst asking gained →
     (asked_run wanting asking (answers_of gained) later).calls ≡ gained
 asked_first wanting (done y) [] later nothing first = nothing y
@@ -27,7 +27,7 @@ asked_first wanting (asks asked on) [] later nothing first = refl
 asked_first wanting (asks asked on) (call ∷ gained) later nothing (is, first) =
     ap (λ (calls : List SignCall). call_of asked call.answer ∷ calls) (asked_first wanting (on call.answer) gained later nothing first) ∙ ap (λ (c : SignCall). c ∷ gained) (sym is)
 
--- the same run behind each gives the same run
+-- with the same run after each, the runs are the same
 pub asked_same : {A : Type 0} {E : Type 0} (wanting : E) (asking : Asking A) (answers : List Answer) (later later' : A → List Answer → RunOf E) → ((x : A) (left : List Answer) → later x left ≡ later' x left) →
     asked_run wanting asking answers later ≡ asked_run wanting asking answers later'
 asked_same wanting (done x) answers later later' same = same x answers

@@ -1,4 +1,4 @@
--- The answers in order are those by asker, where they are the answers of the run's own calls.
+-- The answers in order are those by asker, if they are the answers of the run's own calls.
 use Rattle.std.proofs.Common.{◌≡◌, true, List, [], ◌∷◌, Some, refl, ap, sym, ◌∙◌, arith}
 use Rattle.std.proofs.lemmas.Bool.Decides.{nat_tests}
 use Rattle.sshc_key.specs.Signers.{SignCall}

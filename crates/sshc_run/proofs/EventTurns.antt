@@ -1,4 +1,5 @@
--- What taking an event gives, of the session and of the agent: an event that is read, and one whose fields can't be.
+-- What taking an event does, for the session and for the agent: an event that can be read, and one whose fields can't
+-- be.
 use Rattle.std.proofs.Common.{◌≡◌, ℕ, Bool, List, Option, Some, None, Result, Ok, Err, inl, inr, refl, ap, sym, ◌∙◌}
 use Rattle.sshc_wire.specs.Contents.{append, WroteFront}
 use Rattle.sshc_wire.specs.declared.record.Record.{Record}
@@ -29,7 +30,7 @@ use Rattle.sshc_run.specs.Turn.{stops}
 use Rattle.sshc_run.specs.TurnContracts.{Came, TakeGives}
 use Rattle.sshc_run.proofs.TakenEvents.{unasked as none_taken, stops_turn, written_turn, cut_turn}
 
--- how the reader of fields failed, as the run tells it
+-- how the reader of fields failed, as an error of the run
 abbrev pub error_by : ℕ → EventError → RunError
 error_by place x = elim x [ reads.NoMemory ↦ errors.NoMemory | reads.Bad ↦ errors.BadEvent place ]
 
@@ -81,7 +82,7 @@ module _ (moment : ℕ) (event : AgentEvent) (s after : Served) (gained : List S
       TakeGives (served_turn moment event s) gained after held now None
   served_written records makes all = written_turn (served_turn moment event s) gained 0 steps.Went after records held now (served_came records makes) all
 
-  -- a front of their lines is
+  -- a prefix of their lines is written
   pub served_cut : (records : List Record) (failed : Failed) (e : RunError) → Makes (agent_turn moment event s) gained (record { records = records; state = after }) → WroteFront held now (lines records) →
       e ≡ (elim failed [ failures.Fault ↦ errors.WriteFault | failures.NoMemory ↦ errors.NoMemory ]) → TakeGives (served_turn moment event s) gained after held now (Some (Err e))
   served_cut records failed e makes part is = cut_turn (served_turn moment event s) gained 0 steps.Went after records held now failed e (served_came records makes) part is

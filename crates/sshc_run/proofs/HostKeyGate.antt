@@ -52,13 +52,13 @@ none_append : (a b : List Record) → NonePayload a → NonePayload b → NonePa
 none_append [] b p q = q
 none_append (said ∷ a) b p q = (p.0, none_append a b p.1 q)
 
--- the run stops, or goes on in such a state, and the session isn't opened
+-- the run stops, or continues in such a state, and the session isn't opened
 abbrev StaysIn : (OpeningState → Type 0) → OpeningState → Onward → Type 0
 StaysIn Holds s goes_on = Holds s
 StaysIn Holds s opened = ⊥
 StaysIn Holds s (stopped stop) = Unit {0}
 
--- no payload is written, and the run stops or goes on before the first exchange
+-- no payload is written, and the run stops or continues before the first exchange
 abbrev StaysOut : (OpeningState → Type 0) → Asking Turn → Type 0
 StaysOut Holds asking = Always (λ (t : Turn). NonePayload t.records × StaysIn Holds t.state t.next) asking
 
@@ -66,7 +66,7 @@ StaysOut Holds asking = Always (λ (t : Turn). NonePayload t.records × StaysIn 
 
 module _ (hosts : Hosts) (s : OpeningState) (frame : Frame) (frames : List Frame) (first : IsFirst s) (event : Event) (read : event_of frame.kind frame.fields ≡ Ok event)
     (none : is_accepted hosts (frame ∷ frames) ≡ false) where
-  -- before the first exchange, where none of the events behind this one holds one whose host key is accepted first
+  -- before the first exchange, if none of the events after this one holds one whose host key is accepted first
   abbrev Behind : OpeningState → Type 0
   Behind to = IsFirst to × (is_accepted hosts frames ≡ false)
 
@@ -74,7 +74,7 @@ module _ (hosts : Hosts) (s : OpeningState) (frame : Frame) (frames : List Frame
   kind_is : kind_of event ≡ frame.kind
   kind_is = subst (λ (r : Result Event EventError). ReadAs frame.kind r) read (read_as frame.kind frame.fields)
 
-  -- behind an event that is no exchange the same is said
+  -- after an event that isn't an exchange the same verdict is looked up
   said_later : (kind : EventKind) (e : Event) → kind_of e ≡ kind → IsNoExchange e → (said : Option (Result Bool HandlerError)) → said_at kind hosts frame.fields said ≡ said
   said_later kinds.ExchangeDone (events.ExchangeDone x) is never said = absurd never
   said_later kinds.ExchangeDone e is never said = absurd cc
@@ -130,7 +130,7 @@ module _ (hosts : Hosts) (s : OpeningState) (frame : Frame) (frames : List Frame
 
 -- ---- every turn
 
--- before the first exchange, where none of the events holds one whose host key is accepted first
+-- before the first exchange, if none of the events holds one whose host key is accepted first
 abbrev pub IsBefore : Hosts → SessionState → List Frame → Type 0
 IsBefore hosts w frames = IsFirst w.opening × (is_accepted hosts frames ≡ false)
 
@@ -167,7 +167,7 @@ turn_out : (hosts : Hosts) (accepts : Accepts) (w : SessionState) (frame : Frame
 unfolding session_turn
 turn_out hosts accepts w frame frames before = read_out hosts accepts w frame frames (event_of frame.kind frame.fields) refl before
 
--- where the session's events hold no exchange whose host key is accepted first, the session writes no payload
+-- if the session's events hold no exchange whose host key is accepted first, the session writes no payload
 session_gated : (hosts : Hosts) (accepts : Accepts) (frames : List Frame) (w : SessionState) (st : ScriptStop) (answers : List Answer) → IsFirst w.opening → is_accepted hosts frames ≡ false →
     NonePayload (events_run (session_turn hosts accepts) w frames st answers).records
 session_gated hosts accepts frames w st answers first none =
@@ -181,7 +181,7 @@ payload_own : (said : Record) → IsPayload said → is_session_record said ≡ 
 payload_own (Payload packet) is = refl
 payload_own said is = absurd is
 
--- where the events hold no exchange whose host key is accepted first, no payload is written
+-- if the events hold no exchange whose host key is accepted first, no payload is written
 pub gated : (hosts : Hosts) (accepts : Accepts) (frames : List Frame) (s : RunState) (st : ScriptStop) (answers : List Answer) → IsFirst s.one.opening → is_accepted hosts frames ≡ false →
     NonePayload (events_run (run_turn hosts accepts) s frames st answers).records
 gated hosts accepts frames s st answers first none =
@@ -216,7 +216,7 @@ shut_asked Holds (done t) answers later out each = each t answers out.1
 shut_asked Holds (asks asked on) [] later out each = λ it. it
 shut_asked Holds (asks asked on) (answer ∷ answers) later out each = shut_asked Holds (on answer) answers later (out answer) each
 
--- where the events hold no exchange whose host key is accepted first, the opening doesn't open the session
+-- if the events hold no exchange whose host key is accepted first, the opening doesn't open the session
 pub opening_shut : (hosts : Hosts) (frames : List Frame) (o : OpeningState) (answers : List Answer) → IsFirst o → is_accepted hosts frames ≡ false → IsShut (opening (opening_turn hosts) o frames answers).stop
 unfolding opening
 opening_shut hosts [] o answers first none = λ it. it

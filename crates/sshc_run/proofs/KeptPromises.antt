@@ -1,4 +1,4 @@
--- A run that ends by its table keeps each promise: the laws of whole runs, gathered.
+-- A run that ends by its table has each guarantee: the laws of whole runs, gathered.
 use Rattle.std.proofs.Common.{Result, Err, refl, arith}
 use Rattle.sshc_wire.specs.Contents.{no_writes, moved_for}
 use Rattle.sshc_mux.specs.ChannelAccount.{EachLifeHasItsAccount, LegalStays}
@@ -32,7 +32,7 @@ use Rattle.sshc_run.proofs.RunReplies.{replies_in_order}
 use Rattle.sshc_run.proofs.RunSigned.{signed_along}
 use Rattle.sshc_run.proofs.SessionPart.{IsUnopened, agent_stops, kept_in, session_continues, session_part}
 
--- the laws of open sessions and of channels on which a run's promises rest
+-- the laws of open sessions and of channels that a run's guarantees depend on
 pub record SessionLaws : Type 0 where
   pub replies : RepliesAreInOrder
   pub accounted : ChannelsAreAccounted
@@ -74,7 +74,7 @@ module _ (laws : SessionLaws) (asked : RunAsked) (before now : RunOutside) (a : 
     counts = counts;
   }
 
--- where nothing was touched, no count moved
+-- if nothing was touched, no count moved
 still : (before : RunOutside) → CountsMoved before before (Err errors.NoMemory)
 still before = record {
   last_read = omega arith;
@@ -90,7 +90,7 @@ still before = record {
   };
 }
 
--- a run that found no memory before its first event
+-- a run that was out of memory before its first event
 pub none_promised : SessionLaws → (asked : RunAsked) (before : RunOutside) → RunPromises asked before before (Err errors.NoMemory)
 none_promised laws asked before =
     promised laws asked before before (Err errors.NoMemory) (none_ran (run_machine asked.hosts asked.accepts asked.settings) asked.max_events (streams_of before)) (still before)

@@ -1,4 +1,4 @@
--- Facts that the answers cite.
+-- Facts that the proofs of the functions cite.
 pub mod Lines
 pub mod AnsweredQuestions
 pub mod TakenEvents

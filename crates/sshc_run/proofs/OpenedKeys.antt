@@ -27,7 +27,7 @@ use Rattle.sshc_run.specs.Turn.{opening_machine}
 use Rattle.sshc_run.proofs.HostKeyGate.{exchange_own, opening_shut}
 use Rattle.sshc_run.proofs.ProductGate.{said_of_own}
 
--- ---- what an accepting judgement says
+-- ---- what an accepting judgement means
 
 by_judgement : (hosts : Hosts) (key : Key) (r : Result Bool KeyError) → judged hosts.known hosts.host key ≡ r → is_yes (Some (as_handler r)) ≡ true → IsAcceptedBy hosts.known hosts.host key
 by_judgement hosts key (Ok true) is agreed = (accepted_just hosts.known hosts.host key).0 is
@@ -55,7 +55,7 @@ by_kind : (hosts : Hosts) (kind : EventKind) (fields : List ℕ) (said : Option 
 by_kind hosts kinds.ExchangeDone fields said key later agreed = by_read hosts (event_of kinds.ExchangeDone fields) agreed
 by_kind hosts kind fields said key later agreed = later agreed
 
--- where the first exchange is accepted, the text says so of its key
+-- if the first exchange is accepted, the text accepts its key
 pub accepted_key : (hosts : Hosts) (frames : List Frame) → is_accepted hosts frames ≡ true → HasAcceptedKey hosts (first_key frames)
 unfolding said_of_first first_key
 accepted_key hosts [] agreed = absurd cc

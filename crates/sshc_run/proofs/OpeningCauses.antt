@@ -1,4 +1,4 @@
--- Each turn of the opening that stops the run has its cause in the script's own words.
+-- Each turn of the opening that stops the run has its cause, stated by the script.
 use Rattle.std.proofs.Common.{◌≡◌, ℕ, Bool, true, false, Option, Some, None, Result, Ok, Err, IfErr, refl, ap, sym, ◌∙◌, subst}
 use Rattle.sshc_key.specs.declared.error.Error.{Error as KeyError}
 use Rattle.sshc_key.specs.declared.error.Error.TheVariants as key_errors
@@ -89,7 +89,7 @@ module _ (hosts : Hosts) (w : SessionState) (frame : Frame) (event : Event) (rea
   next_shows row (ends_with e) cause = (event, read, cause)
   next_shows row (refuses e) cause = refusal_shows hosts w frame event read false e unopened cause
 
-  -- the rest of a row, where what was told that isn't yes is what the known hosts text says
+  -- the rest of a row, where a verdict that isn't yes is the verdict of the known hosts text
   told_shows : (told : Told) → SaysAlso (WasToldNo told) (SaysNo hosts) s event → TurnShows hosts w frame (asked_on (row_turn frame.place s) (open_row s event told))
   told_shows told also =
       always_on (λ (row : Row). Caused (why (WasToldNo told) s event) row.next) (λ (t : Turn). StopsFor (IsSessionStop hosts w frame) t.next) (row_turn frame.place s) (open_row s event told)
@@ -102,11 +102,11 @@ module _ (hosts : Hosts) (w : SessionState) (frame : Frame) (event : Event) (rea
   none_asked None is = refl
   none_asked (Some key) is = absurd cc
 
-  -- where no host key was asked for, the first exchange has none
+  -- if no host key was asked about, the first exchange has none
   unasked_also : s.closed ≡ false → asked_of s event ≡ wants.Nothing → SaysAlso (WasToldNo telling.NotAsked) (SaysNo hosts) s event
   unasked_also fresh asked = λ x is peer first denied. none_asked (host_key x.key) (sym (first_asks s event x fresh is peer first) ∙ asked)
 
-  -- the host key that was asked for is the exchange's
+  -- the host key that was asked about is the exchange's
   same_key : (key other : PublicKeyOrCertificate) → key_asked (Some other) ≡ wants.HostKey key → other ≡ key
   same_key key other is = cc
 
@@ -148,7 +148,7 @@ pub event_shows : (hosts : Hosts) (w : SessionState) (frame : Frame) (event : Ev
     TurnShows hosts w frame (asked_turn hosts frame.place w.opening event (asked_of w.opening event))
 event_shows hosts w frame event is unopened fresh = asked_shows hosts w frame event is unopened (asked_of w.opening event) fresh refl
 
--- ---- no turn says that the script is at its end
+-- ---- no turn ends with the script's end
 
 abbrev NoEnd : Asking Turn → Type 0
 NoEnd asking = Always IsNoEnd asking

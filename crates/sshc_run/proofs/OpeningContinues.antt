@@ -9,7 +9,7 @@ use Rattle.sshc_run.specs.OpeningRun.{OpeningRun, OpeningStop, opens_before, sto
 use Rattle.sshc_script.specs.Script.{Frame, ScriptStop}
 use Rattle.sshc_run.specs.ScriptRun.{RunOf, Run, events_run, run_on, asked_run, after, stopped_with}
 
--- what asks the signer and is mapped
+-- calls of the signer whose result is mapped
 pub asked_mapped : {A : Type 0} {B : Type 0} {E : Type 0} (wanting : E) (f : A → B) (asking : Asking A) (answers : List Answer) (later : B → List Answer → RunOf E) →
     asked_run wanting (asked_on f asking) answers later ≡ asked_run wanting asking answers (λ x left. later (f x) left)
 asked_mapped wanting f (done x) answers later = refl

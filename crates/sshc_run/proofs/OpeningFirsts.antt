@@ -1,4 +1,4 @@
--- The headline's sentence between the opening and a run that takes events of others in between.
+-- The relation between the opening and a run that takes events of others in between.
 use Rattle.std.proofs.Common.{◌≡◌, ◌⊎◌, inl, inr, ℕ, List, [], ◌∷◌, ◌++◌, Option, Some, None, Result, Ok, Err, refl, ap, sym, ◌∙◌, subst}
 use Rattle.std.proofs.Math.Seq.{drop-length}
 use Rattle.std.proofs.lemmas.List.{append-nil}
@@ -28,7 +28,7 @@ use Rattle.sshc_run.proofs.ScriptExtension.{begins}
 use Rattle.sshc_run.proofs.PartRuns.{parted}
 use Rattle.sshc_run.proofs.Promises.{since_is, prefix_of, same_table, with_answers, done_of}
 
--- ---- two fronts of one list
+-- ---- two prefixes of one list
 
 longer_fronts : {X : Type 0} (x y : X) (a b : List X) → y ≡ x → IsFront a b ⊎ IsFront b a → IsFront (x ∷ a) (y ∷ b) ⊎ IsFront (y ∷ b) (x ∷ a)
 longer_fronts {X = X} x y a b same (inl (rest, is)) = inl (rest, ap (λ (z : X). z ∷ b) same ∙ ap (λ (list : List X). x ∷ list) is)
@@ -133,9 +133,9 @@ module _ {P : Type 0} (m : Machine P) (max : ℕ) where
       subst (λ (calls : List SignCall). (script_run m max (answers_of calls) bytes).calls ≡ calls) (sym (since_is before.calls now.calls gained end.asked))
       (calls_by given bytes gained now.left (sym end.read ∙ said) end.made)
 
--- ---- the answer, as the table over the whole script tells it
+-- ---- the result, as the table's over the whole script
 
--- out of memory, or the table's stop, where no count rises
+-- out of memory, or the table's stop, if no count rises
 abbrev IsTold : List Answer → (List Answer → List ℕ → Run) → List ℕ → Result Ended RunError → Type 0
 IsTold answers table bytes a = (a ≡ Err errors.NoMemory) ⊎ ((table answers bytes).stop ≡ stop_as a)
 
@@ -180,7 +180,7 @@ whole_where_ended own Cause frames r part e none stop (inl is) = is
 whole_where_ended own Cause frames r part e none stop (inr (inl wanting)) = let clash : ended e ≡ unanswered_stop = sym stop ∙ wanting in absurd cc
 whole_where_ended own Cause frames r part e none stop (inr (inr by)) = absurd (none_by_other own Cause frames e none (subst (λ (x : RunStop). StoppedByOther own Cause frames x) stop by))
 
--- ---- the promises
+-- ---- the guarantees
 
 module _ {O : Type 0} {L : Type 0} {P : Type 0} (short : Machine O) (long : Turns L) (as_kept : O → L) (Before : O → Type 0) (continues : Continues short.turn long as_kept Before) (unopened : Before short.first)
     (m : Machine P) (see : P → L) (own : Own) (has : HasPart m.turn long see own) (Cause : Frame → RunStop → Type 0) (stops : StopsOthers m.turn own Cause)
@@ -218,7 +218,7 @@ module _ {O : Type 0} {L : Type 0} {P : Type 0} (short : Machine O) (long : Turn
       in
       calls_begin_by (stop_of max bytes) o o.stop (part_run bytes (own_answers own calls)) (own_calls own calls) (prefixed_so bytes calls) front
 
-  -- the whole run's part, where it ends or stops as the part stops
+  -- the whole run's part, if it ends or stops as the part stops
   whole_says : (r : Run) (bytes : List ℕ) (calls : List SignCall) → r.calls ≡ calls → IsWholePart own r (part_run bytes) → part_run bytes (own_answers own calls) ≡ record { records = own_records own r.records; calls = own_calls own r.calls; stop = r.stop }
   whole_says r bytes calls made is = ap (λ (cs : List SignCall). part_run bytes (own_answers own cs)) (sym made) ∙ is
 

@@ -56,23 +56,23 @@ abbrev pub hosts_gate : Hosts → GateAnswers HandlerError
 hosts_gate hosts = gate_answers Client (Judges hosts) (λ secret names. AddsNothing) (λ text. AddsNothing)
 
 module _ (hosts : Hosts) (place : ℕ) (event : Event) (was is : Lent) (result : Step HandlerError) (none : was.outbox.records ≡ []) (unmuted : was.outbox.muted ≡ false) where
-  -- a gate that was told adds nothing, and goes on
+  -- a gate that is called for an exchange or a banner adds nothing, and continues
   nothing_added : (tells : Result (Unit {0}) HandlerError → List Record → Type 0) → ((answer : Result (Unit {0}) HandlerError) (more : List Record) → tells answer more → AddsNothing answer more) →
       (mid : Outgoing) (answer : Result (Unit {0}) HandlerError) → GateAdds tells was.outbox mid answer → (answer ≡ Ok tt) × (mid.records ≡ []) × (mid.muted ≡ false)
   nothing_added tells only mid answer (more, holds, resolved, records, muted) =
       let nothing = only answer more holds in
       (nothing.0, records ∙ ap (λ (rs : List Record). rs ++ more) none ∙ nothing.1, muted ∙ unmuted)
 
-  -- the row follows what was told
+  -- the row follows the verdict
   told_took : (told : Told) (mid : Outgoing) → mid.records ≡ [] → mid.muted ≡ false → StepsTold (hosts_gate hosts) event (record was { outbox = mid }) is result (Ok told) →
       Took (asked_on (row_turn place was.opening) (open_row was.opening event told)) (gained was is) place result is.opening is.outbox.records
   told_took told mid empty unmuted_mid (answer, same, does) = row_took place (open_row was.opening event told) (span_of (record was { outbox = mid }) is) (gained was is) answer result empty unmuted_mid same does
 
-  -- the signer was asked nothing
+  -- the signer wasn't called
   unasked : is.calls ≡ was.calls → gained was is ≡ []
   unasked same = ap (since was.calls) same ∙ drop-length was.calls
 
-  -- the gate found no memory
+  -- the gate was out of memory
   memory_took : (asking : Asking Turn) (e : HandlerError) (mid : Outgoing) → mid.records ≡ [] → handler_error_of place e ≡ errors.NoMemory → GateRefused e (record was { outbox = mid }) is result →
       Took asking (gained was is) place result is.opening is.outbox.records
   memory_took asking e mid empty memory (same, left, out, calls) =
@@ -89,19 +89,19 @@ module _ (hosts : Hosts) (place : ℕ) (event : Event) (was is : Lent) (result :
   went_took told mid went clear does =
       subst (λ (t : Told). Took (asked_on (row_turn place was.opening) (open_row was.opening event t)) (gained was is) place result is.opening is.outbox.records) went (told_took told mid clear.0 clear.1 does)
 
-  -- a gate that was told of an exchange or a banner
+  -- a gate that was called for an exchange or a banner
   tells_took : (tells : Result (Unit {0}) HandlerError → List Record → Type 0) → ((answer : Result (Unit {0}) HandlerError) (more : List Record) → tells answer more → AddsNothing answer more) →
       (told : Result Told HandlerError) (mid : Outgoing) → Tells tells was.outbox mid told → StepsTold (hosts_gate hosts) event (record was { outbox = mid }) is result told →
       Took (asked_on (row_turn place was.opening) (open_row was.opening event telling.Went)) (gained was is) place result is.opening is.outbox.records
   tells_took tells only (Ok told) mid (went, (u, adds)) does = let clear = nothing_added tells only mid (Ok u) adds in went_took told mid went (clear.1, clear.2) does
   tells_took tells only (Err e) mid adds does = let never : Err e ≡ Ok tt = (nothing_added tells only mid (Err e) adds).0 in absurd cc
 
-  -- of an exchange
+  -- for an exchange
   told_nothing : (o : Option ExchangeResult) (answer : Result (Unit {0}) HandlerError) (more : List Record) → told_of (hosts_gate hosts) o answer more → AddsNothing answer more
   told_nothing (Some x) answer more nothing = nothing
   told_nothing None answer more never = absurd never
 
-  -- where nothing was added
+  -- if nothing was added
   same_out : (mid : Outgoing) → mid ≡ was.outbox → (mid.records ≡ []) × (mid.muted ≡ false)
   same_out mid same = (ap (λ (o : Outgoing). o.records) same ∙ none, ap (λ (o : Outgoing). o.muted) same ∙ unmuted)
 
@@ -111,7 +111,7 @@ module _ (hosts : Hosts) (place : ℕ) (event : Event) (was is : Lent) (result :
       subst (λ (x : Told). Took (asked_on (row_turn place was.opening) (open_row was.opening event x)) (gained was is) place result is.opening is.outbox.records) is_said
       (told_took told mid (same_out mid same).0 (same_out mid same).1 does)
 
-  -- by what the known hosts text says
+  -- by the verdict of the known hosts text
   verdict_took : (said : Result Bool HandlerError) (told : Result Told HandlerError) (mid : Outgoing) → Judged (told_of (hosts_gate hosts) (exchange_in event)) was.outbox mid told said →
       StepsTold (hosts_gate hosts) event (record was { outbox = mid }) is result told → Took (judged_turn place was.opening event said) (gained was is) place result is.opening is.outbox.records
   verdict_took (Ok true) told mid tells does = tells_took (told_of (hosts_gate hosts) (exchange_in event)) (told_nothing (exchange_in event)) told mid tells does

@@ -29,7 +29,7 @@ module _ (own : Own) (Else : RunStop → Type 0) where
   other_behind : (records behind : List Record) → SaysBy own.said false records → own_records own (records ++ behind) ≡ own_records own behind
   other_behind records behind says = filter-append own.said records behind ∙ ap (λ (rs : List Record). rs ++ own_records own behind) (said_other own.said records says)
 
-  -- ---- what stands before a run
+  -- ---- what comes before a run
 
   -- records of its own before both
   own_whole : (records : List Record) (r : Run) (part : List Answer → Run) → SaysBy own.said true records → IsWholePart own r part ⊎ Else r.stop →
@@ -90,7 +90,7 @@ module _ (own : Own) (Else : RunStop → Type 0) where
     whole = inr stops;
   }
 
-  -- ---- what asks the signer
+  -- ---- calls of the signer
 
   own_asked : {T : Type 0} (asking : Asking (TurnOf T)) (answers : List Answer) (whole part : TurnOf T → List Answer → Run) → AsksBy own.asker true asking → Always (λ (t : TurnOf T). SaysBy own.said true t.records) asking →
       ((t : TurnOf T) (left : List Answer) → SaysBy own.said true t.records → PartOf own Else (whole t left) (part t)) →
@@ -140,7 +140,7 @@ run_seen t u opened r is = ap (λ (rs : List Record). after rs [] r) is
 run_seen t u (stopped stop) r is = ap (λ (rs : List Record). stopped_with rs stop) is
 
 module _ {P : Type 0} {A : Type 0} (whole : Turns P) (part : Turns A) (see : P → A) (own : Own) (has : HasPart whole part see own) (st : ScriptStop) where
-  -- the run of the part from what it is seen to be
+  -- the run of the part from its view of the state
   abbrev alone : A → List Frame → List Answer → Run
   alone a frames answers = events_run part a (own_events own frames) st answers
 
@@ -164,7 +164,7 @@ module _ {P : Type 0} {A : Type 0} (whole : Turns P) (part : Turns A) (see : P �
         (λ t replies. run_on t t.next (alone t.state frames replies)) (has.asks_own (see s) frame is) (has.says (see s) frame is)
         (λ t left says. seen_turn t left says (later (has.as_whole s t).state left))))
 
-    -- what holds of a turn of another
+    -- what is true of a turn of another
     abbrev Passes : TurnOf P → Type 0
     Passes t = (SaysBy own.said false t.records × (see t.state ≡ see s)) × StopsFor Else t.next
 
@@ -195,8 +195,8 @@ module _ {P : Type 0} {A : Type 0} (whole : Turns P) (part : Turns A) (see : P �
         (λ t shows. stops_also (Cause frame) (StopsElse own Cause (frame ∷ frames)) t.next (λ stop cause. inr (inl (is, cause))) shows) (stops s frame is))
         later
 
-    -- what a run says and asks of the part's own is what the part's run over its own events and answers says and asks, or the first of
-    -- it where another's event or a call that nothing answers stopped the run
+    -- the records and calls of a run that are the part's own are those of the part's run over its own events and
+    -- answers, or the first of them if another's event or a call without an answer stopped the run
     pub parted : (frames : List Frame) (s : P) (answers : List Answer) → PartOf own (StopsElse own Cause frames) (events_run whole s frames st answers) (alone (see s) frames)
     unfolding events_run
     parted [] s answers = record { first = λ later. (([], refl), ([], refl)); whole = inl refl }

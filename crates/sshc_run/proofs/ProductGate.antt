@@ -1,4 +1,4 @@
--- A run writes no payload where its part's run writes none: the gate of a part is the gate of the whole.
+-- A run writes no payload if its part's run writes none: the gate of a part is the gate of the whole.
 use Rattle.std.proofs.Common.{◌≡◌, ℕ, Bool, true, false, List, [], ◌∷◌, ◌++◌, Option, Result, refl, ap, sym, ◌∙◌, subst, true≢false}
 use Rattle.sshc_wire.specs.Records.{IsPayload}
 use Rattle.sshc_wire.specs.declared.record.Record.{Record}
@@ -16,9 +16,9 @@ use Rattle.sshc_script.specs.Script.{Frame, ScriptStop}
 use Rattle.sshc_run.specs.ScriptRun.{Run, events_run}
 use Rattle.sshc_run.proofs.PartRuns.{own_first, other_first, parted}
 
--- ---- what holds of the part's records holds of the run's
+-- ---- what is true of the part's records is true of the run's
 
--- what holds of no payload of a list holds of a front of it
+-- if a list has no payload, no prefix of it has one
 none_front : (front rest : List Record) → NonePayload (front ++ rest) → NonePayload front
 none_front [] rest none = tt
 none_front (said ∷ front) rest (here, none) = (here, none_front front rest none)
@@ -28,7 +28,7 @@ module _ (own : Own) (payloads : (said : Record) → IsPayload said → own.said
   none_step true said records is later none = let both : NonePayload (said ∷ own_records own records) = rw is at none in (both.0, later both.1)
   none_step false said records is later none = ((λ payload. absurd (true≢false (sym (payloads said payload) ∙ is))), later (rw is at none))
 
-  -- where no record of its own is a payload, none is, since each payload is its own
+  -- if no record of its own is a payload, no record is, since each payload is its own
   pub none_of_own : (records : List Record) → NonePayload (own_records own records) → NonePayload records
   none_of_own [] none = tt
   none_of_own (said ∷ records) none = none_step (own.said said) said records refl (none_of_own records) none
@@ -54,14 +54,14 @@ module _ (own : Own) (hosts : Hosts) (exchanges : (frame : Frame) → frame.kind
       ap (said_of_first hosts) (other_first own frame frames is) ∙ later
       ∙ sym (not_exchange frame.kind hosts frame.fields (said_of_first hosts frames) (λ exchange. true≢false (sym (exchanges frame exchange) ∙ is)))
 
-  -- where each exchange is the part's own, the first is the same
+  -- if each exchange is the part's own, the first is the same
   pub said_of_own : (frames : List Frame) → said_of_first hosts (own_events own frames) ≡ said_of_first hosts frames
   said_of_own [] = refl
   said_of_own (frame ∷ frames) = said_step (own.event frame) frame frames refl (said_of_own frames)
 
   module _ {P : Type 0} {A : Type 0} (whole : Turns P) (part : Turns A) (see : P → A) (has : HasPart whole part see own) (Cause : Frame → RunStop → Type 0) (stops : StopsOthers whole own Cause)
       (payloads : (said : Record) → IsPayload said → own.said said ≡ true) where
-    -- where no exchange among the events is accepted first, and the part's runs then write no payload, no run writes one
+    -- if no exchange among the events is accepted first, and the part's runs then write no payload, no run writes one
     pub gated_whole : (st : ScriptStop) (frames : List Frame) (s : P) (answers : List Answer) →
         (is_accepted hosts (own_events own frames) ≡ false → (replies : List Answer) → NonePayload (events_run part (see s) (own_events own frames) st replies).records) →
         is_accepted hosts frames ≡ false → NonePayload (events_run whole s frames st answers).records

@@ -1,4 +1,5 @@
--- Where neither of two machines side by side refuses, both go through: the run stops as the one's run over its own events.
+-- If neither of two machines side by side refuses, both come to their end: the run stops as the one's run over its own
+-- events.
 use Rattle.std.proofs.Common.{◌≡◌, inl, inr, Bool, true, false, List, [], ◌∷◌, ◌++◌, None, refl, ap, ◌∙◌}
 use Rattle.sshc_key.specs.Signers.{SignCall}
 use Rattle.sshc_key.specs.Asking.{Answer, Makes, Always}
@@ -22,7 +23,7 @@ module _ {A : Type 0} {B : Type 0} (own : Own) (one : Turns A) (other : Turns B)
   abbrev others_run : B → List Frame → List Answer → Run
   others_run s frames answers = events_run other s (own_events (others own) frames) st answers
 
-  -- some answers bring both through, so that the run stops as the one's
+  -- some answers bring both to their end, so that the run stops as the one's
   abbrev pub GoesThrough : Both A B → List Frame → RunStop → Type 0
   GoesThrough s frames stop = (answers : List Answer) × ((both s frames answers).stop ≡ stop)
 
@@ -101,8 +102,8 @@ module _ {A : Type 0} {B : Type 0} (own : Own) (one : Turns A) (other : Turns B)
   by_frame true s frame frames replies bs is later = own_frame s frame frames replies bs is (λ s' replies'. later s' replies' bs)
   by_frame false s frame frames replies bs is later = other_frame s frame frames replies bs is (λ s' others'. later s' replies others')
 
-  -- where the one's run over its events with some answers wants none, and the other's too, and the other never stops a run, some answers
-  -- bring both through, and the run stops as the one's
+  -- if the one's run over its events lacks no answer with some answers, and neither does the other's, and the other
+  -- never stops a run, some answers bring both to their end, and the run stops as the one's
   pub goes_through : (frames : List Frame) (s : Both A B) (replies bs : List Answer) → ((ones s.one frames replies).stop ≡ unanswered_stop → ⊥) → ((others_run s.other frames bs).stop ≡ unanswered_stop → ⊥) → GoesThrough s frames (ones s.one frames replies).stop
   unfolding events_run
   goes_through [] s replies bs answered answered' = ([], refl)

@@ -1,4 +1,4 @@
--- What taking an event gives, of a part's turn and of the turn of the whole: the code of each part is proved alone.
+-- What taking an event does, by a part's turn and by the turn of the whole: the code of each part is proved alone.
 use Rattle.std.proofs.Common.{◌≡◌, inl, inr, ℕ, true, false, List, Option, Some, None, Result, refl, ap, sym, ◌∙◌, subst}
 use Rattle.sshc_wire.specs.Contents.{append, WroteFront}
 use Rattle.sshc_wire.specs.declared.record.Record.{Record}
@@ -29,7 +29,7 @@ module _ {A : Type 0} {B : Type 0} (f : TurnOf A → TurnOf B) (g : A → B) (ke
   takes_as cut asking gained held now answer gives = cut_on asking gained held now gives
   takes_as unread asking gained held now answer gives = stops_on asking gained held now answer gives
 
-  -- what taking an event gives by one turn, it gives by the same turn seen in the whole
+  -- what taking an event does by one turn, it does by the same turn in the state of the whole
   pub takes_on : (asking : Asking (TurnOf A)) (gained : List SignCall) (a : A) (held now : Option (List ℕ)) (answer : Option (Result Ended RunError)) → TakeGives asking gained a held now answer → TakeGives (asked_on f asking) gained (g a) held now answer
   takes_on asking gained a held now None (t, makes, goes, wrote, is) =
       (f t, makes_on f asking gained t makes, ap stop_next (keeps t).1 ∙ goes, wrote ∙ ap (λ (rs : List Record). append held (lines rs)) (sym (keeps t).0), ap g is ∙ sym (keeps t).2)

@@ -98,7 +98,7 @@ module _ {A : Type 0} {B : Type 0} (own : Own) (one : Turns A) (other : Turns B)
 
   -- ---- both as one machine of a run
 
-  -- no turn of both says that the script is at its end
+  -- no turn of both ends with the script's end
   pub both_never : NeverAtEnd one → NeverAtEnd other → NeverAtEnd (both_turn own one other)
   both_never never never' = λ s frame. both_never_by (own.event frame) s frame refl (never s.one frame) (never' s.other frame)
 

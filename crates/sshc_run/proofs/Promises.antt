@@ -1,4 +1,4 @@
--- What a run by its table promises.
+-- The guarantees of a run by its table.
 use Rattle.std.proofs.Common.{◌≡◌, ℕ, List, [], ◌++◌, length, drop, Option, Some, None, Result, Ok, Err, refl, ap, sym, ◌∙◌, subst, inl, inr, arith}
 use Rattle.std.proofs.Math.Path.{fun_ext}
 use Rattle.std.proofs.Math.Seq.{drop-append_seam}
@@ -26,17 +26,17 @@ use Rattle.sshc_run.proofs.RunEqualsFold.{joined}
 use Rattle.sshc_run.proofs.Lines.{wrote_all, wrote_nothing}
 use Rattle.sshc_run.proofs.ScriptExtension.{begins, wrote_longer}
 
--- what was gained since
+-- the calls that were added since
 pub since_is : (old new gained : List SignCall) → new ≡ old ++ gained → since old new ≡ gained
 since_is old new gained is = ap (drop (length old)) is ∙ drop-append_seam old gained
 
--- by a table that says the same of all answers and bytes
+-- by a table that is the same for all answers and bytes
 ends_same : (n place last : ℕ) (table table' : List Answer → List ℕ → Run) (before now : Streams) (a : Result Ended RunError) → ((answers : List Answer) (bytes : List ℕ) → table answers bytes ≡ table' answers bytes) →
     Ends n place last table before now a → Ends n place last table' before now a
 ends_same n place last table table' before now a same ends =
     subst (λ (t : List Answer → List ℕ → Run). Ends n place last t before now a) (fun_ext (λ (answers : List Answer). fun_ext (same answers))) ends
 
--- in each case a front of the lines is written
+-- in each case a prefix of the lines is written
 wrote_some : (ending : Ending) (table : List Answer → List ℕ → Run) (given : List ℕ) (gained : List SignCall) (before now : Streams) (a : Result Ended RunError) → EndsAs ending table given gained before now a →
     WroteFront before.held now.held (lines (table (answers_of gained) given).records)
 wrote_some told table given gained before now a by = wrote_all before.held now.held (lines (table (answers_of gained) given).records) by.all
@@ -51,7 +51,7 @@ module _ {S : Type 0} (m : Machine S) (max : ℕ) where
   pub by_events : (before now : Streams) (a : Result Ended RunError) → Ends max 0 0 (run m.turn max (at_first m.first)) before now a → Ends max 0 0 (script_run m max) before now a
   by_events before now a ends = ends_same max 0 0 (run m.turn max (at_first m.first)) (script_run m max) before now a joined_at ends
 
-  -- where memory ran out before the first event was read
+  -- if memory ran out before the first event was read
   pub none_ran : (before : Streams) → Ends max 0 0 (script_run m max) before before (Err errors.NoMemory)
   none_ran before = (
     [],
@@ -74,7 +74,8 @@ module _ {S : Type 0} (m : Machine S) (max : ℕ) where
       let same : given ++ more ≡ bytes = cc in
       rw (sym same) (wrote_longer held written _ _ (begins m.turn max (at_first m.first) answers later given more).0 wrote)
 
-  -- what was written is a front of the whole script's records, whatever the signer would answer then
+  -- the bytes that were written are a prefix of the whole script's records' lines, whatever the signer would answer
+  -- then
   pub prefix_later : (before now : Streams) (a : Result Ended RunError) → Ends max 0 0 (script_run m max) before now a → (later : List Answer) → IsPrefix (script_run m max (answers_since before.calls now.calls ++ later)) before.left before.held now.held
   prefix_later before now a (given, gained, end) later = λ bytes said.
       let here : WroteFront before.held now.held (lines (script_run m max (answers_of gained) given).records) = wrote_some (ending_of a) (script_run m max) given gained before now a end.by in
@@ -101,7 +102,7 @@ gate_of hosts accepts settings max before now a (given, gained, end) = (
 
 -- ---- over any table
 
--- the table says the same of the whole script as of what was given
+-- the table over the whole script is the one over the bytes that were read
 same_by : (table : List Answer → List ℕ → Run) (given bytes : List ℕ) (gained : List SignCall) (before now : Streams) (left : Option (List ℕ)) (a : Result Ended RunError) → now.left ≡ left → prepend given left ≡ Some bytes → IsExact table given gained before now a →
     table (answers_of gained) bytes ≡ table (answers_of gained) given
 same_by table given bytes gained before now None a is read exact = absurd cc
@@ -113,7 +114,7 @@ pub same_table : (table : List Answer → List ℕ → Run) (given bytes : List 
     table (answers_of gained) bytes ≡ table (answers_of gained) given
 same_table table given bytes gained before now a read said exact = same_by table given bytes gained before now now.left a refl (sym read ∙ said) exact
 
--- the answers that were given are those of the calls
+-- the answers are those of the calls
 pub with_answers : (P : List Answer → Type 0) (before now : Streams) (gained : List SignCall) → now.calls ≡ before.calls ++ gained → P (answers_of gained) → P (answers_since before.calls now.calls)
 with_answers P before now gained asked holds = subst (λ (calls : List SignCall). P (answers_of calls)) (sym (since_is before.calls now.calls gained asked)) holds
 

@@ -1,4 +1,5 @@
--- Along a run the session asks the signer at most once for each request by a key at hand: a call is for the stored request, which is stored no more then.
+-- Along a run the session asks the signer at most once for each request by a key of which the pair is available: a call
+-- is for the stored request, which isn't stored any more after that.
 use Rattle.std.proofs.Common.{◌≡◌, ◌≤◌, ◌+◌, inl, inr, ℕ, Bool, true, false, List, [], ◌∷◌, ◌++◌, length, length-append, Option, Some, None, Result, Ok, Err, refl, ap, sym, ◌∙◌, subst, arith}
 use Rattle.std.proofs.lemmas.List.Elements.{filter-append}
 use Rattle.sshc_key.specs.Signers.{SignCall}
@@ -68,7 +69,7 @@ kept_pair s t event (inr stores) = let is = stores_pair event t stores in omega 
 
 -- ---- a row
 
--- the first of its calls are no more than the stored request
+-- its first calls are no more than the stored request
 first_calls : (k : Kept) (event : Event) (row : Asking Row) (calls : List SignCall) → KeepsAsking k event row → MakesFirst row calls → length calls ≤ stored_pair k.method
 first_calls k event (done to) [] keeps first = omega arith
 first_calls k event (done to) (call ∷ calls) keeps never = absurd never
@@ -83,7 +84,7 @@ first_calls k event (asks asked on) (call ∷ calls) (by, signs, each) (is, firs
     none_behind (done to) (call ∷ calls) keeps never = absurd never
     none_behind (asks asked on) calls never first = absurd never
 
--- where the row goes on, a call takes the place of the request that was stored
+-- if the row continues, a call takes the place of the request that was stored
 abbrev CountedNext : OpeningState → Event → ℕ → Next → Type 0
 CountedNext s event n (stays t) = n + stored_pair t.method ≤ stored_pair s.method + pair_request event
 CountedNext s event n (opens t) = n + stored_pair t.method ≤ stored_pair s.method + pair_request event
@@ -116,19 +117,19 @@ row_calls s event (asks asked on) (call ∷ calls) to (by, signs, each) (is, mak
 
 -- ---- a turn
 
--- what a mapped one asks first is what it asks first
+-- the first calls of a mapped one are its own first calls
 on_first : {A : Type 0} {B : Type 0} (f : A → B) (asking : Asking A) (gained : List SignCall) → MakesFirst (asked_on f asking) gained → MakesFirst asking gained
 on_first f (done x) [] first = tt
 on_first f (done x) (call ∷ gained) never = absurd never
 on_first f (asks asked on) [] first = tt
 on_first f (asks asked on) (call ∷ gained) (is, first) = (is, on_first f (on call.answer) gained first)
 
--- a turn's calls are no more than the request that was stored, and where the run goes on they take its place
+-- a turn's calls are no more than the request that was stored, and if the run continues they take its place
 record Counted (was : Option Method) (asked n : ℕ) (goes : Type 0) (is : Option Method) : Type 0 where
   few : n ≤ stored_pair was
   on : goes → n + stored_pair is ≤ stored_pair was + asked
 
--- the same of whatever a turn asks first
+-- the same of a turn's first calls
 abbrev FirstFew : {A : Type 0} → Option Method → Asking A → Type 0
 FirstFew was asking = (gained : List SignCall) → MakesFirst asking gained → length gained ≤ stored_pair was
 
@@ -244,7 +245,7 @@ own_few (call ∷ calls) = omega (arith, own_two (call ∷ []) calls, own_call (
 other_call : (call : SignCall) → is_session_asker call.by ≡ false → own (call ∷ []) ≡ 0
 other_call call is = rw is refl
 
--- of what another asks none is the session's
+-- of another's calls none is the session's
 none_own : {A : Type 0} (asking : Asking A) (gained : List SignCall) → AsksBy is_session_asker false asking → MakesFirst asking gained → own gained ≡ 0
 none_own (done x) [] by first = refl
 none_own (done x) (call ∷ gained) by never = absurd never
@@ -255,7 +256,7 @@ none_own (asks asked on) (call ∷ gained) (here, each) (is, first) =
 
 -- ---- the run
 
--- the calls of a run behind what asks the signer
+-- the calls of a run after calls of the signer
 calls_at_most : {A : Type 0} (before most : ℕ) (asking : Asking A) (answers : List Answer) (later : A → List Answer → Run) → ((gained : List SignCall) → MakesFirst asking gained → before + own gained ≤ most) →
     ((gained : List SignCall) (x : A) (left : List Answer) → Makes asking gained x → before + own gained + own (later x left).calls ≤ most) → before + own (asked_run unanswered_stop asking answers later).calls ≤ most
 calls_at_most before most (done x) answers later first each = let few = each [] x answers refl in omega (arith, few)
@@ -331,7 +332,7 @@ module _ (hosts : Hosts) (accepts : Accepts) (st : ScriptStop) where
   at_most [] s answers = omega arith
   at_most (frame ∷ frames) s answers = by_owner (session_own.event frame) s frame frames answers refl (λ s' left. at_most frames s' left)
 
--- a run asks the signer as the session at most once for each request by a key at hand
+-- a run asks the signer as the session at most once for each request by a key of which the pair is available
 pub calls_counted : (hosts : Hosts) (accepts : Accepts) (settings : RunSettings) (max : ℕ) (answers : List Answer) (script : Option (List ℕ)) →
     CallsAreCounted max (script_run (run_machine hosts accepts settings) max answers) script
 calls_counted hosts accepts settings max answers script = λ bytes is.

@@ -25,7 +25,7 @@ answered (Ok e) is = cc
 answered (Err e) is = cc
 
 module _ (hosts : Hosts) (accepts : Accepts) (settings : RunSettings) (max : ℕ) where
-  -- a stop of the table that is an answer has its cause
+  -- a stop of the table that is a result has its cause
   abbrev Caused : List Answer → List ℕ → RunStop → Type 0
   Caused answers bytes stop = CausedBy (run_turn hosts accepts) (run_machine hosts accepts settings).first (IsStopCause hosts) (taken max bytes) (stop_of max bytes) answers stop
 
@@ -41,7 +41,7 @@ module _ (hosts : Hosts) (accepts : Accepts) (settings : RunSettings) (max : ℕ
       (stop_caused (answers_of gained) bytes (script_run (run_machine hosts accepts settings) max (answers_of gained) bytes).stop a (ap (λ (r : Run). r.stop) same ∙ exact.stop)
       (stops_caused (run_turn hosts accepts) (IsStopCause hosts) HasUnclosed (λ s frame un. run_shows hosts accepts s frame un) (taken max bytes) (run_machine hosts accepts settings).first (stop_of max bytes) (answers_of gained) (λ un. refl)))
 
-  -- each answer has its cause
+  -- each result has its cause
   pub caused_of : (before now : Streams) (a : Result Ended RunError) → Ends max 0 0 (script_run (run_machine hosts accepts settings) max) before now a → IsCaused hosts accepts settings max (answers_since before.calls now.calls) before.left a
   caused_of before now (Ok e) (given, gained, end) = λ bytes said. caused_exact bytes before now given gained (Ok e) end.read end.asked said end.by
   caused_of before now (Err errors.NoMemory) ends = λ bytes said. tt

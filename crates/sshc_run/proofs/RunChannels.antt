@@ -29,7 +29,7 @@ use Rattle.sshc_run.specs.SessionPart.{session_own}
 use Rattle.sshc_run.specs.SessionTurn.{SessionTurn, in_session, said_by, step_turn, read_turn, session_turn}
 use Rattle.sshc_run.specs.Turn.{asked_turn}
 
--- ---- lists of calls one behind the other
+-- ---- lists of calls in sequence
 
 ran_table : (a b : List Call) (t : TableState) → (ran (a ++ b) t).table ≡ (ran b (ran a t).table).table
 ran_table [] b t = refl
@@ -50,7 +50,7 @@ packets_two (r ∷ a) b = ap (λ (ps : List (List ℕ)). channel_packet r ++ ps)
 
 -- ---- from one state to another
 
--- the calls lead from the one table to the other, and the packets among these records are theirs
+-- the calls make the one table the other, and the packets among these records are theirs
 record Leads (s t : SessionState) (calls : List Call) (said : List Record) : Type 0 where
   pub table : t.table ≡ (ran calls s.table).table
   pub packets : channel_packets said ≡ said_packets (ran calls s.table).said
@@ -69,7 +69,7 @@ leads_two s t u a b x y one other =
     }
 
 module _ (law : ChannelsAreAccounted) (hosts : Hosts) (accepts : Accepts) where
-  -- a turn from which the run goes on
+  -- a turn from which the run continues
   abbrev GoesSo : SessionState → Bool → List Call → SessionTurn → Type 0
   GoesSo s opened calls t = stop_next t.next ≡ None → Leads s t.state calls (said_open opened t.records)
 

@@ -1,5 +1,5 @@
--- The recursion over bytes is the fold of the turns over the script's events, and then what stands behind them; and the opening run
--- is the first part of it.
+-- The recursion over bytes is the fold of the turns over the script's events, and then what follows them; and the
+-- opening run is the first part of it.
 use Rattle.std.proofs.Common.{◌≡◌, ℕ, zero, suc, List, [], ◌∷◌, ◌++◌, refl, ap, sym, ◌∙◌, append_assoc}
 use Rattle.sshc_wire.specs.declared.record.Record.{Record}
 use Rattle.sshc_key.specs.Signers.{SignCall}

@@ -1,4 +1,5 @@
--- Over a whole run the agent's records are the reports of one history: each event of an agent is a piece of it, and each of the session leaves it.
+-- Over a whole run the agent's records are the reports of one history: each event of an agent is a piece of it, and
+-- each of the session doesn't change it.
 use Rattle.std.proofs.Common.{◌≡◌, ℕ, Bool, true, false, not, List, [], ◌∷◌, ◌++◌, Option, Result, Ok, Err, refl, ap, sym, ◌∙◌, subst, append_assoc}
 use Rattle.std.proofs.lemmas.List.{append-nil}
 use Rattle.std.proofs.lemmas.List.Elements.{filter-append}
@@ -40,7 +41,7 @@ use Rattle.sshc_run.proofs.PartRuns.{own_first, other_first}
 use Rattle.sshc_run.proofs.Products.{one_takes, other_takes}
 use Rattle.sshc_run.proofs.SessionPart.{session_apart, session_says}
 
--- ---- what asks the signer, by its records
+-- ---- calls of the signer, by their records
 
 by_records : {A : Type 0} (P : List Record → Type 0) (asking : Asking A) (answers : List Answer) (later : A → List Answer → Run) → P [] →
     ((gained : List SignCall) (x : A) (left : List Answer) → Makes asking gained x → P (later x left).records) → P (asked_run unanswered_stop asking answers later).records
@@ -49,7 +50,7 @@ by_records P (asks asked on) [] later none each = none
 by_records P (asks asked on) (answer ∷ answers) later none each =
     by_records P (on answer) answers later none (λ gained x left makes. each (call_of asked answer ∷ gained) x left (refl, makes))
 
--- ---- histories one behind the other
+-- ---- histories in sequence
 
 leads_two : (a b c : AgentList) (x y : List Entry) → Leads a x b → Leads b y c → Leads a (x ++ y) c
 leads_two a b c [] y one other = subst (λ (l : AgentList). Leads l y c) (sym one) other
@@ -86,7 +87,7 @@ agents_in records = own_records (others session_own) records
 agents_two : (a b : List Record) → agents_in (a ++ b) ≡ agents_in a ++ agents_in b
 agents_two a b = filter-append (λ (said : Record). not (is_session_record said)) a b
 
--- the session's records are none of them
+-- none of the session's records is one of them
 none_in : (records : List Record) → SaysBy is_session_record true records → agents_in records ≡ []
 none_in [] says = refl
 none_in (said ∷ records) (here, says) = rw here (none_in records says)
@@ -101,7 +102,7 @@ output_in conn (outputs.Closed causes.Unreadable) = refl
 output_in conn (outputs.Closed causes.SignerRefused) = refl
 output_in conn (outputs.Closed causes.NoMemory) = refl
 
--- what entries report is all of it
+-- the entries' reports are all of the agent's
 reported_in : (entries : List Entry) → agents_in (reported entries) ≡ reported entries
 reported_in [] = refl
 reported_in (e ∷ entries) =
@@ -109,9 +110,9 @@ reported_in (e ∷ entries) =
     ∙ ap (λ (rs : List Record). rs ++ agents_in (reported entries)) (output_in e.conn e.output)
     ∙ ap (λ (rs : List Record). records_of e.conn e.output ++ rs) (reported_in entries)
 
--- ---- a run behind earlier entries
+-- ---- a run after earlier entries
 
--- these records go on with the history of an agent by what these events ask
+-- these records continue the history of an agent by the inputs of these events
 record GoesOn (earlier : List Entry) (a : Served) (frames : List Frame) (records : List Record) : Type 0 where
   pub entries : List Entry
   pub last : AgentList
@@ -120,7 +121,7 @@ record GoesOn (earlier : List Entry) (a : Served) (frames : List Frame) (records
   pub inputs : IsFront (asked_in entries) (asked_along a.bytes (own_events (others session_own) frames))
   pub reports : agents_in records ≡ reported entries
 
--- nothing more is said
+-- no more records follow
 ends_here : (earlier : List Entry) (a : Served) (frames : List Frame) (records : List Record) → agents_in records ≡ [] → GoesOn earlier a frames records
 ends_here earlier a frames records none = record {
   entries = [];
@@ -142,7 +143,7 @@ behind_session earlier a frames said records none on = record {
   reports = agents_two said records ∙ ap (λ (rs : List Record). rs ++ agents_in records) none ∙ on.reports;
 }
 
--- the events that are seen are as many
+-- the events seen are the same
 same_frames : (earlier : List Entry) (a : Served) (frames frames' : List Frame) (records : List Record) → own_events (others session_own) frames ≡ own_events (others session_own) frames' → GoesOn earlier a frames records → GoesOn earlier a frames' records
 same_frames earlier a frames frames' records same on = record {
   entries = on.entries;
@@ -157,14 +158,14 @@ front_behind : (x y z : List Asked) → IsFront y z → IsFront (x ++ y) (x ++ z
 front_behind x y z (rest, is) = (rest, ap (λ (more : List Asked). x ++ more) is ∙ sym (append_assoc x y rest))
 
 module _ (frame : Frame) (frames : List Frame) (a : Served) (event : AgentEvent) (mine : session_own.event frame ≡ false) (read : agent_event_of frame.kind frame.fields ≡ Ok event) where
-  -- what is asked is what the event asks, and then what those behind it ask
+  -- the inputs are those of the event, and then those of the events after it
   asked_first : asked_along a.bytes (own_events (others session_own) (frame ∷ frames)) ≡ asked_at frame.moment (conn_of event) (event_inputs event a.bytes) ++ asked_along (event_bytes event a.bytes) (own_events (others session_own) frames)
   unfolding asked_along
   asked_first =
       ap (asked_along a.bytes) (own_first (others session_own) frame frames (ap not mine))
       ∙ ap (λ (r : Result AgentEvent EventError). asked_by_event a.bytes frame.moment r (λ more. asked_along more (own_events (others session_own) frames))) read
 
-  -- a piece of the history, and then the run behind it
+  -- a piece of the history, and then the run after it
   behind_piece : (earlier : List Entry) (t : AgentTurn) (records : List Record) → t.state.bytes ≡ event_bytes event a.bytes →
       (piece : IsPiece frame.moment (conn_of event) (event_inputs event a.bytes) earlier a.list t.records t.state.list) → GoesOn (earlier ++ piece.entries) t.state frames records → GoesOn earlier a (frame ∷ frames) (t.records ++ records)
   behind_piece earlier t records bytes piece on = record {
@@ -180,7 +181,7 @@ module _ (frame : Frame) (frames : List Frame) (a : Served) (event : AgentEvent)
         ∙ ap (λ (rs : List Record). reported piece.entries ++ rs) on.reports ∙ sym (reported_two piece.entries on.entries);
   }
 
--- what the bytes are behind an event
+-- the bytes after an event
 turn_bytes : (now : ℕ) (event : AgentEvent) (s : Served) (gained : List SignCall) (t : AgentTurn) → Makes (agent_turn now event s) gained t → t.state.bytes ≡ event_bytes event s.bytes
 unfolding agent_turn
 turn_bytes now event s gained t makes =
@@ -194,7 +195,7 @@ module _ (hosts : Hosts) (accepts : Accepts) (st : ScriptStop) where
   records_from s frames answers = (events_run (run_turn hosts accepts) s frames st answers).records
 
   module _ (frame : Frame) (frames : List Frame) (s : RunState) (earlier : List Entry) where
-    -- the run goes on behind this event whatever it left
+    -- the run continues after this event, whatever state it ended in
     abbrev Later : Type 0
     Later = (entries : List Entry) (s' : RunState) (left : List Answer) → GoesOn entries s'.other frames (records_from s' frames left)
 

@@ -9,7 +9,7 @@ use Rattle.sshc_run.specs.Machine.{RunStop, unanswered_stop, Onward, goes_on, op
 use Rattle.sshc_script.specs.Script.{Frame, ScriptStop}
 use Rattle.sshc_run.specs.ScriptRun.{Run, events_run, run_on, asked_run, after, answers_of}
 
--- ---- what records hold
+-- ---- what is true of records
 
 module _ {S : Type 0} (turn : Turns S) (Holds : S → List Frame → Type 0) (Fits : List Record → Type 0) where
   turn_records : Fits [] → ((a b : List Record) → Fits a → Fits b → Fits (a ++ b)) → (t : TurnOf S) (next : Onward) (frames : List Frame) (r : Run) → Fits t.records → GoesOnIn (λ (x : S). Holds x frames) t.state next →
@@ -25,7 +25,7 @@ module _ {S : Type 0} (turn : Turns S) (Holds : S → List Frame → Type 0) (Fi
   asked_records none frames (asks asked on) [] later always each = none
   asked_records none frames (asks asked on) (answer ∷ answers) later always each = asked_records none frames (on answer) answers later (always answer) each
 
-  -- where each turn's records fit, and what holds goes on to hold, all records of a run fit
+  -- if each turn's records fit, and what is true stays true, all records of a run fit
   pub records_hold : Fits [] → ((a b : List Record) → Fits a → Fits b → Fits (a ++ b)) →
       ((s : S) (frame : Frame) (frames : List Frame) → Holds s (frame ∷ frames) → Always (λ (t : TurnOf S). Fits t.records × GoesOnIn (λ (x : S). Holds x frames) t.state t.next) (turn s frame)) →
       (frames : List Frame) (s : S) (st : ScriptStop) (answers : List Answer) → Holds s frames → Fits (events_run turn s frames st answers).records
@@ -37,7 +37,7 @@ module _ {S : Type 0} (turn : Turns S) (Holds : S → List Frame → Type 0) (Fi
 
 -- ---- why a run stops
 
--- no answer was left, or it came to something by these calls
+-- no answer was left, or it had a result by these calls
 abbrev pub CameTo : {A : Type 0} → Asking A → RunStop → List Answer → (A → List Answer → Run) → Run → Type 0
 CameTo {A = A} asking wanting answers later r =
     (r.stop ≡ wanting) ⊎ ((gained : List SignCall) × (x : A) × (left : List Answer) × Makes asking gained x × (answers ≡ answers_of gained ++ left) × (r.stop ≡ (later x left).stop))
@@ -53,7 +53,7 @@ came_to (asks asked on) wanting [] later = inl refl
 came_to (asks asked on) wanting (answer ∷ answers) later = came_more asked on answer wanting answers later (asked_run wanting (on answer) answers later) (came_to (on answer) wanting answers later)
 
 module _ {S : Type 0} (turn : Turns S) (Cause : S → Frame → RunStop → Type 0) (Holds : S → Type 0) where
-  -- a turn that stops has its cause, and what holds goes on to hold
+  -- a turn that stops has its cause, and what is true stays true
   abbrev pub Shows : S → Frame → Type 0
   Shows s frame = Always (λ (t : TurnOf S). StopsFor (Cause s frame) t.next × GoesOnIn Holds t.state t.next) (turn s frame)
 
@@ -62,7 +62,7 @@ module _ {S : Type 0} (turn : Turns S) (Cause : S → Frame → RunStop → Type
   Told s frames st answers stop = (stop ≡ unanswered_stop) ⊎ CausedBy turn s Cause frames st answers stop
 
   module _ (s : S) (frame : Frame) (frames : List Frame) (st : ScriptStop) (answers : List Answer) where
-    -- a cause behind a turn
+    -- a cause after a turn
     cause_behind : (stop : RunStop) (t : TurnOf S) (gained : List SignCall) (left : List Answer) → Makes (turn s frame) gained t → answers ≡ answers_of gained ++ left → stop_next t.next ≡ None → Told t.state frames st left stop →
         Told s (frame ∷ frames) st answers stop
     cause_behind stop t gained left makes same on (inl none) = inl none
@@ -83,8 +83,8 @@ module _ {S : Type 0} (turn : Turns S) (Cause : S → Frame → RunStop → Type
         subst (λ (stop : RunStop). Told s (frame ∷ frames) st answers stop) (sym is)
         (turn_cause t gained left t.next (events_run turn t.state frames st left) makes same refl so.0 so.1 (later t left))
 
-  -- where each turn that stops has its cause, as long as what holds at first does, each run has: it comes to a state and an event of which
-  -- the cause holds
+  -- if each turn that stops has its cause, as long as what is true at first is true, each run has: it comes to a state
+  -- and an event that the cause is true of
   pub stops_caused : ((s : S) (frame : Frame) → Holds s → Shows s frame) →
       (frames : List Frame) (s : S) (st : ScriptStop) (answers : List Answer) → Holds s → (((events_run turn s frames st answers).stop ≡ unanswered_stop) ⊎ CausedBy turn s Cause frames st answers (events_run turn s frames st answers).stop)
   unfolding events_run

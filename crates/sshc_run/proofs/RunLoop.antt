@@ -1,4 +1,4 @@
--- A run that has come so far goes on, or ends. Nothing here looks into the table.
+-- A run after some of its events continues, or ends. Nothing here looks into the table.
 use Rattle.std.proofs.Common.{◌≡◌, ◌⊎◌, inl, inr, refl, ℕ, suc, ◌+◌, ◌-◌, ◌<◌, ◌≤◌, List, [], ◌∷◌, ◌++◌, length, Option, Result, ap, sym, ◌∙◌, subst, append_assoc, length-append, arith}
 use Rattle.std.proofs.lemmas.List.{append-nil}
 use Rattle.std.proofs.lemmas.List.Concat.{flat_map-append}
@@ -18,9 +18,9 @@ use Rattle.sshc_run.specs.ScriptRun.{Run, Spot, Table, after, answers_of}
 use Rattle.sshc_run.specs.TurnContracts.{BringsOn}
 use Rattle.sshc_run.proofs.AnsweredQuestions.{answers_two}
 
--- ---- fronts of two lists in a row
+-- ---- prefixes of two lists in sequence
 
--- a shorter front of two lists is a shorter front of the first, or all of it and a shorter front of the second
+-- a shorter prefix of two lists is a shorter prefix of the first, or all of it and a shorter prefix of the second
 abbrev FrontOfTwo : List ℕ → List ℕ → List ℕ → ℕ → List ℕ → Type 0
 FrontOfTwo a b front c more = ((d : ℕ) × (rest : List ℕ) × (a ≡ front ++ d ∷ rest)) ⊎ ((part : List ℕ) × (front ≡ a ++ part) × (b ≡ part ++ c ∷ more))
 
@@ -88,7 +88,7 @@ module _ {S : Type 0} (table : Table S) (first : Spot S) (max : ℕ) where
   )
 
   module _ (turns : ℕ) (at : Spot S) (before now : Streams) where
-    -- on a shorter front of what came before and of one part more the run goes to its end
+    -- on a shorter prefix of the bytes from before and of one part more the run comes to its end
     cut_more : (given : List ℕ) (gained : List SignCall) (records : List Record) (given' : List ℕ) (n : ℕ) → max - turns ≡ n → (later : List Answer) (front : List ℕ) (c : ℕ) (more : List ℕ) →
         Along table first max turns at before now given gained records → ((part : List ℕ) (b : ℕ) (rest : List ℕ) → given' ≡ part ++ b ∷ rest → IsCut (table n at later part).stop) →
         FrontOfTwo given given' front c more → IsCut (table max first (answers_of gained ++ later) front).stop
@@ -99,7 +99,7 @@ module _ {S : Type 0} (table : Table S) (first : Spot S) (max : ℕ) where
         in
         subst (λ (x : RunStop). IsCut x) (sym here) (just part c more behind)
 
-    -- and says no more than was written, as of one part more nothing is said on a shorter front
+    -- and has no more records than were written, as for one part more there are no records on a shorter prefix
     early_more : (given : List ℕ) (gained : List SignCall) (records : List Record) (given' : List ℕ) (records' : List Record) (n : ℕ) → max - turns ≡ n → (later : List Answer) (front : List ℕ) (c : ℕ) (more : List ℕ) →
         Along table first max turns at before now given gained records → ((part : List ℕ) (b : ℕ) (rest : List ℕ) → given' ≡ part ++ b ∷ rest → (table n at later part).records ≡ []) →
         FrontOfTwo given given' front c more → IsFront (table max first (answers_of gained ++ later) front).records (records ++ records')
@@ -199,13 +199,13 @@ module _ {S : Type 0} (table : Table S) (first : Spot S) (max : ℕ) where
     ends_as cut now' given gained records given' gained' a so_far by = cut_end now' given gained records given' gained' so_far by
     ends_as unread now' given gained records given' gained' a so_far by = unread_end now' given gained records given' gained' so_far by
 
-    -- behind what was written before, more was
+    -- after what was written before, more was
     held_more : (ending : Ending) (now' : Streams) (given' : List ℕ) (gained' : List SignCall) (a : Result Ended RunError) → EndsAs ending (table (max - turns) at) given' gained' now now' a → (part : List ℕ) × (now'.held ≡ append now.held part)
     held_more told now' given' gained' a by = (lines (table (max - turns) at (answers_of gained') given').records, by.all)
     held_more cut now' given' gained' a (part, others, due, wrote) = (part, wrote)
     held_more unread now' given' gained' a by = (lines (table (max - turns) at (answers_of gained') given').records, by)
 
-    -- all records are written on a shorter front of what came before and of what ends it
+    -- all records are written on a shorter prefix of what came before and of what ends it
     early_end : (now' : Streams) (given : List ℕ) (gained : List SignCall) (records : List Record) (given' : List ℕ) (gained' : List SignCall) (later : List Answer) (front : List ℕ) (c : ℕ) (more : List ℕ) →
         Along table first max turns at before now given gained records → HasEarlier (table (max - turns) at) given' gained' now.held now'.held → ((part : List ℕ) × (now'.held ≡ append now.held part)) →
         FrontOfTwo given given' front c more → HasWritten before.held now'.held (lines (table max first (answers_of gained ++ (answers_of gained' ++ later)) front).records)
@@ -227,7 +227,7 @@ module _ {S : Type 0} (table : Table S) (first : Spot S) (max : ℕ) where
               ∙ ap (append before.held) (sym (append_assoc (lines records) (lines r) own.0) ∙ ap (λ (t : List ℕ). t ++ own.0) (sym (flat_map-append line records r) ∙ ap lines (sym here))),
         )
 
-    -- a turn's bytes hold at most the events that were left
+    -- a turn's bytes hold at most as many events as remained
     holds_more : (given : List ℕ) (gained : List SignCall) (records : List Record) (given' : List ℕ) → turns ≤ max → Along table first max turns at before now given gained records →
         HoldsAtMost (max - turns) at.place at.last given' → HoldsAtMost max first.place first.last (given ++ given')
     holds_more given gained records given' le so_far few =
@@ -255,7 +255,7 @@ module _ {S : Type 0} (table : Table S) (first : Spot S) (max : ℕ) where
       },
     )
 
-    -- the same where a turn was left
+    -- the same if a turn remained
     pub turn_ends : (now' : Streams) (a : Result Ended RunError) → turns < max → IsAlong table first max turns at before now → ((n : ℕ) → Ends (suc n) at.place at.last (table (suc n) at) now now' a) →
         Ends max first.place first.last (table max first) before now' a
     turn_ends now' a lt so_far ends =

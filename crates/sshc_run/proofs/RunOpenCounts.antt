@@ -1,5 +1,5 @@
--- Over a whole run no more opens are answered than were asked for. What is counted along the way is the answers and the opens that still
--- wait, below a number that is above all those that are answered.
+-- Over a whole run no more opens are answered than were asked for. The count along the way is that of the answers and
+-- of the opens that still wait, below a number that is above all those that are answered.
 use Rattle.std.proofs.Common.{◌≡◌, ◌⊎◌, inl, inr, ℕ, zero, suc, ◌+◌, ◌<◌, ◌≤◌, Bool, true, false, if◌then◌else◌, ◌==◌, List, [], ◌∷◌, ◌++◌, length, drop, Option, Some, None, Result, Ok, Err, is_some, refl, ap, sym, subst, arith}
 use Rattle.std.specs.List.{AllByRecursion}
 use Rattle.std.proofs.lemmas.Bool.{eqb-true}
@@ -53,12 +53,12 @@ sum_zero : (m : ℕ) → sum (λ n. 0) m ≡ 0
 sum_zero zero = refl
 sum_zero (suc n) = let rest = sum_zero n in omega (arith, rest)
 
--- one where a test holds
+-- 1 if a test succeeds
 abbrev bit : Bool → ℕ
 bit true = 1
 bit false = 0
 
--- one at a number
+-- 1 at one number
 abbrev one_at : ℕ → ℕ → ℕ
 one_at id n = bit (id == n)
 
@@ -157,7 +157,7 @@ some_waits : (t : TableState) (n : ℕ) (ticket : Option Ticket) → awaited n t
 some_waits t n ticket some = ap (λ (o : Option (Option Ticket)). bit (is_some o)) some
 
 module _ (opens : OpensAreAnsweredOnce) (stays : LegalStays) where
-  -- under each number: where an open waits behind a move it did so before, or the move opens it
+  -- under each number: an open that waits after a move did so before, or the move opens it
   keeps_by : (m : Move) (s : SessionState) → IsLegal s.table → (n : ℕ) (o : Option (Option Ticket)) (b : Bool) → awaited n s.table ≡ o → call_opens n (deed_of m s).call s.table ≡ b →
       waits (after m s).table n ≤ waits s.table n + bit b
   keeps_by m s legal n (Some ticket) b is opening =
@@ -170,7 +170,7 @@ module _ (opens : OpensAreAnsweredOnce) (stays : LegalStays) where
   keeps_at : (m : Move) (s : SessionState) → IsLegal s.table → (n : ℕ) → waits (after m s).table n ≤ waits s.table n + opens_at (deed_of m s).call s.table n
   keeps_at m s legal n = keeps_by m s legal n (awaited n s.table) (call_opens n (deed_of m s).call s.table) refl refl
 
-  -- the same where one is answered
+  -- the same if one is answered
   answers_by : (m : Move) (s : SessionState) → IsLegal s.table → (one : AnswersOne s (after m s) (deed_of m s).says) (n : ℕ) (b : Bool) → (one.id == n) ≡ b →
       waits (after m s).table n + bit b ≤ waits s.table n + opens_at (deed_of m s).call s.table n
   answers_by m s legal one n true is =
@@ -180,8 +180,8 @@ module _ (opens : OpensAreAnsweredOnce) (stays : LegalStays) where
       omega (arith, before, behind)
   answers_by m s legal one n false is = let kept = keeps_at m s legal n in omega (arith, kept)
 
-  -- the answers of a move, and the opens that wait behind it, are no more than those that waited before and those that it opens; below each
-  -- number above the one that it answers
+  -- the answers of a move, and the opens that wait after it, are no more than those that waited before and those that
+  -- it opens; below each number above the one that it answers
   record Counts (most : ℕ) (answered asked : ℕ) (old new : TableState) : Type 0 where
     pub below : (m : ℕ) → most ≤ m → answered + waiting m new ≤ waiting m old + asked
 
@@ -222,7 +222,7 @@ module _ (opens : OpensAreAnsweredOnce) (stays : LegalStays) where
   unfolding after
   after_legal m s legal = called_legal (deed_of m s).call s.table legal
 
-  -- what a move adds to the records, the packets of its call are none
+  -- of what a move adds to the records, the packets of its call are no answers
   after_answered : (m : Move) (s : SessionState) → opens_answered (after m s).records ≡ opens_answered s.records + opens_answered (deed_of m s).says
   unfolding after
   after_answered m s =
@@ -277,7 +277,7 @@ module _ (opens : OpensAreAnsweredOnce) (stays : LegalStays) where
   }
 
   module _ (hosts : Hosts) (accepts : Accepts) where
-    -- a turn from which the run goes on
+    -- a turn from which the run continues
     abbrev GoesSo : SessionState → Bool → List Call → SessionTurn → Type 0
     GoesSo s opened calls t = stop_next t.next ≡ None → Counted s t.state calls (said_open opened t.records)
 

@@ -1,4 +1,5 @@
--- Over a whole run opens are answered once: the law of each move, at the states that the run comes to, whose channels are legal.
+-- Over a whole run opens are answered once: the law of each move, at the states that the run comes to, whose channels
+-- are legal.
 use Rattle.std.proofs.Common.{ℕ, List, [], ◌∷◌, Option, sym, subst}
 use Rattle.sshc_key.specs.Asking.{Answer}
 use Rattle.sshc_mux.specs.ChannelState.{TableState}

@@ -1,5 +1,5 @@
--- Over a whole run a password is written at most as often as the session's events asked for it: each event of the session writes it as the
--- opening's row does, an open session writes no request, and an agent writes no packet.
+-- Over a whole run a password is written at most as often as the session's events asked for it: each event of the
+-- session writes it as the opening's row does, an open session writes no request, and an agent writes no packet.
 use Rattle.std.proofs.Common.{◌≡◌, ◌≤◌, ◌+◌, ℕ, Bool, true, false, List, [], ◌∷◌, Option, Result, Ok, Err, refl, ap, sym, subst, arith}
 use Rattle.std.specs.List.{AllByRecursion}
 use Rattle.sshc_wire.specs.Wire.{IsShort}
@@ -50,7 +50,7 @@ use Rattle.sshc_run.proofs.Products.{one_takes, other_takes}
 use Rattle.sshc_run.proofs.SessionPart.{session_apart}
 use Rattle.sshc_run.proofs.ShortUsers.{HasShortFields, events_short, user_of}
 
--- ---- what is said
+-- ---- records
 
 -- an agent's records are no packets
 none_of_agents : (packet : List ℕ) (said : List Record) → SaysBy is_session_record false said → times_written packet said ≡ 0
@@ -58,7 +58,7 @@ none_of_agents packet [] says = refl
 none_of_agents packet (records.Agent conn answer ∷ said) says = none_of_agents packet said says.1
 none_of_agents packet (one ∷ said) says = absurd cc
 
--- a run's records behind what asks the signer, whatever it comes to
+-- a run's records after calls of the signer, whatever their result
 at_most_by : {A : Type 0} (packet : List ℕ) (most : ℕ) (P : A → Type 0) (asking : Asking A) (answers : List Answer) (later : A → List Answer → Run) → Always P asking →
     ((x : A) (left : List Answer) → P x → times_written packet (later x left).records ≤ most) → times_written packet (asked_run unanswered_stop asking answers later).records ≤ most
 at_most_by packet most P (done x) answers later holds each = each x answers holds
@@ -71,7 +71,7 @@ module _ (user password : List ℕ) (short : IsShort user) where
 
   -- ---- an event of the session
 
-  -- a turn writes the packet at most as often as it waited and is asked for, less where it waits then
+  -- a turn writes the packet at most as often as it waited and is asked for, and less if it waits afterwards
   abbrev SoundTurn : OpeningState → ℕ → TurnOf OpeningState → Type 0
   SoundTurn s asked t = (times_written packet t.records + times_waiting packet t.state ≤ times_waiting packet s + asked) × FitsRequest t.state
 
@@ -148,7 +148,7 @@ module _ (user password : List ℕ) (short : IsShort user) where
     abbrev asked_from : List Frame → ℕ
     asked_from frames = times_asked_in packet (own_events session_own frames)
 
-    -- what is said of a run from a state
+    -- what is stated of a run from a state
     abbrev AtMost : RunState → List Frame → List Answer → Type 0
     AtMost s frames answers = times_written packet (run_from s frames answers).records ≤ times_waiting packet s.one.opening + asked_from frames
 

@@ -24,11 +24,12 @@ use Rattle.sshc_run.specs.SessionPart.{session_own}
 use Rattle.sshc_run.specs.SessionTurn.{SessionTurn, in_session, step_turn, read_turn, session_turn}
 use Rattle.sshc_run.specs.Turn.{asked_turn}
 
--- those that were answered, and those that wait then, are those that waited and those that were written
+-- the requests that were answered, and then those that still wait, are those that waited and then those that were
+-- written
 abbrev InOrder : List Awaited → List Awaited → List Awaited → Type 0
 InOrder waiting asked waiting' = (answered : List Awaited) × (answered ++ waiting' ≡ waiting ++ asked)
 
--- one behind the other
+-- one after the other
 in_order_two : (a b c x y : List Awaited) → InOrder a x b → InOrder b y c → InOrder a (x ++ y) c
 in_order_two a b c x y (answered, is) (more, same) = (
   answered ++ more,
@@ -36,7 +37,7 @@ in_order_two a b c x y (answered, is) (more, same) = (
 )
 
 module _ (law : RepliesAreInOrder) (hosts : Hosts) (accepts : Accepts) where
-  -- a turn from which the run goes on
+  -- a turn from which the run continues
   abbrev GoesInOrder : SessionState → List Awaited → SessionTurn → Type 0
   GoesInOrder s asked t = stop_next t.next ≡ None → InOrder s.replies asked t.state.replies
 

@@ -1,4 +1,4 @@
--- Along a run the session signs what it was asked for: what each step keeps to, joined over the events.
+-- Along a run the session signs what it was asked for: what each step guarantees, joined over the events.
 use Rattle.std.proofs.Common.{◌≡◌, ◌≢◌, ◌⊎◌, inl, inr, ℕ, Bool, true, false, List, [], ◌∷◌, Option, Some, None, Result, Ok, Err, refl, ap, sym, ◌∙◌, subst}
 use Rattle.std.specs.Prelude.{if◌then◌else◌}
 use Rattle.std.specs.List.{AllByRecursion}
@@ -44,10 +44,10 @@ use Rattle.sshc_run.specs.SessionTurn.{SessionTurn, in_session, read_turn, sessi
 use Rattle.sshc_run.specs.SignedRequests.{AreSigned, ComesBehind, behind, first_hash, or_hash}
 use Rattle.sshc_run.specs.Turn.{asked_turn, judged_turn, next_turn, row_turn}
 
--- ---- what holds of a state, with the events before it
+-- ---- what is true of a state, with the events before it
 
 record SignedSo (past : List Event) (o : OpeningState) : Type 0 where
-  -- while the first exchange runs, none was done
+  -- while the first exchange runs, no exchange was done
   first : o.phase ≡ phases.Exchanging → IsFirst o × (first_hash past ≡ None)
   session_id : o.phase ≢ phases.Exchanging → first_hash past ≡ Some o.session_id
   asked : IsAskedFor past o.user o.method
@@ -86,7 +86,8 @@ made_so k event (asks asked on) (call ∷ calls) row (by, signs, each) (is, make
 
 -- ---- the first exchange
 
--- behind an exchange that is done while the first one runs the session goes on only where it is accepted, with its hash as the session id
+-- after an exchange that is done while the first one runs the session continues only if it is accepted, with its hash
+-- as the session id
 abbrev TakesNext : ExchangeResult → Next → Type 0
 TakesNext x (stays t) = (t.session_id ≡ x.session_hash) × (t.phase ≢ phases.Exchanging)
 TakesNext x (opens t) = (t.session_id ≡ x.session_hash) × (t.phase ≢ phases.Exchanging)
@@ -124,7 +125,7 @@ no_hash : (event : Event) → IsNoExchange event → or_hash None event ≡ None
 no_hash (events.ExchangeDone x) never = absurd never
 no_hash event none = refl
 
--- what becomes of it while the first exchange runs
+-- the opening's next state while the first exchange runs
 first_next : (past : List Event) (s : OpeningState) (event : Event) (told : Told) (calls : List SignCall) (row : Row) (t : OpeningState) → IsFirst s → first_hash past ≡ None → Makes (open_row s event told) calls row →
     (row.next ≡ stays t) ⊎ (row.next ≡ opens t) → (t.phase ≡ phases.Exchanging → IsFirst t × (first_hash (event ∷ past) ≡ None)) × (t.phase ≢ phases.Exchanging → first_hash (event ∷ past) ≡ Some t.session_id)
 first_next past s (events.ExchangeDone x) told calls row t first none makes next = by next
@@ -156,7 +157,7 @@ early_opens s event told calls row t first makes is = absurd (subst (FirstNext e
 
 -- ---- a turn of the opening
 
--- where the run goes on, so it is behind the event
+-- if the run continues, it is true after the event too
 abbrev GoesSo : List Event → Event → TurnOf OpeningState → Type 0
 GoesSo past event t = stop_next t.next ≡ None → SignedSo (event ∷ past) t.state
 
@@ -196,7 +197,7 @@ module _ (past : List Event) (s : OpeningState) (event : Event) (so : SignedSo p
   by_next place told calls row (ends e) is makes keeps = λ goes. absurd cc
   by_next place told calls row (refuses e) is makes keeps = λ goes. absurd cc
 
-  -- what a turn asks and says, and where it goes on
+  -- a turn's calls and records, and the state from which it continues
   record TurnSo (calls : List SignCall) (t : TurnOf OpeningState) : Type 0 where
     goes : GoesSo past event t
     asked : AllByRecursion (IsSignedFor s.session_id past) calls
@@ -246,7 +247,7 @@ open_later : (phase : Phase) → is_open phase ≡ true → phase ≢ phases.Exc
 open_later phases.Exchanging is = absurd cc
 open_later phase is = λ same. absurd cc
 
--- moves of an open session keep it
+-- moves of an open session don't change it
 moved_so : (past : List Event) (event : Event) (old new : OpeningState) → old.phase ≢ phases.Exchanging → SignedSo past old → IsSameRequest old new → SignedSo (event ∷ past) new
 moved_so past event old new later so same = record {
   first = λ first. absurd (later (sym same.phase ∙ first));

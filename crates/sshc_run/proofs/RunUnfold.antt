@@ -34,9 +34,9 @@ pub not_nothing : (part : List ℕ) (b : ℕ) (more : List ℕ) → [] ≡ part 
 not_nothing [] b more is = cc
 not_nothing (c ∷ part) b more is = cc
 
--- ---- fronts of an event's bytes
+-- ---- prefixes of an event's bytes
 
--- a shorter front of a whole event's bytes is no event
+-- a shorter prefix of a whole event's bytes isn't an event
 shorter_by : (last : ℕ) (head : Head) (bytes part : List ℕ) (b : ℕ) (more : List ℕ) (f : Front) → front last part ≡ f → IsWhole last head bytes → bytes ≡ part ++ b ∷ more → IsNoEvent last part
 shorter_by last head bytes part b more End f whole is = inl f
 shorter_by last head bytes part b more Bad f whole is = inr f
@@ -48,7 +48,7 @@ shorter_by last head bytes part b more (Whole h rest) f whole is =
 no_shorter : (last : ℕ) (head : Head) (bytes part : List ℕ) (b : ℕ) (more : List ℕ) → IsWhole last head bytes → bytes ≡ part ++ b ∷ more → IsNoEvent last part
 no_shorter last head bytes part b more whole is = shorter_by last head bytes part b more (front last part) refl whole is
 
--- nor is a front of bytes that are no event
+-- nor is a prefix of bytes that aren't an event
 none_by : (last : ℕ) (bytes part : List ℕ) (b : ℕ) (more : List ℕ) (f : Front) → front last part ≡ f → front last bytes ≡ Bad → bytes ≡ part ++ b ∷ more → IsNoEvent last part
 none_by last bytes part b more End f bad is = inl f
 none_by last bytes part b more Bad f bad is = inr f
@@ -74,7 +74,7 @@ one_by last bytes part b more head (Whole h rest) f one is =
     let nothing : [] ≡ rest ++ b ∷ more = cc in
     absurd (not_nothing rest b more nothing)
 
--- a shorter front of bytes that are at most one event is no event
+-- a shorter prefix of bytes that are at most one event isn't an event
 none_shorter : (last : ℕ) (bytes part : List ℕ) (b : ℕ) (more : List ℕ) → IsOneAtMost last bytes → bytes ≡ part ++ b ∷ more → IsNoEvent last part
 none_shorter last bytes part b more (inl (inl nothing)) is = end_by last bytes part b more (front last part) refl nothing is
 none_shorter last bytes part b more (inl (inr bad)) is = no_front last bytes part b more bad is
@@ -92,7 +92,7 @@ unfolding events
 events_nothing zero place last = refl
 events_nothing (suc n) place last = rw (front_nothing last, events) refl
 
--- nothing holds no event
+-- the empty list holds no event
 pub nothing_held : (n place last : ℕ) → HoldsAtMost n place last []
 nothing_held n place last = none_held n place last [] (inl (front_nothing last))
 
@@ -110,7 +110,7 @@ one_held n place last bytes (inr (head, is)) =
 whole_held : (n place last : ℕ) (head : Head) (bytes : List ℕ) → IsWhole last head bytes → HoldsAtMost (suc n) place last bytes
 whole_held n place last head bytes whole = one_held n place last bytes (inr (head, ap (front last) (sym (append-nil bytes)) ∙ whole.is []))
 
--- where nothing is said, nothing is left to write
+-- if there are no records, nothing remains to be written
 said_none : (held now : Option (List ℕ)) (records : List Record) (part : List ℕ) → records ≡ [] → now ≡ append held part → HasWritten held now (lines records)
 said_none held now records part none wrote = (part, wrote ∙ ap (λ (r : List Record). append held (lines r ++ part)) (sym none))
 
@@ -125,7 +125,7 @@ module _ {S : Type 0} (turn : Turns S) where
   unfolding run
   run_bad n at answers bytes h = rw (h, run) refl
 
-  -- behind a turn
+  -- after a turn
   abbrev behind : ℕ → Spot S → Head → List ℕ → TurnOf S → List Answer → Run
   behind n at head rest t left = run_on t t.next (run turn n (spot_after at head t.state) left rest)
 
@@ -134,7 +134,7 @@ module _ {S : Type 0} (turn : Turns S) where
   unfolding run
   run_whole n at answers bytes head rest h = rw (h, run) refl
 
-  -- a turn after which the run goes on, and one that stops it
+  -- a turn after which the run continues, and one that stops it
   going_by : (t : TurnOf S) (next : Onward) (r : Run) → stop_next next ≡ None → run_on t next r ≡ after t.records [] r
   going_by t goes_on r h = refl
   going_by t opened r h = refl
@@ -145,19 +145,19 @@ module _ {S : Type 0} (turn : Turns S) where
   stopping_by t opened r stop h = absurd cc
   stopping_by t (stopped x) r stop h = let same : x ≡ stop = cc in ap (λ (y : RunStop). stopped_with t.records y) same
 
-  -- on nothing the run is at the script's end
+  -- on no bytes the run is at the script's end
   pub run_nothing : (n : ℕ) (at : Spot S) (answers : List Answer) → run turn n at answers [] ≡ stopped_with [] (ended ends.ScriptEnd)
   unfolding run
   run_nothing zero at answers = refl
   run_nothing (suc n) at answers = run_end n at answers [] (front_nothing at.last)
 
-  -- behind a turn on nothing no call is made
+  -- after a turn no call is made on no bytes
   quiet : (n : ℕ) (at : Spot S) (head : Head) (t : TurnOf S) (next : Onward) → (run_on t next (run turn n (spot_after at head t.state) [] [])).calls ≡ []
   quiet n at head t goes_on = ap (λ (r : Run). r.calls) (run_nothing n (spot_after at head t.state) [])
   quiet n at head t opened = ap (λ (r : Run). r.calls) (run_nothing n (spot_after at head t.state) [])
   quiet n at head t (stopped stop) = refl
 
-  -- where no event stands whole, nothing is said or asked, and the run goes to the end
+  -- if the bytes hold no whole event, there are no records and no calls, and the run comes to the end
   none_is : (n : ℕ) (at : Spot S) (answers : List Answer) (bytes : List ℕ) → IsNoEvent at.last bytes → (stop : RunStop) × (run turn (suc n) at answers bytes ≡ stopped_with [] stop) × IsCut stop
   none_is n at answers bytes (inl nothing) = (ended ends.ScriptEnd, run_end n at answers bytes nothing, inl refl)
   none_is n at answers bytes (inr bad) = (refused (errors.BadEvent at.place), run_bad n at answers bytes bad, inr (at.place, refl))
@@ -168,12 +168,12 @@ module _ {S : Type 0} (turn : Turns S) where
   none_said : (n : ℕ) (at : Spot S) (answers : List Answer) (bytes : List ℕ) → IsNoEvent at.last bytes → (run turn (suc n) at answers bytes).records ≡ []
   none_said n at answers bytes none = let is = none_is n at answers bytes none in ap (λ (r : Run). r.records) is.1
 
-  -- before the one event that was given there is none
+  -- before the one event that was read there is none
   early_one : (n : ℕ) (at : Spot S) (gained : List SignCall) (bytes : List ℕ) (held now : Option (List ℕ)) (part : List ℕ) → IsOneAtMost at.last bytes → now ≡ append held part → HasEarlier (run turn (suc n) at) bytes gained held now
   early_one n at gained bytes held now part one wrote = λ later front b more is.
       said_none held now _ part (none_said n at (answers_of gained ++ later) front (none_shorter at.last bytes front b more one is)) wrote
 
-  -- ---- a read that gives no event
+  -- ---- a read that returns no event
 
   -- the script ends
   pub end_ends : (at : Spot S) (before : Streams) (left : Option (List ℕ)) (reads : ℕ) → before.left ≡ left → IsAtEnd left → reads ≤ before.reads + 1 →
@@ -211,7 +211,7 @@ module _ {S : Type 0} (turn : Turns S) where
         whole = λ done. absurd cc;
       }
 
-  -- whose bytes are no event, or one that no turn took
+  -- whose bytes aren't an event, or are one that no turn took
   unread_ends : (at : Spot S) (before : Streams) (left : Option (List ℕ)) (reads : ℕ) (bytes : List ℕ) → before.left ≡ prepend bytes left → IsNoEvent at.last bytes → ReadFor before.reads reads bytes →
       (a : Result Ended RunError) (n : ℕ) → EndsAs (ending_of a) (run turn (suc n) at) bytes [] before (record before { left = left; reads = reads }) a →
       Ends (suc n) at.place at.last (run turn (suc n) at) before (record before { left = left; reads = reads }) a
@@ -230,7 +230,7 @@ module _ {S : Type 0} (turn : Turns S) where
         },
       )
 
-  -- what a refused read means for the run
+  -- what an error of the read means for the run
   pub next_ends : (at : Spot S) (before : Streams) (left : Option (List ℕ)) (reads : ℕ) (x : NextError) (e : RunError) → NextGives at.last before.left left before.reads reads (Err x) →
       e ≡ (elim x [ nexts.NoMemory ↦ errors.NoMemory | nexts.ReadFault ↦ errors.ReadFault | nexts.Bad ↦ errors.BadEvent at.place ]) →
       (n : ℕ) → Ends (suc n) at.place at.last (run turn (suc n) at) before (record before { left = left; reads = reads }) (Err e)
@@ -263,13 +263,13 @@ module _ {S : Type 0} (turn : Turns S) where
   stop_is opened stop is = absurd cc
   stop_is (stopped x) stop is = let same : x ≡ stop = cc in ap stopped same
 
-  -- the spot behind an event
+  -- the spot after an event
   spot_is : (at at' : Spot S) (head : Head) (s : S) → at'.place ≡ at.place + size_of head → at'.last ≡ head.0 → at'.state ≡ s → at' ≡ spot_after at head s
   spot_is at at' head s place last state =
       ap (λ (p : ℕ). record at' { place = p }) place ∙ ap (λ (l : ℕ). record at' { place = at.place + size_of head; last = l }) last
       ∙ ap (λ (x : S). record { place = at.place + size_of head; last = head.0; state = x }) state
 
-  -- the bytes of an event whose turn goes on bring the run on
+  -- the bytes of an event whose turn continues bring the run on
   brings : (at at' : Spot S) (head : Head) (t : TurnOf S) (gained : List SignCall) (bytes : List ℕ) → Makes (turn at.state (frame_at at.place head)) gained t → stop_next t.next ≡ None → at' ≡ spot_after at head t.state →
       IsWhole at.last head bytes → BringsOn (run turn) at at' bytes gained t.records
   brings at at' head t gained bytes makes on same whole =
@@ -290,7 +290,7 @@ module _ {S : Type 0} (turn : Turns S) where
       run turn (suc n) at (answers_of gained) bytes ≡ asked_run unanswered_stop (turn at.state (frame_at at.place head)) (answers_of gained) (behind n at head [])
   alone n at head gained bytes whole = run_whole n at (answers_of gained) bytes head [] (ap (front at.last) (sym (append-nil bytes)) ∙ whole.is [])
 
-  -- the same where all its calls were made
+  -- the same if all its calls were made
   made_alone : (n : ℕ) (at : Spot S) (head : Head) (t : TurnOf S) (gained : List SignCall) (bytes : List ℕ) → Makes (turn at.state (frame_at at.place head)) gained t → IsWhole at.last head bytes →
       run turn (suc n) at (answers_of gained) bytes ≡ after [] gained (behind n at head [] t [])
   made_alone n at head t gained bytes makes whole =
@@ -298,13 +298,13 @@ module _ {S : Type 0} (turn : Turns S) where
       ∙ ap (λ (answers : List Answer). asked_run unanswered_stop (turn at.state (frame_at at.place head)) answers (behind n at head [])) (sym (append-nil (answers_of gained)))
       ∙ asked_made unanswered_stop (turn at.state (frame_at at.place head)) gained t [] (behind n at head []) makes
 
-  -- whichever of its calls were made, the run keeps them
+  -- whichever of its calls were made, the run has them
   taken_made : (n : ℕ) (at : Spot S) (head : Head) (gained : List SignCall) (bytes : List ℕ) → MakesFirst (turn at.state (frame_at at.place head)) gained → IsWhole at.last head bytes → (run turn (suc n) at (answers_of gained) bytes).calls ≡ gained
   taken_made n at head gained bytes first whole =
       ap (λ (r : Run). r.calls) (alone n at head gained bytes whole)
       ∙ asked_first unanswered_stop (turn at.state (frame_at at.place head)) gained (behind n at head []) (λ t. quiet n at head t t.next) first
 
-  -- where the run stops with an event
+  -- if the run stops with an event
   stops_exact : NeverAtEnd turn → (at : Spot S) (head : Head) (before now : Streams) (gained : List SignCall) (bytes : List ℕ) (a : Result Ended RunError) → IsWhole at.last head bytes →
       StopsBy (turn at.state (frame_at at.place head)) gained before.held now.held a → (n : ℕ) → IsExact (run turn (suc n) at) bytes gained before now a
   stops_exact never at head before now gained bytes a whole (t, makes, stops, wrote) n =
@@ -332,7 +332,7 @@ module _ {S : Type 0} (turn : Turns S) where
   first_by t opened r = (r.records, refl)
   first_by t (stopped stop) r = ([], sym (append-nil t.records))
 
-  -- where a front of its records was written
+  -- if a prefix of its records was written
   stops_cut : (at : Spot S) (head : Head) (held now : Option (List ℕ)) (gained : List SignCall) (bytes : List ℕ) → IsWhole at.last head bytes → CutBy (turn at.state (frame_at at.place head)) gained held now →
       (n : ℕ) → WroteFront held now (lines (run turn (suc n) at (answers_of gained) bytes).records)
   stops_cut at head held now gained bytes whole (inl (first, same)) n = rw same (wrote_nothing held _)
@@ -373,7 +373,7 @@ module _ {S : Type 0} (turn : Turns S) where
   taken_ends never cut at head before now gained bytes a whole gives n = stops_cut at head before.held now.held gained bytes whole gives n
   taken_ends never unread at head before now gained bytes a whole gives n = (stops_exact never at head before now gained bytes a whole gives n).all
 
-  -- one event, whatever came of it
+  -- one event, in each case
   pub taken_gives : NeverAtEnd turn → (at at' : Spot S) (head : Head) (before now : Streams) (gained : List SignCall) (o : Option (Result Ended RunError)) → now.calls ≡ before.calls ++ gained →
       Gave before.left now.left (λ bytes. IsWhole at.last head bytes × (now.reads ≤ before.reads + length bytes)) → TakeGives (turn at.state (frame_at at.place head)) gained at'.state before.held now.held o →
       IfNone o ((at'.place ≡ at.place + size_of head) × (at'.last ≡ head.0)) → TurnGives (run turn) at at' before now o
@@ -406,12 +406,12 @@ module _ {S : Type 0} (turn : Turns S) where
   unfolding run
   run_limit at answers bytes = refl
 
-  -- a shorter front of one byte is nothing
+  -- a shorter prefix of one byte is empty
   limit_front : (at : Spot S) (answers : List Answer) (b : ℕ) (part : List ℕ) (c : ℕ) (more : List ℕ) → b ∷ [] ≡ part ++ c ∷ more → IsCut (run turn 0 at answers part).stop
   limit_front at answers b [] c more is = inl (ap (λ (r : Run). r.stop) (run_limit at answers []))
   limit_front at answers b (x ∷ part) c more is = let nothing : [] ≡ part ++ c ∷ more = cc in absurd (not_nothing part c more nothing)
 
-  -- nothing is said there
+  -- there are no records there
   early_limit : (at : Spot S) (gained : List SignCall) (given : List ℕ) (held : Option (List ℕ)) → HasEarlier (run turn 0 at) given gained held held
   early_limit at gained given held = λ later front b more is.
       said_none held held _ [] (ap (λ (r : Run). r.records) (run_limit at (answers_of gained ++ later) front)) (sym (append-nothing held))

@@ -16,7 +16,7 @@ use Rattle.sshc_script.specs.Script.{Head, Front, End, Bad, Whole, whole_front, 
 use Rattle.sshc_run.specs.ScriptRun.{Run, Spot, spot_after, run, run_on, asked_run, after}
 use Rattle.sshc_run.proofs.OpeningContinues.{front_before}
 
--- ---- a whole event stays the first of longer bytes
+-- ---- a whole event is still the first of longer bytes
 
 whole_more : (read : Result Head EventError) (after more : List ℕ) (head : Head) (rest : List ℕ) → whole_front read after ≡ Whole head rest → whole_front read (after ++ more) ≡ Whole head (rest ++ more)
 whole_more (Ok x) after more head rest h =
@@ -62,7 +62,7 @@ front_more last (a ∷ b ∷ c ∷ d ∷ bytes) more head rest h =
 abbrev pub Begins : Run → Run → Type 0
 Begins first whole = IsFront first.records whole.records × IsFront first.calls whole.calls
 
--- what asks the signer, with more answers, and a run behind it that begins so
+-- calls of the signer, with more answers, and a run after them that begins in the same way
 asked_begins : {A : Type 0} (asking : Asking A) (answers later : List Answer) (short long : A → List Answer → Run) → ((x : A) (left : List Answer) → Begins (short x left) (long x (left ++ later))) →
     Begins (asked_run unanswered_stop asking answers short) (asked_run unanswered_stop asking (answers ++ later) long)
 asked_begins (done x) answers later short long begins = begins x answers

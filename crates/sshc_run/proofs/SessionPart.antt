@@ -1,5 +1,5 @@
--- The session is a part of a run: it takes each session event, and says and asks what is its own; an agent takes the others. The session begins as
--- the opening.
+-- The session is a part of a run: it takes each session event, and its records and calls are its own; an agent takes
+-- the others. The session begins as the opening.
 use Rattle.std.proofs.Common.{◌≡◌, ℕ, Bool, true, false, List, [], ◌∷◌, Result, Ok, Err, refl, ap, sym, ◌∙◌}
 use Rattle.std.proofs.lemmas.List.{append-nil}
 use Rattle.sshc_wire.specs.declared.record.Record.{Record}
@@ -38,7 +38,7 @@ use Rattle.sshc_run.proofs.Products.{one_part, one_takes, other_stops}
 use Rattle.sshc_run.proofs.SessionAsks.{session_asks}
 use Rattle.sshc_run.proofs.UnopenedTurns.{Leaves, TurnLeaves, asked_leaves, opening_leaves}
 
--- ---- what the session says is its own
+-- ---- the session's records are its own
 
 says_own : (records : List Record) → AreSessions records → SaysBy is_session_record true records
 says_own [] so = tt
@@ -69,7 +69,7 @@ module _ (hosts : Hosts) (accepts : Accepts) where
 
   -- ---- the run's turns
 
-  -- the session and the agent each say and ask what is their own
+  -- the records and calls of the session and of the agent are each their own
   pub session_apart : Apart session_own (session_turn hosts accepts) agents_turn
   session_apart = record {
     one_says = λ s frame is. session_says s frame;

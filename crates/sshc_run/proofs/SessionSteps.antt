@@ -1,4 +1,4 @@
--- A step of the session comes to the run's turn, and leaves the session ready for the next.
+-- A step of the session is the run's turn, and the session is ready for the next afterwards.
 use Rattle.std.proofs.Common.{◌≡◌, inl, inr, ℕ, Bool, true, false, List, [], ◌++◌, length, drop, Some, None, Result, Ok, Err, refl, ap, sym, ◌∙◌, subst}
 use Rattle.std.proofs.Math.Seq.{drop-length}
 use Rattle.std.specs.Option.{option_map}
@@ -44,7 +44,7 @@ use Rattle.sshc_run.proofs.OpeningSteps.{hosts_gate, step_took}
 
 -- ---- before the session is open
 
--- what a step leaves, by its answer
+-- the opening after a step, by the step's result
 abbrev LeavesBy : {E : Type 0} → Step E → Bool → OpeningState → Type 0
 LeavesBy steps.Went closed o = (o.closed ≡ closed) × (is_open o.phase ≡ false)
 LeavesBy steps.Opened closed o = is_open o.phase ≡ true
@@ -78,7 +78,7 @@ module _ (hosts : Hosts) (event : Event) (was is : OpeningLent) (unopened : is_o
   step_leaves result (inl (same, left, out, calls)) = rw same tt
   step_leaves result (inr (told, mid, answered, does)) = told_leaves told mid result does
 
--- where a step's answer lets the run go on the session runs on
+-- if the run continues after a step's result, the session still runs
 life_on : (place : ℕ) (result : Step HandlerError) → option_map stop_as (step_answer place result) ≡ None → life_if (goes_on result) ≡ Runs
 life_on place steps.Went none = refl
 life_on place steps.Opened none = refl
@@ -88,7 +88,7 @@ life_on place steps.Closed none = absurd cc
 
 module _ (opened : Bool) (s : SessionState) (ready : IsReady opened s) (place : ℕ) (result : Step HandlerError) (calls : List SignCall) (o : OpeningState) (said : List Record) (new : SessionState)
     (rest : new ≡ record s { opening = o; records = said; life = life_if (goes_on result) }) where
-  -- what the session is once its records were taken
+  -- the session after its records were taken
   emptied_is : (o' : OpeningState) → o ≡ o' → life_if (goes_on result) ≡ Runs → emptied new ≡ record s { opening = o' }
   emptied_is o' same life =
       ap emptied rest ∙ ap (λ (x : OpeningState). record s { opening = x; records = []; life = life_if (goes_on result) }) same
@@ -98,7 +98,7 @@ module _ (opened : Bool) (s : SessionState) (ready : IsReady opened s) (place : 
   said_is : new.records ≡ said
   said_is = ap (λ (x : SessionState). x.records) rest
 
-  -- a step that took the opening's turn took the session's
+  -- a step that was the opening's turn was the session's
   came_from : (asking : Asking Turn) → Took asking calls place result o said → Came (asked_on (in_session s) asking) calls place result (emptied new) new.records
   came_from asking (inl (none, want, first)) = inl (want, inl (first_on (in_session s) asking calls first, said_is ∙ none))
   came_from asking (inr (t, makes, same, state, stop)) =
@@ -157,11 +157,11 @@ module _ (place : ℕ) (row : SessionRow) (s new : SessionState) (taken : s.reco
   abbrev t : SessionTurn
   t = row_turn place s row
 
-  -- where nothing was said before, the row's moves said all that is said
+  -- if there were no records before, those of the row's moves are all
   all_said : t.records ≡ (when_done (all_moves row) s).records
   all_said = ap (λ (rs : List Record). drop (length rs) (when_done (all_moves row) s).records) taken
 
-  -- the run doesn't go on behind a row that ends or refuses
+  -- the run doesn't continue after a row that ends or refuses
   abbrev IsStop : Next → Type 0
   IsStop goes = ⊥
   IsStop next = Unit {0}

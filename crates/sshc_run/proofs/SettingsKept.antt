@@ -1,4 +1,4 @@
--- A gate that keeps what it judges by judges by the same host and the same known hosts text.
+-- A gate for which what it judges by doesn't change judges by the same host and the same known hosts text.
 use Rattle.std.proofs.Common.{◌≡◌, List, [], ◌∷◌, ℕ, ap, ◌∙◌}
 use Rattle.sshc_run.specs.Handled.{Handled}
 use Rattle.sshc_run.specs.TurnContracts.{hosts_of}

@@ -1,4 +1,5 @@
--- The user that an event names is short: it stands in the event's fields, which a script gives no more than 262144 bytes.
+-- The user that an event names is short: the name is in the event's fields, which are no more than 262144 bytes in a
+-- script.
 use Rattle.std.proofs.Common.{◌≡◌, ◌≤◌, ◌<◌, ◌^◌, ◌+◌, ℕ, zero, suc, Bool, true, false, cond, List, [], ◌∷◌, length, take, drop, Option, Some, None, Result, Ok, Err, refl, ap, sym, subst, ◌∙◌, arith}
 use Rattle.std.specs.Prelude.{◌||◌, nat_lt}
 use Rattle.std.specs.Int.{w32, w64, from_be_bytes}
@@ -28,7 +29,7 @@ use Rattle.sshc_script.specs.EventReading.{authenticate_at, authenticate_of, eve
 use Rattle.sshc_script.specs.KindLaw.{ReadAs, read_as}
 use Rattle.sshc_script.specs.Script.{Bad, End, Frame, Front, Head, Whole, events, front, frame_at, head_at, head_of, size_of, sized_front, whole_front}
 
--- ---- what a reader leaves, and what it reads, is no longer than its bytes
+-- ---- what a reader reads, and what remains, is no longer than its bytes
 
 guard_is : {A E : Type 0} (b : Bool) (d : E) (x y : A) → cond b (Err d) (Ok x) ≡ Ok y → (b ≡ false) × (x ≡ y)
 guard_is true d x y e = absurd cc

@@ -1,4 +1,5 @@
--- The five events of the password login: each one's fields are read. Its texts are ASCII, and its host key's blob is the key's text.
+-- The five events of the password login: the fields of each can be read. Its texts are ASCII, and its host key's blob
+-- is the key's text.
 use Rattle.std.proofs.Common.{◌≡◌, ℕ, zero, suc, ◌<◌, ◌^◌, true, false, List, [], ◌∷◌, ◌++◌, length, Option, Some, None, Result, Ok, Err, ltb, lit<, refl, ap, sym, ◌∙◌}
 use Rattle.std.specs.Prelude.{codes, if◌then◌else◌}
 use Rattle.std.specs.List.{list_all}
@@ -41,7 +42,7 @@ use Rattle.sshc_script.specs.EventParts.{as_bad, u8_at, u32_at, flag_at, octets_
 use Rattle.sshc_script.specs.EventReading.{readable, key_of_sort, exchange_key_at, secret_of, secret_at, names_at, exchange_at, exchange_done_of, payload_of, method_at, authenticate_at, authenticate_of, event_of}
 use Rattle.sshc_run.proofs.StandardFacts.{key_bytes, key, exchange, asked, accepted}
 
--- ---- parts at the front
+-- ---- parts at the start
 
 utf8_is : (text : List ℕ) → list_all (λ b. ltb b 128) text ≡ true → is_utf8 text ≡ true
 utf8_is text low =
@@ -110,7 +111,7 @@ exchange_with host_key = record { key = host_key; session_hash = codes "session-
 abbrev pub login_exchange : ExchangeResult
 login_exchange = exchange_with (keys.Key key)
 
--- ---- parts in a row
+-- ---- parts in sequence
 
 module _ {A B : Type 0} where
   both_is : (f : Reader EventError A) (g : Reader EventError B) (b0 b1 b2 : List ℕ) (x : A) (y : B) → f b0 ≡ Ok (x, b1) → g b1 ≡ Ok (y, b2) → both_at f g b0 ≡ Ok ((x, y), b2)
@@ -138,7 +139,7 @@ key_is rest =
     converted_is key_of_sort (both_at u8_at octets_at) (1 ∷ string_text key ++ rest) rest (1, key) (keys.Key key)
     (both_is u8_at octets_at (1 ∷ string_text key ++ rest) (string_text key ++ rest) rest 1 key (u8_is 1 (string_text key ++ rest)) (octets_is key rest key_short)) readable_is
 
--- no key has an empty string
+-- the empty string isn't a valid key
 missing_is : (rest : List ℕ) → exchange_key_at (0 ∷ string_text [] ++ rest) ≡ Ok (keys.Missing, rest)
 unfolding exchange_key_at
 missing_is rest =
@@ -171,7 +172,7 @@ named = string_text (codes "curve25519-sha256") ++ unnamed 4
 abbrev secretless : List ℕ
 secretless = 0 ∷ string_text [] ++ named
 
--- what stands behind the host key
+-- the bytes after the host key
 abbrev keyed : List ℕ
 keyed = string_text (codes "session-id") ++ (string_text [] ++ secretless)
 
@@ -187,7 +188,7 @@ pub kexinit_is : event_of kinds.PeerKexinit [] ≡ Ok events.PeerKexinit
 unfolding event_of
 kexinit_is = refl
 
--- fields whose host key is read before these are an exchange's
+-- if a host key can be read from the fields before these bytes, they are an exchange's
 exchange_by : (fields : List ℕ) (host_key : ExchangeKey) → exchange_key_at fields ≡ Ok (host_key, keyed) → event_of kinds.ExchangeDone fields ≡ Ok (events.ExchangeDone (exchange_with host_key))
 unfolding event_of
 exchange_by fields host_key is =
@@ -203,7 +204,7 @@ pub keyless_is : event_of kinds.ExchangeDone (exchange 0 []) ≡ Ok (events.Exch
 unfolding u32_text string_text
 keyless_is = exchange_by (exchange 0 []) keys.Missing (missing_is keyed)
 
--- a password, and nothing behind it
+-- a password, and no bytes after it
 method_is : method_at (1 ∷ string_text (codes "pw")) ≡ Ok (Password (codes "pw"), [])
 unfolding method_at method_sort_at
 method_is =

@@ -1,5 +1,6 @@
--- The script of a password login and its records, by computing them from the definitions. Its bytes and its lines are told in
--- docs/FORMATS.md; the steps of its opening are computed in sshc_opening, and the whole run is proved in StandardLogin and is a test.
+-- The script of a password login and its records, computed from the definitions. Its bytes and its lines are listed in
+-- docs/FORMATS.md; the steps of its opening are computed in sshc_opening, and the whole run is proved in StandardLogin
+-- and is a test.
 use Rattle.std.proofs.Common.{◌≡◌, ℕ, ◌+◌, List, [], ◌∷◌, ◌++◌, length, take, refl}
 use Rattle.std.specs.Prelude.{codes}
 use Rattle.sshc_wire.specs.Reads.{byte_at, number_at}
@@ -46,7 +47,7 @@ length_is : length login ≡ 220
 unfolding u32_text u64_text string_text
 length_is = refl
 
--- five whole events, and nothing behind them
+-- five whole events, and no bytes after them
 pub stop_is : stop_of 8192 login ≡ whole
 unfolding u32_text u64_text string_text stop front sized_front head_at number_at byte_at
 stop_is = refl
@@ -64,7 +65,7 @@ pub more_is : stop_of 2 login ≡ more
 unfolding u32_text u64_text string_text stop front sized_front head_at number_at byte_at
 more_is = refl
 
--- a length of 8, and a moment that falls
+-- a length of 8, and a moment that is before the last one
 short_is : stop_of 8192 (0 ∷ 0 ∷ 0 ∷ 8 ∷ 0 ∷ 0 ∷ 0 ∷ 0 ∷ 0 ∷ 0 ∷ 0 ∷ 0 ∷ []) ≡ bad 0
 unfolding stop front sized_front
 short_is = refl

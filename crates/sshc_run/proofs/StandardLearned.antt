@@ -1,4 +1,4 @@
--- A known hosts text in which the login's host key was learned accepts it, so that the login is valid there.
+-- A known hosts text to which the login's host key was added accepts it, so that the login is valid with it.
 use Rattle.std.proofs.Common.{◌≡◌, ℕ, Bool, true, false, List, [], ◌++◌, get_or, Some, None, Result, Ok, lit<, lit≤, refl, ap, ◌∙◌}
 use Rattle.std.specs.Prelude.{codes, not, ◌==◌}
 use Rattle.std.specs.List.{list_all}
@@ -27,14 +27,14 @@ use Rattle.sshc_run.proofs.StandardEvents.{login_key, read_is}
 use Rattle.sshc_run.proofs.StandardFacts.{login}
 use Rattle.sshc_run.proofs.StandardLogin.{refused_run, run_of, login_is_valid, stranger}
 
--- the host at its port, by a known hosts text
+-- the host at its port, in a known hosts text
 abbrev pub localhost : List ℕ
 localhost = host_text (codes "localhost") 13265
 
 abbrev pub hosts_by : List ℕ → Hosts
 hosts_by known = record { host = localhost; known = known }
 
--- ---- what can be learned
+-- ---- what can be added to a known hosts text
 
 lacks_from_test : (byte : ℕ) (xs : List ℕ) → list_all (λ b. not (b == byte)) xs ≡ true → Lacks xs byte
 lacks_from_test byte xs none k d within = by_not (get_or xs k d == byte) (AllPass-from_list_all (λ b. not (b == byte)) xs none k d within)
@@ -43,7 +43,7 @@ lacks_from_test byte xs none k d within = by_not (get_or xs k d == byte) (AllPas
     by_not true e = cc
     by_not false e = refl
 
--- `localhost` can be learned
+-- `localhost` can be added
 host_is_learnable : IsLearnable (codes "localhost")
 host_is_learnable = record {
   some = lit< tt;
@@ -78,7 +78,7 @@ read_again = ap decoded_key base64_is ∙ field_key ∙ ap (λ (b : List ℕ). k
 
 -- ---- the judgement
 
--- where an old text doesn't refuse the key, the text behind which it is learned accepts it
+-- if an old text doesn't refuse the key, the text with the key added accepts it
 pub learned_accepts : (old : List ℕ) (accepted : Bool) → judged old localhost login_key ≡ Ok accepted
     → verdict (hosts_by (old ++ learned old localhost (login_key, []))) (PublicKey (login_key, []) None) ≡ Ok true
 unfolding verdict
@@ -94,19 +94,19 @@ empty_knows_none = refl
 
 -- ---- the login
 
--- a text in which the key alone was learned accepts it
+-- a text with this key alone added accepts it
 pub learned_alone_accepts : verdict (hosts_by (learned [] localhost (login_key, []))) (PublicKey (login_key, []) None) ≡ Ok true
 learned_alone_accepts = learned_accepts [] false empty_knows_none
 
--- so the login is a valid script by that text
+-- so the login is a valid script with that text
 pub learned_login_is_valid : (accepts : Accepts) → IsValidScript (run_of (hosts_by (learned [] localhost (login_key, []))) accepts 8192) login ScriptEnd
 learned_login_is_valid accepts = login_is_valid (hosts_by (learned [] localhost (login_key, []))) accepts learned_alone_accepts
 
--- the same of a run by words
+-- the same of a run by arguments
 pub words_login_is_valid : (accepts : Accepts) → IsValidScript (words_table accepts (codes "localhost") 13265 (learned [] localhost (login_key, [])) []) login ScriptEnd
 words_login_is_valid accepts = learned_login_is_valid accepts
 
--- by an empty text the login is refused at its exchange
+-- with an empty text the login is refused at its exchange
 empty_refuses_key : verdict (hosts_by []) (PublicKey (login_key, []) None) ≡ Ok false
 unfolding verdict
 empty_refuses_key = ap as_handler empty_knows_none

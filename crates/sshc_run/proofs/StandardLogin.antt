@@ -1,5 +1,5 @@
--- The script of the password login is valid: each turn is the table's, and where the known hosts text accepts the host key the run
--- ends at the script's end. A text in which the key was learned accepts it.
+-- The script of the password login is valid: each turn is the table's, and if the known hosts text accepts the host key
+-- the run ends at the script's end. A text to which the key was added accepts it.
 use Rattle.std.proofs.Common.{◌≡◌, ℕ, Bool, true, false, List, [], ◌∷◌, drop, Option, Some, None, Result, Ok, refl, ap, ◌∙◌}
 use Rattle.std.specs.Prelude.{codes}
 use Rattle.sshc_wire.specs.Reads.{byte_at, number_at, string_at}
@@ -81,7 +81,7 @@ opened_state = record (answered in_auth) { phase = phases.Open }
 
 -- ---- the turns
 
--- the records of a turn, and the state from which the run goes on
+-- the records of a turn, and the state from which the run continues
 abbrev on_from : List Record → OpeningState → Turn
 on_from records s = record { records = records; state = s; next = goes_on }
 
@@ -114,7 +114,7 @@ request_turn : (hosts : Hosts) → opening_turn hosts in_service (frame_of 143 k
 unfolding opening_turn open_row plain_row user_row payload_row numbered_row held_packet_row peer_kexinit_row exchange_done_row authenticate_first_row authenticate_again_row service_packet_row service_accept_row auth_packet_row auth_row userauth_success_row asked_of
 request_turn hosts = ap (λ (r : Result Event EventError). event_turn hosts 143 in_service r) request_is
 
--- the service is there, and the password is written
+-- the service is accepted, and the password is written
 service_turn : (hosts : Hosts) → opening_turn hosts requested (frame_of 176 kinds.Payload accepted) ≡ done (on_from (Payload (request (codes "alice") (Password (codes "pw"))) ∷ []) in_auth)
 unfolding opening_turn open_row plain_row user_row payload_row numbered_row held_packet_row peer_kexinit_row exchange_done_row authenticate_first_row authenticate_again_row service_packet_row service_accept_row auth_packet_row auth_row userauth_success_row asked_of string_at number_at string_text u32_text
 service_turn hosts = ap (λ (r : Result Event EventError). event_turn hosts 176 requested r) accepted_is
@@ -126,11 +126,11 @@ success_turn hosts = ap (λ (r : Result Event EventError). event_turn hosts 206 
 
 -- ---- the run
 
--- the session in which the opening is so
+-- the session with this opening
 abbrev pub kept : OpeningState → SessionState
 kept o = kept_in default_run o
 
--- beside an agent that holds nothing
+-- with an agent that holds nothing
 abbrev pub in_run : OpeningState → RunState
 in_run o = beside (kept o) (idle false)
 
@@ -143,7 +143,7 @@ pub record IsOpeningsOwn (s : OpeningState) (frame : Frame) : Type 0 where
   pub mine : session_own.event frame ≡ true
   pub unopened : is_open s.phase ≡ false
 
--- the run's turn is the opening's, seen in the session
+-- the run's turn is the opening's, in the state of the session
 session_turn_is : (hosts : Hosts) (accepts : Accepts) (s : OpeningState) (frame : Frame) (t : Turn) → IsOpeningsOwn s frame → opening_turn hosts s frame ≡ done t → run_turn hosts accepts (in_run s) frame ≡ done (in_one (in_run s) (in_session (kept s) t))
 session_turn_is hosts accepts s frame t own is =
     mine_turn hosts accepts (in_run s) frame own.mine
@@ -156,7 +156,7 @@ unfolding events_run
 by_first hosts accepts s frame frames st t own is =
     ap (λ (asked : Asking (TurnOf RunState)). asked_run unanswered_stop asked [] (λ t left. run_on t t.next (events_run (run_turn hosts accepts) t.state frames st left))) (session_turn_is hosts accepts s frame t own is)
 
--- the run by a first turn from which it goes on
+-- the run by a first turn from which it continues
 pub step_by : (hosts : Hosts) (accepts : Accepts) (s s' : OpeningState) (frame : Frame) (frames : List Frame) (st : ScriptStop) (records : List Record) (later : Run) → IsOpeningsOwn s frame → opening_turn hosts s frame ≡ done (on_from records s')
     → from hosts accepts s' frames st ≡ later → from hosts accepts s (frame ∷ frames) st ≡ after records [] later
 step_by hosts accepts s s' frame frames st records later own is rest = by_first hosts accepts s frame frames st (on_from records s') own is ∙ ap (λ (r : Run). after records [] r) rest
@@ -165,7 +165,7 @@ step_by hosts accepts s s' frame frames st records later own is rest = by_first 
 abbrev pub own_event : {s : OpeningState} {frame : Frame} → session_own.event frame ≡ true → is_open s.phase ≡ false → IsOpeningsOwn s frame
 own_event mine unopened = record { mine = mine; unopened = unopened }
 
--- behind the last event
+-- after the last event
 pub at_last : (hosts : Hosts) (accepts : Accepts) (s : OpeningState) (st : ScriptStop) → from hosts accepts s [] st ≡ stopped_with [] (at_end st)
 unfolding events_run
 at_last hosts accepts s st = refl
@@ -180,7 +180,8 @@ password_record = Payload (request (codes "alice") (Password (codes "pw")))
 abbrev last_records : List Record
 last_records = Resolved (record { 0 = 1 }) AuthSuccess ∷ Opened ∷ []
 
--- once the host key is accepted, a request and the acceptance of its service are followed by the run from the phase Auth
+-- once the host key is accepted, after a request and the acceptance of its service the run continues from the phase
+-- Auth
 pub requested_from : (hosts : Hosts) (accepts : Accepts) (frames : List Frame) (st : ScriptStop) (later : Run) → from hosts accepts in_auth frames st ≡ later
     → from hosts accepts in_service (frame_of 143 kinds.Authenticate asked ∷ frame_of 176 kinds.Payload accepted ∷ frames) st ≡ after (Payload service_request ∷ password_record ∷ []) [] later
 requested_from hosts accepts frames st later rest =
@@ -195,7 +196,7 @@ success_from hosts accepts = by_first hosts accepts in_auth (frame_of 206 kinds.
 abbrev pub login_records : List Record
 login_records = KexDone (codes "curve25519-sha256") ∷ Payload service_request ∷ Payload (request (codes "alice") (Password (codes "pw"))) ∷ Resolved (record { 0 = 1 }) AuthSuccess ∷ Opened ∷ []
 
--- where the verdict accepts the host key, the exchange is followed by the run from the phase Service
+-- if the verdict accepts the host key, after the exchange the run continues from the phase Service
 pub accepted_from : (hosts : Hosts) (accepts : Accepts) (frames : List Frame) (st : ScriptStop) (later : Run) → verdict hosts (PublicKey (login_key, []) None) ≡ Ok true → from hosts accepts in_service frames st ≡ later
     → from hosts accepts (start default_settings) (frame_of 0 kinds.PeerKexinit [] ∷ frame_of 13 kinds.ExchangeDone (exchange 1 key) ∷ frames) st ≡ after (KexDone (codes "curve25519-sha256") ∷ []) [] later
 accepted_from hosts accepts frames st later known rest =
@@ -208,7 +209,7 @@ login_from hosts accepts known =
     accepted_from hosts accepts (events_behind 2) whole (stopped_with (Payload service_request ∷ password_record ∷ last_records) (ended ScriptEnd)) known
     (requested_from hosts accepts (events_behind 4) whole (stopped_with last_records (ended ScriptEnd)) (success_from hosts accepts))
 
--- where the verdict refuses the host key, the run ends with its exchange
+-- if the verdict refuses the host key, the run ends with its exchange
 abbrev pub refused_run : Run
 refused_run = stopped_with [] (refused errors.UnknownKey)
 
@@ -221,7 +222,7 @@ stranger_from hosts accepts refuses =
 abbrev pub run_of : Hosts → Accepts → ℕ → List ℕ → Run
 run_of hosts accepts max script = script_run (run_machine hosts accepts default_run) max [] script
 
--- a script's run by its events and what stands behind them
+-- a script's run by its events and what follows them
 pub run_by : (hosts : Hosts) (accepts : Accepts) (max : ℕ) (script : List ℕ) (frames : List Frame) (r : Run) (st : ScriptStop) → taken max script ≡ frames → stop_of max script ≡ st
     → from hosts accepts (start default_settings) frames st ≡ r → run_of hosts accepts max script ≡ r
 run_by hosts accepts max script frames r st frames_are stop_is is =
@@ -230,7 +231,7 @@ run_by hosts accepts max script frames r st frames_are stop_is is =
 
 -- ---- the theorems
 
--- where the known hosts text accepts the host key, the login gives its five records and ends at the script's end
+-- if the known hosts text accepts the host key, the login has its five records and ends at the script's end
 pub login_run : (hosts : Hosts) (accepts : Accepts) → verdict hosts (PublicKey (login_key, []) None) ≡ Ok true → run_of hosts accepts 8192 login ≡ stopped_with login_records (ended ScriptEnd)
 login_run hosts accepts known = run_by hosts accepts 8192 login login_events (stopped_with login_records (ended ScriptEnd)) whole taken_is stop_is (login_from hosts accepts known)
 
@@ -238,6 +239,6 @@ login_run hosts accepts known = run_by hosts accepts 8192 login login_events (st
 pub login_is_valid : (hosts : Hosts) (accepts : Accepts) → verdict hosts (PublicKey (login_key, []) None) ≡ Ok true → IsValidScript (run_of hosts accepts 8192) login ScriptEnd
 login_is_valid hosts accepts known = ap (λ (r : Run). r.stop) (login_run hosts accepts known)
 
--- where the text doesn't know the host key, nothing is said, not even a payload
+-- if the text doesn't know the host key, there are no records, not even a payload
 pub stranger : (hosts : Hosts) (accepts : Accepts) → verdict hosts (PublicKey (login_key, []) None) ≡ Ok false → run_of hosts accepts 8192 login ≡ refused_run
 stranger hosts accepts refuses = run_by hosts accepts 8192 login login_events refused_run whole taken_is stop_is (stranger_from hosts accepts refuses)

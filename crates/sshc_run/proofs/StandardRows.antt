@@ -1,5 +1,5 @@
--- Rows of the password login's run: by the known hosts text of its host key's line alone, without a host key, cut, with too many
--- events, and with a second KEXINIT.
+-- Rows of the password login's run: with the known hosts text of its host key's line alone, without a host key, cut,
+-- with too many events, and with a second KEXINIT.
 use Rattle.std.proofs.Common.{◌≡◌, List, ℕ, [], ◌∷◌, ◌++◌, take, None, Ok, true, refl, ap}
 use Rattle.std.specs.Prelude.{codes, Result}
 use Rattle.sshc_wire.specs.Reads.{byte_at, number_at}
@@ -32,7 +32,7 @@ use Rattle.sshc_run.proofs.StandardFacts.{event, exchange, asked, accepted, scri
 use Rattle.sshc_run.proofs.StandardLearned.{localhost, hosts_by, blob_is_read}
 use Rattle.sshc_run.proofs.StandardLogin.{own_event, frame_of, login_events, exchanging, in_service, in_auth, kexinit_turn, from, by_first, step_by, at_last, requested_from, accepted_from, refused_run, login_records, run_of, run_by, login_run}
 
--- ---- by the known hosts text of one line
+-- ---- with the known hosts text of one line
 
 -- the line's key is the login's
 line_is_judged : judged localhost_line localhost login_key ≡ Ok true
@@ -43,7 +43,7 @@ pub line_accepts_key : verdict (hosts_by localhost_line) (PublicKey (login_key, 
 unfolding verdict
 line_accepts_key = ap as_handler line_is_judged
 
--- by this text the login gives its five records and ends at the script's end
+-- with this text the login has its five records and ends at the script's end
 pub line_run : (accepts : Accepts) → words_table accepts (codes "localhost") 13265 localhost_line [] login ≡ stopped_with login_records (ended ScriptEnd)
 line_run accepts = login_run (hosts_by localhost_line) accepts line_accepts_key
 
@@ -56,7 +56,7 @@ line_is_valid accepts = ap (λ r. r.stop) (line_run accepts)
 abbrev pub keyless : List ℕ
 keyless = script_with (exchange 0 [])
 
--- the events behind its exchange
+-- the events after its exchange
 abbrev keyless_rest : List Frame
 keyless_rest = frame_of 92 kinds.Authenticate asked ∷ frame_of 125 kinds.Payload accepted ∷ frame_of 155 kinds.Payload (52 ∷ []) ∷ []
 
@@ -71,7 +71,7 @@ keyless_stop_is : stop_of 8192 keyless ≡ whole
 unfolding u32_text u64_text string_text stop front sized_front head_at number_at byte_at
 keyless_stop_is = refl
 
--- nothing is asked of the known hosts text, and the exchange is refused
+-- the known hosts text isn't asked, and the exchange is refused
 keyless_turn : (hosts : Hosts) → opening_turn hosts exchanging (frame_of 13 kinds.ExchangeDone (exchange 0 [])) ≡ done (record { records = []; state = shut exchanging; next = stopped (refused errors.UnknownKey) })
 unfolding opening_turn open_row plain_row user_row payload_row numbered_row held_packet_row peer_kexinit_row exchange_done_row authenticate_first_row authenticate_again_row service_packet_row service_accept_row auth_packet_row auth_row userauth_success_row asked_of
 keyless_turn hosts = ap (λ (r : Result Event EventError). event_turn hosts 13 exchanging r) keyless_is
@@ -81,7 +81,7 @@ keyless_from hosts accepts =
     step_by hosts accepts (start default_settings) exchanging (frame_of 0 kinds.PeerKexinit []) (frame_of 13 kinds.ExchangeDone (exchange 0 []) ∷ keyless_rest) whole [] refused_run (own_event refl refl) (kexinit_turn hosts)
     (by_first hosts accepts exchanging (frame_of 13 kinds.ExchangeDone (exchange 0 [])) keyless_rest whole _ (own_event refl refl) (keyless_turn hosts))
 
--- whatever the known hosts text, an exchange without a host key ends the run, and nothing is said
+-- whatever the known hosts text, an exchange without a host key ends the run, and there are no records
 pub keyless_run : (hosts : Hosts) (accepts : Accepts) → run_of hosts accepts 8192 keyless ≡ refused_run
 keyless_run hosts accepts = run_by hosts accepts 8192 keyless keyless_events refused_run whole keyless_taken_is keyless_stop_is (keyless_from hosts accepts)
 
@@ -91,19 +91,19 @@ cut_taken_is : taken 8192 (take 219 login) ≡ take 4 login_events
 unfolding u32_text u64_text string_text events_at front sized_front head_at number_at byte_at
 cut_taken_is = refl
 
--- the first three records are told, and then the place of the event that is cut
+-- the first three records, and then the place of the event that is cut
 pub cut_run : (hosts : Hosts) (accepts : Accepts) → verdict hosts (PublicKey (login_key, []) None) ≡ Ok true → run_of hosts accepts 8192 (take 219 login) ≡ stopped_with (take 3 login_records) (refused (errors.BadEvent 206))
 cut_run hosts accepts known =
     run_by hosts accepts 8192 (take 219 login) (take 4 login_events) (stopped_with (take 3 login_records) (refused (errors.BadEvent 206))) (bad 206) cut_taken_is cut_is
     (accepted_from hosts accepts _ (bad 206) _ known (requested_from hosts accepts [] (bad 206) (stopped_with [] (refused (errors.BadEvent 206))) (at_last hosts accepts in_auth (bad 206))))
 
--- ---- the login where two events are allowed
+-- ---- the login with at most two events allowed
 
 more_taken_is : taken 2 login ≡ take 2 login_events
 unfolding u32_text u64_text string_text events_at front sized_front head_at number_at byte_at
 more_taken_is = refl
 
--- the first record is told, and then that the script is too long
+-- the first record, and then the error that the script is too long
 pub more_run : (hosts : Hosts) (accepts : Accepts) → verdict hosts (PublicKey (login_key, []) None) ≡ Ok true → run_of hosts accepts 2 login ≡ stopped_with (take 1 login_records) (refused errors.ScriptTooLong)
 more_run hosts accepts known =
     run_by hosts accepts 2 login (take 2 login_events) (stopped_with (take 1 login_records) (refused errors.ScriptTooLong)) more more_taken_is more_is

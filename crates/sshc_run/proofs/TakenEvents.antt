@@ -1,4 +1,4 @@
--- What taking an event gives, of any machine, by how a step was answered and what was written.
+-- What taking an event does, for any machine, by the result of a step and what was written.
 use Rattle.std.proofs.Common.{◌≡◌, inl, inr, List, [], ◌∷◌, ◌++◌, Option, Some, None, Result, Err, ℕ, refl, ap, sym, ◌∙◌, subst}
 use Rattle.std.specs.Option.{option_map}
 use Rattle.std.proofs.lemmas.List.{append-nil}
@@ -35,7 +35,7 @@ module _ {S : Type 0} (asking : Asking (TurnOf S)) (gained : List SignCall) wher
   done_by t s held now None makes stop all state = (t, makes, stop, all, state stop)
   done_by t s held now (Some answer) makes stop all state = take_as (ending_of answer) t held now answer makes stop all
 
-  -- all records are written, and the run goes on or stops as the table says
+  -- all records are written, and the run continues or stops as the table does
   pub written_turn : (place : ℕ) (step : Step HandlerError) (s : S) (records : List Record) (held now : Option (List ℕ)) →
       Came asking gained place step s records → now ≡ append held (lines records) → TakeGives asking gained s held now (step_answer place step)
   written_turn place step s records held now (inl (want, inl (first, none))) all =
@@ -53,17 +53,17 @@ module _ {S : Type 0} (asking : Asking (TurnOf S)) (gained : List SignCall) wher
   front_of place step s records held now (inl (want, inr (t, makes, front))) part = inr (t, makes, wrote_longer held now records t.records front part)
   front_of place step s records held now (inr (t, makes, same, stop, state)) part = inr (t, makes, subst (λ (rs : List Record). WroteFront held now (lines rs)) same part)
 
-  -- a front of the records' lines is written
+  -- a prefix of the records' lines is written
   pub cut_turn : (place : ℕ) (step : Step HandlerError) (s : S) (records : List Record) (held now : Option (List ℕ)) (failed : Failed) (e : RunError) →
       Came asking gained place step s records → WroteFront held now (lines records) → e ≡ (elim failed [ failures.Fault ↦ errors.WriteFault | failures.NoMemory ↦ errors.NoMemory ]) → TakeGives asking gained s held now (Some (Err e))
   cut_turn place step s records held now failures.Fault e came part is = rw is (front_of place step s records held now came part)
   cut_turn place step s records held now failures.NoMemory e came part is = rw is (front_of place step s records held now came part)
 
--- where the signer's list gained nothing
+-- if the signer's list gained nothing
 pub unasked : {S : Type 0} (asking : Asking (TurnOf S)) (calls : List SignCall) (s : S) (held now : Option (List ℕ)) (o : Option (Result Ended RunError)) → TakeGives asking [] s held now o → TakeGives asking (since calls calls) s held now o
 unasked asking calls s held now o gives = subst (λ (gained : List SignCall). TakeGives asking gained s held now o) (sym (drop-length calls)) gives
 
--- the run stops with nothing said or asked
+-- the run stops without records and calls
 pub stops_turn : {S : Type 0} (t : TurnOf S) (s : S) (calls : List SignCall) (held : Option (List ℕ)) (e : RunError) → t.records ≡ [] → stop_next t.next ≡ Some (stop_as (Err e)) → TakeGives (done t) (since calls calls) s held held (Some (Err e))
 stops_turn t s calls held e none stop =
     unasked (done t) calls s held held (Some (Err e)) (take_as (done t) [] (ending_of (Err e)) t held held (Err e) refl stop (sym (append-nothing held) ∙ ap (λ rs. append held (lines rs)) (sym none)))

@@ -1,4 +1,4 @@
--- Each turn of a run that stops it has its cause in the script's own words, and no turn says that the script is at its end.
+-- Each turn of a run that stops it has its cause, stated by the script, and no turn ends with the script's end.
 use Rattle.std.proofs.Common.{◌≡◌, inl, inr, ℕ, Bool, true, false, Result, Ok, Err, refl, ap, sym, ◌∙◌}
 use Rattle.sshc_key.specs.Asking.{Asking, done, asks, Always}
 use Rattle.sshc_key.specs.AskingLaws.{always_on}
@@ -63,7 +63,7 @@ module _ (hosts : Hosts) (accepts : Accepts) (w : SessionState) (frame : Frame) 
   goes_by s (ends e) un = tt
   goes_by s (refuses e) un = tt
 
-  -- the phase is as it was behind the row's moves
+  -- the phase hasn't changed after the row's moves
   row_unclosed : (row : SessionRow) → is_open w.opening.phase ≡ true → RowHolds (open_why w event) row → IsUnclosed (row_turn frame.place w row).state
   row_unclosed row is holds =
       let kept = moves_keep (all_moves row) w (all_keep (open_why w event) row Accept holds) in
@@ -140,7 +140,7 @@ module _ (hosts : Hosts) (accepts : Accepts) where
   pub run_shows : (s : RunState) (frame : Frame) → HasUnclosed s → Shows (run_turn hosts accepts) (IsStopCause hosts) HasUnclosed s frame
   run_shows s frame un = both_shows (session_own.event frame) s frame refl un
 
-  -- ---- no turn says that the script is at its end
+  -- ---- no turn ends with the script's end
 
   onward_never : (w : SessionState) (event : Event) (place : ℕ) (next : Next) → NextCaused (open_why w event) next → onward place next ≡ stopped (ended ScriptEnd) → ⊥
   onward_never w event place goes caused is = cc

@@ -1,5 +1,5 @@
--- A turn of the opening that goes on leaves the session unopened, and as little closed; one that opens it leaves it open. None of its records is
--- an agent's.
+-- After a turn of the opening that continues the session isn't open yet, and its opening is closed if and only if it
+-- was before; after one that opens the session it is open. None of its records is an agent's.
 use Rattle.std.proofs.Common.{◌≡◌, ℕ, Bool, true, false, Result, Ok, Err}
 use Rattle.sshc_key.specs.Asking.{asked_on, Always}
 use Rattle.sshc_key.specs.AskingLaws.{always_on}
@@ -23,7 +23,7 @@ use Rattle.sshc_run.specs.KnownHosts.{Hosts, verdict}
 use Rattle.sshc_run.specs.Machine.{Onward, goes_on, opened, stopped}
 use Rattle.sshc_run.specs.Turn.{Turn, next_turn, row_turn, judged_turn, asked_turn, event_turn, opening_turn}
 
--- what it leaves, by how the run goes on
+-- the opening after a turn, by how the run continues
 abbrev pub Leaves : Bool → Onward → OpeningState → Type 0
 Leaves closed goes_on t = (t.closed ≡ closed) × (is_open t.phase ≡ false)
 Leaves closed opened t = is_open t.phase ≡ true

@@ -1,6 +1,7 @@
--- Over a whole run the agent's answers are those of one history of one agent (draft-miller-ssh-agent): it begins with an agent that holds nothing,
--- each input of the agents' events is one entry, in order, and the agent's records among those of the run are what the entries report.
--- So what holds of every history holds in every run, the lock among it. Said of lists of entries; the code keeps nothing of them.
+-- Over a whole run the agent's answers are those of one history of one agent (draft-miller-ssh-agent): the history
+-- begins with an agent that holds nothing, each input of the agents' events is one entry, in order, and the agent's
+-- records among those of the run are what the entries report. So what is true of every history is true of every run,
+-- including the lock. Stated of lists of entries; the code keeps no such list.
 use Rattle.std.specs.Prelude.{◌≡◌, ℕ, Bool, List, [], ◌∷◌, ◌++◌, Option, Some, Result, Ok, Err}
 use Rattle.sshc_agent.specs.declared.entry.Entry.{Entry}
 use Rattle.sshc_agent.specs.declared.input.AgentInput.{AgentInput}
@@ -21,7 +22,7 @@ use Rattle.sshc_run.specs.Product.{others}
 use Rattle.sshc_run.specs.ScriptRun.{Run}
 use Rattle.sshc_run.specs.SessionPart.{session_own}
 
--- ---- what the agent is asked
+-- ---- the inputs of the agent
 
 -- an input, with its moment and its connection
 pub record Asked : Type 0 where
@@ -33,24 +34,25 @@ abbrev pub asked_at : ℕ → ℕ → List AgentInput → List Asked
 asked_at moment conn [] = []
 asked_at moment conn (input ∷ inputs) = record { moment = moment; conn = conn; input = input } ∷ asked_at moment conn inputs
 
--- the inputs of an event that can be read, and then those of the events behind it
+-- the inputs of an event that can be read, and then those of the events after it
 abbrev pub asked_by_event : List (ℕ × FrameBytes) → ℕ → Result AgentEvent EventError → (List (ℕ × FrameBytes) → List Asked) → List Asked
 asked_by_event bytes moment (Ok event) later = asked_at moment (conn_of event) (event_inputs event bytes) ++ later (event_bytes event bytes)
 asked_by_event bytes moment (Err e) later = []
 
--- the inputs of agents' events in order, where of each connection these bytes are in no frame yet
+-- the inputs of agents' events in order, where these bytes of each connection are in no frame yet
 unfoldable pub asked_along : List (ℕ × FrameBytes) → List Frame → List Asked
 asked_along bytes [] = []
 asked_along bytes (frame ∷ frames) = asked_by_event bytes frame.moment (agent_event_of frame.kind frame.fields) (λ more. asked_along more frames)
 
--- what the entries were asked
+-- the inputs of the entries
 abbrev pub asked_in : List Entry → List Asked
 asked_in [] = []
 asked_in (e ∷ entries) = record { moment = e.moment; conn = e.conn; input = e.input } ∷ asked_in entries
 
 -- ---- the history
 
--- a history of one agent that holds nothing at first, of which these events ask the first inputs and these are the agent's records
+-- a history of one agent that holds nothing at first: its first inputs are those of these events, and these are the
+-- agent's records
 pub record IsOneHistory (asks : Bool) (frames : List Frame) (r : Run) : Type 0 where
   pub entries : List Entry
   pub last : AgentList
@@ -58,9 +60,9 @@ pub record IsOneHistory (asks : Bool) (frames : List Frame) (r : Run) : Type 0 w
   pub numbers : AreNumbered [] entries
   pub inputs : IsFront (asked_in entries) (asked_along [] (own_events (others session_own) frames))
   pub reports : own_records (others session_own) r.records ≡ reported entries
-  -- behind an acknowledged lock nothing is signed, listed or changed, but by time, until it is taken off
+  -- after an acknowledged lock nothing is signed, listed or changed, except by time, until the lock is removed
   pub locks : LocksHold entries
-  -- each signature is of a key that was held, and confirmed where it wants that, by an agent that wasn't locked
+  -- each signature is by a key that was held, confirmed if the key wants that, and made while the agent wasn't locked
   pub signed : SignaturesArePermitted entries
 
 -- the whole run of a script has such a history

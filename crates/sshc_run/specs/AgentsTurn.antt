@@ -1,5 +1,6 @@
--- What an agent's event of a script gives: its records, and what the agent and the bytes of its connections are then. The run goes on behind it, but
--- where its fields are outside the grammar. The code reads the event, takes its inputs one by one and writes their records.
+-- What an agent's event of a script does: its records, and the agent and the bytes of its connections afterwards. The
+-- run continues after it, unless its fields are outside the grammar. The code reads the event, takes its inputs one by
+-- one and writes their records.
 use Rattle.std.specs.Prelude.{ℕ, Bool, Result, Ok, Err}
 use Rattle.sshc_key.specs.Asking.{Asking, done, asked_on}
 use Rattle.sshc_agent_turns.specs.declared.event.AgentEvent.{AgentEvent}
@@ -10,7 +11,7 @@ use Rattle.sshc_run.specs.declared.error.RunError.TheVariants as errors
 use Rattle.sshc_run.specs.Machine.{Machine, TurnOf, Turns, goes_on}
 use Rattle.sshc_run.specs.Turn.{stops}
 
--- the run goes on behind an agent's turn
+-- the run continues after an agent's turn
 abbrev pub going_on : AgentTurn → TurnOf Served
 going_on t = record { records = t.records; state = t.state; next = goes_on }
 
@@ -18,7 +19,7 @@ going_on t = record { records = t.records; state = t.state; next = goes_on }
 abbrev pub served_turn : ℕ → AgentEvent → Served → Asking (TurnOf Served)
 served_turn moment event s = asked_on going_on (agent_turn moment event s)
 
--- by the event that the fields give
+-- by the event that the fields encode
 abbrev pub agent_read_turn : ℕ → ℕ → Served → Result AgentEvent EventError → Asking (TurnOf Served)
 agent_read_turn place moment s (Ok event) = served_turn moment event s
 agent_read_turn place moment s (Err e) = done (stops s (errors.BadEvent place))
@@ -27,6 +28,6 @@ agent_read_turn place moment s (Err e) = done (stops s (errors.BadEvent place))
 unfoldable pub agents_turn : Turns Served
 agents_turn s frame = agent_read_turn frame.place frame.moment s (agent_event_of frame.kind frame.fields)
 
--- the agent, as a machine: no keys, no lock, no connection to begin with
+-- the agent, as a machine: at first no keys, no lock and no connection
 abbrev pub agents_machine : Bool → Machine Served
 agents_machine asks = record { first = idle asks; turn = agents_turn }

@@ -1,5 +1,5 @@
--- The same run where each call takes the next answer with its asker. Where the answers are those of the run's own calls, it is the run that
--- takes them in order.
+-- The same run where each call takes the next answer with its asker. If the answers are those of the run's own calls,
+-- it is the run that takes them in order.
 use Rattle.std.specs.Prelude.{Bool, true, false, List, [], ◌∷◌, Option, Some, None, ◌==◌, if◌then◌else◌}
 use Rattle.std.specs.Option.{option_map}
 use Rattle.sshc_key.specs.Signers.{SignCall}

@@ -1,6 +1,7 @@
--- Why a run ends: by the state that its table comes to, the event there, and what the known hosts text says.
--- No row of the tables is named here, so that an error made in a table and in the code shows; why a session refuses or ends is said by its
--- state and the event (sshc_opening, Causes; sshc_session_laws, OpenCauses). An agent refuses no event that can be read.
+-- Why a run ends: by the state that its table comes to, the event there, and the verdict of the known hosts text. The
+-- rows of the tables aren't named here, so that an error made both in a table and in the code shows; why a session
+-- refuses or ends is stated by its state and the event (sshc_opening, Causes; sshc_session_laws, OpenCauses). An agent
+-- refuses no event that can be read.
 use Rattle.std.specs.Prelude.{◌≡◌, ℕ, false, List, Option, Some, Result, Ok, Err, Bool}
 use Rattle.sshc_key.specs.declared.error.Error.TheVariants as key_errors
 use Rattle.sshc_key.specs.Asking.{Answer}
@@ -38,11 +39,11 @@ use Rattle.sshc_script.specs.Script.{Frame, taken, stop_of}
 abbrev pub IsBadAt : ℕ → Frame → Type 0
 IsBadAt at frame = (frame.place ≡ at) × (event_of frame.kind frame.fields ≡ Err reads.Bad)
 
--- its fields are read, and it holds of the event
+-- its fields can be read, and the predicate is true of the event
 abbrev pub OnRead : Frame → (Event → Type 0) → Type 0
 OnRead frame Holds = (event : Event) × (event_of frame.kind frame.fields ≡ Ok event) × Holds event
 
--- what the known hosts text says of the host key of the first exchange, which this event is
+-- the verdict of the known hosts text on the host key of the first exchange, which this event is
 abbrev pub IsSaid : Hosts → SessionState → Frame → Result Bool HandlerError → Type 0
 IsSaid hosts s frame said = (s.opening.phase ≡ phases.Exchanging) × OnRead frame (λ event. said_by hosts (Ok event) ≡ Some said)
 
@@ -56,7 +57,7 @@ IsRefusedBy hosts s frame e = OnRead frame (λ event. IsSessionCause (SaysNo hos
 
 -- ---- causes
 
--- why one event of the session is refused; memory may run out at any time
+-- why an event of the session is refused; memory may run out at any time
 abbrev pub IsEventCause : Hosts → SessionState → Frame → RunError → Type 0
 IsEventCause hosts s frame errors.NoMemory = Unit {0}
 IsEventCause hosts s frame (errors.BadEvent at) = IsBadAt at frame
@@ -78,24 +79,25 @@ IsEventCause hosts s frame errors.KeepaliveTimeout = IsRefusedBy hosts s frame a
 IsEventCause hosts s frame errors.InactivityTimeout = IsRefusedBy hosts s frame auths.InactivityTimeout
 IsEventCause hosts s frame e = ⊥
 
--- why a run stops with an event of the session: it is refused, or it ends the session
+-- why a run stops with an event of the session: the event is refused, or it ends the session
 abbrev pub IsSessionStop : Hosts → SessionState → Frame → RunStop → Type 0
 IsSessionStop hosts s frame (refused e) = IsEventCause hosts s frame e
 IsSessionStop hosts s frame (ended e) = OnRead frame (λ event. IsEndCause s.opening event e)
 IsSessionStop hosts s frame unanswered_stop = ⊥
 
--- why a run stops with an event: for the session's cause with an event of the session, for the agent's with an agent's
+-- why a run stops with an event: for an event of the session by the session's cause, for an agent's event by the
+-- agent's
 abbrev pub IsStopCause : Hosts → RunState → Frame → RunStop → Type 0
 IsStopCause hosts = BothCause session_own (IsSessionStop hosts) (λ s frame stop. IsAgentCause frame stop)
 
--- an answer's cause, by the script's first events, what stands behind them and the signer's answers; memory may run out at any time, and faults of reading
--- and writing have their own clauses
+-- the cause of a result, by the script's first events, the bytes after them and the signer's answers; memory may run
+-- out at any time, and faults of reading and writing have their own clauses
 abbrev pub HasCauseIn : Hosts → Accepts → RunSettings → ℕ → List Answer → List ℕ → Result Ended RunError → Type 0
 HasCauseIn hosts accepts settings max answers script (Err errors.NoMemory) = Unit {0}
 HasCauseIn hosts accepts settings max answers script (Err errors.ReadFault) = Unit {0}
 HasCauseIn hosts accepts settings max answers script (Err errors.WriteFault) = Unit {0}
 HasCauseIn hosts accepts settings max answers script answer = CausedBy (run_turn hosts accepts) (run_machine hosts accepts settings).first (IsStopCause hosts) (taken max script) (stop_of max script) answers (stop_as answer)
 
--- each answer has its cause in the whole script
+-- each result has its cause in the whole script
 abbrev pub IsCaused : Hosts → Accepts → RunSettings → ℕ → List Answer → Option (List ℕ) → Result Ended RunError → Type 0
 IsCaused hosts accepts settings max answers script answer = (bytes : List ℕ) → script ≡ Some bytes → HasCauseIn hosts accepts settings max answers bytes answer

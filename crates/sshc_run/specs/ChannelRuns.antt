@@ -1,6 +1,7 @@
--- Over a whole run each channel has its account (RFC 4254, sections 5.2 and 5.3): the channels are where the calls of the channel table lead
--- that the rows of the run's events make, in order, and the packets of channels among all that the open session says are those that these
--- calls write. So what the channel table promises of every list of calls holds of the run. The code keeps one table.
+-- Over a whole run each channel has its account (RFC 4254, sections 5.2 and 5.3): the channels are the result of the
+-- calls of the channel table that the rows of the run's events make, in order, and the packets of channels among all
+-- records of the open session are those that these calls write. So what the channel table guarantees for every list of
+-- calls is true of the run. The code keeps one table.
 use Rattle.std.specs.Prelude.{◌≡◌, ◌⊎◌, ℕ, Bool, true, false, List, [], ◌∷◌, ◌++◌, Option, Some, None, Result, Ok, Err}
 use Rattle.sshc_wire.specs.declared.record.Record.{Record}
 use Rattle.sshc_key.specs.Signers.{SignCall}
@@ -28,7 +29,7 @@ use Rattle.sshc_run.specs.SessionTurn.{SessionTurn, session_turn}
 
 -- ---- one event
 
--- the calls of the channel table that the event's row makes; before the session is open none
+-- the calls of the channel table that the event's row makes; before the session is open there are none
 abbrev pub row_calls : Bool → Accepts → SessionState → Event → List Call
 row_calls false accepts s event = []
 row_calls true accepts s event = calls_in (all_moves (session_row accepts (default_opinions s) s event)) s
@@ -40,15 +41,15 @@ calls_by accepts s (Err e) = []
 abbrev pub calls_at : Accepts → SessionState → Frame → List Call
 calls_at accepts s frame = calls_by accepts s (event_of frame.kind frame.fields)
 
--- what the open session says
+-- the records of the open session
 abbrev pub said_open : Bool → List Record → List Record
 said_open true records = records
 said_open false records = []
 
 -- ---- over a run
 
--- these events, by the signer's answers in order, bring the run from a state to that one, where that event is the next; their rows make these
--- calls, and the open session says these records, in order
+-- these events, by the signer's answers in order, bring the run from the one state to the other, where that event is
+-- the next; their rows make these calls, and these are the records of the open session, in order
 abbrev pub ComesCalling : Hosts → Accepts → SessionState → List Frame → List Answer → List Call → List Record → SessionState → Frame → Type 0
 ComesCalling hosts accepts s [] answers calls said s' frame' = ⊥
 ComesCalling hosts accepts s (frame ∷ frames) answers calls said s' frame' =
@@ -57,14 +58,14 @@ ComesCalling hosts accepts s (frame ∷ frames) answers calls said s' frame' =
     × (answers ≡ answers_of gained ++ left) × (stop_next t.next ≡ None) × (calls ≡ calls_at accepts s frame ++ later) × (said ≡ said_open (is_open s.opening.phase) t.records ++ more)
     × ComesCalling hosts accepts t.state frames left later more s' frame')
 
--- the calls are a life of the number n: one that makes the channel, and the life's own
+-- the calls are a life of the number n: one that makes the channel, and the life's own calls
 pub record IsLife (calls : List Call) (n : ℕ) (l : Life n) : Type 0 where
   pub opener : Call
   pub first : l.last ≡ 0
   pub all : calls ≡ l.before ++ opener ∷ l.calls
   pub opens : (called opener (ran l.before (no_channels l.last)).table).table ≡ born n l
 
--- the session has the channel as its life leaves it, and the life has its account
+-- the session has the channel as its life ends, and the life has its account
 pub record HasAccount (s : SessionState) (n : ℕ) (l : Life n) : Type 0 where
   pub end : channel_of n s.table.channels ≡ Some l.end
   pub account : Account n l

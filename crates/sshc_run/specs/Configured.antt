@@ -1,4 +1,4 @@
--- The settings of a client that is told no others, and what of them a session keeps.
+-- The default settings of a client, and which of them a session keeps.
 use Rattle.std.specs.Prelude.{◌≡◌, Bool, false, None, is_some, codes}
 use Rattle.sshc_opening.specs.declared.opening.Settings.{Settings}
 use Rattle.sshc_moves.specs.declared.settings.SessionSettings.{SessionSettings}
@@ -17,11 +17,12 @@ pub record IsDefault (c : Config) : Type 0 where
   pub max_events : c.max_events ≡ 8192
   pub agent_asks : c.agent_asks ≡ false
 
--- what the opening keeps of the settings
+-- which settings the opening keeps
 abbrev pub settings_of : Config → Settings
 settings_of c = record { window_size = c.window_size; anonymous = c.anonymous; inactivity = is_some c.inactivity_timeout }
 
--- what a session and an agent are run by: what the session's opening keeps, what it keeps besides, and whether the agent asks for each request
+-- the settings of a session and an agent: those that the session's opening keeps, those that the session keeps besides,
+-- and whether the agent asks for each request
 pub record RunSettings : Type 0 where
   pub opening : Settings
   pub session : SessionSettings

@@ -1,4 +1,4 @@
--- The promises of a whole run, over its table.
+-- What is guaranteed of a whole run, by its table.
 use Rattle.std.specs.Prelude.{◌≡◌, ◌⊎◌, ℕ, Bool, false, List, [], ◌∷◌, ◌++◌, Option, Some, None, Result, Ok, Err}
 use Rattle.sshc_wire.specs.Contents.{prepend, append, WroteFront, IsAtEnd}
 use Rattle.sshc_wire.specs.Faults.{Rose}
@@ -26,22 +26,22 @@ use Rattle.sshc_run.specs.ScriptRun.{Run}
 
 -- ---- the host key of the first exchange
 
--- what the known hosts text says of a host key; of none it says no
+-- the verdict of the known hosts text on a host key; no if there is no key
 abbrev pub said_of_key : Hosts → Option PublicKeyOrCertificate → Result Bool HandlerError
 said_of_key hosts None = Ok false
 said_of_key hosts (Some key) = verdict hosts key
 
--- what it says of an exchange that can be read
+-- its verdict on an exchange that can be read
 abbrev pub said_by : Hosts → Result Event EventError → Option (Result Bool HandlerError)
 said_by hosts (Ok (events.ExchangeDone x)) = Some (said_of_key hosts (host_key x.key))
 said_by hosts read = None
 
--- what it says of an event that is an exchange, or else of the events behind it
+-- its verdict on an event that is an exchange, or else on the events after it
 abbrev pub said_at : EventKind → Hosts → List ℕ → Option (Result Bool HandlerError) → Option (Result Bool HandlerError)
 said_at kinds.ExchangeDone hosts fields later = said_by hosts (event_of kinds.ExchangeDone fields)
 said_at kind hosts fields later = later
 
--- what it says of the first exchange among these events; nothing where there is none or it can't be read
+-- its verdict on the first exchange among these events; `None` if there is no exchange or it can't be read
 unfoldable pub said_of_first : Hosts → List Frame → Option (Result Bool HandlerError)
 said_of_first hosts [] = None
 said_of_first hosts (frame ∷ frames) = said_at frame.kind hosts frame.fields (said_of_first hosts frames)
@@ -55,27 +55,30 @@ is_yes (Some (Err e)) = false
 abbrev pub is_accepted : Hosts → List Frame → Bool
 is_accepted hosts frames = is_yes (said_of_first hosts frames)
 
--- ---- the promises
+-- ---- the guarantees
 
--- where the bytes that were given hold no exchange whose host key is accepted first, no payload is written, not even in part
+-- unless the bytes that were read hold an exchange whose host key is accepted first, no payload is written, not even in
+-- part
 abbrev pub IsGated : Hosts → ℕ → Option (List ℕ) → Option (List ℕ) → Option (List ℕ) → Option (List ℕ) → Type 0
 IsGated hosts max script left held written =
     (given : List ℕ) × (script ≡ prepend given left)
     × (is_accepted hosts (taken max given) ≡ false → (records : List Record) × NonePayload records × WroteFront held written (lines records))
 
--- what is written is a front of the lines of the whole script's records
+-- the bytes that are written are a prefix of the lines of the whole script's records
 abbrev pub IsPrefix : (List ℕ → Run) → Option (List ℕ) → Option (List ℕ) → Option (List ℕ) → Type 0
 IsPrefix table script held written = (bytes : List ℕ) → script ≡ Some bytes → WroteFront held written (lines (table bytes).records)
 
--- with Ok the table ends the whole script so, and all its records are written; at the script's end nothing is left of it
+-- with Ok, the table ends the whole script in this way, and all its records are written; at the script's end no byte of
+-- it remains
 abbrev pub IsDone : (List ℕ → Run) → Option (List ℕ) → Option (List ℕ) → Option (List ℕ) → Option (List ℕ) → Result Ended RunError → Type 0
 IsDone table script left held written (Ok e) =
     (e ≡ ScriptEnd → IsAtEnd left)
     × ((bytes : List ℕ) → script ≡ Some bytes → ((table bytes).stop ≡ ended e) × (written ≡ append held (lines (table bytes).records)))
 IsDone table script left held written (Err e) = Unit {0}
 
--- a cut write leaves all records of the events before the last that was given, whole or begun; every other error has those that its
--- own row gives first too, and is the table's over the bytes that were given, but for a failed read
+-- after a cut write, all records are written of the events before the last one that was read, whether read whole or in
+-- part; with every other error, also those of the last event's row, and the error is the table's over the bytes that
+-- were read, unless a read failed
 abbrev pub KeptBy : Ending → (List ℕ → Run) → List ℕ → Option (List ℕ) → Option (List ℕ) → RunError → Type 0
 KeptBy told table given held written e = ((table given).stop ≡ refused e) × (written ≡ append held (lines (table given).records))
 KeptBy cut table given held written e = (front : List ℕ) (b : ℕ) (more : List ℕ) → given ≡ front ++ b ∷ more → HasWritten held written (lines (table front).records)
@@ -85,11 +88,11 @@ abbrev pub IsKept : (List ℕ → Run) → Option (List ℕ) → Option (List �
 IsKept table script left held written (Ok e) = Unit {0}
 IsKept table script left held written (Err e) = (given : List ℕ) × (script ≡ prepend given left) × KeptBy (ending_of (Err e)) table given held written e
 
--- a script is valid where the table ends it so, and refuses no event of it
+-- a script is valid if the table ends it in this way, and refuses no event of it
 abbrev pub IsValidScript : (List ℕ → Run) → List ℕ → Ended → Type 0
 IsValidScript table script e = (table script).stop ≡ ended e
 
--- a valid script gives its end or out of memory, where no count rises
+-- for a valid script the result is its end or out of memory, if no count rises
 abbrev pub IsComplete : (List ℕ → Run) → Option (List ℕ) → ℕ → ℕ → ℕ → ℕ → Result Ended RunError → Type 0
 IsComplete table script reads reads' writes writes' answer =
     (bytes : List ℕ) (e : Ended) → script ≡ Some bytes → IsValidScript table bytes e → (Rose reads reads' → ⊥) → (Rose writes writes' → ⊥) →

@@ -1,4 +1,4 @@
--- What the known hosts gate says of a host key: the judgement of plain keys, and no certificate is accepted.
+-- The verdict of the known hosts gate on a host key: plain keys are judged, and no certificate is accepted.
 use Rattle.std.specs.Prelude.{◌≡◌, ◌⊎◌, ℕ, Bool, false, List, [], ◌∷◌, Result, Ok, Err}
 use Rattle.sshc_key.specs.declared.error.Error.{Error as KeyError}
 use Rattle.sshc_key.specs.declared.error.Error.TheVariants as key_errors
@@ -17,7 +17,7 @@ abbrev pub as_handler : Result Bool KeyError → Result Bool HandlerError
 as_handler (Ok accepted) = Ok accepted
 as_handler (Err e) = Err (Key e)
 
--- what the known hosts text says of a host key
+-- the verdict of the known hosts text on a host key
 unfoldable pub verdict : Hosts → PublicKeyOrCertificate → Result Bool HandlerError
 verdict hosts (PublicKey key hash) = as_handler (judged hosts.known hosts.host key.0)
 verdict hosts (Certificate key) = Ok false
@@ -26,10 +26,10 @@ verdict hosts (Certificate key) = Ok false
 abbrev pub setting_of : Hosts → List (List ℕ)
 setting_of hosts = hosts.host ∷ hosts.known ∷ []
 
--- the gate answers its verdict, or that memory ran out
+-- the gate returns its verdict, or that memory ran out
 abbrev pub Judges : Hosts → PublicKeyOrCertificate → Result Bool HandlerError → Type 0
 Judges hosts key answer = (answer ≡ verdict hosts key) ⊎ (answer ≡ Err (Key key_errors.NoMemory))
 
--- the gate is told of exchanges and banners, adds nothing and refuses nothing
+-- the gate is called for exchanges and banners, adds nothing and refuses nothing
 abbrev pub AddsNothing : {R : Type 0} → Result (Unit {0}) HandlerError → List R → Type 0
 AddsNothing answer more = (answer ≡ Ok tt) × (more ≡ [])

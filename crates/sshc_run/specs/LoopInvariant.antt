@@ -1,4 +1,4 @@
--- A run that has come so far.
+-- The invariant of a run after some of its events.
 use Rattle.std.specs.Prelude.{◌≡◌, ℕ, ◌-◌, ◌+◌, List, ◌∷◌, ◌++◌, length}
 use Rattle.sshc_wire.specs.declared.record.Record.{Record}
 use Rattle.sshc_key.specs.Signers.{SignCall}
@@ -9,8 +9,9 @@ use Rattle.sshc_run.specs.RecordLines.{lines}
 use Rattle.sshc_script.specs.Script.{events}
 use Rattle.sshc_run.specs.ScriptRun.{Spot, Table, after, answers_of}
 
--- these bytes, one event a turn, were given, these calls of the signer made and these records written; whatever follows, and whatever
--- the signer answers then, the run goes on from here; on each shorter front of the bytes it goes to its end, and says no more than was written
+-- these bytes, one event per turn, were read, these calls of the signer made and these records written; whatever bytes
+-- follow, and whatever the signer answers then, the run continues from here; on each shorter prefix of the bytes it
+-- comes to its end, and has no more records than were written
 pub record Along {S : Type 0} (table : Table S) (first : Spot S) (max turns : ℕ) (at : Spot S) (before now : Streams) (given : List ℕ) (gained : List SignCall) (records : List Record) : Type 0 where
   pub moved : Moved before now given gained (lines records)
   pub on : (later : List Answer) (more : List ℕ) → table max first (answers_of gained ++ later) (given ++ more) ≡ after records gained (table (max - turns) at later more)

@@ -1,5 +1,5 @@
--- A machine that takes the events of a script one at a time: a state to begin with, and what each event gives.
--- Whatever runs over a script is a machine: the opening, later the session, and both with what else takes events.
+-- A machine that takes the events of a script one at a time: an initial state, and what each event does. Whatever runs
+-- over a script is a machine: the opening, later the session, and both with what else takes events.
 use Rattle.std.specs.Prelude.{◌≡◌, List, Option, Some, None}
 use Rattle.sshc_wire.specs.declared.record.Record.{Record}
 use Rattle.sshc_key.specs.Asking.{Asking, Always}
@@ -8,25 +8,25 @@ use Rattle.sshc_opening.specs.declared.ended.Ended.TheVariants.{ScriptEnd}
 use Rattle.sshc_run.specs.declared.error.RunError.{RunError}
 use Rattle.sshc_script.specs.Script.{Frame}
 
--- how a run stops: an end, a refusal, or a sign call that nothing answers
+-- how a run stops: an end, a refusal, or a call of the signer without an answer
 pub data RunStop : Type 0 where
   ended : Ended → RunStop
   refused : RunError → RunStop
   unanswered_stop : RunStop
 
--- the run goes on, goes on with the session open, or stops
+-- the run continues, continues with the session open, or stops
 pub data Onward : Type 0 where
   goes_on : Onward
   opened : Onward
   stopped : RunStop → Onward
 
--- what one event gives: its records, what is kept then, and whether the run goes on
+-- what one event does: its records, the state afterwards, and whether the run continues
 pub record TurnOf (S : Type 0) : Type 0 where
   pub records : List Record
   pub state : S
   pub next : Onward
 
--- the turn of an event from a state, by what the signer answers; one event may ask the signer often
+-- the turn of an event from a state, by what the signer answers; one event may ask the signer more than once
 abbrev pub Turns : Type 0 → Type 0
 Turns S = S → Frame → Asking (TurnOf S)
 
@@ -40,7 +40,7 @@ stop_next goes_on = None
 stop_next opened = None
 stop_next (stopped stop) = Some stop
 
--- no turn says that the script is at its end
+-- no turn ends with the script's end
 abbrev pub IsNoEnd : {S : Type 0} → TurnOf S → Type 0
 IsNoEnd t = t.next ≡ stopped (ended ScriptEnd) → ⊥
 

@@ -1,5 +1,6 @@
--- Over a whole run an open of ours is answered where it waits for its answer, with its own ticket, and waits no more until another open takes
--- its number (RFC 4254, section 5.1). Said of each move of each event's row; with the count of OpenCounts an open is answered at most once.
+-- Over a whole run an open of ours is answered while it waits for its answer, with its own ticket, and then waits no
+-- more until another open takes its number (RFC 4254, section 5.1). Stated of each move of each event's row; with the
+-- count of OpenCounts an open is answered at most once.
 use Rattle.std.specs.Prelude.{◌≡◌, ◌⊎◌, ℕ, Bool, true, false, List, [], ◌∷◌, ◌++◌, Option, Some, None, Result, Ok, Err}
 use Rattle.std.specs.List.{AllByRecursion}
 use Rattle.sshc_wire.specs.declared.record.Record.{Record}
@@ -32,13 +33,14 @@ abbrev pub moves_by : Accepts → SessionState → Result Event EventError → L
 moves_by accepts s (Ok event) = row_moves (is_open s.opening.phase) accepts s event
 moves_by accepts s (Err e) = []
 
--- a move answers no open of ours, or one that waits, with its own ticket; where none waits under a number, none does behind a move that opens
--- none there
+-- a move answers no open of ours, or one that waits, with its own ticket; if none waits under a number, none does after
+-- a move that opens none there
 pub record AnswersOnce (m : Move) (s : SessionState) : Type 0 where
   pub waits : AllByRecursion NoOpenAnswer (deed_of m s).says ⊎ AnswersOne s (after m s) (deed_of m s).says
   pub stays : (n : ℕ) → awaited n s.table ≡ None → call_opens n (deed_of m s).call s.table ≡ false → awaited n (after m s).table ≡ None
 
--- at each state that the session comes to, by its own events and answers, each move of the next event's row does so, behind the moves before it
+-- at each state that the session comes to, by its own events and answers, each move of the next event's row answers
+-- opens in this way, after the moves before it
 abbrev pub OpensAreAnswered : Hosts → Accepts → RunSettings → ℕ → List Answer → Option (List ℕ) → Type 0
 OpensAreAnswered hosts accepts settings max answers script =
     (bytes : List ℕ) → script ≡ Some bytes → (s : SessionState) (frame : Frame) (calls : List Call) (said : List Record) →

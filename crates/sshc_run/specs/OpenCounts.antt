@@ -1,5 +1,5 @@
--- Over a whole run no more opens of ours are answered than were asked for (RFC 4254, section 5.1). A count over whole lists; the code keeps
--- one table, in which each open waits with its ticket.
+-- Over a whole run no more opens of ours are answered than were asked for (RFC 4254, section 5.1). A count over whole
+-- lists; the code keeps one table, in which each open waits with its ticket.
 use Rattle.std.specs.Prelude.{◌≡◌, ℕ, ◌+◌, ◌≤◌, Bool, true, false, if◌then◌else◌, List, [], ◌∷◌, Option, Some}
 use Rattle.sshc_wire.specs.declared.record.Record.{Record}
 use Rattle.sshc_wire.specs.declared.record.Record.TheVariants.{Resolved}
@@ -22,7 +22,7 @@ is_open_answer (Resolved ticket (ChannelOpened id)) = true
 is_open_answer (Resolved ticket (ChannelOpenFailed reason)) = true
 is_open_answer said = false
 
--- how many of these records do
+-- how many of these records answer an open of ours
 abbrev pub opens_answered : List Record → ℕ
 opens_answered [] = 0
 opens_answered (said ∷ records) = (if is_open_answer said then 1 else 0) + opens_answered records
@@ -33,7 +33,8 @@ opens_asked [] = 0
 opens_asked (OpenUser window packet ticket ∷ calls) = 1 + opens_asked calls
 opens_asked (call ∷ calls) = opens_asked calls
 
--- at each state that the session comes to, by its own events and answers, no more opens are answered than were asked for
+-- at each state that the session comes to, by its own events and answers, no more opens are answered than were asked
+-- for
 abbrev pub OpensAreCounted : Hosts → Accepts → RunSettings → ℕ → List Answer → Option (List ℕ) → Type 0
 OpensAreCounted hosts accepts settings max answers script =
     (bytes : List ℕ) → script ≡ Some bytes → (s : SessionState) (frame : Frame) (calls : List Call) (said : List Record) →

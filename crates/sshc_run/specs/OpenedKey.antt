@@ -1,5 +1,6 @@
--- By which host key a session is opened, in the words of the known hosts text (sshd(8), SSH_KNOWN_HOSTS FILE FORMAT) and not of the judgement: its lines
--- for the host can all be read, none has another key of the same algorithm, and one has the key.
+-- By which host key a session is opened, by the meaning of the known hosts text (sshd(8), SSH_KNOWN_HOSTS FILE FORMAT)
+-- and not by the judgement's definition: its lines for the host can all be read, none has another key of the same
+-- algorithm, and one has the key.
 use Rattle.std.specs.Prelude.{◌≡◌, ℕ, List, [], ◌∷◌, Option, Some, None, Result, Ok}
 use Rattle.sshc_key.specs.Signers.{SignCall}
 use Rattle.sshc_key.specs.declared.identity.PublicKeyOrCertificate.{PublicKeyOrCertificate}
@@ -24,12 +25,12 @@ abbrev pub key_by : Result Event EventError → Option PublicKeyOrCertificate
 key_by (Ok (events.ExchangeDone x)) = host_key x.key
 key_by read = None
 
--- the host key of an event that is an exchange, or else of the events behind it
+-- the host key of an event that is an exchange, or else of the events after it
 abbrev pub key_at : EventKind → List ℕ → Option PublicKeyOrCertificate → Option PublicKeyOrCertificate
 key_at kinds.ExchangeDone fields later = key_by (event_of kinds.ExchangeDone fields)
 key_at kind fields later = later
 
--- the host key of the first exchange among these events; none where there is none, or it has none
+-- the host key of the first exchange among these events; `None` if there is no exchange, or it has no host key
 unfoldable pub first_key : List Frame → Option PublicKeyOrCertificate
 first_key [] = None
 first_key (frame ∷ frames) = key_at frame.kind frame.fields (first_key frames)
@@ -46,7 +47,7 @@ OpensIt (opens_before s frames left) = Unit {0}
 OpensIt (stops_with stop) = ⊥
 OpensIt through = ⊥
 
--- where the table opens the session, the host key of the script's first exchange is accepted so
+-- if the table opens the session, the host key of the script's first exchange is accepted in this sense
 abbrev pub IsOpenedByAccepted : {S : Type 0} → Hosts → Machine S → Own → ℕ → List SignCall → Option (List ℕ) → Type 0
 IsOpenedByAccepted hosts m own max calls script =
     (bytes : List ℕ) → script ≡ Some bytes → OpensIt (opening_of m own max calls bytes).stop → HasAcceptedKey hosts (first_key (taken max bytes))

@@ -1,5 +1,6 @@
--- The headline's sentence between the opening table and a run of a larger machine that the opening begins, and that takes events of others
--- in between: the records of the session's own are a front of the opening's or, once it opens the session, all of them followed by more.
+-- The relation between the opening table and a run of a larger machine that begins as the opening, and that takes
+-- events of others in between: the records of the session's own are a prefix of the opening's or, once it opens the
+-- session, all of them followed by more.
 use Rattle.std.specs.Prelude.{◌≡◌, ◌⊎◌, ℕ, List, [], Option, Some, Result, Ok, Err}
 use Rattle.sshc_wire.specs.Contents.{WroteFront, append}
 use Rattle.sshc_wire.specs.Faults.{Rose}
@@ -20,22 +21,22 @@ use Rattle.sshc_script.specs.Script.{Frame, ScriptStop, whole, taken, stop_of}
 abbrev pub opening_of : {S : Type 0} → Machine S → Own → ℕ → List SignCall → List ℕ → OpeningRun S
 opening_of m own max calls script = opening m.turn m.first (own_events own (taken max script)) (own_answers own calls)
 
--- these are a front of the opening's or, once it opens the session, all of them followed by more
+-- these are a prefix of the opening's records or, once it opens the session, all of them followed by more
 abbrev pub BeginsAs : {S : Type 0} {X : Type 0} → List X → OpeningStop S → List X → Type 0
 BeginsAs outputs (opens_before s frames left) said = IsFront said outputs ⊎ IsFront outputs said
 BeginsAs outputs (stops_with stop) said = IsFront said outputs
 BeginsAs outputs through said = IsFront said outputs
 
--- all of the opening's records are these and it ends so, or it opens the session and they follow it
+-- these are all of the opening's records and it ends in this way, or it opens the session and these follow them
 abbrev pub ConcludesAs : {S : Type 0} → List Record → OpeningStop S → List Record → Ended → Type 0
 ConcludesAs outputs (opens_before s frames left) said e = IsFront outputs said
 ConcludesAs outputs (stops_with stop) said e = (said ≡ outputs) × (stop ≡ ended e)
 ConcludesAs outputs through said e = (said ≡ outputs) × (e ≡ ScriptEnd)
 
--- ---- the promises of a whole run
+-- ---- the guarantees of a whole run
 
--- what is written is a front of the lines of some records, whose session records begin so, and so do the session's calls of the signer,
--- however the run ends
+-- the bytes that are written are a prefix of the lines of some records; the session's records among these begin as the
+-- opening's, and so do the session's calls of the signer, however the run ends
 abbrev pub IsOpeningFirst : {S : Type 0} → Machine S → Own → ℕ → List SignCall → Option (List ℕ) → Option (List ℕ) → Option (List ℕ) → Type 0
 IsOpeningFirst m own max calls script held written =
     (bytes : List ℕ) → script ≡ Some bytes →
@@ -43,7 +44,8 @@ IsOpeningFirst m own max calls script held written =
     × BeginsAs (opening_of m own max calls bytes).records (opening_of m own max calls bytes).stop (own_records own records)
     × BeginsAs (opening_of m own max calls bytes).calls (opening_of m own max calls bytes).stop (own_calls own calls)
 
--- with Ok all lines of some records are written, whose session records are the opening's, and it ends so; or they follow its opening
+-- with Ok all lines of some records are written; the session's records among these are the opening's, and it ends in
+-- this way, or they follow its opening
 abbrev pub IsOpeningDone : {S : Type 0} → Machine S → Own → ℕ → List SignCall → Option (List ℕ) → Option (List ℕ) → Option (List ℕ) → Result Ended RunError → Type 0
 IsOpeningDone m own max calls script held written (Ok e) =
     (bytes : List ℕ) → script ≡ Some bytes →
@@ -51,13 +53,15 @@ IsOpeningDone m own max calls script held written (Ok e) =
     × ConcludesAs (opening_of m own max calls bytes).records (opening_of m own max calls bytes).stop (own_records own records) e
 IsOpeningDone m own max calls script held written (Err e) = Unit {0}
 
--- a script is valid where the opening stops at an end, at the script's whole end, or opens the session with no session event behind it
+-- a script is valid if the opening stops at an end, or at the whole script's end, or opens the session with no session
+-- event after that
 abbrev pub IsValidBy : {S : Type 0} → ScriptStop → OpeningStop S → Ended → Type 0
 IsValidBy st (opens_before s frames left) e = (frames ≡ []) × (st ≡ whole) × (e ≡ ScriptEnd)
 IsValidBy st (stops_with stop) e = stop ≡ ended e
 IsValidBy st through e = (st ≡ whole) × (e ≡ ScriptEnd)
 
--- a valid script of whose other events none stops the run gives its end or out of memory, where no count rises
+-- for a valid script, if none of its other events stops the run, the result is its end or out of memory, if no count
+-- rises
 abbrev pub IsOpeningComplete : {S : Type 0} → Machine S → Own → (Frame → RunStop → Type 0) → ℕ → List SignCall → Option (List ℕ) → ℕ → ℕ → ℕ → ℕ → Result Ended RunError → Type 0
 IsOpeningComplete m own Cause max calls script reads reads' writes writes' answer =
     (bytes : List ℕ) (e : Ended) → script ≡ Some bytes → IsValidBy (stop_of max bytes) (opening_of m own max calls bytes).stop e →

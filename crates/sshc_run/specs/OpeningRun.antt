@@ -7,7 +7,8 @@ use Rattle.sshc_run.specs.Machine.{RunStop, unanswered_stop, Onward, goes_on, op
 use Rattle.sshc_script.specs.Script.{Frame, ScriptStop}
 use Rattle.sshc_run.specs.ScriptRun.{RunOf, Run, stopped_with, after, asked_run, at_end, events_run}
 
--- how the opening run stops: the session is open, and these events and answers stand behind; the run stops; or the list is used up
+-- how the opening run stops: the session is open, and these events and answers remain; the run stops; or the list is
+-- used up
 pub data OpeningStop (S : Type 0) : Type 0 where
   opens_before : S → List Frame → List Answer → OpeningStop S
   stops_with : RunStop → OpeningStop S
@@ -31,7 +32,7 @@ opening turn s (frame ∷ frames) answers =
 
 -- ---- the law between the opening run and the whole run
 
--- once the table opens the session, the whole run stands behind the opening's records; else the two stop alike
+-- once the table opens the session, the whole run has the opening's records followed by more; else the two stop alike
 abbrev pub Concluded : {S : Type 0} → Turns S → ScriptStop → OpeningRun S → OpeningStop S → Run → Type 0
 Concluded turn st o (opens_before s frames left) r = r ≡ after o.records o.calls (events_run turn s frames st left)
 Concluded turn st o (stops_with stop) r = r ≡ record { records = o.records; calls = o.calls; stop = stop }
@@ -39,8 +40,9 @@ Concluded turn st o through r = r ≡ record { records = o.records; calls = o.ca
 
 -- ---- a larger machine that begins as the opening
 
--- Until the table opens the session, which holds of each state that it goes on from, the machine's turns are the table's, with what is kept
--- seen so. Where the table opens the session, its records come first, and the machine goes on from a state of its own.
+-- Until the table opens the session, in each state that it continues from, which `Before` is true of, the machine's
+-- turns are the table's, with its state mapped in this way. When the table opens the session, its records come first,
+-- and the machine continues from a state of its own.
 pub record Continues {A : Type 0} {B : Type 0} (short : Turns A) (long : Turns B) (as_kept : A → B) (Before : A → Type 0) : Type 0 where
   pub turn_of : TurnOf A → TurnOf B
   pub same : (s : A) (frame : Frame) → Before s → long (as_kept s) frame ≡ asked_on turn_of (short s frame)
@@ -49,8 +51,8 @@ pub record Continues {A : Type 0} {B : Type 0} (short : Turns A) (long : Turns B
   pub opens : (t : TurnOf A) → t.next ≡ opened → IsFront t.records (turn_of t).records × ((turn_of t).next ≡ opened)
   pub stops : (t : TurnOf A) (stop : RunStop) → t.next ≡ stopped stop → ((turn_of t).records ≡ t.records) × ((turn_of t).next ≡ stopped stop)
 
--- the records and the calls are the opening run's, and the stop is its own; or, once it opens the session, they are all of its records and
--- calls followed by more, and where no event stands behind, the run stops at what stands behind the events
+-- the records and the calls are the opening run's, and it stops in the same way; or, once it opens the session, they
+-- are all of its records and calls followed by more, and if no event follows, the run stops at what follows the events
 abbrev pub Prefixed : {A : Type 0} → ScriptStop → OpeningRun A → OpeningStop A → Run → Type 0
 Prefixed st o (opens_before s frames left) r = IsFront o.records r.records × IsFront o.calls r.calls × (frames ≡ [] → r.stop ≡ at_end st)
 Prefixed st o (stops_with stop) r = r ≡ record { records = o.records; calls = o.calls; stop = stop }

@@ -32,20 +32,20 @@ own_calls own calls = filter (λ (call : SignCall). own.asker call.by) calls
 abbrev pub own_answers : Own → List SignCall → List Answer
 own_answers own calls = answers_of (own_calls own calls)
 
--- ---- turns of its own and others
+-- ---- turns for its own events and for others
 
--- the test says so of each record
+-- the test has this result for each record
 abbrev pub SaysBy : (Record → Bool) → Bool → List Record → Type 0
 SaysBy test is [] = Unit {0}
 SaysBy test is (said ∷ records) = (test said ≡ is) × SaysBy test is records
 
--- the test says so of whoever asks
+-- the test has this result for each asker
 abbrev pub AsksBy : {A : Type 0} → (Asker → Bool) → Bool → Asking A → Type 0
 AsksBy test is (done x) = Unit {0}
 AsksBy test is (asks asked on) = (test asked.by ≡ is) × ((answer : Answer) → AsksBy test is (on answer))
 
--- an event of its own is taken by the part's turn, whose records and askers are its own; another event leaves the part as it was, says
--- no record of its own and asks by no asker of its own
+-- an event of its own is taken by the part's turn, whose records and askers are its own; another event doesn't change
+-- the part, has no record of its own and asks the signer by no asker of its own
 pub record HasPart {P : Type 0} {A : Type 0} (whole : Turns P) (part : Turns A) (see : P → A) (own : Own) : Type 0 where
   pub as_whole : P → TurnOf A → TurnOf P
   pub same : (s : P) (frame : Frame) → own.event frame ≡ true → whole s frame ≡ asked_on (as_whole s) (part (see s) frame)
@@ -64,22 +64,22 @@ abbrev pub StoppedByOther : Own → (Frame → RunStop → Type 0) → List Fram
 StoppedByOther own Cause [] stop = ⊥
 StoppedByOther own Cause (frame ∷ frames) stop = ((own.event frame ≡ false) × Cause frame stop) ⊎ StoppedByOther own Cause frames stop
 
--- ---- a run, seen by its part
+-- ---- a run, as its part sees it
 
--- what a run said and asked of the part's own is the first of what the part's run says and asks, whatever answers follow
+-- the records and calls of a run that are the part's own are the first of the part's run, whatever answers follow
 abbrev pub IsFirstPart : Own → Run → (List Answer → Run) → Type 0
 IsFirstPart own r part =
     (later : List Answer) → IsFront (own_records own r.records) (part (own_answers own r.calls ++ later)).records × IsFront (own_calls own r.calls) (part (own_answers own r.calls ++ later)).calls
 
--- it is all of it, and the run stops as the part's run
+-- they are all of them, and the run stops as the part's run does
 abbrev pub IsWholePart : Own → Run → (List Answer → Run) → Type 0
 IsWholePart own r part = part (own_answers own r.calls) ≡ record { records = own_records own r.records; calls = own_calls own r.calls; stop = r.stop }
 
--- a run stopped at a call that nothing answers, or at an event of another
+-- a run stopped at a call without an answer, or at an event of another
 abbrev pub StopsElse : Own → (Frame → RunStop → Type 0) → List Frame → RunStop → Type 0
 StopsElse own Cause frames stop = (stop ≡ unanswered_stop) ⊎ StoppedByOther own Cause frames stop
 
--- what it said and asked is the first of what the part's run says and asks; it is all of it, but where the run stopped so
+-- its records and calls are the first of the part's run; they are all of them, unless the run stopped in this way
 pub record PartOf (own : Own) (Else : RunStop → Type 0) (r : Run) (part : List Answer → Run) : Type 0 where
   pub first : IsFirstPart own r part
   pub whole : IsWholePart own r part ⊎ Else r.stop

@@ -1,5 +1,6 @@
--- Over a whole run a password is written at most as often as it was asked for (RFC 4252, section 8). Said of the packet that asks for a user by a
--- password, and of the session's events among all that ask for it; the code keeps no count.
+-- Over a whole run a password is written at most as often as it was asked for (RFC 4252, section 8). Stated of the
+-- packet that requests to log a user in by a password, and of the session's events among all that ask for it; the code
+-- keeps no count.
 use Rattle.std.specs.Prelude.{◌≡◌, ◌≤◌, ◌+◌, ℕ, List, [], ◌∷◌, Option, Some, Result, Ok, Err}
 use Rattle.sshc_wire.specs.Wire.{IsShort}
 use Rattle.sshc_event.specs.declared.event.Event.{Event}
@@ -11,7 +12,7 @@ use Rattle.sshc_run.specs.Part.{own_events}
 use Rattle.sshc_run.specs.ScriptRun.{Run}
 use Rattle.sshc_run.specs.SessionPart.{session_own}
 
--- once where the event that the fields give asks for it
+-- 1 if the event that the fields encode asks for it
 abbrev pub times_asked_by : List ℕ → Result Event EventError → ℕ
 times_asked_by packet (Ok event) = times_asked packet event
 times_asked_by packet (Err e) = 0
@@ -21,7 +22,8 @@ abbrev pub times_asked_in : List ℕ → List Frame → ℕ
 times_asked_in packet [] = 0
 times_asked_in packet (frame ∷ frames) = times_asked_by packet (event_of frame.kind frame.fields) + times_asked_in packet frames
 
--- for every user and password, the run's records have the packet at most as often as the session's events among the first ask for it
+-- for every user and password, the run's records have the packet at most as often as the session's events among the
+-- first ask for it
 abbrev pub PasswordsAreAsked : ℕ → (List ℕ → Run) → Option (List ℕ) → Type 0
 PasswordsAreAsked max table script =
     (bytes : List ℕ) → script ≡ Some bytes → (user password : List ℕ) → IsShort user →

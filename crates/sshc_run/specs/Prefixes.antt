@@ -1,4 +1,4 @@
--- The first of a list.
+-- Prefixes of lists.
 use Rattle.std.specs.Prelude.{◌≡◌, List, ◌++◌}
 
 abbrev pub IsFront : {X : Type 0} → List X → List X → Type 0

@@ -1,6 +1,6 @@
--- Over a whole run the server's replies go to our global requests in the order in which these were written (RFC 4254, section 4).
--- Said of the session's events among all, with the answers of the session's own calls.
--- Said of each state that a run comes to, with the requests that its rows wrote; the code keeps a queue.
+-- Over a whole run the server's replies answer our global requests in the order in which these were written (RFC 4254,
+-- section 4). Stated of the session's events among all, with the answers of the session's own calls, and of each state
+-- that a run comes to, with the requests that its rows wrote; the code keeps a queue.
 use Rattle.std.specs.Prelude.{◌≡◌, ◌⊎◌, ℕ, Bool, true, false, List, [], ◌∷◌, ◌++◌, Option, Some, None, Result, Ok, Err}
 use Rattle.sshc_key.specs.Signers.{SignCall}
 use Rattle.sshc_key.specs.Asking.{Answer, Makes}
@@ -34,14 +34,14 @@ abbrev pub requests_of : Accepts → SessionState → Result Event EventError �
 requests_of accepts s (Ok event) = requests_in (is_open s.opening.phase) accepts s event
 requests_of accepts s (Err e) = []
 
--- the requests that the event's row writes with an answer wanted
+-- the requests that the event's row writes, with an answer wanted
 abbrev pub requests_at : Accepts → SessionState → Frame → List Awaited
 requests_at accepts s frame = requests_of accepts s (event_of frame.kind frame.fields)
 
 -- ---- over a run
 
--- these events, by the signer's answers in order, bring the run from a state to that one, where that event is the next, and their rows
--- write these requests with an answer wanted, in order
+-- these events, by the signer's answers in order, bring the run from the one state to the other, where that event is
+-- the next, and their rows write these requests with an answer wanted, in order
 abbrev pub ComesAsking : Hosts → Accepts → SessionState → List Frame → List Answer → List Awaited → SessionState → Frame → Type 0
 ComesAsking hosts accepts s [] answers asked s' frame' = ⊥
 ComesAsking hosts accepts s (frame ∷ frames) answers asked s' frame' =
@@ -49,7 +49,8 @@ ComesAsking hosts accepts s (frame ∷ frames) answers asked s' frame' =
     ⊎ ((t : SessionTurn) × (gained : List SignCall) × (left : List Answer) × (later : List Awaited) × Makes (session_turn hosts accepts s frame) gained t × (answers ≡ answers_of gained ++ left)
     × (stop_next t.next ≡ None) × (asked ≡ requests_at accepts s frame ++ later) × ComesAsking hosts accepts t.state frames left later s' frame')
 
--- at each state that the session comes to, the requests that were answered are the first of those written, and those that wait are the others
+-- at each state that the session comes to, the requests that were answered are the first of those written, and those
+-- that wait are the others
 abbrev pub AreInOrder : Hosts → Accepts → RunSettings → ℕ → List Answer → Option (List ℕ) → Type 0
 AreInOrder hosts accepts settings max answers script =
     (bytes : List ℕ) → script ≡ Some bytes → (s : SessionState) (frame : Frame) (asked : List Awaited) →

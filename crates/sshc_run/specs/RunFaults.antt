@@ -1,4 +1,4 @@
--- How often the source and the sink of a run failed, and that a fault is answered just where a count rose.
+-- How often the source and the sink of a run failed, and that a fault is returned if and only if a count rose.
 use Rattle.std.specs.Prelude.{◌≡◌, ℕ, ◌≤◌, Result, Err}
 use Rattle.sshc_wire.specs.Faults.{Rose}
 use Rattle.sshc_opening.specs.declared.ended.Ended.{Ended}
@@ -13,7 +13,8 @@ pub record FaultCounts : Type 0 where
 abbrev pub fault_counts : ℕ → ℕ → FaultCounts
 fault_counts reads writes = record { reads = reads; writes = writes }
 
--- a fault of the source or the sink is answered only where its count rose, and with every other answer the count is as it was
+-- a fault of the source or the sink is returned only if its count rose, and with every other result the count hasn't
+-- changed
 pub record FaultsAnswered (was is : FaultCounts) (answer : Result Ended RunError) : Type 0 where
   pub read_later : was.reads ≤ is.reads
   pub write_later : was.writes ≤ is.writes

@@ -1,5 +1,5 @@
--- What a contract sees of the source, the sink and the signer of a run, and what a run does to their counts. Contents are told by sources and sinks over
--- memory; of others `left` and `held` are none, and then nothing is said of bytes.
+-- How a contract sees the source, the sink and the signer of a run, and what a run does to their counts. Sources and
+-- sinks over memory show their contents; for others `left` and `held` are `None`, and then nothing is stated of bytes.
 use Rattle.std.specs.Prelude.{◌≡◌, ℕ, ◌+◌, ◌≤◌, List, Option, Some, IfNone, Result, Err}
 use Rattle.sshc_wire.specs.Contents.{WritesMove, WritesFor}
 use Rattle.sshc_wire.specs.Faults.{Rose}
@@ -10,7 +10,7 @@ use Rattle.sshc_run.specs.declared.error.RunError.TheVariants as errors
 use Rattle.sshc_run.specs.Outcome.{Streams}
 use Rattle.sshc_run.specs.RunFaults.{FaultCounts, FaultsAnswered}
 
--- a source: the bytes that are left, the reads that were made, those that moved nothing, and those that failed
+-- a source: the remaining bytes, the reads that were made, those that moved nothing, and those that failed
 pub record SourceState : Type 0 where
   pub left : Option (List ℕ)
   pub reads : ℕ
@@ -39,14 +39,15 @@ pub record RunOutside : Type 0 where
 abbrev pub run_outside : SourceState → SinkState → List SignCall → RunOutside
 run_outside source sink calls = record { source = source; sink = sink; calls = calls }
 
--- the contents, the reads and the signer's calls alone
+-- only the contents, the reads and the signer's calls
 abbrev pub streams_of : RunOutside → Streams
 streams_of o = record { left = o.source.left; held = o.sink.held; reads = o.source.reads; calls = o.calls }
 
 abbrev pub faults_of : RunOutside → FaultCounts
 faults_of o = record { reads = o.source.faults; writes = o.sink.faults }
 
--- at most one read and one write moved nothing, each write but the last moved a byte, and a fault is answered just where its count rose
+-- at most one read and one write moved nothing, each write but the last moved a byte, and a fault is returned if and
+-- only if its count rose
 pub record CountsMoved (before now : RunOutside) (answer : Result Ended RunError) : Type 0 where
   pub last_read : now.source.empty_reads ≤ before.source.empty_reads + 1
   pub last_write : now.sink.empty_writes ≤ before.sink.empty_writes + 1
@@ -55,7 +56,7 @@ pub record CountsMoved (before now : RunOutside) (answer : Result Ended RunError
 
 -- ---- one event
 
--- what taking one event does to the source's counts. Where the run goes on, each read moved a byte
+-- what taking one event does to the source's counts. If the run continues, each read moved a byte
 pub record SourceTaken (before now : SourceState) (answer : Option (Result Ended RunError)) : Type 0 where
   pub moving : IfNone answer (now.empty_reads ≡ before.empty_reads)
   pub last : now.empty_reads ≤ before.empty_reads + 1
@@ -63,7 +64,7 @@ pub record SourceTaken (before now : SourceState) (answer : Option (Result Ended
   pub fault : answer ≡ Some (Err errors.ReadFault) → Rose before.faults now.faults
   pub told : (answer ≡ Some (Err errors.ReadFault) → ⊥) → now.faults ≡ before.faults
 
--- and to the sink's. Where the run goes on, each write moved a byte
+-- and to the sink's. If the run continues, each write moved a byte
 pub record SinkTaken (before now : SinkState) (answer : Option (Result Ended RunError)) : Type 0 where
   pub moving : IfNone answer (now.empty_writes ≡ before.empty_writes)
   pub last : now.empty_writes ≤ before.empty_writes + 1

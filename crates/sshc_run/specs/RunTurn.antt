@@ -1,5 +1,6 @@
--- What one event of a script gives, of a session and an agent side by side: a session's event is the session's, an agent's event the agent's, in
--- whatever order they come. Neither sees what the other keeps; they share the signer and the order of the records.
+-- What one event of a script does, with a session and an agent side by side: a session's event is the session's, an
+-- agent's event the agent's, in whatever order they come. Neither sees the other's state; they share the signer and the
+-- order of the records.
 use Rattle.sshc_agent_turns.specs.AgentTurns.{Served}
 use Rattle.sshc_moves.specs.SessionState.{SessionState}
 use Rattle.sshc_packets.specs.HostKeyProof.{Accepts}
@@ -22,6 +23,6 @@ kept session agents = record { one = session; other = agents }
 abbrev pub run_turn : Hosts → Accepts → Turns RunState
 run_turn hosts accepts = both_turn session_own (session_turn hosts accepts) agents_turn
 
--- both with what they begin with
+-- both, each with its initial state
 abbrev pub run_machine : Hosts → Accepts → RunSettings → Machine RunState
 run_machine hosts accepts settings = both_machine session_own (session_machine hosts accepts settings) (agents_machine settings.agent_asks)

@@ -1,6 +1,6 @@
--- A whole run of a script by a machine: the records in order, the signer's calls in order, and how it stops.
--- It is the fold of the machine's turns over the script's events, and then what stands behind them; the recursion over bytes
--- is a device of the proof, which a law joins with the two definitions.
+-- A whole run of a script by a machine: the records in order, the signer's calls in order, and how it stops. It is the
+-- fold of the machine's turns over the script's events, and then what follows them; the recursion over bytes is only a
+-- device of the proof, and a law relates the two definitions.
 use Rattle.std.specs.Prelude.{ℕ, zero, suc, ◌+◌, List, [], ◌∷◌, ◌++◌}
 use Rattle.sshc_wire.specs.declared.record.Record.{Record}
 use Rattle.sshc_key.specs.Signers.{SignCall, since}
@@ -19,7 +19,7 @@ pub record RunOf (E : Type 0) : Type 0 where
 abbrev pub Run : Type 0
 Run = RunOf RunStop
 
--- these records alone
+-- only these records
 abbrev pub stopped_with : {E : Type 0} → List Record → E → RunOf E
 stopped_with records stop = record { records = records; calls = []; stop = stop }
 
@@ -27,7 +27,7 @@ stopped_with records stop = record { records = records; calls = []; stop = stop 
 abbrev pub after : {E : Type 0} → List Record → List SignCall → RunOf E → RunOf E
 after records calls r = record { records = records ++ r.records; calls = calls ++ r.calls; stop = r.stop }
 
--- what asks the signer, with these answers in order, and then the run; it stops where no answer is left
+-- calls of the signer, with these answers in order, and then the run; it stops if no answer remains
 abbrev pub asked_run : {A : Type 0} {E : Type 0} → E → Asking A → List Answer → (A → List Answer → RunOf E) → RunOf E
 asked_run wanting (done x) answers later = later x answers
 asked_run wanting (asks asked on) [] later = stopped_with [] wanting
@@ -39,9 +39,9 @@ run_on t goes_on later = after t.records [] later
 run_on t opened later = after t.records [] later
 run_on t (stopped stop) later = stopped_with t.records stop
 
--- ---- by the events and what stands behind them
+-- ---- by the events and what follows them
 
--- behind the last event that was taken
+-- after the last event that was taken
 abbrev pub at_end : ScriptStop → RunStop
 at_end whole = ended ScriptEnd
 at_end (bad place) = refused (errors.BadEvent place)
@@ -52,7 +52,7 @@ unfoldable pub events_run : {S : Type 0} → Turns S → S → List Frame → Sc
 events_run turn s [] st answers = stopped_with [] (at_end st)
 events_run turn s (frame ∷ frames) st answers = asked_run unanswered_stop (turn s frame) answers (λ t left. run_on t t.next (events_run turn t.state frames st left))
 
--- the run of a script: its first events, and then what stands behind them
+-- the run of a script: its first events, and then what follows them
 abbrev pub script_run : {S : Type 0} → Machine S → ℕ → List Answer → List ℕ → Run
 script_run m max answers script = events_run m.turn m.first (taken max script) (stop_of max script) answers
 
@@ -67,7 +67,7 @@ answers_since old new = answers_of (since old new)
 
 -- ---- by recursion over bytes
 
--- where a run stands: the place of the next event, the last moment, and what is kept
+-- the state of a run: the place of the next event, the last moment, and the machine's state
 pub record Spot (S : Type 0) : Type 0 where
   pub place : ℕ
   pub last : ℕ
@@ -82,7 +82,7 @@ at_first s = spot 0 0 s
 abbrev pub spot_after : {S : Type 0} → Spot S → Head → S → Spot S
 spot_after at head s = record { place = at.place + size_of head; last = head.0; state = s }
 
--- at most so many events from a spot, with the signer's answers to come
+-- at most n events from a spot, with the signer's answers to come
 abbrev pub Table : Type 0 → Type 0
 Table S = ℕ → Spot S → List Answer → List ℕ → Run
 

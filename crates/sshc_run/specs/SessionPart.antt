@@ -1,5 +1,5 @@
--- What is the session's own in a run: every event but an agent's, every record but an agent's, and the calls that it makes of the signer.
--- What is left is the agents'.
+-- What is the session's own in a run: every event but an agent's, every record but an agent's, and the session's calls
+-- of the signer. The others are the agents'.
 use Rattle.std.specs.Prelude.{◌≡◌, Bool, true, false, not, Err}
 use Rattle.sshc_key.specs.declared.signer.Asker.{Asker}
 use Rattle.sshc_key.specs.declared.signer.Asker.TheVariants.{Session, Agent}

@@ -1,5 +1,6 @@
--- What one event of the session gives: its records, what the session is then, and whether the run goes on. Before the session is open it is the
--- opening's turn, and then the row of the event, by the default answers of a handler. The code has one session, and takes its records.
+-- What one event of the session does: its records, the session afterwards, and whether the run continues. Before the
+-- session is open it is the opening's turn, and then the row of the event, by a handler's default bodies. The code has
+-- one session, and takes its records.
 use Rattle.std.specs.Prelude.{ℕ, Bool, true, false, List, [], length, drop, Result, Ok, Err}
 use Rattle.sshc_wire.specs.declared.record.Record.{Record}
 use Rattle.sshc_key.specs.Asking.{Asking, done, asked_on}
@@ -33,7 +34,7 @@ in_session s t = record { records = t.records; state = record s { opening = t.st
 
 -- ---- in an open session
 
--- the session once what it said was taken
+-- the session after its records were taken
 abbrev pub emptied : SessionState → SessionState
 emptied s = record s { records = [] }
 
@@ -42,11 +43,11 @@ onward place goes = goes_on
 onward place (row_ends e) = stopped (ended e)
 onward place (refuses e) = stopped (refused (error_of place e))
 
--- what the moves say, behind what was said before
+-- the records of the moves, after those from before
 abbrev pub said_by : List Move → SessionState → List Record
 said_by moves s = drop (length s.records) (when_done moves s).records
 
--- the row's moves are done, and what they say is said
+-- the row's moves are done, and their records are added
 abbrev pub row_turn : ℕ → SessionState → SessionRow → SessionTurn
 row_turn place s row = record {
   records = said_by (all_moves row) s;
@@ -61,7 +62,7 @@ abbrev pub step_turn : Bool → Hosts → Accepts → ℕ → SessionState → E
 step_turn false hosts accepts place s event = asked_on (in_session s) (asked_turn hosts place s.opening event (asked_of s.opening event))
 step_turn true hosts accepts place s event = done (row_turn place s (session_row accepts (default_opinions s) s event))
 
--- by the event that the fields give
+-- by the event that the fields encode
 abbrev pub read_turn : Hosts → Accepts → ℕ → SessionState → Result Event EventError → Asking SessionTurn
 read_turn hosts accepts place s (Ok event) = step_turn (is_open s.opening.phase) hosts accepts place s event
 read_turn hosts accepts place s (Err reads.Bad) = done (stops s (errors.BadEvent place))

@@ -1,6 +1,6 @@
--- What a session asks the signer along a run, and what it hands out to be signed (RFC 4252, section 7; RFC 4253, section 7.2): the signed text of the
--- first exchange's hash and of a request that an earlier event asked for. Said of each state that the session comes to, with the events before it;
--- the code keeps no list of them.
+-- What a session asks the signer along a run, and what it outputs to be signed (RFC 4252, section 7; RFC 4253, section
+-- 7.2): the signed text of the first exchange's hash and of a request that an earlier event asked for. Stated of each
+-- state that the session comes to, with the events before it; the code keeps no list of them.
 use Rattle.std.specs.Prelude.{◌≡◌, ◌≢◌, ◌⊎◌, ◌≤◌, ◌+◌, ℕ, false, List, [], ◌∷◌, ◌++◌, length, Option, Some, None, Result, Ok, Err}
 use Rattle.std.specs.List.{AllByRecursion}
 use Rattle.sshc_key.specs.Signers.{SignCall}
@@ -43,8 +43,8 @@ first_hash (event ∷ past) = or_hash (first_hash past) event
 
 -- ---- over a run
 
--- these events, by the signer's answers in order, bring the session from a state to that one, where that event is the next; the events that were
--- taken until then stand before those of the past
+-- these events, by the signer's answers in order, bring the session from the one state to the other, where that event
+-- is the next; the events taken until then precede those of the past in the list
 abbrev pub ComesBehind : Hosts → Accepts → List Event → SessionState → List Frame → List Answer → List Event → SessionState → Frame → Type 0
 ComesBehind hosts accepts past s [] answers past' s' frame' = ⊥
 ComesBehind hosts accepts past s (frame ∷ frames) answers past' s' frame' =
@@ -53,11 +53,11 @@ ComesBehind hosts accepts past s (frame ∷ frames) answers past' s' frame' =
     × (stop_next t.next ≡ None) × ComesBehind hosts accepts (behind (event_of frame.kind frame.fields) past) t.state frames left past' s' frame')
 
 pub record IsSignedAt (hosts : Hosts) (accepts : Accepts) (past : List Event) (s : SessionState) (frame : Frame) : Type 0 where
-  -- behind the first exchange its hash is the session id
+  -- after the first exchange its hash is the session id
   pub session_id : s.opening.phase ≢ phases.Exchanging → first_hash past ≡ Some s.opening.session_id
   -- the signer is asked for the signed text of the session id and of a request among the events
   pub asked : (gained : List SignCall) (t : SessionTurn) → Makes (session_turn hosts accepts s frame) gained t → AllByRecursion (IsSignedFor s.opening.session_id past) gained
-  -- what is handed out to be signed until the session is open is such a text too
+  -- the bytes that are output to be signed, until the session is open, are such a text too
   pub handed : (gained : List SignCall) (t : SessionTurn) → is_open s.opening.phase ≡ false → Makes (session_turn hosts accepts s frame) gained t → AllByRecursion (IsHandedFor s.opening.session_id past) t.records
 
 -- at each state that the session comes to
@@ -68,7 +68,7 @@ AreSigned hosts accepts settings max answers script =
 
 -- ---- how often
 
--- once for a request by a key whose pair is at hand
+-- 1 for a request by a key of which the pair is available
 abbrev pub by_pair : Method → ℕ
 by_pair (methods.PublicKey key) = 1
 by_pair (methods.OpenSshCertificate key cert) = 1
@@ -82,7 +82,7 @@ abbrev pub pair_request_by : Result Event EventError → ℕ
 pair_request_by (Ok event) = pair_request event
 pair_request_by (Err e) = 0
 
--- how many of the events ask to authenticate so
+-- how many of the events ask to authenticate in this way
 abbrev pub pair_requests : List Frame → ℕ
 pair_requests [] = 0
 pair_requests (frame ∷ frames) = pair_request_by (event_of frame.kind frame.fields) + pair_requests frames

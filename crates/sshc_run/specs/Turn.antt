@@ -1,5 +1,5 @@
--- What one event of a script gives before the session is open: its records, what is kept then, and whether the run goes on.
--- A table by cases over the opening's rows; the code asks the gate and applies the row.
+-- What one event of a script does before the session is open: its records, the state afterwards, and whether the run
+-- continues. A table by cases over the opening's rows; the code calls the gate and applies the row.
 use Rattle.std.specs.Prelude.{ℕ, Bool, true, false, [], Result, Ok, Err}
 use Rattle.sshc_key.specs.declared.error.Error.{Error as KeyError}
 use Rattle.sshc_key.specs.declared.error.Error.TheVariants as key_errors
@@ -24,7 +24,7 @@ use Rattle.sshc_run.specs.KnownHosts.{Hosts, verdict}
 use Rattle.sshc_run.specs.Machine.{goes_on, opened, stopped, ended, refused, TurnOf, Turns, Machine}
 use Rattle.sshc_script.specs.EventReading.{event_of}
 
--- ---- errors, as the run tells them
+-- ---- errors of a run
 
 -- an error of the session at a place; the last five never come from a step
 abbrev pub error_of : ℕ → Error → RunError
@@ -44,7 +44,7 @@ error_of place auths.KeepaliveTimeout = errors.KeepaliveTimeout
 error_of place auths.InactivityTimeout = errors.InactivityTimeout
 error_of place e = errors.Inconsistent
 
--- a refusal of the known hosts text; others than these never come from the judgement
+-- a refusal of the known hosts text; the judgement returns no others than these
 abbrev pub key_error_of : KeyError → RunError
 key_error_of (key_errors.KeyChanged line) = errors.KeyChanged line
 key_error_of key_errors.Decode = errors.Decode
@@ -61,11 +61,11 @@ handler_error_of place (Key e) = key_error_of e
 abbrev pub Turn : Type 0
 Turn = TurnOf OpeningState
 
--- the run stops with nothing said
+-- the run stops without records
 abbrev pub stops : {S : Type 0} → S → RunError → TurnOf S
 stops s e = record { records = []; state = s; next = stopped (refused e) }
 
--- the turn of a row, by what becomes of the opening
+-- the turn of a row, by the opening's next state
 abbrev pub next_turn : ℕ → OpeningState → Row → Next → Turn
 next_turn place s row (stays s') = record { records = row.records; state = s'; next = goes_on }
 next_turn place s row (opens s') = record { records = row.records; state = shut s'; next = opened }
@@ -81,14 +81,14 @@ judged_turn place s event (Ok true) = asked_on (row_turn place s) (open_row s ev
 judged_turn place s event (Ok false) = asked_on (row_turn place s) (open_row s event telling.No)
 judged_turn place s event (Err e) = done (stops (shut s) (handler_error_of place e))
 
--- by what the row asks of the gate
+-- by what the row asks the gate
 abbrev pub asked_turn : Hosts → ℕ → OpeningState → Event → Asks → Asking Turn
 asked_turn hosts place s event asking.Nothing = asked_on (row_turn place s) (open_row s event telling.NotAsked)
 asked_turn hosts place s event (asking.HostKey key) = judged_turn place s event (verdict hosts key)
 asked_turn hosts place s event asking.Exchange = asked_on (row_turn place s) (open_row s event telling.Went)
 asked_turn hosts place s event (asking.Banner text) = asked_on (row_turn place s) (open_row s event telling.Went)
 
--- by the event that the fields give
+-- by the event that the fields encode
 abbrev pub event_turn : Hosts → ℕ → OpeningState → Result Event EventError → Asking Turn
 event_turn hosts place s (Ok event) = asked_turn hosts place s event (asked_of s event)
 event_turn hosts place s (Err reads.Bad) = done (stops s (errors.BadEvent place))

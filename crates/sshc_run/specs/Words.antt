@@ -1,4 +1,4 @@
--- The command-line arguments, the line that tells how a run was answered, and the status.
+-- The command-line arguments, the line that reports a run's result, and the exit status.
 use Rattle.std.specs.Prelude.{◌≡◌, ◌⊎◌, ℕ, Bool, true, false, List, [], ◌∷◌, ◌++◌, Option, None, Result, Ok, Err, codes}
 use Rattle.std.specs.Fmt.{decimal}
 use Rattle.sshc_wire.specs.Contents.{IsFound}
@@ -19,13 +19,13 @@ use Rattle.sshc_run.specs.RunOutside.{RunOutside, SinkState}
 use Rattle.sshc_run.specs.RunPromises.{RunAsked, RunPromises, table_of}
 use Rattle.sshc_run.specs.ScriptRun.{Run}
 
--- ---- the words
+-- ---- the arguments
 
 -- `script HOST PORT KNOWN`
 abbrev pub IsScriptWords : List (List ℕ) → List ℕ → ℕ → List ℕ → Type 0
 IsScriptWords words host port path = (word : List ℕ) × (words ≡ codes "script" ∷ host ∷ word ∷ path ∷ []) × IsPort word port
 
--- ---- how a run is told
+-- ---- how a run is reported
 
 -- the name of an end
 abbrev pub end_name : Ended → List ℕ
@@ -58,7 +58,7 @@ error_name errors.RecvError = codes "recv-error"
 error_name errors.KeepaliveTimeout = codes "keepalive-timeout"
 error_name errors.InactivityTimeout = codes "inactivity-timeout"
 
--- the line that tells an answer
+-- the line that reports a result
 abbrev pub answer_line : Result Ended RunError → List ℕ
 answer_line (Ok e) = codes "ended " ++ end_name e ++ 10 ∷ []
 answer_line (Err e) = codes "error " ++ error_name e ++ 10 ∷ []
@@ -91,7 +91,7 @@ abbrev pub status_of : Result Ended RunError → ℕ
 status_of (Ok e) = 0
 status_of (Err e) = error_status e
 
--- ---- the line that tells a run
+-- ---- the line that reports a run
 
 -- a write of the run failed
 abbrev pub is_write_fault : Result Ended RunError → Bool
@@ -102,17 +102,17 @@ abbrev pub TellsBy : Bool → Result Ended RunError → Option (List ℕ) → Op
 TellsBy true answer held now faults faults' status = (status ≡ 22) × (now ≡ held)
 TellsBy false answer held now faults faults' status = Adds (answer_line answer) (status_of answer) held now faults faults' status
 
--- the line that tells the answer is added; after a failed write of the run nothing is
+-- the line that reports the result is added; after a failed write of the run nothing is
 abbrev pub Tells : Result Ended RunError → Option (List ℕ) → Option (List ℕ) → ℕ → ℕ → ℕ → Type 0
 Tells answer held now faults faults' status = TellsBy (is_write_fault answer) answer held now faults faults' status
 
--- ---- a run by the words
+-- ---- a run by the arguments
 
--- the text of the known hosts file, as the files tell it; a file that can't be opened is an empty text
+-- the text of the known hosts file, if the files show it; a file that can't be opened is an empty text
 abbrev pub IsKnownText : Option (List (List ℕ × List ℕ)) → List ℕ → List ℕ → Type 0
 IsKnownText files path known = IsFound files path (found.Text known) ⊎ (IsFound files path found.NotOpened × (known ≡ []))
 
--- the settings of a run by words, and how many events it takes: the default ones
+-- the settings of a run by arguments, and how many events it takes: the default ones
 abbrev pub default_settings : Settings
 default_settings = record { window_size = 2097152; anonymous = false; inactivity = false }
 
@@ -122,14 +122,15 @@ default_run = record { opening = default_settings; session = record { max_packet
 abbrev pub default_events : ℕ
 default_events = 8192
 
--- a run of a script, which keeps all promises of `run_script`, and then the line that tells its answer
+-- a run of a script, with all guarantees of `run_script`, and then the line that reports its result
 abbrev pub RunsBy : RunAsked → RunOutside → RunOutside → ℕ → Type 0
 RunsBy asked before now status =
     (answer : Result Ended RunError) × (behind : SinkState)
     × RunPromises asked before (record now { sink = behind }) answer
     × Tells answer behind.held now.sink.held behind.faults now.sink.faults status
 
--- what the run of the arguments is asked: the known hosts text of the file, the verifier's, and the default settings
+-- the inputs of the run of the arguments: the known hosts text of the file, what the verifier accepts, and the default
+-- settings
 abbrev pub words_asked : Accepts → List ℕ → ℕ → List ℕ → RunAsked
 words_asked accepts host port known = record {
   hosts = record { host = host_text host port; known = known };
@@ -147,11 +148,12 @@ abbrev pub AddsOnly : List ℕ → ℕ → RunOutside → RunOutside → ℕ →
 AddsOnly line number before now status =
     (now.source ≡ before.source) × (now.calls ≡ before.calls) × Adds line number before.sink.held now.sink.held before.sink.faults now.sink.faults status
 
--- what a known hosts text gives: the run over it, or memory ran out before the run
+-- the result for a known hosts text: the run over it, or memory ran out before the run
 abbrev pub TextGives : RunAsked → RunOutside → RunOutside → ℕ → Type 0
 TextGives asked before now status = RunsBy asked before now status ⊎ AddsOnly (answer_line (Err errors.NoMemory)) 20 before now status
 
--- what the arguments `script HOST PORT KNOWN` give: the run over the known hosts text, or a line that says why there is none
+-- what the arguments `script HOST PORT KNOWN` do: the run over the known hosts text, or a line that reports why there
+-- is no run
 abbrev pub ScriptGives : Accepts → List ℕ → ℕ → List ℕ → Option (List (List ℕ × List ℕ)) → RunOutside → RunOutside → ℕ → ℕ → ℕ → Type 0
 ScriptGives accepts host port path files before now fails fails' status =
     ((known : List ℕ) × IsKnownText files path known × TextGives (words_asked accepts host port known) before now status)

@@ -1,4 +1,4 @@
-//! What a session is run by.
+//! The configuration of a session.
 
 ghost use Rattle.std.specs.Prelude.{IfOk};
 ghost use Rattle.sshc_run.specs.Configured.{IsDefault};
@@ -9,7 +9,7 @@ use std::alloc::Global;
 /// The settings of a session. Times are milliseconds.
 #[derive(Debug, Drop)]
 pub struct Config {
-    /// The version line's text, which is the transport's (RFC 4253, section 4.2).
+    /// The text of our version line, which the transport uses (RFC 4253, section 4.2).
     pub client_id: Text,
     /// How many bytes a channel's peer may send at first (RFC 4254, section 5.1).
     pub window_size: u32,
@@ -31,7 +31,7 @@ pub struct Config {
 }
 
 impl Config {
-    /// The settings that a client has unless it is told others.
+    /// The default settings of a client.
     pub fn default_in(alloc: Global) -> Result<Config, NoMemory>
         ensures { IfOk result IsDefault }
     {

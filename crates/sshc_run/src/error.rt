@@ -2,7 +2,7 @@
 
 use thiserror::Error;
 
-/// Why a run ends before its script does. A place is of an event's length field, in bytes from 0.
+/// Why a run ends before its script does. A place is the offset of an event's length field in the script, in bytes.
 #[derive(Clone, Copy, Debug, PartialEq, Eq, Error)]
 pub enum RunError {
     /// Memory ran out.
@@ -17,13 +17,13 @@ pub enum RunError {
     /// The local signer refused.
     #[error("SignerFault")]
     SignerFault,
-    /// The bytes at the place begin no event.
+    /// The bytes at the place don't begin an event.
     #[error("BadEvent")]
     BadEvent { at: u64 },
     /// The event at the place may not come now.
     #[error("OutOfTurn")]
     OutOfTurn { at: u64 },
-    /// The script goes on after the last event that is allowed.
+    /// The script continues after the last event that is allowed.
     #[error("ScriptTooLong")]
     ScriptTooLong,
     /// The transport failed.
@@ -38,7 +38,7 @@ pub enum RunError {
     /// The key of a matching line isn't base64.
     #[error("Decode")]
     Decode,
-    /// The key of a matching line is none.
+    /// The key of a matching line isn't a valid key.
     #[error("SshKey")]
     SshKey,
     /// The peer sent a packet that its state doesn't allow.
@@ -47,16 +47,16 @@ pub enum RunError {
     /// Too many bytes came while an exchange ran.
     #[error("Pending")]
     Pending,
-    /// The server names no method that is known.
+    /// The server names no known method.
     #[error("NoAuthMethod")]
     NoAuthMethod,
     /// A channel was asked for before the session is open.
     #[error("NotAuthenticated")]
     NotAuthenticated,
-    /// A part of a packet is short, isn't text or has bytes left over.
+    /// A part of a packet is short, isn't text or has bytes after its end.
     #[error("SshEncoding")]
     SshEncoding,
-    /// The peer's disconnection has a reason outside 1 to 15.
+    /// The reason of the peer's disconnection isn't a number from 1 to 15.
     #[error("InvalidDisconnect")]
     InvalidDisconnect,
     /// The user is gone while an answer is awaited.

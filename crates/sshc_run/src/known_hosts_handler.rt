@@ -1,4 +1,4 @@
-//! The handler of a script: it judges host keys by a known hosts text, and keeps all defaults beside.
+//! The handler of a script: it judges host keys by a known hosts text, and keeps all other defaults.
 
 ghost use Rattle.std.specs.Prelude.{◌≡◌, ◌≤◌, ◌∷◌, [], ℕ, List, IfOk, OnErr};
 ghost use Rattle.sshc_hosts.specs.HostText.{host_text};
@@ -21,8 +21,8 @@ pub enum HandlerError {
     Key(sshc_key::Error),
 }
 
-/// Judges plain keys by a known hosts text, and refuses certificates. Contracts see it as what it judges by, with a
-/// count of its refusals.
+/// Judges plain keys by a known hosts text, and refuses certificates. Contracts see what it judges by, and a count of
+/// its refusals.
 #[derive(Debug, Drop)]
 pub struct KnownHostsHandler {
     alloc: Global,

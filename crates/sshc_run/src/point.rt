@@ -1,4 +1,4 @@
-//! Where a run stands.
+//! The state of a run.
 
 ghost use Rattle.std.specs.Prelude.{◌≡◌, false};
 ghost use Rattle.sshc_session.specs.Start.{new_session};
@@ -13,8 +13,8 @@ use sshc_moves::SessionSettings;
 use sshc_opening::Settings;
 use std::alloc::Global;
 
-/// Where a run is: the session, whether it is open, the agent with the bytes of its connections, the place of the next
-/// event, the last moment, and the memory in which lines are made.
+/// The state of a run: the session, whether it is open, the agent with the bytes of its connections, the place of the
+/// next event, the last moment, and the memory in which lines are made.
 #[derive(Debug, Drop)]
 pub struct Point {
     pub session: Session,
@@ -26,7 +26,7 @@ pub struct Point {
 }
 
 impl Point {
-    /// Where a run begins.
+    /// The state at the start of a run.
     pub fn at_start(alloc: Global, config: &Config) -> Point
         ensures session { result.session
             ≡ new_session (run_settings_of config.now).session (run_settings_of config.now).opening }

@@ -26,7 +26,7 @@ impl LineBuffer {
     }
 }
 
-/// Writes bytes as lower-case hexadecimal digits in place of what the line held, and a line feed.
+/// Replaces the line by the bytes as lower-case hexadecimal digits, followed by a line feed.
 fn put_digits(line: &mut Vec<u8>, bytes: &[u8]) -> Result<(), NoMemory>
     ensures { OnOk result (line.new.items ≡ text_line bytes.now) }
 {
@@ -49,7 +49,7 @@ fn make_line(buffer: &mut LineBuffer, out: &Outbox, at: usize) -> Result<(), NoM
     put_digits(&mut buffer.line, buffer.bytes.as_slice())
 }
 
-/// Writes the line of the record at a place, or a front of it.
+/// Writes the line of the record at a place, or a prefix of the line.
 fn write_line<K: Sink>(
     buffer: &mut LineBuffer,
     sink: &mut K,
@@ -74,7 +74,7 @@ fn write_line<K: Sink>(
     }
 }
 
-/// Writes the lines of the records, or a front of them. Each line is one piece for the sink.
+/// Writes the lines of the records, or a prefix of them. Each line is one piece for the sink.
 pub fn write_lines<K: Sink>(
     buffer: &mut LineBuffer,
     sink: &mut K,

@@ -22,7 +22,7 @@ use sshc_opening::Ended;
 use sshc_wire::{NoMemory, Sink, Source};
 use std::alloc::Global;
 
-/// Takes events from where a run stands, at most so many.
+/// Takes at most `max_events` events, from the state of a run.
 fn take_turns<S: Source, G: LocalSigner, V: Verifier, K: Sink>(
     alloc: Global,
     max_events: u32,
@@ -59,7 +59,7 @@ fn take_turns<S: Source, G: LocalSigner, V: Verifier, K: Sink>(
     at_limit(alloc, source)
 }
 
-/// Takes the events of a script, at most so many.
+/// Takes the events of a script, at most `max_events`.
 fn run_events<S: Source, G: LocalSigner, V: Verifier, K: Sink>(
     alloc: Global,
     config: &Config,
@@ -101,7 +101,7 @@ fn run_events<S: Source, G: LocalSigner, V: Verifier, K: Sink>(
 }
 
 /// Runs a script: takes its events one at a time, judges host keys by the known hosts text, and writes a line for each
-/// record before the next event is read. It stops at the first end or error; what stands behind stays unread.
+/// record before it reads the next event. It stops at the first end or error; the bytes after that remain unread.
 pub fn run_script<S: Source, K: Sink, G: LocalSigner, V: Verifier>(
     alloc: Global,
     config: &Config,
@@ -113,7 +113,7 @@ pub fn run_script<S: Source, K: Sink, G: LocalSigner, V: Verifier>(
     source: &mut S,
     sink: &mut K,
 ) -> Result<Ended, RunError>
-    // What a run promises, each a field with its own name: specs/RunPromises.antt.
+    // What a run guarantees, each a field with its own name: specs/RunPromises.antt.
     ensures promises { RunPromises (run_asked host.now port known.now (V.accepts verifier.now) config.now)
         (run_outside
         (source_state (S.left source.old) (S.reads source.old) (S.empty_reads source.old) (S.faults source.old))

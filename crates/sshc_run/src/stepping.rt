@@ -47,7 +47,7 @@ fn step_unopened<G: LocalSigner, V: Verifier>(
     step
 }
 
-/// A step in an open session, which asks neither gate nor signer.
+/// A step in an open session, which calls neither gate nor signer.
 fn step_opened<G: LocalSigner, V: Verifier>(
     at: &mut Point,
     event: &Event,
@@ -69,7 +69,7 @@ fn step_opened<G: LocalSigner, V: Verifier>(
     at.session.step(event, &mut Unasked, signer, verifier)
 }
 
-/// A step. Once the session is open nobody asks the gate.
+/// A step. Once the session is open the gate isn't called any more.
 pub fn step_session<G: LocalSigner, V: Verifier>(
     at: &mut Point,
     event: &Event,

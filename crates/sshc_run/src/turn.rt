@@ -45,7 +45,7 @@ fn error_at(place: u64, e: Error) -> RunError
         Error::RecvError => RunError::RecvError,
         Error::KeepaliveTimeout => RunError::KeepaliveTimeout,
         Error::InactivityTimeout => RunError::InactivityTimeout,
-        // Answers of the handle, which no step gives.
+        // Errors of the handle's calls, which no step returns.
         Error::WrongServerSig
         | Error::RequestDenied
         | Error::ChannelOpenFailure(_)
@@ -103,7 +103,7 @@ fn read_failed(failed: Failed) -> RunError
     }
 }
 
-/// How the run stops at a step, or none where it goes on.
+/// How the run stops at a step, or `None` if it continues.
 fn stop_at(place: u64, step: Step<HandlerError>) -> Option<Result<Ended, RunError>>
     ensures { result ≡ step_answer place step }
 {
@@ -147,7 +147,7 @@ fn step_event<G: LocalSigner, V: Verifier, K: Sink>(
     }
 }
 
-/// Drops a value whose kinds need not be told apart.
+/// Drops a value; its variants need not be distinguished.
 pub(crate) fn let_go<T: Drop>(_value: T) {}
 
 /// Takes an event of the session, and writes its records.
@@ -279,7 +279,7 @@ pub fn one_turn<S: Source, G: LocalSigner, V: Verifier, K: Sink>(
     None
 }
 
-/// What a run answers that may take no event more: whether the script is at its end.
+/// The result of a run that may take no more events: whether the script is at its end.
 pub fn at_limit<S: Source>(alloc: Global, source: &mut S) -> Result<Ended, RunError>
     ensures gives { LimitGives (S.left source.old) (S.left source.new) result }
     ensures count { S.reads source.new ≤ S.reads source.old + 1 }

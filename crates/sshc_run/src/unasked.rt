@@ -1,4 +1,4 @@
-//! What stands in place of a handler once nobody asks it.
+//! The handler that a session has once no handler is called any more.
 
 ghost use Rattle.std.specs.Prelude.{◌≡◌};
 ghost use Rattle.sshc_client.specs.Handling.{ended_by};
@@ -8,7 +8,7 @@ use crate::known_hosts_handler::HandlerError;
 use sshc_client::{DisconnectReason, Error, Handler};
 use sshc_key::PublicKeyOrCertificate;
 
-/// Accepts no host key, and keeps all defaults beside.
+/// Accepts no host key, and keeps all other defaults.
 #[derive(Debug, Drop)]
 pub struct Unasked;
 

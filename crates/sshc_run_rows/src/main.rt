@@ -1,5 +1,5 @@
-//! Worked runs: reads rows of a script's events, of the lines that come of them and of the answer, and prints whether each comes
-//! out so. The first argument names the file of the rows.
+//! Worked runs: reads rows, each with a script's events, the expected lines and the expected result, and prints whether
+//! each run has them. The first argument names the file of the rows.
 #![tactic(auto)]
 
 mod parts;
@@ -22,7 +22,7 @@ fn text_of(rt: &HostRuntime) -> Option<Text> {
     }
 }
 
-/// Prints how a row came out, if there is one; of a wrong row what was written, and the status.
+/// Prints the verdict on a row, if there is one; for a wrong row also what was written, and the status.
 fn print_end(rt: &HostRuntime, row: Option<Row>) -> anyhow::Result<()> {
     let Some(row) = row else {
         return Ok(());

@@ -1,5 +1,5 @@
-//! Bytes by words: `str:TEXT` and `hex:DIGITS` are strings of the wire (RFC 4251, section 5), `u32:N` a number, and other words
-//! are the bytes of their hexadecimal digits.
+//! Bytes by words: `str:TEXT` and `hex:DIGITS` are strings of the wire (RFC 4251, section 5), `u32:N` a number, and
+//! other words are the bytes of their hexadecimal digits.
 
 use sshc_wire::{NoMemory, Octets, put_bytes, put_u32};
 use std::alloc::Global;

@@ -1,4 +1,4 @@
-//! A row: a script, its known hosts text, and what is to come of it.
+//! A row: a script, its known hosts text, and its expected outcome.
 
 use crate::parts::bytes_of;
 use sshc_run::{ToySigner, ToyVerifier};
@@ -6,18 +6,18 @@ use sshc_run_words::run_words;
 use sshc_wire::{MemFiles, MemSink, MemSource, NoMemory, Octets, Text, put_bytes, put_u64};
 use std::alloc::Global;
 
-/// A script and its outcome.
+/// A script and its expected outcome.
 #[derive(Debug, Drop)]
 pub struct Row {
     name: String,
     known: String,
     script: Vec<u8>,
-    /// What is to be written.
+    /// The text that is expected.
     wanted: String,
     status: u8,
 }
 
-/// The program's status, and what it wrote.
+/// The program's status, and the bytes that it wrote.
 #[derive(Debug, Drop)]
 pub struct Outcome {
     pub status: u8,
@@ -40,8 +40,9 @@ impl Row {
         self.name.as_str()
     }
 
-    /// Adds what a line says: `known` a line of the known hosts text, `event` an event at moment 0 by its kind and fields, `at` one at the moment that comes first, `bytes`
-    /// bytes of the script, `record` a line that is to be written, `answer` the last line, `status` the program's status.
+    /// Adds what a line contains: `known` a line of the known hosts text, `event` an event at moment 0 by its kind and
+    /// fields, `at` one at the moment that comes first, `bytes` bytes of the script, `record` an expected line,
+    /// `answer` the expected last line, `status` the program's expected status.
     pub fn line(&mut self, alloc: Global, command: &str, rest: &str) -> Result<(), NoMemory> {
         match command {
             "known" => put_line(&mut self.known, rest),
@@ -77,7 +78,7 @@ impl Row {
         put_line(&mut self.wanted, &digits)
     }
 
-    /// Runs the words `script localhost 13265 known` over the row's script and known hosts text.
+    /// Runs the arguments `script localhost 13265 known` over the row's script and known hosts text.
     pub fn run(&self, alloc: Global) -> Result<Outcome, NoMemory> {
         let mut words = Vec::new(alloc);
         for word in ["script", "localhost", "13265", "known"] {
@@ -103,7 +104,7 @@ impl Row {
         Ok(Outcome { status, sink })
     }
 
-    /// Whether what came is what is wanted.
+    /// Whether the outcome is the expected one.
     pub fn is_right(&self, outcome: &Outcome) -> bool {
         outcome.status == self.status && outcome.sink.contents() == self.wanted.as_bytes()
     }

@@ -1,4 +1,4 @@
--- A run over memory by the default settings, but for the events that it takes.
+-- A run over memory by the default settings, except for the number of events that it takes.
 use Rattle.std.proofs.Common.{◌≡◌, ℕ, false, List, [], Option, Some, Result}
 use Rattle.sshc_key.specs.Signers.{SignCall}
 use Rattle.sshc_opening.specs.declared.ended.Ended.{Ended}

@@ -6,7 +6,7 @@ use Rattle.std.specs.List.{slice_split, onto_first}
 use Rattle.memchr.specs.Find.{IsFirstByte, is_byte}
 use Rattle.sshc_run_words.specs.Summary.{but_last, whole_lines}
 
--- what isn't true is false
+-- a value that isn't true is false
 not_true : (b : Bool) → (b ≡ true → ⊥) → b ≡ false
 not_true true h = absurd (h refl)
 not_true false h = refl
@@ -27,7 +27,7 @@ but_last_next : (part : List ℕ) (parts : List (List ℕ)) → 0 < length parts
 but_last_next part [] some = absurd (omega (arith, some))
 but_last_next part (next ∷ parts) some = refl
 
--- no line feed: one part
+-- without a line feed there is one part
 one_part : (text : List ℕ) → ((k : ℕ) → k < length text → (get_or text k 0 == 10) ≡ false) → slice_split (λ b. b == 10) text ≡ text ∷ []
 one_part [] none = refl
 one_part (x ∷ text) none =

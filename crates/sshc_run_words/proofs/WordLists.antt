@@ -1,4 +1,4 @@
--- Three or four words by their places.
+-- Three or four arguments by their places.
 use Rattle.std.proofs.Common.{◌≡◌, ℕ, List, [], ◌∷◌, length, get_or, arith}
 
 pub four_words : (words : List (List ℕ)) (a b c d : List ℕ) → length words ≡ 4 → a ≡ get_or words 0 a → b ≡ get_or words 1 b → c ≡ get_or words 2 c → d ≡ get_or words 3 d → words ≡ a ∷ b ∷ c ∷ d ∷ []

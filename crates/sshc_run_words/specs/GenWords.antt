@@ -1,5 +1,5 @@
--- The words `gen SEED N`: a run of a generated script, and what is told of it.
--- One equation on the list of words, and the run by its table; the code keeps the script and the lines in memory.
+-- The arguments `gen SEED N`: a run of a generated script, and its report. One equation on the list of arguments, and
+-- the run by its table; the code keeps the script and the lines in memory.
 use Rattle.std.specs.Prelude.{◌≡◌, ◌⊎◌, ℕ, ◌≤◌, ◌<◌, ◌^◌, Bool, true, false, List, [], ◌∷◌, ◌++◌, Option, Some, Result, Err, codes}
 use Rattle.std.specs.Str.Parse.{IsNumeral, digits_value}
 use Rattle.sshc_hosts.specs.HostText.{host_text}
@@ -19,7 +19,7 @@ use Rattle.sshc_gen.specs.Blocks.{generated}
 use Rattle.sshc_gen.specs.Events.{Script}
 use Rattle.sshc_run_words.specs.Summary.{Summed, summary_lines, summed}
 
--- ---- the words
+-- ---- the arguments
 
 -- a decimal number below 2^64
 abbrev pub IsSeed : List ℕ → ℕ → Type 0
@@ -43,7 +43,7 @@ gen_hosts = record {
   known = codes "[localhost]:13265 ssh-ed25519 AAAAC3NzaC1lZDI1NTE5AAAAIJdD7y3aLq454yWBdwLWbieU1ebz9/cu7/QEXn9OIeZJ" ++ 10 ∷ [];
 }
 
--- the settings are the default ones, but for the events that a run takes
+-- the settings are the default ones, except for the number of events that a run takes
 abbrev pub gen_events : ℕ
 gen_events = 300000
 
@@ -56,7 +56,7 @@ is_fault (Err errors.ReadFault) = true
 is_fault (Err errors.WriteFault) = true
 is_fault answer = false
 
--- a run of these bytes over memory, of which no read and no write fails, gives this answer and this text
+-- a run of these bytes over memory, of which no read and no write fails, has this result and writes this text
 abbrev pub RunGives : List ℕ → Result Ended RunError → List ℕ → Type 0
 RunGives script answer text =
     (left : Option (List ℕ)) × (reads : ℕ) × (calls : List SignCall) × (is_fault answer ≡ false)
@@ -67,10 +67,10 @@ abbrev pub IsRunOf : Script → ℕ → Summed → Result Ended RunError → Typ
 IsRunOf script events summary answer =
     (events ≡ script.events) × ((text : List ℕ) × (summary ≡ summed text) × RunGives script.text answer text)
 
--- ---- what is told
+-- ---- the report
 
--- the run of the script of the seed and the count, told with the status of its answer: the summary of its text, and the line of the
--- answer; or memory ran out before the run
+-- the run of the script of the seed and the count, reported with the status of its result: the summary of its text, and
+-- the line of the result; or memory ran out before the run
 abbrev pub GenGives : ℕ → ℕ → Option (List ℕ) → Option (List ℕ) → ℕ → ℕ → ℕ → Type 0
 GenGives seed count held now faults faults' status =
     ((answer : Result Ended RunError) × (text : List ℕ) × RunGives (generated seed count).text answer text

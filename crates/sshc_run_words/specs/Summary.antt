@@ -1,5 +1,5 @@
--- What is told of a text of record lines in a few numbers.
--- Counts over the list of lines; the code goes over the text once.
+-- A summary of a text of record lines, in a few numbers. Counts over the list of lines; the code passes over the text
+-- once.
 use Rattle.std.specs.Prelude.{ℕ, ◌==◌, List, [], ◌∷◌, ◌++◌, length, filter, codes, nat_eq}
 use Rattle.std.specs.Fmt.{decimal}
 use Rattle.std.specs.List.{slice_split, starts_with}
@@ -12,15 +12,15 @@ but_last [] = []
 but_last (part ∷ []) = []
 but_last (part ∷ next ∷ parts) = part ∷ but_last (next ∷ parts)
 
--- the lines of a text, without their line feeds; what stands behind the last line feed is no line
+-- the lines of a text, without their line feeds; the bytes after the last line feed aren't a line
 abbrev pub whole_lines : List ℕ → List (List ℕ)
 whole_lines text = but_last (slice_split (λ b. b == 10) text)
 
--- how many lines begin so
+-- how many lines begin with these bytes
 abbrev pub begun : List ℕ → List (List ℕ) → ℕ
 begun front lines = length (filter (λ line. starts_with nat_eq line front) lines)
 
--- how many records the lines are, how many of them are payloads (kind 01) and how many the agent's bytes (kind 40)
+-- how many records the lines contain, how many of them are payloads (kind 01) and how many the agent's bytes (kind 40)
 pub record Counted : Type 0 where
   pub records : ℕ
   pub payloads : ℕ
@@ -41,7 +41,7 @@ summed text = record { counts = counted (whole_lines text); digest = hmac_sha1 [
 abbrev pub named_line : List ℕ → List ℕ → List ℕ
 named_line name value = name ++ 32 ∷ value ++ 10 ∷ []
 
--- the lines that tell the summary of a run: the events of its script first
+-- the lines that report the summary of a run: the events of its script first
 abbrev pub summary_lines : ℕ → Summed → List ℕ
 summary_lines events s =
     named_line (codes "events") (decimal events)

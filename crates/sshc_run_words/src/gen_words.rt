@@ -1,4 +1,4 @@
-//! The words `gen SEED N`: a run of a generated script over memory, told in a summary.
+//! The arguments `gen SEED N`: a run of a generated script over memory, reported in a summary.
 
 ghost use Rattle.std.specs.Prelude.{◌≡◌, ◌≤◌, ◌++◌, ℕ, IfOk, IfSome, IsNone, string_bytes};
 ghost use Rattle.sshc_gen.specs.Blocks.{generated};
@@ -16,7 +16,7 @@ use sshc_wire::{MemSink, MemSource, NoMemory, Sink, Text};
 use sshc_words::{NO_MEMORY_STATUS, add_line};
 use std::alloc::Global;
 
-/// The words `gen SEED N`.
+/// The command-line arguments `gen SEED N`.
 #[derive(Clone, Copy, Debug)]
 pub(crate) struct GenWords {
     pub seed: u64,
@@ -29,7 +29,7 @@ const MOST_BLOCKS: u32 = 100_000;
 /// The most events that its run takes.
 const MOST_EVENTS: u32 = 300_000;
 
-/// The seed that a word names.
+/// The seed in an argument.
 fn seed_of(word: &str) -> Option<u64>
     ensures some { IfSome result (λ seed. IsSeed word.now seed) }
     ensures none { IsNone result → (seed : ℕ) → IsSeed word.now seed → ⊥ }
@@ -43,7 +43,7 @@ fn seed_of(word: &str) -> Option<u64>
     }
 }
 
-/// The number of blocks that a word names.
+/// The number of blocks in an argument.
 fn block_count_of(word: &str) -> Option<u32>
     ensures some { IfSome result (λ count. IsBlockCount word.now count) }
     ensures none { IsNone result → (count : ℕ) → IsBlockCount word.now count → ⊥ }
@@ -57,7 +57,7 @@ fn block_count_of(word: &str) -> Option<u32>
     }
 }
 
-/// The words, where they are `gen SEED N`.
+/// The arguments, if they are `gen SEED N`.
 pub(crate) fn gen_words(words: &[Text]) -> Option<GenWords>
     ensures some { IfSome result (λ asked. IsGenWords words.now asked.seed asked.count) }
     ensures none { IsNone result → (seed : ℕ) (count : ℕ) → IsGenWords words.now seed count → ⊥ }
@@ -111,7 +111,7 @@ fn run_generated(alloc: Global, script: Generated) -> Result<GeneratedRun, NoMem
         &mut source,
         &mut sink,
     );
-    // Memory fails at no call but those that it is told to, of which there are none here.
+    // Memory fails only at the calls that it is set to fail at, of which there are none here.
     if is_fault(&answer) {
         return Err(NoMemory);
     }
@@ -122,7 +122,7 @@ fn run_generated(alloc: Global, script: Generated) -> Result<GeneratedRun, NoMem
     })
 }
 
-/// The run of the script that the words ask for.
+/// The run of the script that the arguments ask for.
 fn run_asked(alloc: Global, asked: GenWords) -> Result<GeneratedRun, NoMemory>
     requires { asked.count ≤ 100000 }
     ensures { IfOk result (λ run. IsRunOf (generated asked.seed asked.count) run.events run.summary run.answer) }
@@ -130,7 +130,7 @@ fn run_asked(alloc: Global, asked: GenWords) -> Result<GeneratedRun, NoMemory>
     run_generated(alloc, generate(alloc, asked.seed, asked.count)?)
 }
 
-/// The lines that tell a run.
+/// The lines that report a run.
 fn run_lines(alloc: Global, run: &GeneratedRun) -> Result<String, NoMemory>
     ensures { IfOk result
         (λ text. string_bytes text ≡ summary_lines run.now.events run.now.summary ++ answer_line run.now.answer) }
@@ -140,7 +140,7 @@ fn run_lines(alloc: Global, run: &GeneratedRun) -> Result<String, NoMemory>
     Ok(lines)
 }
 
-/// Tells a run, and answers its status.
+/// Reports a run, and returns its status.
 fn tell_run<K: Sink>(alloc: Global, sink: &mut K, run: &GeneratedRun) -> u8
     ensures adds { Adds (summary_lines run.now.events run.now.summary ++ answer_line run.now.answer)
         (status_of run.now.answer)
@@ -152,7 +152,7 @@ fn tell_run<K: Sink>(alloc: Global, sink: &mut K, run: &GeneratedRun) -> u8
     }
 }
 
-/// Runs the words `gen SEED N`.
+/// Runs the arguments `gen SEED N`.
 pub(crate) fn run_gen_words<K: Sink>(alloc: Global, asked: GenWords, sink: &mut K) -> u8
     requires { asked.count ≤ 100000 }
     ensures gives { GenGives asked.seed asked.count (K.contents sink.old) (K.contents sink.new) (K.faults sink.old)

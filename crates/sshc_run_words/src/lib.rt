@@ -1,4 +1,4 @@
-//! The command-line arguments that run scripts, and what is told of a run.
+//! The command-line arguments that run scripts, and the report of a run.
 #![tactic(auto)]
 
 mod gen_words;

@@ -1,4 +1,4 @@
-//! The arguments `script HOST PORT KNOWN`: a run of the script of the source, told.
+//! The arguments `script HOST PORT KNOWN`: a run of the script of the source, with its report.
 
 ghost use Rattle.std.specs.Prelude.{◌≡◌, ℕ, List, IfSome, IsNone};
 ghost use Rattle.sshc_run.specs.RunOutside.{run_outside, sink_state, source_state};
@@ -20,7 +20,7 @@ pub(crate) struct ScriptWords<'a> {
     pub path: &'a str,
 }
 
-/// The words, where they are `script HOST PORT KNOWN`.
+/// The arguments, if they are `script HOST PORT KNOWN`.
 pub(crate) fn script_words<'a>(words: &'a [Text]) -> Option<ScriptWords<'a>>
     ensures some { IfSome result (λ asked. IsScriptWords words.now asked.host.now asked.port asked.path.now) }
     ensures none { IsNone result → (host : List ℕ) (port : ℕ) (path : List ℕ) → IsScriptWords words.now host port path
@@ -39,7 +39,7 @@ pub(crate) fn script_words<'a>(words: &'a [Text]) -> Option<ScriptWords<'a>>
     }
 }
 
-/// Runs a script by these settings and a known hosts text, and prints the line of the answer.
+/// Runs a script by these settings and a known hosts text, and prints the line of the result.
 fn run_told<S: Source, K: Sink, G: LocalSigner, V: Verifier>(
     alloc: Global,
     config: &Config,
@@ -67,7 +67,7 @@ fn run_told<S: Source, K: Sink, G: LocalSigner, V: Verifier>(
     tell(alloc, sink, &answer)
 }
 
-/// Runs a script by the default settings and a known hosts text, and prints the line of the answer.
+/// Runs a script by the default settings and a known hosts text, and prints the line of the result.
 fn run_default<S: Source, K: Sink, G: LocalSigner, V: Verifier>(
     alloc: Global,
     asked: &ScriptWords<'_>,
@@ -94,8 +94,8 @@ fn run_default<S: Source, K: Sink, G: LocalSigner, V: Verifier>(
     }
 }
 
-/// Runs the arguments `script HOST PORT KNOWN`: the script of the source by the known hosts text of the file KNOWN, which
-/// is empty where it can't be opened.
+/// Runs the arguments `script HOST PORT KNOWN`: the script of the source, with the known hosts text of the file KNOWN,
+/// which is empty if the file can't be opened.
 pub(crate) fn run_script_words<F: Files, S: Source, K: Sink, G: LocalSigner, V: Verifier>(
     alloc: Global,
     asked: &ScriptWords<'_>,

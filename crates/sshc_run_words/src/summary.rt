@@ -1,4 +1,4 @@
-//! What is told of a text of record lines in a few numbers.
+//! A summary of a text of record lines, in a few numbers.
 
 ghost use Rattle.std.specs.Prelude.{◌≡◌, ◌+◌, ◌≤◌, ◌<◌, ◌^◌, ◌∷◌, [], ◌==◌, IfNone, IfSome, IfOk, length, string_bytes};
 ghost use Rattle.std.specs.Prelude.{if◌then◌else◌, nat_eq, codes};
@@ -11,7 +11,7 @@ use sshc_wire::NoMemory;
 use std::alloc::Global;
 use std::marker::Model;
 
-/// How many records the lines of a text are, how many of them are payloads, and how many the agent's bytes.
+/// How many records the lines of a text contain, how many of them are payloads, and how many are bytes of the agent.
 #[derive(Debug, Drop)]
 struct Counts {
     records: u64,
@@ -42,13 +42,13 @@ impl Model for Summary {
     ghost view = { λ s. record { counts = s.counts; digest = s.digest } };
 }
 
-/// The line of a payload begins so: its number in hexadecimal digits.
+/// The line of a payload begins with this: its number in hexadecimal digits.
 const PAYLOAD: &[u8] = b"01";
 
-/// The line of bytes of the agent begins so.
+/// The line of the agent's bytes begins with this.
 const AGENT_BYTES: &[u8] = b"40";
 
-/// The first line of a text without its line feed, and what stands behind it; none where no line feed stands there.
+/// The first line of a text without its line feed, and the text after it; `None` if the text has no line feed.
 fn first_line(text: &[u8]) -> Option<(&[u8], &[u8])>
     ensures none { IfNone result (whole_lines text.now ≡ []) }
     ensures some { IfSome result (λ cut. whole_lines text.now ≡ cut.0.now ∷ whole_lines cut.1.now) }
@@ -95,7 +95,7 @@ pub(crate) fn summary_of(text: &[u8]) -> Summary
     }
 }
 
-/// The lines that tell a summary, behind the number of the script's events.
+/// The lines that report a summary, after the number of the script's events.
 pub(crate) fn summary_lines(
     alloc: Global,
     events: u64,

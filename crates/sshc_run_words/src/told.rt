@@ -1,4 +1,4 @@
-//! The line that tells the answer of a run, and the program's status.
+//! The line that reports the result of a run, and the program's status.
 
 ghost use Rattle.std.specs.Prelude.{◌≡◌, ◌≤◌, IfOk, string_bytes};
 ghost use Rattle.sshc_run.specs.Words.{end_name, error_name, answer_line, error_status, status_of, is_write_fault, Tells};
@@ -50,7 +50,7 @@ fn error_name(alloc: Global, e: RunError) -> Result<String, NoMemory>
     Ok(format!(in alloc; "{name}")?)
 }
 
-/// The line that tells an answer.
+/// The line that reports a result.
 pub(crate) fn answer_line(
     alloc: Global,
     answer: &Result<Ended, RunError>,
@@ -97,7 +97,7 @@ fn error_status(e: RunError) -> u8
     }
 }
 
-/// The status of an answer.
+/// The status of a result.
 pub(crate) fn status_of(answer: &Result<Ended, RunError>) -> u8
     ensures { result ≡ status_of answer.now }
 {
@@ -114,7 +114,7 @@ fn is_write_fault(answer: &Result<Ended, RunError>) -> bool
     matches!(answer, Err(RunError::WriteFault))
 }
 
-/// Tells the answer of a run, and answers its status. After a failed write nothing more is written.
+/// Reports the result of a run, and returns its status. After a failed write nothing more is written.
 pub(crate) fn tell<K: Sink>(alloc: Global, sink: &mut K, answer: &Result<Ended, RunError>) -> u8
     ensures tells { Tells answer.now (K.contents sink.old) (K.contents sink.new) (K.faults sink.old)
         (K.faults sink.new) result }

@@ -1,4 +1,4 @@
-//! The command-line arguments: which of them ask for what.
+//! The command-line arguments, and what each of them runs.
 
 ghost use Rattle.std.specs.Prelude.{◌≡◌, ℕ, List, codes, ◌++◌, ◌∷◌, []};
 ghost use Rattle.sshc_run.specs.RunOutside.{run_outside, sink_state, source_state};
@@ -15,7 +15,7 @@ use sshc_wire::{Files, Sink, Source, Text};
 use sshc_words::{WORDS_STATUS, add_line, run_hosts_words};
 use std::alloc::Global;
 
-/// Runs words that are no script's: those of known hosts, or none that the program knows.
+/// Runs arguments that aren't those of a script: those of known hosts, or invalid ones.
 fn run_other_words<F: Files, K: Sink>(
     alloc: Global,
     words: &[Text],
@@ -36,9 +36,10 @@ fn run_other_words<F: Files, K: Sink>(
     }
 }
 
-/// Runs the program by its words, and answers its status: 0 where the run ended or known hosts answered, 1 for an unknown
-/// key, 2 for words that it doesn't know, 3 for a known hosts file that is no text or can't be read, 4 for one that can't
-/// be added to, 5 for a word KEY that can't be read, and 20 to 40 for the errors of a run in their order.
+/// Runs the program by its command-line arguments, and returns its status: 0 if the run ended or known hosts answered,
+/// 1 for an unknown key, 2 for invalid arguments, 3 for a known hosts file that isn't text or can't be read, 4 for one
+/// that can't be added to, 5 for an argument KEY that can't be read, and 20 to 40 for the errors of a run in their
+/// order.
 pub fn run_words<F: Files, S: Source, K: Sink, G: LocalSigner, V: Verifier>(
     alloc: Global,
     words: &[Text],
@@ -48,7 +49,7 @@ pub fn run_words<F: Files, S: Source, K: Sink, G: LocalSigner, V: Verifier>(
     source: &mut S,
     sink: &mut K,
 ) -> u8
-    // `script HOST PORT KNOWN`: the run with all its promises, and the line that tells its answer.
+    // `script HOST PORT KNOWN`: the run with all its guarantees, and the line that reports its result.
     ensures script { (host : List ℕ) (port : ℕ) (path : List ℕ) → IsScriptWords words.now host port path →
         ScriptGives (V.accepts verifier.now) host port path (F.contents files.old)
         (run_outside
@@ -60,25 +61,27 @@ pub fn run_words<F: Files, S: Source, K: Sink, G: LocalSigner, V: Verifier>(
         (sink_state (K.contents sink.new) (K.writes sink.new) (K.empty_writes sink.new) (K.faults sink.new))
         (G.calls signer.new))
         (F.read_faults files.old) (F.read_faults files.new) result }
-    // The files are as they were: no script adds to a known hosts file.
+    // The files are unchanged: no script adds to a known hosts file.
     ensures kept { (host : List ℕ) (port : ℕ) (path : List ℕ) → IsScriptWords words.now host port path
         → F.contents files.new ≡ F.contents files.old }
-    // `gen SEED N`: the run of the generated script over memory, told in a summary. The files are as they were, and nothing is read.
+    // `gen SEED N`: the run of the generated script over memory, reported in a summary. The files are unchanged, and
+    // nothing is read.
     ensures generated { (seed : ℕ) (count : ℕ) → IsGenWords words.now seed count
         → (S.left source.new ≡ S.left source.old) × (F.contents files.new ≡ F.contents files.old)
         × GenGives seed count (K.contents sink.old) (K.contents sink.new) (K.faults sink.old)
         (K.faults sink.new) result }
-    // `hosts check`, `hosts keys` and `hosts learn`: the answer of known hosts, told; nothing is read from the source.
+    // `hosts check`, `hosts keys` and `hosts learn`: the answer of known hosts, printed; nothing is read from the
+    // source.
     ensures hosts { (asked : Asked) → Asks words.now asked → (S.left source.new ≡ S.left source.old) × AskedGives asked
         (outside (F.contents files.old) (F.read_faults files.old) (F.append_faults files.old) (K.contents sink.old)
         (K.faults sink.old))
         (outside (F.contents files.new) (F.read_faults files.new) (F.append_faults files.new) (K.contents sink.new)
         (K.faults sink.new)) result }
-    // No words but those of a script read from the source or ask the signer.
+    // No arguments but those of a script read from the source or call the signer.
     ensures untouched { ((host : List ℕ) (port : ℕ) (path : List ℕ) → IsScriptWords words.now host port path → ⊥) →
         (S.left source.new ≡ S.left source.old) × (S.reads source.new ≡ S.reads source.old)
         × (G.calls signer.new ≡ G.calls signer.old) }
-    // Other words: nothing is read, and the files stay as they were.
+    // Other arguments: nothing is read, and the files are unchanged.
     ensures other { ((host : List ℕ) (port : ℕ) (path : List ℕ) → IsScriptWords words.now host port path → ⊥) →
         ((seed : ℕ) (count : ℕ) → IsGenWords words.now seed count → ⊥) → ((asked : Asked) → Asks words.now asked → ⊥) →
         (S.left source.new ≡ S.left source.old) × (F.contents files.new ≡ F.contents files.old)

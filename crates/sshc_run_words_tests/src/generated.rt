@@ -1,4 +1,4 @@
-//! The words `gen SEED N` over a sink in memory.
+//! The arguments `gen SEED N` over a sink in memory.
 
 use sshc_run::{RefusingSigner, RefusingVerifier};
 use sshc_run_words::run_words;
@@ -7,14 +7,15 @@ use std::alloc::Global;
 use std::process::Abort;
 use std::test::Fail;
 
-/// The program's status, and what was written.
+/// The program's status, and the bytes that were written.
 #[derive(Drop)]
 struct Ran {
     status: u8,
     sink: MemSink,
 }
 
-/// Runs `gen` and these words. The signer and the verifier that are handed in refuse: a generated script has its own.
+/// Runs `gen` with these arguments. The signer and the verifier that are passed in refuse: a generated script has its
+/// own.
 fn outcome_of(alloc: Global, seed: &str, count: &str) -> Result<Ran, NoMemory> {
     let mut words = Vec::new(alloc);
     for word in ["gen", seed, count] {

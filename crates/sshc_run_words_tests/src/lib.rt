@@ -1,4 +1,4 @@
-//! Tests of the words `gen SEED N`: what is written, and the status.
+//! Tests of the arguments `gen SEED N`: the text that is written, and the status.
 #![tactic(auto)]
 
 #[cfg(test)]

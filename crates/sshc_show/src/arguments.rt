@@ -15,7 +15,7 @@ pub struct Arguments<'a> {
     pub is_script: bool,
 }
 
-/// Arguments, or a text for who gave them: the help, or what is wrong.
+/// Arguments, or a text for the user: the help, or what is wrong.
 #[derive(Drop)]
 pub enum Words<'a> {
     Arguments(Arguments<'a>),

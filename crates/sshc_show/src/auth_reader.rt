@@ -72,7 +72,7 @@ fn gssapi_error(alloc: Global, c: &mut Cursor<'_>) -> Result<GssapiRecord, LineE
     })
 }
 
-/// What is behind the ticket, by the record's number.
+/// The part of a record after the ticket, by the record's number.
 pub fn auth_record(alloc: Global, kind: u8, c: &mut Cursor<'_>) -> Result<AuthRecord, LineError> {
     match kind {
         0x05 => sign_request(alloc, c),

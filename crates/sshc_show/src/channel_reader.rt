@@ -43,7 +43,7 @@ fn exit_signal(alloc: Global, c: &mut Cursor<'_>) -> Result<ChannelRecord, LineE
     })
 }
 
-/// What is behind the channel's number, by the record's number.
+/// The part of a record after the channel's number, by the record's number.
 pub fn channel_record(
     alloc: Global,
     kind: u8,

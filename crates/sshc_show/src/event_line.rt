@@ -10,7 +10,7 @@ use sshc_script::{EventError, EventKind, RawEvent, read_event};
 use sshc_wire::Cursor;
 use std::alloc::Global;
 
-/// Lets go of what was read.
+/// Drops what was read.
 fn let_go<T: Drop, E: Drop>(read: Result<T, E>) -> Result<(), E> {
     match read {
         Ok(_) => Ok(()),
@@ -18,7 +18,7 @@ fn let_go<T: Drop, E: Drop>(read: Result<T, E>) -> Result<(), E> {
     }
 }
 
-/// Whether an agent's event has as many bytes of fields as its kind wants; none for an event of the session.
+/// Whether an agent's event has as many bytes of fields as its kind wants; `None` for an event of the session.
 fn agents_fields(kind: EventKind, size: usize) -> Option<bool> {
     match kind {
         EventKind::AgentBytes => Some(size >= 4),

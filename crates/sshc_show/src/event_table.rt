@@ -3,7 +3,7 @@
 use crate::part::{Case, Part, Shape};
 use sshc_script::EventKind;
 
-/// An event: its kind, its name, its parts, and those behind a choice among them.
+/// An event: its kind, its name, its parts, and those after a choice among them.
 #[derive(Clone, Copy)]
 pub struct EventRow {
     pub kind: EventKind,

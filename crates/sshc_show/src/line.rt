@@ -94,7 +94,7 @@ impl Line {
     }
 }
 
-/// The algorithm's name where it is printable, as those of keys are (RFC 4251, section 6).
+/// The algorithm's name if it is printable, as those of keys are (RFC 4251, section 6).
 fn algorithm_of(name: &str) -> &str {
     if !name.is_empty() && name.bytes().all(|byte| byte.is_ascii_graphic()) {
         name

@@ -11,7 +11,7 @@ use sshc_wire::Record;
 use std::alloc::Global;
 use std::io::{BufRead, BufReader};
 
-/// Whether a line is the last one of a run, which says how it ended.
+/// Whether a line is the last one of a run, which reports how it ended.
 fn is_last(line: &[u8]) -> bool {
     (line.starts_with(b"ended ") || line.starts_with(b"error "))
         && line
@@ -25,7 +25,7 @@ fn record_line(alloc: Global, asked: &mut Asked, said: &Record) -> Result<Line, 
     Ok(line)
 }
 
-/// What is printed for a line; none where it isn't a record's.
+/// The text that is printed for a line; `None` if the line isn't a record's.
 fn shown_line(alloc: Global, asked: &mut Asked, line: &[u8]) -> anyhow::Result<Option<Line>> {
     match read_record(alloc, line) {
         Ok(said) => Ok(Some(record_line(alloc, asked, &said)?)),
@@ -34,7 +34,7 @@ fn shown_line(alloc: Global, asked: &mut Asked, line: &[u8]) -> anyhow::Result<O
     }
 }
 
-/// Prints what a line says, and returns whether it is a record's or the last one of a run.
+/// Prints a line's record, and returns whether the line is a record's or the last one of a run.
 fn show_line(
     rt: &HostRuntime,
     asked: &mut Asked,

@@ -23,7 +23,7 @@ use script::{show_script, show_script_file};
 use std::env;
 use std::process::ExitCode;
 
-/// The status where a line or an event couldn't be shown.
+/// The status if a line or an event couldn't be shown.
 const NOT_ALL_SHOWN: u8 = 1;
 
 /// Shows what the arguments name, and returns whether all of it could be shown.

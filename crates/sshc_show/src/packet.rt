@@ -5,7 +5,7 @@ use crate::packet_table::{Asked, packet_of};
 use crate::part::{Stop, add_parts};
 use sshc_wire::{Cursor, msg};
 
-/// What the answers to a request of this method, or of an event's, are numbered by.
+/// How the packets 60 and 61 are read after a request of this method, or of an event's.
 pub fn asked_by(method: &str) -> Asked {
     match method {
         "publickey" | "pair" | "pair-and-certificate" | "outside-key" | "outside-certificate" => {
@@ -36,7 +36,7 @@ fn add_body(
 }
 
 /// Adds a packet's name and fields. A packet that ends early, or has a text that isn't UTF-8, is shown as far as it can
-/// be read. A request to be authenticated says what the packets 60 and 61 behind it are.
+/// be read. A request to be authenticated decides what the packets 60 and 61 after it are.
 pub fn add_packet(line: &mut Line, asked: &mut Asked, packet: &[u8]) -> Result<(), Stop> {
     let mut c = Cursor::new(packet);
     let Ok(number) = c.u8() else {

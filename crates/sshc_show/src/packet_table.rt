@@ -3,7 +3,7 @@
 use crate::part::{Case, Part, Shape};
 use sshc_wire::msg;
 
-/// A packet: its number, its name, its parts, and those behind a choice among them.
+/// A packet: its number, its name, its parts, and those after a choice among them.
 #[derive(Clone, Copy)]
 pub struct Packet {
     pub number: u8,
@@ -12,7 +12,7 @@ pub struct Packet {
     pub cases: &'static [Case],
 }
 
-/// The packets whose number says what they are.
+/// The packets that are determined by their number alone.
 static PACKETS: [Packet; 29] = [
     Packet {
         number: msg::DISCONNECT,
@@ -471,7 +471,7 @@ static GSSAPI_TOKEN: Packet = Packet {
     cases: &[],
 };
 
-/// A packet that isn't in the tables. What is in it isn't shown.
+/// A packet that isn't in the tables. Its fields aren't shown.
 static UNKNOWN: Packet = Packet {
     number: 0,
     name: "packet",
@@ -479,7 +479,7 @@ static UNKNOWN: Packet = Packet {
     cases: &[],
 };
 
-/// What the user was last asked to be authenticated by, which says what the packets 60 and 61 are.
+/// How the user last asked to be authenticated, which decides what the packets 60 and 61 are.
 #[derive(Clone, Copy)]
 pub enum Asked {
     Other,

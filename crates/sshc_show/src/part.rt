@@ -10,7 +10,7 @@ use thiserror::Error;
 pub enum Stop {
     #[error("out of memory")]
     NoMemory,
-    /// The bytes end inside a part, or aren't text where it is one.
+    /// The bytes end inside a part, or aren't a text where the part is one.
     #[error("unreadable")]
     Unreadable,
 }
@@ -36,21 +36,21 @@ pub enum Shape {
     Flag,
     /// A string that is UTF-8.
     Text,
-    /// A text that says which parts stand behind.
+    /// A text that decides which parts follow.
     Choice,
-    /// A byte that says it, as a place among these names.
+    /// A byte that decides it, as a place among these names.
     Among(&'static [&'static str]),
     /// A string that may be any bytes.
     Bytes,
     /// A string of which only the size is shown.
     Hidden,
-    /// A string of which only the size is shown, where anything is left.
+    /// A string of which only the size is shown, if any bytes remain.
     HiddenIfAny,
     /// A string that holds a blob: of a key, a certificate or a pair.
     Blob,
-    /// A number, and so many strings of which only the sizes are shown.
+    /// A number, followed by so many strings of which only the sizes are shown.
     AllHidden,
-    /// A number, and so many strings with a blob each.
+    /// A number, followed by so many strings with a blob each.
     Blobs,
     /// Strings with a blob each, up to the end.
     BlobsToEnd,
@@ -74,7 +74,7 @@ pub enum Shape {
 #[derive(Clone, Copy)]
 pub struct Part(pub &'static str, pub Shape);
 
-/// The parts behind a choice.
+/// The parts that follow a choice.
 #[derive(Clone, Copy)]
 pub struct Case {
     pub choice: &'static str,
@@ -183,14 +183,14 @@ fn add_part(line: &mut Line, c: &mut Cursor<'_>, name: &str, shape: Shape) -> Re
     Ok(())
 }
 
-/// What is unread, which counts as read from then on.
+/// The unread bytes, which count as read from then on.
 fn take_rest<'a>(c: &mut Cursor<'a>) -> &'a [u8] {
     let rest = c.rest();
     *c = Cursor::new(&[]);
     rest
 }
 
-/// Adds a part, and gives what it says of the parts behind it.
+/// Adds a part; if it is a choice, returns what it chose.
 fn add_choice<'a>(
     line: &mut Line,
     c: &mut Cursor<'a>,
@@ -216,7 +216,7 @@ fn add_choice<'a>(
     }
 }
 
-/// Adds parts, and gives what the last choice among them was.
+/// Adds parts, and returns the last choice among them.
 fn add_each<'a>(
     line: &mut Line,
     c: &mut Cursor<'a>,
@@ -231,7 +231,7 @@ fn add_each<'a>(
     Ok(choice)
 }
 
-/// Adds the parts of a choice. Of a choice without a case, only the size of what stands behind is shown.
+/// Adds the parts of a choice. For a choice without a case, only the size of the remaining bytes is shown.
 fn add_case(line: &mut Line, c: &mut Cursor<'_>, cases: &[Case], choice: &str) -> Result<(), Stop> {
     for case in cases {
         if case.choice == choice {
@@ -243,7 +243,7 @@ fn add_case(line: &mut Line, c: &mut Cursor<'_>, cases: &[Case], choice: &str) -
     Ok(())
 }
 
-/// Adds parts, those behind their choice, and the size of what is left over; gives the choice.
+/// Adds parts, those after their choice, and the size of the bytes that remain; returns the choice.
 pub fn add_parts<'a>(
     line: &mut Line,
     c: &mut Cursor<'a>,

@@ -63,7 +63,7 @@ pub fn prompts(alloc: Global, c: &mut Cursor<'_>) -> Result<List<Prompt>, LineEr
     Ok(prompts)
 }
 
-/// The texts between the commas of a string; an empty string has none.
+/// The texts between the commas of a string; an empty string contains none.
 pub fn names(alloc: Global, c: &mut Cursor<'_>) -> Result<List<Text>, LineError> {
     let mut names = List::new(alloc);
     let list = c.text()?;

@@ -1,5 +1,5 @@
-//! Reads the lines of records (docs/FORMATS.md, "Records"). What was read is written again, and a line that isn't what
-//! would be written is no record's: so no reader below can show a record that the line doesn't have.
+//! Reads the lines of records (docs/FORMATS.md, "Records"). The record that was read is encoded again, and a line that
+//! isn't that encoding is rejected: so no reader below can show a record that the line doesn't have.
 
 ghost use Rattle.std.specs.Prelude.{◌≡◌, IfOk, string_bytes};
 ghost use Rattle.hex.specs.Hex.{encode_lower};
@@ -23,7 +23,7 @@ fn fault_of(number: u8) -> Result<AgentFault, LineError> {
     }
 }
 
-/// What an agent reports: the connection and the fields behind it.
+/// A report of an agent: the connection and the fields after it.
 fn agent_record(alloc: Global, kind: u8, c: &mut Cursor<'_>) -> Result<Record, LineError> {
     let conn = c.u32()?;
     let answer = match kind {
@@ -35,7 +35,7 @@ fn agent_record(alloc: Global, kind: u8, c: &mut Cursor<'_>) -> Result<Record, L
     Ok(Record::Agent { conn, answer })
 }
 
-/// The record of this kind whose fields are at the front. What is left behind them isn't looked at.
+/// The record of this kind whose fields come first. The bytes that remain after them aren't looked at.
 fn record_of(alloc: Global, kind: u8, c: &mut Cursor<'_>) -> Result<Record, LineError> {
     match kind {
         0x01 => Ok(Record::Payload(Octets::from_slice(alloc, c.rest())?)),
@@ -84,7 +84,7 @@ fn line_of(alloc: Global, said: &Record) -> Result<String, NoMemory>
     Ok(hex::encode(alloc, bytes.as_slice())?)
 }
 
-/// The value where the two are the same bytes.
+/// The value, if the two are the same bytes.
 fn where_same<T: Drop>(value: T, these: &[u8], others: &[u8]) -> Result<T, LineError>
     ensures value { IfOk result (λ v. v ≡ value) }
     ensures same { IfOk result (λ _. these.now ≡ others.now) }
@@ -96,10 +96,10 @@ fn where_same<T: Drop>(value: T, these: &[u8], others: &[u8]) -> Result<T, LineE
     }
 }
 
-/// The record of a line, which stands without its line feed: lower-case hexadecimal digits, two a byte. Another line is
+/// The record of a line without its line feed: lower-case hexadecimal digits, two per byte. Another line is
 /// `NotARecord`.
 pub fn read_record(alloc: Global, line: &[u8]) -> Result<Record, LineError>
-    // The line is that record's and no other's text.
+    // The line is the text of that record and of no other.
     ensures text { IfOk result (λ said. line.now ≡ encode_lower (record_text said)) }
 {
     let Ok(bytes) = hex::decode(alloc, line) else {

@@ -11,7 +11,7 @@ use std::alloc::Global;
 use std::fs;
 use std::io::Read;
 
-/// What is printed for an event; none where its fields can't be read.
+/// The text that is printed for an event; `None` if its fields can't be read.
 fn shown_event(alloc: Global, asked: &mut Asked, event: &RawEvent) -> anyhow::Result<Option<Line>> {
     let mut line = Line::new(alloc);
     match add_event(alloc, &mut line, asked, event) {
@@ -21,7 +21,7 @@ fn shown_event(alloc: Global, asked: &mut Asked, event: &RawEvent) -> anyhow::Re
     }
 }
 
-/// Prints an event behind its number, its place in the script and its moment.
+/// Prints an event after its number, its place in the script and its moment.
 fn show_event(
     rt: &HostRuntime,
     asked: &mut Asked,
@@ -42,7 +42,7 @@ fn show_event(
     }
 }
 
-/// The next event; none where no event begins.
+/// The next event; `None` if no event begins.
 fn event_from<S: Source>(
     alloc: Global,
     source: &mut S,

@@ -5,8 +5,8 @@ use sshc_key::{Error, PublicKey};
 use sshc_wire::Files;
 use std::alloc::Global;
 
-/// Whether the host's key was known already; a key of a host that the file has no key of is added to it. A changed key, and a
-/// line for the host that can't be read, are errors.
+/// Whether the host's key was known already; a key of a host that the file has no key of is added to it. A changed key,
+/// and a line for the host that can't be read, are errors.
 pub fn trust_on_first_use<F: Files>(
     alloc: Global,
     files: &mut F,

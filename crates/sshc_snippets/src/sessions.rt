@@ -25,8 +25,8 @@ where
     false
 }
 
-/// Hands each of these events to a session, and returns all that is to be written; it stops at the first event that the session
-/// doesn't go on behind.
+/// Hands each of these events to a session, and returns all that is to be written; it stops at the first event that the
+/// session doesn't go on behind.
 pub fn step_all<H: Handler, S: LocalSigner, V: Verifier>(
     session: &mut Session,
     events: &[Event],

@@ -5,8 +5,8 @@ use sshc_key::LocalSigner;
 use sshc_shared::{AgentShared, CallRefused, Seat, Settings};
 use std::sync::Wait;
 
-/// One input on a connection of its own. The seat has the call with its answer; `AgentShared::close` compares all seats with the
-/// agent's history.
+/// One input on a connection of its own. The seat has the call with its answer; `AgentShared::close` compares all seats
+/// with the agent's history.
 pub fn ask_once<L: Settings, G: LocalSigner, R: Wait>(
     rt: &R,
     shared: &AgentShared<L>,

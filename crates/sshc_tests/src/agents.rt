@@ -1,4 +1,4 @@
-//! Events of agents in scripts, by settings that the command line doesn't reach.
+//! Events of agents in scripts, with settings that the command line doesn't set.
 
 use crate::scripts::{KNOWN, run_with, script_of};
 use sshc_opening::Ended;

@@ -19,7 +19,7 @@ use sshc_wire::{
 use std::alloc::Global;
 use std::test::Fail;
 
-/// The fields of an event: what stands behind its length, moment and kind.
+/// The fields of an event: the bytes after its length, moment and kind.
 fn fields(event: &[u8]) -> &[u8] {
     event.get(13..).unwrap_or_default()
 }
@@ -184,7 +184,7 @@ fn host_key(alloc: Global) -> Result<PublicKeyOrCertificate, Fail> {
     Ok(key)
 }
 
-/// What the handler answers for this key by this known hosts text.
+/// The handler's result for this key with this known hosts text.
 fn judged(alloc: Global, known: &str, key: &PublicKeyOrCertificate) -> Result<bool, HandlerError> {
     match KnownHostsHandler::new(alloc, "localhost", 13265, known) {
         Ok(mut handler) => handler.check_server_key(key),

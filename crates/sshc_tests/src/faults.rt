@@ -1,4 +1,4 @@
-//! The login where a read or a write fails, and where bytes go one at a time.
+//! The login with a read or a write that fails, and with bytes that are read and written one at a time.
 
 use crate::outside::{SlowSink, SlowSource, StoppingWriter};
 use crate::scripts::{
@@ -10,7 +10,7 @@ use sshc_wire::{MemSink, MemSource, NoMemory, StdSink};
 use std::alloc::Global;
 use std::test::Fail;
 
-/// Runs the login, where the calls of these numbers fail.
+/// Runs the login, with failures of the calls of these numbers.
 fn login_failing(alloc: Global, reads: Vec<u64>, writes: Vec<u64>) -> Result<Outcome, NoMemory> {
     let mut source = MemSource::new(script_of(alloc, LOGIN.as_slice())?, reads);
     let mut sink = MemSink::new(Vec::new(alloc), writes);
@@ -18,7 +18,7 @@ fn login_failing(alloc: Global, reads: Vec<u64>, writes: Vec<u64>) -> Result<Out
     Ok(Outcome { answer, sink })
 }
 
-/// Runs the login a byte at a time, where the calls of these numbers fail.
+/// Runs the login a byte at a time, with failures of the calls of these numbers.
 fn slow_login_failing(
     alloc: Global,
     reads: Vec<u64>,

@@ -8,7 +8,7 @@ use sshc_opening::Ended;
 use sshc_run::{Config, RunError};
 use std::test::Fail;
 
-/// With ample memory: a run that always answers out of memory is proved under every clause, and is refused here.
+/// With ample memory: a run that always returns out of memory is proved under every clause, and is refused here.
 #[test]
 fn a_password_login_opens_the_session(rt: HostRuntime) -> Result<(), Fail> {
     let script = script_of(rt.alloc(), LOGIN.as_slice())?;
@@ -184,7 +184,7 @@ fn refusals_of_the_opening_are_told(rt: HostRuntime) -> Result<(), Fail> {
     Ok(())
 }
 
-/// In place of the password's method these have other fields.
+/// These events have other fields in place of those of the method `password`.
 #[test]
 fn a_method_with_the_fields_of_another_is_bad(rt: HostRuntime) -> Result<(), Fail> {
     for method in [0u8, 2, 3, 4, 5, 7] {
@@ -200,7 +200,7 @@ fn a_method_with_the_fields_of_another_is_bad(rt: HostRuntime) -> Result<(), Fai
 /// Another user asks, with ticket 2.
 const ANOTHER: &[u8] = b"\0\0\0\x1b\0\0\0\0\0\0\0\0\x10\0\0\0\x02\0\0\0\x03bob\x01\0\0\0\x02pw";
 
-/// The lines where another user asks before the service is accepted.
+/// The lines if another user asks before the service is accepted.
 const DROPPED_IN_SERVICE: &str = "2000000011637572766532353531392d736861323536
 01050000000c7373682d7573657261757468
 04000000010d
@@ -209,7 +209,7 @@ const DROPPED_IN_SERVICE: &str = "2000000011637572766532353531392d736861323536
 03
 ";
 
-/// The lines where another user asks behind a request that was written.
+/// The lines if another user asks after a request that was written.
 const DROPPED_ONCE_WRITTEN: &str = "2000000011637572766532353531392d736861323536
 01050000000c7373682d7573657261757468
 013200000005616c6963650000000e7373682d636f6e6e656374696f6e0000000870617373776f726400000000027077

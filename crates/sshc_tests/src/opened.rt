@@ -1,4 +1,4 @@
-//! Open sessions by settings of their own: keepalives that stay without an answer, and packets while an exchange runs.
+//! Open sessions with settings of their own: keepalives without an answer, and packets while an exchange runs.
 
 use crate::scripts::{EXCHANGE, KEXINIT, KNOWN, LOGIN, run_with, script_of};
 use sshc_opening::Ended;
@@ -14,7 +14,7 @@ const IGNORE: &[u8] = b"\0\0\0\x0e\0\0\0\0\0\0\0\0\x03\x02\0\0\0\0";
 /// The user asks for an exchange.
 const REKEY: &[u8] = b"\0\0\0\x09\0\0\0\0\0\0\0\0\x24";
 
-/// A packet of eight bytes, and one of a single byte, under a number that nobody knows.
+/// A packet of eight bytes, and one of a single byte, with an unassigned number.
 const EIGHT_BYTES: &[u8] = b"\0\0\0\x11\0\0\0\0\0\0\0\0\x03\xc8\0\0\0\0\0\0\0";
 
 const ONE_BYTE: &[u8] = b"\0\0\0\x0a\0\0\0\0\0\0\0\0\x03\xc8";

@@ -52,7 +52,7 @@ impl Sink for SlowSink {
     }
 }
 
-/// A writer that takes each piece whole, but at the call of one number, from 0, takes no byte.
+/// A writer that takes each piece whole, except that at the call of one number, from 0, it takes no byte.
 #[derive(Drop)]
 pub(crate) struct StoppingWriter<'a> {
     pub(crate) held: &'a mut Vec<u8>,

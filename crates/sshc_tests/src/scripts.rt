@@ -13,7 +13,7 @@ pub(crate) const KEXINIT: &[u8] = b"\0\0\0\x09\0\0\0\0\0\0\0\0\x01";
 pub(crate) const EXCHANGE: &[u8] =
     b"\0\0\0\x7e\0\0\0\0\0\0\0\0\x02\x01\0\0\0\x33\0\0\0\x0bssh-ed25519\0\0\0\x20\x97\x43\xef\x2d\xda\x2e\xae\x39\xe3\x25\x81\x77\x02\xd6\x6e\x27\x94\xd5\xe6\xf3\xf7\xf7\x2e\xef\xf4\x04\x5e\x7f\x4e\x21\xe6\x49\0\0\0\x0asession-id\0\0\0\0\0\0\0\0\0\0\0\0\x11curve25519-sha256\0\0\0\0\0\0\0\0\0\0\0\0\0\0\0\0\0";
 
-/// The user asks for the password's method, with ticket 1.
+/// The user asks to log in by the method `password`, with ticket 1.
 pub(crate) const PASSWORD: &[u8] =
     b"\0\0\0\x1d\0\0\0\0\0\0\0\0\x10\0\0\0\x01\0\0\0\x05alice\x01\0\0\0\x02pw";
 
@@ -46,14 +46,14 @@ pub(crate) const LINES: &str = "2000000011637572766532353531392d736861323536
 03
 ";
 
-/// How many bytes of the lines are written once so many events of the login were taken.
+/// How many bytes of the lines are written after so many events of the login were taken.
 pub(crate) const WRITTEN: [usize; 6] = [0, 0, 45, 82, 179, 195];
 
 /// A known hosts text that has the host key of the login.
 pub(crate) const KNOWN: &str =
     "[localhost]:13265 ssh-ed25519 AAAAC3NzaC1lZDI1NTE5AAAAIJdD7y3aLq454yWBdwLWbieU1ebz9/cu7/QEXn9OIeZJ\n";
 
-/// The bytes of these events, one behind another.
+/// The bytes of these events, one after another.
 pub(crate) fn script_of(alloc: Global, events: &[&[u8]]) -> Result<Vec<u8>, NoMemory> {
     let mut script = Vec::new(alloc);
     for event in events {
@@ -84,7 +84,7 @@ pub(crate) fn run_by<S: Source, K: Sink>(
     )
 }
 
-/// Runs a script by the settings that a client has unless it is told others, with a bound on its events.
+/// Runs a script with the default settings of a client, except for the bound on its events.
 pub(crate) fn run_over<S: Source, K: Sink>(
     alloc: Global,
     known: &str,
@@ -99,7 +99,7 @@ pub(crate) fn run_over<S: Source, K: Sink>(
     run_by(alloc, &config, known, source, sink)
 }
 
-/// What a run answers, and what it writes.
+/// The result of a run, and the text that it writes.
 #[derive(Debug, Drop)]
 pub(crate) struct Outcome {
     pub(crate) answer: Result<Ended, RunError>,
@@ -122,7 +122,7 @@ pub(crate) fn run_with(alloc: Global, config: &Config, known: &str, script: Vec<
     Outcome { answer, sink }
 }
 
-/// The answer is this one, and what is written are the first so many bytes of the login's lines.
+/// The result is this one, and the bytes that are written are the first so many of the login's lines.
 pub(crate) fn assert_gives(
     rt: &impl Abort,
     case: &str,

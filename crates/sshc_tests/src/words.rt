@@ -1,4 +1,4 @@
-//! The command-line arguments over files, a source and a sink in memory: what is written, and the status.
+//! The command-line arguments over files, a source and a sink in memory: the text that is written, and the status.
 
 use crate::login::KEYLESS;
 use crate::scripts::{
@@ -12,7 +12,7 @@ use std::alloc::Global;
 use std::process::Abort;
 use std::test::Fail;
 
-/// The words that run the login.
+/// The arguments that run the login.
 const SCRIPT: [&str; 4] = ["script", "localhost", "13265", "known"];
 
 /// The numbers of the calls that fail: of the files, the source and the sink.
@@ -63,7 +63,7 @@ fn files(alloc: Global, known: Option<&[u8]>, failing: Failing) -> Result<MemFil
     Ok(MemFiles::new(contents, calls(alloc, failing.file)?))
 }
 
-/// Runs the words over one file `known`, where there is one.
+/// Runs the arguments over one file `known`, if there is one.
 fn outcome_of(
     alloc: Global,
     words: &[&str],
@@ -88,7 +88,7 @@ fn outcome_of(
     Ok(Ran { status, sink })
 }
 
-/// The status is this one, and what is written is so much of the login's lines and then a line.
+/// The status is this one, and the text that is written is so much of the login's lines and then a line.
 fn assert_ran(rt: &impl Abort, case: &str, ran: &Ran, status: u8, written: usize, line: &str) {
     assert_eq!(rt; ran.status, status, "{case}");
     let contents = ran.sink.contents();

@@ -1,5 +1,5 @@
--- How a method of a handle reads its answer from a record of its ticket. Whatever a method waits for, a session that ends before
--- reads as Disconnect; a record that isn't one of its own is passed over.
+-- How a method of a handle reads its answer from a record of its ticket. Whatever a method waits for, a session that
+-- ends first reads as `Disconnect`; a record that isn't an answer to it is passed over.
 use Rattle.std.specs.Prelude.{◌≡◌, ℕ, Bool, true, false, List, Option, Some, None, Result, Ok, Err, bytes_eq, codes, if◌then◌else◌}
 use Rattle.std.specs.List.{list_any}
 use Rattle.sshc_wire.specs.declared.hash_alg.HashAlg.{HashAlg}
@@ -19,7 +19,7 @@ use Rattle.sshc_tickets.specs.declared.auth_answers.AuthResult.TheVariants as re
 use Rattle.sshc_opening.specs.declared.keyboard_interactive.KeyboardInteractiveAuthResponse.{KeyboardInteractiveAuthResponse}
 use Rattle.sshc_opening.specs.declared.keyboard_interactive.KeyboardInteractiveAuthResponse.TheVariants as responses
 
--- an answer, or none where the record isn't one of these
+-- an answer, or `None` if the record isn't one of these
 abbrev pub Answer : Type 0 → Type 0
 Answer A = Option (Result A Error)
 
@@ -109,7 +109,7 @@ reply_answer r = resolved reply_said r
 abbrev pub has_name : List ℕ → List (List ℕ) → Bool
 has_name name names = list_any (λ other. bytes_eq other name) names
 
--- by the list that the server announced: SHA-512 where it is named, else SHA-256, else none
+-- by the list that the server announced: SHA-512 if it is named, else SHA-256, else `None`
 abbrev pub best_hash : List (List ℕ) → Option HashAlg
 best_hash names = if has_name (codes "rsa-sha2-512") names then Some hashes.Sha512 else if has_name (codes "rsa-sha2-256") names then Some hashes.Sha256 else None
 

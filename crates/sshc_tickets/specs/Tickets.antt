@@ -15,7 +15,7 @@ pub record TicketState : Type 0 where
   pub held : List Record
   -- the channels whose close was taken, until one of their number opens again
   pub closed : List ChannelId
-  -- the number of the ticket that was given last
+  -- the number of the ticket that was opened last
   pub last : ℕ
 
 -- ---- which records are a ticket's
@@ -53,16 +53,16 @@ is_channel number id = nat_eq id.0 number
 abbrev pub is_taken : TicketState → ℕ → Bool
 is_taken s number = list_any (is_ticket number) s.due || list_any (is_of number) s.held
 
--- the number behind this one; 1 behind the last
+-- the number after this one; 1 after the last
 abbrev pub number_after : ℕ → ℕ
 number_after number = if nat_eq number (2 ^ 32 - 1) then 1 else number + 1
 
--- the first number behind this one that isn't taken, if there is one among so many
+-- the first number after this one that isn't taken, if there is one among so many
 unfoldable pub free_within : ℕ → TicketState → ℕ → Option ℕ
 free_within zero s number = None
 free_within (suc tries) s number = if is_taken s (number_after number) then free_within tries s (number_after number) else Some (number_after number)
 
--- ---- what is taken
+-- ---- records that are taken
 
 -- the first that passes, if there is one
 unfoldable pub first_of : {A : Type 0} → (A → Bool) → List A → Option A
@@ -74,9 +74,9 @@ unfoldable pub without_first : {A : Type 0} → (A → Bool) → List A → List
 without_first test [] = []
 without_first test (x ∷ xs) = if test x then xs else x ∷ without_first test xs
 
--- ---- what is told
+-- ---- records that are held
 
--- the tickets whose answer is due behind a record: an answer settles its own
+-- the tickets whose answer is due after a record: an answer settles its own
 abbrev pub due_behind : Record → List Ticket → List Ticket
 due_behind (Resolved ticket resolution) due = without_first (is_ticket ticket.0) due
 due_behind said due = due
@@ -87,7 +87,7 @@ opened_by (Channel id (Open max_packet_size window_size)) = Some id.0
 opened_by (ServerOpened id kind) = Some id.0
 opened_by said = None
 
--- the channels that stay closed where one opens
+-- the channels that are still closed after one opens
 abbrev pub closed_behind : Option ℕ → List ChannelId → List ChannelId
 closed_behind None closed = closed
 closed_behind (Some number) closed = filter (λ (id : ChannelId). not (is_channel number id)) closed

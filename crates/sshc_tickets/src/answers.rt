@@ -1,5 +1,5 @@
-//! How a method of a handle reads its answer from a record of its ticket. A record that isn't one of its own is none; a session
-//! that ended before reads as `Disconnect`.
+//! How a method of a handle reads its answer from a record of its ticket. A record that isn't an answer to it is
+//! `None`; a session that ended first reads as `Disconnect`.
 
 ghost use Rattle.std.specs.Prelude.{◌≡◌};
 ghost use Rattle.sshc_tickets.specs.Answers.{algs_answer, auth_answer, best_hash, done_answer, has_name, open_answer, port_answer, prompt_answer, prompt_said, proof_error, reply_answer, resolution_in};
@@ -52,7 +52,7 @@ fn prompt_said(resolution: Resolution) -> Option<Result<KeyboardInteractiveAuthR
     }
 }
 
-/// The answer to a request to log in by prompts (RFC 4256, section 3): prompts, or what it comes to.
+/// The answer to a request to log in by prompts (RFC 4256, section 3): prompts, or the result.
 pub fn prompt_answer(r: Record) -> Option<Result<KeyboardInteractiveAuthResponse, Error>>
     ensures { result ≡ prompt_answer r }
 {
@@ -111,7 +111,7 @@ pub fn done_answer(r: Record) -> Option<Result<(), Error>>
     }
 }
 
-/// The answer to a request for a forward (RFC 4254, section 7.1): the port, 0 for the one that was asked for.
+/// The answer to a request for a forward (RFC 4254, section 7.1): the port; 0 if it is the one that was asked for.
 pub fn port_answer(r: Record) -> Option<Result<u32, Error>>
     ensures { result ≡ port_answer r }
 {
@@ -123,7 +123,7 @@ pub fn port_answer(r: Record) -> Option<Result<u32, Error>>
     }
 }
 
-/// The answer to a global request of the user's own (RFC 4254, section 4): the bytes behind the packet's number.
+/// The answer to a global request of the user's own (RFC 4254, section 4): the bytes after the packet's number.
 pub fn reply_answer(r: Record) -> Option<Result<Octets, Error>>
     ensures { result ≡ reply_answer r }
 {
@@ -141,7 +141,7 @@ fn has_name(names: &[Text], name: &str) -> bool
     names.iter().any(|other| other.as_str() == name)
 }
 
-/// SHA-512 where the server names it for RSA, else SHA-256 (RFC 8332), else none.
+/// SHA-512 if the server names it for RSA, else SHA-256 (RFC 8332), else `None`.
 fn best_hash(names: &[Text]) -> Option<HashAlg>
     ensures { result ≡ best_hash names.now }
 {
@@ -154,7 +154,7 @@ fn best_hash(names: &[Text]) -> Option<HashAlg>
     }
 }
 
-/// The best hash for RSA by the list that the server announced (RFC 8308, section 3.1); none where it announced no list.
+/// The best hash for RSA by the list that the server announced (RFC 8308, section 3.1); `None` if it announced no list.
 pub fn algs_answer(r: Record) -> Option<Result<Option<Option<HashAlg>>, Error>>
     ensures { result ≡ algs_answer r }
 {

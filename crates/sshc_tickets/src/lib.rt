@@ -1,4 +1,4 @@
-//! A session for programs with threads: what is submitted, what is told, and how an answer is read.
+//! A session for programs with threads: its tickets, the records held for them, and how an answer is read.
 #![tactic(auto)]
 
 mod answers;

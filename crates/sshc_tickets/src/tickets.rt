@@ -10,8 +10,8 @@ use sshc_wire::{ChannelId, ChannelRecord, NoMemory, Record, Resolution, Ticket};
 use std::alloc::Global;
 use std::marker::Model;
 
-/// The tickets whose answer is due, and the records that nobody has taken yet, the oldest first. There is room for an answer to
-/// each open ticket.
+/// The tickets whose answer is due, and the records that nobody has taken yet, the oldest first. There is room for an
+/// answer to each open ticket.
 #[derive(Debug, Drop)]
 pub struct Tickets {
     due: Vec<Ticket>,
@@ -85,7 +85,7 @@ fn is_of(number: u32, said: &Record) -> bool
     }
 }
 
-/// The number behind this one; 1 behind the last.
+/// The number after this one; 1 after the last.
 fn number_after(number: u32) -> u32
     ensures { result ≡ number_after number }
 {
@@ -126,7 +126,7 @@ impl Tickets {
     }
 
     #[tactic(auto, using(crate::proofs::Free::free_found, crate::proofs::Free::free_later, crate::proofs::Free::free_none))]
-    /// The first number behind the last that isn't taken.
+    /// The first number after the last one opened that isn't taken.
     fn free(&self) -> Option<u32>
         ensures { result ≡ free_within (length self.now.due + length self.now.held + 1) self.now self.now.last }
     {
@@ -140,8 +140,8 @@ impl Tickets {
         None
     }
 
-    /// Opens a ticket, with the room for its answer. Its number is the first behind the last that is neither open nor named by
-    /// a held record; where none is left, that counts as out of memory.
+    /// Opens a ticket, with the room for its answer. Its number is the first after the last one opened that is neither
+    /// open nor named by a held record; if no number is free, it returns `NoMemory`.
     pub fn open_ticket(&mut self) -> Result<Ticket, NoMemory>
         ensures number { IfOk result (λ ticket. free_within (length self.old.due + length self.old.held + 1) self.old self.old.last ≡ Some ticket.0) }
         ensures opened { IfOk result (λ ticket. self.new ≡ record self.old { due = self.old.due ++ ticket ∷ []; last = ticket.0 }) }
@@ -193,7 +193,7 @@ fn take_first_on(held: &mut Vec<Record>, number: u32) -> Option<Record>
 }
 
 #[tactic(auto, using(crate::proofs::Firsts::first_found, crate::proofs::Firsts::first_cut, crate::proofs::Firsts::none_found, crate::proofs::Firsts::none_cut, crate::proofs::Firsts::passed_on))]
-/// Takes the first ticket of this number, where there is one.
+/// Removes the first ticket of this number, if there is one.
 fn settle(due: &mut Vec<Ticket>, number: u32)
     ensures rest { due.new.items ≡ without_first (is_ticket number) due.old.items }
     ensures fewer { vec_len due.new ≤ vec_len due.old }
@@ -224,7 +224,8 @@ impl Tickets {
         take_first_of(&mut self.held, ticket.0)
     }
 
-    /// Takes the oldest record that is held of what happened on this channel. With its close the channel counts as closed.
+    /// Takes the oldest record that is held of what happened on this channel. With its close the channel counts as
+    /// closed.
     pub fn poll_channel(&mut self, id: ChannelId) -> Option<Record>
         ensures taken { result ≡ first_of (is_on id.0) self.old.held }
         ensures rest { self.new ≡ record self.old { held = without_first (is_on id.0) self.old.held; closed = closed_with result self.old.closed } }
@@ -275,7 +276,7 @@ impl Tickets {
         Ok(())
     }
 
-    /// Settles every open ticket as dropped, in the room that was made when it was opened.
+    /// Settles every open ticket as dropped, in the room that was reserved when it was opened.
     pub fn drop_open(&mut self)
         ensures { self.new ≡ record self.old { due = []; held = self.old.held ++ map dropped self.old.due } }
     {

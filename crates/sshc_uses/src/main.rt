@@ -1,5 +1,5 @@
-//! Logs in over a transport in memory, runs a command, and prints what it wrote and its status. What a program with threads
-//! looks like: one thread takes turns with the session, and the others hold its handle.
+//! Logs in over a transport in memory, runs a command, and prints its output and its status. An example of a program
+//! with threads: one thread takes turns with the session, and the others hold its handle.
 #![tactic(auto)]
 
 use sshc_client::{ChannelMsg, Config, Error};
@@ -11,7 +11,7 @@ use std::alloc::Global;
 use std::sync::Wait;
 use std::thread;
 
-/// What a command wrote, and its status.
+/// The output of a command, and its status.
 #[derive(Drop)]
 struct Output {
     bytes: Vec<u8>,

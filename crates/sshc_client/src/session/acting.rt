@@ -1,4 +1,4 @@
-//! What a method of a session answers.
+//! The results of a session's methods.
 
 ghost use Rattle.std.specs.Prelude.{◌≡◌};
 ghost use Rattle.sshc_moves.specs.Moves.{or_none};
@@ -7,7 +7,7 @@ ghost use Rattle.sshc_client.specs.Methods.{acted};
 use sshc_opening::Error;
 use sshc_wire::{NoMemory, Ticket};
 
-/// A method did its move.
+/// The result of a method that did its moves.
 pub(super) fn acted(moved: Result<(), NoMemory>) -> Result<(), Error>
     ensures { result ≡ acted moved }
 {
@@ -17,7 +17,7 @@ pub(super) fn acted(moved: Result<(), NoMemory>) -> Result<(), Error>
     }
 }
 
-/// Ticket 0 is none.
+/// The ticket, or ticket 0 for `None`.
 pub(super) fn ticket_or_none(ticket: Option<Ticket>) -> Ticket
     ensures { result ≡ or_none ticket }
 {

@@ -1,5 +1,5 @@
-//! Bytes and ends on a channel, key exchanges and the end of a session, for whoever is lent it. In a session that isn't open they
-//! do nothing, but for `disconnect`, and answer Ok.
+//! Bytes and ends on a channel, key exchanges and the end of a session, for code that the session is lent to. In a
+//! session that isn't open these methods do nothing, except `disconnect`, and return `Ok`.
 
 ghost use Rattle.std.specs.Prelude.{◌≡◌, ◌∷◌, []};
 ghost use Rattle.sshc_mux.specs.declared.chunk.Stream.{Stream as Kind};
@@ -16,8 +16,8 @@ use sshc_opening::Error;
 use sshc_wire::{ChannelId, Disconnect, Text};
 
 impl Session {
-    /// Bytes for the peer. They are copied once; what the windows don't let out yet waits, and so does all while an exchange
-    /// runs. Bytes behind an EOF or a close of ours are dropped.
+    /// Sends bytes to the peer. They are copied once. Bytes that the windows don't allow yet wait, and so do all bytes
+    /// while an exchange runs. Bytes after an EOF or a close of ours are dropped.
     #[tactic(auto, using(crate::proofs::MethodLemmas::moved_acts, crate::proofs::MethodLemmas::moved_grown))]
     pub fn data(&mut self, id: ChannelId, body: &[u8]) -> Result<(), Error>
         ensures does { Acts (Sends id.0 Kind.Data body.now ∷ []) self.old self.new result }
@@ -35,7 +35,7 @@ impl Session {
         acted(self.connection.send(id, Stream::Extended(ext), body))
     }
 
-    /// No more bytes will be sent; said behind all bytes that were taken.
+    /// Sends EOF after all bytes that were accepted: no more bytes will be sent.
     #[tactic(auto, using(crate::proofs::MethodLemmas::moved_acts, crate::proofs::MethodLemmas::moved_grown))]
     pub fn eof(&mut self, id: ChannelId) -> Result<(), Error>
         ensures does { Acts (EndsBytes id.0 ∷ []) self.old self.new result }
@@ -44,7 +44,7 @@ impl Session {
         acted(self.connection.end_bytes(id))
     }
 
-    /// The channel is closed, behind all bytes that were taken.
+    /// Closes the channel, after all bytes that were accepted.
     #[tactic(auto, using(crate::proofs::MethodLemmas::moved_acts, crate::proofs::MethodLemmas::moved_grown))]
     pub fn close(&mut self, id: ChannelId) -> Result<(), Error>
         ensures does { Acts (Closes id.0 ∷ []) self.old self.new result }
@@ -53,7 +53,7 @@ impl Session {
         acted(self.connection.close(id))
     }
 
-    /// Begins a key exchange, where none runs.
+    /// Begins a key exchange, unless one runs.
     #[tactic(auto, using(crate::proofs::MethodLemmas::moved_acts, crate::proofs::MethodLemmas::moved_grown))]
     pub fn initiate_rekey(&mut self) -> Result<(), Error>
         ensures does { Acts (Begins ∷ []) self.old self.new result }
@@ -62,8 +62,8 @@ impl Session {
         acted(self.connection.begin_exchange())
     }
 
-    /// Ends the session, open or not; in an open one the packet is written. No packet is added from now on, and the step
-    /// that runs, or the next, ends as Disconnected.
+    /// Ends the session, open or not; in an open one the packet is written. No packet is added from now on, and the
+    /// step that runs, or the next one, ends as `Disconnected`.
     #[tactic(auto, using(crate::proofs::MethodLemmas::left_grown, crate::proofs::MethodLemmas::same_grown))]
     pub fn disconnect(
         &mut self,
@@ -89,7 +89,7 @@ impl Session {
         self.connection.table().has_pending_data(Number(id.0))
     }
 
-    /// How many bytes the peer's window lets out; 0 where there is no such channel, or an open of ours waits there.
+    /// How many bytes the peer's window allows; 0 if there is no such channel, or if an open of ours waits there.
     pub fn sender_window_size(&self, id: ChannelId) -> usize
         ensures { result ≡ window_in (channel_of id.0 self.now.table.channels) }
     {

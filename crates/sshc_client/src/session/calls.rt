@@ -1,4 +1,4 @@
-//! Calls of the handler that is lent the session, each with what is said behind it.
+//! Calls of the handler that is lent the session, each with the record that follows it.
 
 ghost use Rattle.std.specs.Prelude.{◌≡◌, [], ◌∷◌, Ok};
 ghost use Rattle.sshc_moves.specs.Moves.{Does, Grants, Tells};
@@ -13,7 +13,7 @@ use sshc_rows::Flow;
 use sshc_wire::{ChannelId, ChannelRecord, NoMemory, Record, Sig};
 
 impl Session {
-    /// Tells the handler what happened on a channel.
+    /// Calls the handler for what happened on a channel.
     #[tactic(auto, using(crate::proofs::HandlerLemmas::called))]
     fn call<H: Handler>(
         &mut self,
@@ -78,14 +78,14 @@ impl Session {
         }
     }
 
-    /// Says what happened on a channel.
+    /// Adds the record of what happened on a channel.
     fn say(&mut self, id: ChannelId, happened: ChannelRecord) -> Result<(), NoMemory>
         ensures { Does (Tells (on_channel id.0 happened) ∷ []) self.old self.new result }
     {
         self.connection.tell(Record::Channel { id, happened })
     }
 
-    /// The handler is told what happened on a channel, and then it is said.
+    /// Calls the handler for what happened on a channel, and then adds its record.
     #[tactic(auto, using(crate::proofs::HandlerLemmas::refused_call, crate::proofs::HandlerLemmas::let_go_call))]
     pub(super) fn report<H: Handler>(
         &mut self,
@@ -104,7 +104,7 @@ impl Session {
         }
     }
 
-    /// The same, and then what waits on the channel goes out.
+    /// The same, and then the bytes that wait on the channel are sent.
     #[tactic(auto, using(crate::proofs::HandlerLemmas::refused_call, crate::proofs::HandlerLemmas::let_go_call))]
     pub(super) fn report_and_grant<H: Handler>(
         &mut self,

@@ -1,4 +1,4 @@
-//! Channels of ours (RFC 4254, section 5.1), for whoever is lent a session.
+//! Channels of ours (RFC 4254, section 5.1), for code that the session is lent to.
 
 ghost use Rattle.std.specs.Prelude.{◌≡◌};
 ghost use Rattle.sshc_packets.specs.ChannelOpens.{DirectStreamLocal, DirectTcpIp, Session as SessionOpen, X11, channel_open};
@@ -11,7 +11,7 @@ use sshc_packets::ChannelOpen;
 use sshc_wire::ChannelId;
 
 impl Session {
-    /// Opens a channel, and returns its number. In a session that isn't open it is `NotAuthenticated`.
+    /// Opens a channel, and returns its number; `NotAuthenticated` if the session isn't open.
     #[tactic(auto, using(crate::proofs::MethodLemmas::grown_by_open, crate::proofs::MethodLemmas::same_grown))]
     fn open(&mut self, asked: &ChannelOpen<'_>) -> Result<ChannelId, Error>
         ensures opened { OpensChannel (channel_open asked.now) self.old self.new result }
@@ -23,8 +23,8 @@ impl Session {
         Ok(self.connection.open(asked, None)?)
     }
 
-    /// A session (RFC 4254, section 6.1). Returns the channel's number; `NotAuthenticated` just where the session isn't
-    /// open.
+    /// A session (RFC 4254, section 6.1). Returns the channel's number; `NotAuthenticated` if and only if the session
+    /// isn't open.
     pub fn channel_open_session(&mut self) -> Result<ChannelId, Error>
         ensures opened { OpensChannel SessionOpen self.old self.new result }
         ensures grown { Grown self.old self.new }

@@ -1,5 +1,5 @@
-//! Requests on a channel (RFC 4254, section 6), for whoever is lent a session. On a channel that isn't established, or after our
-//! close was sent, nothing is written.
+//! Requests on a channel (RFC 4254, section 6), for code that the session is lent to. On a channel that isn't
+//! established, or after our close was sent, nothing is written.
 
 ghost use Rattle.std.specs.Prelude.{◌≡◌, ◌∷◌, []};
 ghost use Rattle.sshc_packets.specs.ChannelRequests.{AgentForward, Env, Exec, PtyReq, Shell, Signal, Subsystem, WindowChange, X11, channel_request};
@@ -23,7 +23,8 @@ impl Session {
         acted(self.connection.request_on(id, request))
     }
 
-    /// A terminal (RFC 4254, section 6.2): its name, columns and rows, the same in pixels, and its modes with their values.
+    /// A terminal (RFC 4254, section 6.2): its name, columns and rows, the same in pixels, and its modes with their
+    /// values.
     pub fn request_pty(
         &mut self,
         id: ChannelId,

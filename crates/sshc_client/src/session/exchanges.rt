@@ -14,7 +14,7 @@ use sshc_opening::{Error, ExchangeFlag, ExchangeResult};
 use sshc_rows::Flow;
 use sshc_wire::{NoMemory, Record, Text};
 
-/// The shared secret of an exchange, if the transport told it.
+/// The shared secret of an exchange, if the transport passed it on.
 pub(super) fn secret_of(exchange: &ExchangeResult) -> Option<&[u8]>
     ensures { option_copied result ≡ exchange.now.secret }
 {
@@ -25,7 +25,7 @@ pub(super) fn secret_of(exchange: &ExchangeResult) -> Option<&[u8]>
 }
 
 impl Session {
-    /// An exchange is done. Nobody judges its key.
+    /// An exchange is done. Its key isn't judged.
     #[tactic(auto, using(crate::proofs::HandlerLemmas::ran_out_with, crate::proofs::HandlerLemmas::refused_with))]
     pub(super) fn exchange_done<H: Handler>(
         &mut self,
@@ -60,7 +60,7 @@ impl Session {
         self.go_on_with(kex, exchange, handler)
     }
 
-    /// The same with a copy of the exchange's name, which is said.
+    /// The same with a copy of the exchange's name, for the record.
     #[tactic(auto, using(crate::proofs::HandlerLemmas::refused_call, crate::proofs::HandlerLemmas::let_go_call))]
     fn go_on_with<H: Handler>(
         &mut self,
@@ -94,7 +94,7 @@ impl Session {
         lent(handler.kex_done(secret_of(exchange), &exchange.names, self))
     }
 
-    /// Says which exchange is done, and what waits on the channels goes out.
+    /// Adds the record of the exchange that is done; then the bytes that wait on the channels are sent.
     fn resume(&mut self, kex: Text) -> Result<(), NoMemory>
         ensures { Does (Tells (KexDoneRecord kex) ∷ Resumes ∷ []) self.old self.new result }
     {

@@ -1,5 +1,5 @@
-//! Global requests of ours (RFC 4254, section 4), for whoever is lent a session. An answer is wanted where there is a ticket. Before
-//! the session is open the ticket is denied; once it has ended nothing is done.
+//! Global requests of ours (RFC 4254, section 4), for code that the session is lent to. With a ticket, an answer is
+//! wanted. Before the session is open the ticket is denied; once it has ended nothing is done.
 
 ghost use Rattle.std.specs.Prelude.{◌≡◌, ◌∷◌, []};
 ghost use Rattle.sshc_moves.specs.Grown.{Grown};
@@ -27,7 +27,8 @@ impl Session {
         }
     }
 
-    /// The server is to listen on a port, and hand connections on (RFC 4254, section 7.1); port 0 lets it choose one.
+    /// Asks the server to listen on a port and to forward its connections (RFC 4254, section 7.1); with port 0 the
+    /// server chooses one.
     pub fn tcpip_forward(
         &mut self,
         ticket: Option<Ticket>,
@@ -49,7 +50,7 @@ impl Session {
         )
     }
 
-    /// It is to stop listening there.
+    /// Asks the server to stop listening on a port.
     pub fn cancel_tcpip_forward(
         &mut self,
         ticket: Option<Ticket>,
@@ -71,7 +72,7 @@ impl Session {
         )
     }
 
-    /// The same on a socket (OpenSSH's PROTOCOL, section 2.4).
+    /// Asks the server to listen on a socket and to forward its connections (OpenSSH's PROTOCOL, section 2.4).
     pub fn streamlocal_forward(
         &mut self,
         ticket: Option<Ticket>,
@@ -91,7 +92,7 @@ impl Session {
         )
     }
 
-    /// It is to stop listening on the socket.
+    /// Asks the server to stop listening on a socket.
     pub fn cancel_streamlocal_forward(
         &mut self,
         ticket: Option<Ticket>,
@@ -111,7 +112,7 @@ impl Session {
         )
     }
 
-    /// A request by its name and the bytes behind.
+    /// A request by its name and the bytes after it.
     pub fn send_global_request(
         &mut self,
         ticket: Option<Ticket>,
@@ -136,7 +137,7 @@ impl Session {
         self.ask_or_deny(ticket, &Ask::Ping { ticket })
     }
 
-    /// A keepalive, with an answer or without.
+    /// A keepalive, with an answer wanted or not.
     #[tactic(auto, using(crate::proofs::MethodLemmas::moved_acts, crate::proofs::MethodLemmas::moved_grown))]
     pub fn send_keepalive(&mut self, want_reply: bool) -> Result<(), Error>
         ensures does { Acts (Asks (KeepAlive want_reply) ∷ []) self.old self.new result }

@@ -1,5 +1,5 @@
-//! A step before the session is open. The handler is asked first, and lent the session, in which the opening stays in
-//! its place; then the opening's step goes on with what the handler said of the host key.
+//! A step before the session is open. The handler is called first, and lent the session, of which the opening remains a
+//! part; then the opening's step continues with the handler's verdict on the host key.
 
 ghost use Rattle.std.specs.Prelude.{◌≡◌, ◌&&◌, [], false, option_copied};
 ghost use Rattle.sshc_opening.specs.OpeningTable.{asked_of};
@@ -20,7 +20,7 @@ use sshc_opening::{Asks, Ended, Error, Event, ExchangeResult, Step};
 use sshc_wire::NoMemory;
 use std::marker::PhantomData;
 
-/// The exchange of an event that is one.
+/// The exchange in an event, if the event is one.
 fn exchange_of(event: &Event) -> Option<&ExchangeResult>
     ensures { option_copied result ≡ exchange_in event.now }
 {
@@ -31,7 +31,7 @@ fn exchange_of(event: &Event) -> Option<&ExchangeResult>
 }
 
 impl Session {
-    /// Asks the handler for the host key, and tells it of the exchange where it accepts the key.
+    /// Asks the handler about the host key, and calls it for the exchange if it accepts the key.
     #[tactic(auto, using(crate::proofs::AskedLemmas::key_said_no, crate::proofs::AskedLemmas::key_refused, crate::proofs::AskedLemmas::key_told, crate::proofs::AskedLemmas::key_told_refused))]
     fn judge<H: Handler>(
         &mut self,
@@ -51,7 +51,7 @@ impl Session {
         Ok(true)
     }
 
-    /// Asks the handler what the opening's row asks. Returns whether a host key was accepted.
+    /// Calls the handler as the opening's row asks. Returns whether a host key was accepted.
     #[tactic(auto, using(crate::proofs::AskedLemmas::not_asked, crate::proofs::AskedLemmas::told_exchange, crate::proofs::AskedLemmas::told_banner, crate::proofs::AskedLemmas::refused_telling))]
     fn ask_handler<H: Handler>(
         &mut self,
@@ -85,7 +85,7 @@ impl Session {
         }
     }
 
-    /// The opening's step, once the handler was asked; where the user left the session meanwhile, it ends.
+    /// The opening's step, after the handler was called; if the user left the session meanwhile, the step ends it.
     #[tactic(auto, using(crate::proofs::AskedLemmas::ended_before))]
     fn step_asked<H: Handler, S: LocalSigner>(
         &mut self,
@@ -107,7 +107,7 @@ impl Session {
         self.end_left(step)
     }
 
-    /// A step that would go on ends a session that the user left.
+    /// A step that would continue ends a session that the user left.
     #[tactic(auto, using(crate::proofs::StepLemmas::nobody_left_ends))]
     pub(super) fn end_left<E: Drop>(&mut self, step: Step<E>) -> Step<E>
         ensures { EndsBy (goes_on step && has_left self.old.life) self.old self.new step result }
@@ -161,7 +161,7 @@ impl Session {
         }
     }
 
-    /// The same, once it is known what the row asks.
+    /// The same, once it is known what the row asks of the handler.
     #[tactic(auto, using(crate::proofs::BeforeLemmas::exchange_there, crate::proofs::BeforeLemmas::steps_behind, crate::proofs::BeforeLemmas::refused_before))]
     fn step_asking<H: Handler, S: LocalSigner>(
         &mut self,

@@ -40,7 +40,7 @@ impl Session {
         self.confirmed(c, handler)
     }
 
-    /// An open of ours that waits is confirmed, and then what waits on the channel goes out.
+    /// An open of ours that waits is confirmed, and then the bytes that wait on the channel are sent.
     #[tactic(auto, using(crate::proofs::HandlerLemmas::ran_out_with, crate::proofs::HandlerLemmas::passed_with, crate::proofs::HandlerLemmas::refused_with, crate::proofs::HandlerLemmas::confirmed_one, crate::proofs::HandlerLemmas::none_confirmed))]
     fn confirmed<H: Handler>(
         &mut self,
@@ -111,7 +111,7 @@ impl Session {
         )
     }
 
-    /// CHANNEL_OPEN. Where no number is free there is no memory for it.
+    /// CHANNEL_OPEN. If no number is free, it is out of memory.
     #[tactic(auto, using(crate::proofs::HandlerLemmas::ran_out_with, crate::proofs::HandlerLemmas::passed_with, crate::proofs::HandlerLemmas::refused_with), unfolding(sshc_moves::specs::SessionTable::Opens::channel_open_row))]
     pub(super) fn channel_open<H: Handler>(
         &mut self,
@@ -151,7 +151,7 @@ impl Session {
         self.serve(id, opened, handler)
     }
 
-    /// An open of a type that isn't known is refused, unless the handler takes such.
+    /// An open of an unknown type is refused, unless the handler takes the type.
     #[tactic(auto, using(crate::proofs::HandlerLemmas::ran_out_with, crate::proofs::HandlerLemmas::passed_with, crate::proofs::HandlerLemmas::refused_with, crate::proofs::HandlerLemmas::taken_open, crate::proofs::HandlerLemmas::not_taken_open, crate::proofs::HandlerLemmas::not_taken_ran_out, crate::proofs::HandlerLemmas::taken_accepts))]
     fn unknown_open<H: Handler>(
         &mut self,
@@ -174,7 +174,7 @@ impl Session {
         Ok(Flow::Went)
     }
 
-    /// The handler is asked about an open of the peer's, and what it answers is done.
+    /// Calls the handler for an open of the peer's, and does what the handler returns.
     #[tactic(auto, using(crate::proofs::HandlerLemmas::refused_open, crate::proofs::HandlerLemmas::let_go_open))]
     fn serve<H: Handler>(
         &mut self,
@@ -194,7 +194,7 @@ impl Session {
         }
     }
 
-    /// Says that the peer opens a channel, and does what the handler answered.
+    /// Adds the record of the peer's open, and does what the handler returned.
     fn settle(
         &mut self,
         id: ChannelId,
@@ -215,7 +215,7 @@ impl Session {
         }
     }
 
-    /// Asks the handler about an open of the peer's.
+    /// Calls the handler for an open of the peer's.
     #[tactic(auto, using(crate::proofs::HandlerLemmas::called))]
     fn call_for_open<H: Handler>(
         &mut self,

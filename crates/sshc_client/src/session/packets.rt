@@ -25,7 +25,7 @@ fn is_ignored(number: u8) -> bool
 }
 
 impl Session {
-    /// An empty packet is passed over, and isn't heard.
+    /// An empty packet is passed over, and doesn't count as heard from the peer.
     #[tactic(auto, using(crate::proofs::HandlerLemmas::passed_with, crate::proofs::HandlerLemmas::own_with), unfolding(sshc_moves::specs::SessionTable::payload_row))]
     pub(super) fn payload<V: Verifier, H: Handler>(
         &mut self,
@@ -45,7 +45,7 @@ impl Session {
         }
     }
 
-    /// A packet by its first byte. A disconnection and a global request aren't heard.
+    /// A packet by its first byte. A disconnection and a global request don't count as heard from the peer.
     #[tactic(auto, using(crate::proofs::RowLemmas::disconnect_first, crate::proofs::RowLemmas::global_first, crate::proofs::RowLemmas::other_first))]
     fn first<V: Verifier, H: Handler>(
         &mut self,
@@ -72,7 +72,7 @@ impl Session {
         self.heard(len, number, body, verifier, handler)
     }
 
-    /// What comes from the peer is heard.
+    /// Marks the peer as heard, and continues with the packet.
     #[tactic(auto, using(crate::proofs::RowLemmas::heard_first, crate::proofs::RowLemmas::heard_lives))]
     fn heard<V: Verifier, H: Handler>(
         &mut self,

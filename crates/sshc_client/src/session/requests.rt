@@ -126,7 +126,7 @@ impl Session {
         }
     }
 
-    /// Announced host keys are heard and told, and never answered.
+    /// Announced host keys count as heard and are passed to the handler; they get no answer.
     #[tactic(auto, using(crate::proofs::HandlerLemmas::ran_out_with, crate::proofs::HandlerLemmas::refused_with, crate::proofs::HandlerLemmas::asked_front))]
     fn announced<H: Handler>(
         &mut self,

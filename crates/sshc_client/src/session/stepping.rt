@@ -19,7 +19,7 @@ use sshc_rows::{Flow, inactivity_timer, keepalive_timer, peer_kexinit, rekey_lim
 
 impl Session {
     /// What an event does. In an open session its row is followed, with whatever the handler does to the session that
-    /// it is lent (`steps`); where the handler keeps its defaults, that is the exact row (`defaults`). A handler's
+    /// it is lent (`steps`); if the handler keeps its defaults, that is exactly the row (`defaults`). A handler's
     /// refusal ends the session.
     #[tactic(auto, using(crate::proofs::StepLemmas::plain_step))]
     pub fn step<H: Handler, S: LocalSigner, V: Verifier>(
@@ -97,7 +97,7 @@ impl Session {
         self.end_row::<H>(answer)
     }
 
-    /// How a step ends behind its row. Where the user left the session meanwhile, it doesn't go on.
+    /// How a step ends after its row. If the user left the session meanwhile, it doesn't continue.
     fn end_row<H: Handler>(&mut self, answer: Result<Flow, Stop<H::Error>>) -> Step<H::Error>
         ensures { EndsRow H.told_as self.old self.new answer result }
     {

@@ -54,7 +54,7 @@ impl Session {
         )
     }
 
-    /// The handler is asked with a window target; its answer is the next one, where it is above 0.
+    /// Calls the handler with a window target; its result is the next one, if it is above 0.
     fn retarget<H: Handler>(&mut self, id: ChannelId, target: u32, handler: &mut H)
         ensures { Retargets H.keeps_defaults target
             (handler_at (H.refusals handler.old) (H.setting handler.old))
@@ -67,7 +67,7 @@ impl Session {
         }
     }
 
-    /// Bytes of the peer's use up our window, and the handler is asked for its target where it is brought back.
+    /// Bytes of the peer use up our window; if the window is refilled, the handler is called for the next target.
     #[tactic(auto, using(crate::proofs::HandlerLemmas::kept_window, crate::proofs::HandlerLemmas::brought_back, crate::proofs::HandlerLemmas::ran_out_with))]
     fn received<H: Handler>(
         &mut self,
@@ -160,7 +160,7 @@ impl Session {
         self.report(id, happened, handler)
     }
 
-    /// CHANNEL_CLOSE: the channel is taken away.
+    /// CHANNEL_CLOSE: the channel is removed.
     #[tactic(auto, using(crate::proofs::HandlerLemmas::ran_out_with, crate::proofs::HandlerLemmas::passed_with, crate::proofs::HandlerLemmas::refused_with, crate::proofs::HandlerLemmas::reports_front), unfolding(sshc_moves::specs::SessionTable::Streams::channel_close_row))]
     pub(super) fn channel_close<H: Handler>(
         &mut self,

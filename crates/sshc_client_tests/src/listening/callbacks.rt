@@ -73,7 +73,7 @@ impl Handler for Listening {
         Refused::Client(e)
     }
 
-    /// The key is accepted unless the plan answers `no` or `refuse`.
+    /// The key is accepted unless the plan states `no` or `refuse`.
     fn check_server_key(&mut self, key: &PublicKeyOrCertificate) -> Result<bool, Refused> {
         let values = host_key(self.alloc, key);
         self.hear_alone("check_server_key", &values);
@@ -93,14 +93,14 @@ impl Handler for Listening {
         }
     }
 
-    /// A type is taken where the plan answers anything.
+    /// A type is taken if the plan states any answer.
     fn should_accept_unknown_server_channel(&mut self, id: ChannelId, kind: &str) -> bool {
         let values = Values::new(self.alloc).number(id.0).text(kind);
         self.hear_alone("should_accept_unknown_server_channel", &values);
         answer(self.plan.as_str(), "should_accept_unknown_server_channel").is_some()
     }
 
-    /// The plan answers a number of bytes; else the target stays.
+    /// The plan states a number of bytes; else the target doesn't change.
     fn adjust_window(&mut self, id: ChannelId, window: u32) -> u32 {
         let values = Values::new(self.alloc).number(id.0).number(window);
         self.hear_alone("adjust_window", &values);

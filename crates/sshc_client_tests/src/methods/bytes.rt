@@ -1,4 +1,4 @@
-//! Bytes and ends on a channel, exchanges, the end of a session, and what a session tells of itself.
+//! Bytes and ends on a channel, exchanges, the end of a session, and a session's queries.
 
 ghost use Rattle.sshc_moves.specs.Grown.{Grown};
 
@@ -9,7 +9,7 @@ use sshc_client::{Error, Session};
 use sshc_wire::Disconnect;
 use std::alloc::Global;
 
-/// The session's end: the reason's number, a description and a language.
+/// Disconnects: the reason's number, a description and a language.
 fn disconnect(session: &mut Session, words: &mut Words<'_>) -> Result<Gave, Error>
     ensures { Grown session.old session.new }
 {
@@ -18,7 +18,7 @@ fn disconnect(session: &mut Session, words: &mut Words<'_>) -> Result<Gave, Erro
     nothing(session.disconnect(reason, description, language))
 }
 
-/// What a session tells of itself; none where this is no such question.
+/// The result of a query of a session; `None` if no query has this name.
 fn told(session: &Session, name: &str, words: &mut Words<'_>) -> Option<Gave> {
     match name {
         "awaits_answer" => Some(Gave::Flag(session.awaits_answer())),
@@ -29,7 +29,7 @@ fn told(session: &Session, name: &str, words: &mut Words<'_>) -> Option<Gave> {
     }
 }
 
-/// Asks the session, or else calls a method on requests.
+/// Calls a query, or else a method for requests.
 #[tactic(auto, using(sshc_moves::specs::GrownLaws::grown_same))]
 fn ask(
     alloc: Global,
@@ -45,7 +45,7 @@ fn ask(
     }
 }
 
-/// Sends bytes or ends; another method is looked for among those that ask.
+/// Calls a method for bytes or ends; another method is looked up among the queries and requests.
 pub(super) fn call(
     alloc: Global,
     session: &mut Session,

@@ -24,7 +24,7 @@ fn forward(session: &mut Session, name: &str, words: &mut Words<'_>) -> Result<G
     }
 }
 
-/// Asks a global request.
+/// Calls a method for a global request.
 pub(super) fn call(session: &mut Session, name: &str, words: &mut Words<'_>) -> Result<Gave, Error>
     ensures { Grown session.old session.new }
 {

@@ -27,7 +27,7 @@ fn window_change(session: &mut Session, words: &mut Words<'_>) -> Result<Gave, E
     nothing(session.window_change(id, columns, rows, width, height))
 }
 
-/// Asks a request; another method is looked for among the global requests.
+/// Calls a method for a request; another method is looked up among those for global requests.
 pub(super) fn call(
     alloc: Global,
     session: &mut Session,

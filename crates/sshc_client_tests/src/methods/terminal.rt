@@ -51,7 +51,7 @@ fn x11(session: &mut Session, words: &mut Words<'_>) -> Result<Gave, Error>
     nothing(session.request_x11(id, want_reply, single, protocol, cookie, screen))
 }
 
-/// Asks a request.
+/// Calls a method for a request.
 #[tactic(auto, using(sshc_moves::specs::GrownLaws::grown_same))]
 pub(super) fn call(
     alloc: Global,
