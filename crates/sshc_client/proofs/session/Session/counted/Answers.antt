@@ -11,10 +11,8 @@ use Rattle.sshc_moves.specs.SessionState.{SessionState}
 use Rattle.sshc_client.proofs.RowLemmas.{counted_first, counted_lives}
 use Rattle.sshc_client.proofs.session.Session.counted.Goals as goal
 
--- src/session/packets.rt:121:9
 pub numbered-requires-after_bounds : goal.numbered-requires-after_bounds
 numbered-requires-after_bounds g c κs within = counted_lives c.args.len c.self.inside.connection c.count.new.self c.count.ensures (subst (λ (s : SessionState). is_live s ≡ true) (sym c.self.view_is) c.requires)
 
--- src/session/packets.rt:106:5
 pub returns : goal.returns
 returns g c = record { row = rw (← c.self.view_is) (counted_first _ _ _ (g.V.Verifier.accepts c.args.verifier.now) c.self.inside.connection c.count.new.self _ c.args.len c.args.number c.args.body.now _ (subst (λ (s : SessionState). is_live s ≡ true) (sym c.self.view_is) c.requires) c.count.ensures c.numbered.ensures.row) }

@@ -11,10 +11,8 @@ use Rattle.sshc_moves.specs.SessionState.{SessionState}
 use Rattle.sshc_client.proofs.RowLemmas.{heard_first, heard_lives}
 use Rattle.sshc_client.proofs.session.Session.heard.Goals as goal
 
--- src/session/packets.rt:68:9
 pub packet-requires-after_bounds : goal.packet-requires-after_bounds
 packet-requires-after_bounds g c κs within = heard_lives c.self.inside.connection c.hear.new.self c.hear.ensures (subst (λ (s : SessionState). is_live s ≡ true) (sym c.self.view_is) c.requires)
 
--- src/session/packets.rt:53:5
 pub returns : goal.returns
 returns g c = record { row = rw (← c.self.view_is) (heard_first _ _ _ (g.V.Verifier.accepts c.args.verifier.now) c.self.inside.connection c.hear.new.self _ c.args.len c.args.number c.args.body.now _ (subst (λ (s : SessionState). is_live s ≡ true) (sym c.self.view_is) c.requires) c.hear.ensures c.packet.ensures.row) }

@@ -10,7 +10,6 @@ use Rattle.std.proofs.Common.{refl}
 use Rattle.sshc_client.proofs.HandlerLemmas.{passed_with}
 use Rattle.sshc_client.proofs.session.Session.numbered.Goals as goal
 
--- src/session/packets.rt:125:5
 pub returns-in_default : goal.returns-in_default
 unfolding numbered_row
 returns-in_default g c = record { row = passed_with _ _ _ _ _ (search (rules)) refl }

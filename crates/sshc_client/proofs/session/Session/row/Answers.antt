@@ -9,7 +9,6 @@ use Rattle.sshc_client.specs.Stepping.{SessionStepped}
 use Rattle.sshc_client.proofs.HandlerLemmas.{own_with}
 use Rattle.sshc_client.proofs.session.Session.row.Goals as goal
 
--- src/session/stepping.rt:112:5
 pub returns-in_default : goal.returns-in_default
 unfolding session_row
 returns-in_default g c = record { row = rw (← c.self-in_default.view_is) (own_with _ _ _ _ _ c.user.result _ c.own-in_default.ensures (search (rules))) }

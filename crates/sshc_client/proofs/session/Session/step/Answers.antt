@@ -9,6 +9,5 @@ use Rattle.sshc_client.specs.Stepping.{SessionStepped}
 use Rattle.sshc_client.proofs.StepLemmas.{plain_step}
 use Rattle.sshc_client.proofs.session.Session.step.Goals as goal
 
--- src/session/stepping.rt:24:5
 pub returns-clause-defaults : goal.returns-clause-defaults
 returns-clause-defaults g c = λ plain. plain_step _ _ _ _ _ _ _ _ _ _ _ _ _ _ _ plain c.step_with.ensures

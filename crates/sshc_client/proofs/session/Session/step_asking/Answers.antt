@@ -9,10 +9,8 @@ use Rattle.sshc_client.specs.HandledStep.{Before, EndsBy, handler_gate, has_left
 use Rattle.sshc_client.proofs.BeforeLemmas.{exchange_there, steps_behind}
 use Rattle.sshc_client.proofs.session.Session.step_asking.Goals as goal
 
--- src/session/opening.rt:177:15
 pub ask_handler-requires-after_bounds : goal.ask_handler-requires-after_bounds
 ask_handler-requires-after_bounds g c κs within = exchange_there _ c.args.event.now _ c.requires.asked
 
--- src/session/opening.rt:161:5
 pub returns-in-Ok : goal.returns-in-Ok
 returns-in-Ok g c = steps_behind _ g.H.Handler.told_as (g.H.Handler.judges c.args.handler.now) _ _ _ _ _ _ _ _ _ _ _ _ _ _ _ c.requires.fresh c.requires.asked c.in-Ok.ensures c.requires.early c.step_asked.ensures
