@@ -4,8 +4,8 @@ use sshc_agent::{AgentCore, AgentOutput, Frames};
 use sshc_key::LocalSigner;
 use sshc_wire::NoMemory;
 
-/// What an agent answers, at a moment in milliseconds, to the next whole frame of one connection, once these bytes
-/// came; none while no frame is whole. The bytes may come in any pieces.
+/// The agent's answer, at a moment in milliseconds, to the next whole frame of one connection, after these bytes came;
+/// `None` while no frame is whole. The bytes may come in any pieces.
 pub fn answer_frame<G: LocalSigner>(
     agent: &mut AgentCore,
     frames: &mut Frames,

@@ -4,8 +4,8 @@ use sshc_mux::ChannelTable;
 use sshc_wire::{NoMemory, Outbox};
 use std::alloc::Global;
 
-/// Opens a channel, hears that the peer has opened it as its channel 5 with a window of 3 bytes, and sends `hello`: a
-/// packet with `hel` goes out, and `lo` waits for more window.
+/// Opens a channel, which the peer confirms as its channel 5 with a window of 3 bytes, and sends `hello`: a packet with
+/// `hel` is written, and `lo` waits for more window.
 pub fn open_and_send(alloc: Global) -> Result<Outbox, NoMemory> {
     let mut out = Outbox::new(alloc);
     let mut channels = ChannelTable::new(alloc);

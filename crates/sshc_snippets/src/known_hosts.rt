@@ -5,7 +5,7 @@ use sshc_key::{Error, PublicKey};
 use sshc_wire::Files;
 use std::alloc::Global;
 
-/// Whether the host's key was known already; a key of a host that the file has no key of is added to it. A changed key,
+/// Whether the file has this key for the host already; if it has no key for the host, the key is added. A changed key,
 /// and a line for the host that can't be read, are errors.
 pub fn trust_on_first_use<F: Files>(
     alloc: Global,

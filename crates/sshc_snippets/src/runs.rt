@@ -31,7 +31,7 @@ pub fn login_lines(
     Ok((sink, ended))
 }
 
-/// The first event of a script, where it has one: its moment, its kind and its fields' bytes.
+/// The first event of a script, if there is one: its moment, its kind and its fields' bytes.
 pub fn next_of<S: Source>(alloc: Global, source: &mut S) -> Result<Option<RawEvent>, NextError> {
     next_event(alloc, source, 0)
 }

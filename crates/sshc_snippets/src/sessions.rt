@@ -6,7 +6,7 @@ use sshc_key::{LocalSigner, Verifier};
 use sshc_opening::{Gate, Opening, Step};
 use sshc_wire::Outbox;
 
-/// Whether one of these events opens the session. What is to be written is behind `out` then.
+/// Whether one of these events opens the session. The records of the steps are added to `out`.
 pub fn opens<G: Gate, S: LocalSigner>(
     opening: &mut Opening,
     events: &[Event],
@@ -25,8 +25,8 @@ where
     false
 }
 
-/// Hands each of these events to a session, and returns all that is to be written; it stops at the first event that the
-/// session doesn't go on behind.
+/// Hands these events to a session one by one, and returns all records; it stops after the event at which the session
+/// ends or is refused.
 pub fn step_all<H: Handler, S: LocalSigner, V: Verifier>(
     session: &mut Session,
     events: &[Event],
