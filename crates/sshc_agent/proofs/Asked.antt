@@ -1,4 +1,4 @@
--- What a call did that asked the signer once, or not at all.
+-- What a call does that asks the signer once, or not at all.
 use Rattle.std.proofs.Common.{◌≡◌, ℕ, Option, Result, List, [], ◌∷◌, ◌++◌, length, Ok, Err, refl, sym, ap, subst, ◌∙◌, append-nil}
 use Rattle.std.proofs.lemmas.List.{drop_at}
 use Rattle.std.proofs.lemmas.Option.{slice_get_within}
@@ -22,24 +22,24 @@ none_since calls calls' same = ap (since calls) (same ∙ sym (append-nil calls)
 one_since : (calls calls' : List SignCall) (call : SignCall) → calls' ≡ calls ++ call ∷ [] → since calls calls' ≡ call ∷ []
 one_since calls calls' call one = ap (since calls) one ∙ drop_at calls (call ∷ []) (length calls) refl
 
--- nothing was asked
+-- the signer wasn't asked
 pub quiet : (old new : AgentList) (output : AgentOutput) (calls calls' : List SignCall) (o : Outcome) → o ≡ record { next = new; output = output } → calls' ≡ calls → FollowsBy (done o) old new (since calls calls') (Ok output)
 quiet old new output calls calls' o is same =
     subst (λ (gained : List SignCall). Makes (done o) gained (record { next = new; output = output })) (sym (none_since calls calls' same)) is
 
--- nothing was asked before memory ran out
+-- the signer wasn't asked before memory ran out
 pub quiet_out : (asking : Asking Outcome) (old new : AgentList) (calls calls' : List SignCall) (e : NoMemory) → new ≡ old → calls' ≡ calls → FollowsBy asking old new (since calls calls') (Err e)
 quiet_out asking old new calls calls' e stays same =
     (stays, subst (MakesFirst asking) (sym (none_since calls calls' same)) (none_first asking))
 
--- the signer was asked, and answered so
+-- the signer was asked, and this is its answer
 pub signed : (asked : SignRequest) (on : Answer → Asking Outcome) (answer : Answer) (old new : AgentList) (output : AgentOutput) (calls calls' : List SignCall)
     → calls' ≡ calls ++ call_of asked answer ∷ [] → on answer ≡ done (record { next = new; output = output }) → FollowsBy (asks asked on) old new (since calls calls') (Ok output)
 signed asked on answer old new output calls calls' one is =
     subst (λ (gained : List SignCall). Makes (asks asked on) gained (record { next = new; output = output })) (sym (one_since calls calls' (call_of asked answer) one))
     (refl, subst (λ (asking : Asking Outcome). Makes asking [] (record { next = new; output = output })) (sym is) refl)
 
--- memory ran out behind its answer
+-- memory ran out after its answer
 pub signed_out : (asked : SignRequest) (on : Answer → Asking Outcome) (answer : Answer) (old new : AgentList) (calls calls' : List SignCall) (e : NoMemory)
     → calls' ≡ calls ++ call_of asked answer ∷ [] → new ≡ old → FollowsBy (asks asked on) old new (since calls calls') (Err e)
 signed_out asked on answer old new calls calls' e one stays =
@@ -58,12 +58,12 @@ turned_is conn turn old mid (takes.Signs at rest) (same, key, there, is) new gai
     (subst (λ (l : AgentList). FollowsBy (sign_row conn mid key rest.now) l new gained result) same
     (subst (λ (o : Option HeldKey). FollowsBy (signed_at conn mid o rest.now) mid new gained result) there follows))
 
--- a row's part was taken, and then what is left of it was done
+-- a row's turn was taken, and then finished
 pub finished : (conn : ℕ) (turn : Turn) (old mid new : AgentList) (taken : Taken) (calls calls' : List SignCall) (result : Result AgentOutput NoMemory)
     → Follows turn old mid (Ok taken) → Finishes conn taken mid new (since calls calls') result → FollowsBy (turned conn turn) old new (since calls calls') result
 finished conn turn old mid new taken calls calls' result follows finishes = turned_is conn turn old mid taken follows new (since calls calls') result finishes
 
--- nothing was asked, so that is a front of what would be
+-- the signer wasn't asked, so the calls are a prefix of those that the row makes
 pub none_asked : (asking : Asking Outcome) (calls calls' : List SignCall) → calls' ≡ calls → MakesFirst asking (since calls calls')
 none_asked asking calls calls' same = subst (MakesFirst asking) (sym (none_since calls calls' same)) (none_first asking)
 

@@ -1,4 +1,4 @@
--- The front of a list that was turned and cut.
+-- The front of a list that was rotated and truncated.
 use Rattle.std.proofs.Common.{◌≡◌, ℕ, ◌+◌, ◌-◌, ◌≤◌, Bool, true, false, List, ◌++◌, Some, Ok, length, take, drop, sym, ◌∙◌, ap, arith, length-drop, drop-drop}
 use Rattle.std.specs.Prelude.{nat_lt}
 use Rattle.std.specs.Int.{w32}
@@ -10,7 +10,7 @@ use Rattle.sshc_agent.specs.declared.input.AgentInput.TheVariants.{Frame}
 use Rattle.sshc_agent.specs.AgentFrames.{framed_by, framed_in, next_in}
 use Rattle.sshc_agent.specs.FrameLaws.{number_by}
 
--- the back came first, and the rest was cut off
+-- the back was rotated to the front, and the rest was cut off
 pub turned_cut : (count left : ℕ) (whole turned cut : List ℕ) → left ≡ length whole - count → turned ≡ drop count whole ++ take count whole → cut ≡ take left turned → cut ≡ drop count whole
 turned_cut count left whole turned cut len is cuts = cuts ∙ ap (take left) is ∙ take_at (drop count whole) (take count whole) left (omega (arith, len, length-drop count whole))
 
@@ -31,7 +31,7 @@ frame_within bytes at n rest within read fits =
     let size : length rest ≡ length (drop at bytes) - 4 = sym (ap length h.1) ∙ length-drop 4 (drop at bytes) in
     omega (arith, within, fits, size, h.0, length-drop at bytes)
 
--- a whole frame at a place is handed out
+-- a whole frame at an index is returned
 pub frame_front : (bytes : List ℕ) (at n : ℕ) (rest frame : List ℕ) → number_at w32 (drop at bytes) ≡ Ok (n, rest) → n ≤ 262144 → n ≤ length rest → frame ≡ take n rest
     → next_in (record { bytes = drop at bytes; over = false }) ≡ Some (Frame frame, record { bytes = drop (at + (4 + n)) bytes; over = false })
 unfolding next_in

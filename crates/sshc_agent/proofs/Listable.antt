@@ -1,4 +1,4 @@
--- Keys whose listing is short enough stay so, and then the listing and each blob are short.
+-- Keys whose listing fits in a frame keep that property, and then the listing and each blob are short.
 use Rattle.std.proofs.Common.{◌≡◌, ℕ, ◌+◌, ◌≤◌, Bool, true, false, cond, not, List, [], ◌∷◌, length, Option, Some, None, get_or, sum_by, refl, sym, ap, arith, length-append}
 use Rattle.std.specs.Option.{is_some}
 use Rattle.std.specs.Prelude.{filter, nat_le, position}
@@ -33,12 +33,12 @@ found_by : (b : Bool) (x key : HeldKey) (xs : List HeldKey) (o : Option HeldKey)
 found_by true x key xs o is later = let same : x ≡ key = cc in omega (arith, ap listed same, sum_by-cons listed x xs)
 found_by false x key xs o is later = omega (arith, later is, sum_by-cons listed x xs)
 
--- a key that is held has its part of the listing
+-- a key that is held is part of the listing
 pub held_listed : (keys : List HeldKey) (blob : List ℕ) (key : HeldKey) → held keys blob ≡ Some key → listed key ≤ sum_by listed keys
 held_listed [] blob key is = absurd cc
 held_listed (x ∷ xs) blob key is = found_by (is_key blob x) x key xs (held xs blob) is (held_listed xs blob key)
 
--- ---- what keeps them so
+-- ---- what preserves it
 
 filtered : (p : HeldKey → Bool) (keys : List HeldKey) → AreListable keys → AreListable (filter p keys)
 filtered p keys fits = omega (arith, fits, sum_by-filter_both p (λ (k : HeldKey). not (p k)) (λ x. refl) listed keys)

@@ -9,7 +9,7 @@ use Rattle.std.proofs.lemmas.List.Sums.{sum_by-take-le}
 use Rattle.sshc_agent.specs.declared.key_list.HeldKey.{HeldKey}
 use Rattle.sshc_agent.specs.KeyList.{held, is_key, listed}
 
--- the keys up to a place are too many already
+-- the keys up to an index are already too many
 pub too_many : (keys : List HeldKey) (i start total limit : ℕ) → total ≡ start + sum_by listed (take i keys) → limit < total → false ≡ nat_le (start + sum_by listed keys) limit
 too_many keys i start total limit is over = sym (lt-leb _ _ (omega (arith, is, over, sum_by-take-le listed keys i)))
 
@@ -17,7 +17,7 @@ placed_by : {X : Type 0} (test : X → Bool) (xs : List X) (b : Bool) (at : ℕ)
 placed_by test xs true at e = cc
 placed_by test xs false at e = absurd cc
 
--- what is found stands at its place
+-- the key that is found is at its index
 pub placed : (keys : List HeldKey) (blob : List ℕ) (at : ℕ) → Some at ≡ position (is_key blob) keys → held keys blob ≡ slice_get keys at
 placed keys blob at e = find_at (is_key blob) keys ∙ ap (slice_get keys) (sym (placed_by (is_key blob) keys _ at e))
 
@@ -25,7 +25,7 @@ nowhere_by : (b : Bool) (at : ℕ) → None ≡ cond b (Some at) None → b ≡ 
 nowhere_by true at e = absurd cc
 nowhere_by false at e = refl
 
--- what has no place isn't found
+-- a blob without an index isn't found
 pub nowhere : (keys : List HeldKey) (blob : List ℕ) → None ≡ position (is_key blob) keys → held keys blob ≡ None
 nowhere keys blob e =
     let at = position_or_len (is_key blob) keys in

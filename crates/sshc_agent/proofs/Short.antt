@@ -160,7 +160,7 @@ unfolding key_answer_turn
 key_answer_short false whole l = word 5
 key_answer_short true whole l = either (is_some l.passphrase) _ _ (word 5) (confirmed_short whole l)
 
--- ---- what a row comes to, where each signature is short
+-- ---- the outcome of a row, if each signature is short
 
 abbrev ComesTo : Asking Outcome → Type 0
 ComesTo (done o) = answer_bytes o.output ≤ 262148

@@ -1,4 +1,4 @@
--- A step as the row of its input, and one that found no memory.
+-- A step as the row of its input, and one that ran out of memory.
 use Rattle.std.proofs.Common.{◌≡◌, ℕ, Bool, true, false, cond, not, List, [], ◌∷◌, Option, Some, None, Ok, Err, refl, sym, ap, subst, ◌∙◌, inl, inr}
 use Rattle.std.specs.Option.{is_some}
 use Rattle.std.specs.Prelude.{if◌then◌else◌}
@@ -64,7 +64,7 @@ absent_of : (o : Option Standing) → not (is_some o) ≡ true → o ≡ None
 absent_of None e = refl
 absent_of (Some x) e = absurd cc
 
--- what is left of a connection for which no memory was found
+-- the connections after memory ran out
 left_new : (now conn : ℕ) (before : AgentList) (b : Bool) → b ≡ is_new before.conns conn → (mid : AgentList) → mid ≡ seen conn (aged now before)
     → cond b (record mid { conns = without mid.conns conn }) (standing conn Closed mid) ≡ starved now conn before
 left_new now conn before true is mid same =
@@ -82,7 +82,7 @@ open_by : (conn : ℕ) (before : AgentList) (b : Bool) → b ≡ is_new before.c
 open_by conn before true is e = ap is_shut (absent_of (standing_of before.conns conn) (sym is))
 open_by conn before false is e = e
 
--- memory ran out behind the start
+-- memory ran out after the start
 pub starves : (now conn : ℕ) (input : AgentInput) (before mid stays after : AgentList) (gained : List SignCall) (new : Bool) (e : NoMemory)
     → mid ≡ seen conn (aged now before) → new ≡ is_new before.conns conn → FollowsBy (seen_row conn input mid) mid stays gained (Err e)
     → is_shut (standing_of mid.conns conn) ≡ false → after ≡ (if new then record stays { conns = without stays.conns conn } else standing conn Closed stays)

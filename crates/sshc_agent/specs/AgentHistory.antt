@@ -1,5 +1,6 @@
--- What happened on an agent's connections, in one order, and what a lock and a refusal mean. No row is named here but by Steps.
--- Said of lists of entries; the code keeps nothing of them.
+-- What happened on an agent's connections, in one order, and what a lock and a refusal mean. The rows of the agent
+-- table occur only through Steps.
+-- The definitions are about lists of entries, which the code doesn't keep.
 use Rattle.std.specs.Prelude.{◌≡◌, ◌⊎◌, ◌==◌, ℕ, Bool, true, false, List, [], ◌∷◌, ◌++◌, length, filter, Option, Some, None, Ok}
 use Rattle.sshc_wire.specs.Reads.{string_at}
 use Rattle.sshc_wire.specs.Wire.{string_text}
@@ -30,7 +31,7 @@ request_of (Some (standings.RequestAsked whole)) (inputs.RequestAnswer allowed) 
 request_of (Some (standings.KeyAsked whole)) (inputs.KeyAnswer confirmed) = Some whole
 request_of stands input = None
 
--- how a connection stands once it is seen
+-- the state of a connection once it is seen
 abbrev pub stands_in : AgentList → ℕ → Option Standing
 stands_in l conn = standing_of (seen_in l.conns conn) conn
 
@@ -56,30 +57,31 @@ IsLockedOutput output = Unit {0}
 
 -- ---- one step
 
--- only an acknowledged request changes keys or passphrase; but keys whose deadline has come are gone
+-- only an acknowledged request changes keys or passphrase, except that keys whose deadline has come are gone
 abbrev pub KeepsRefused : ℕ → AgentList → AgentList → AgentOutput → Type 0
 KeepsRefused now before after output = (output ≡ success → ⊥) → (after.keys ≡ (aged now before).keys) × (after.passphrase ≡ before.passphrase)
 
--- the lock stays as it is, and nothing is listed or changed but by time
+-- the lock stays as it is, nothing is listed, and keys change only by expiring
 pub record StaysLocked (p : List ℕ) (now : ℕ) (before after : AgentList) (output : AgentOutput) : Type 0 where
   pub passphrase : after.passphrase ≡ Some p
   pub keys : after.keys ≡ (aged now before).keys
   pub latest : after.latest ≡ (aged now before).latest
   pub quiet : IsLockedOutput output
 
--- the lock is taken off with its passphrase, and nothing else changes but by time
+-- the lock is taken off with its passphrase, and nothing else changes, except that keys expire
 pub record IsUnlocked (p : List ℕ) (now conn : ℕ) (input : AgentInput) (before after : AgentList) (output : AgentOutput) : Type 0 where
   pub request : IsUnlockRequest p (request_of (stands_in before conn) input)
   pub passphrase : after.passphrase ≡ None
   pub keys : after.keys ≡ (aged now before).keys
   pub acknowledged : output ≡ success
 
--- a locked agent signs nothing, and stays locked but for an unlock with its passphrase
+-- a locked agent signs nothing, and stays locked except for an unlock with its passphrase
 pub record KeepsLock (p : List ℕ) (now conn : ℕ) (input : AgentInput) (before after : AgentList) (gained : List SignCall) (output : AgentOutput) : Type 0 where
   pub unsigned : gained ≡ []
   pub lock : StaysLocked p now before after output ⊎ IsUnlocked p now conn input before after output
 
--- the key of a request may sign: the agent is unlocked, the key is held, and either it wants no confirmation or this holds
+-- the key of a request may sign: the agent is unlocked, the key is held, and either it requires no confirmation or
+-- `confirmed` holds
 pub record MaySign (l : AgentList) (whole : List ℕ) (confirmed : Type 0) (key : HeldKey) : Type 0 where
   pub unlocked : l.passphrase ≡ None
   pub number : ℕ
@@ -92,7 +94,8 @@ pub record MaySign (l : AgentList) (whole : List ℕ) (confirmed : Type 0) (key 
   pub is_held : held l.keys blob ≡ Some key
   pub confirms : (key.constraints.confirm ≡ false) ⊎ confirmed
 
--- the signer was asked for a key that may sign by the request, for which a confirmation is the yes to this connection's own question
+-- the signer was asked for a key that may sign by the request, for which a confirmation is the yes to this connection's
+-- own question
 pub record IsPermitted (now conn : ℕ) (input : AgentInput) (before : AgentList) (by : Asker) (pair : KeyPair) : Type 0 where
   pub whole : List ℕ
   pub request : request_of (stands_in before conn) input ≡ Some whole
@@ -103,7 +106,7 @@ pub record IsPermitted (now conn : ℕ) (input : AgentInput) (before : AgentList
 
 -- ---- histories
 
--- an entry is a step, and it has a signature just where the signer gave one
+-- an entry is a step, and it has a signature exactly if the signer returned one
 abbrev pub signature_in : List SignCall → Option (List ℕ)
 signature_in [] = None
 signature_in (call ∷ calls) = call.answer
@@ -113,12 +116,12 @@ pub record IsEntry (before : AgentList) (e : Entry) (after : AgentList) : Type 0
   pub step : Steps e.moment e.conn e.input before after gained e.output
   pub signature : e.signature ≡ signature_in gained
 
--- the entries lead from one list to another
+-- the entries lead from one agent state to another
 abbrev pub Leads : AgentList → List Entry → AgentList → Type 0
 Leads before [] after = before ≡ after
 Leads before (e ∷ entries) after = (mid : AgentList) × IsEntry before e mid × Leads mid entries after
 
--- how many of the entries are of a connection
+-- how many of the entries belong to a connection
 abbrev pub count_of : ℕ → List Entry → ℕ
 count_of conn entries = length (filter (λ e. e.conn == conn) entries)
 
@@ -140,17 +143,17 @@ pub record IsLegal (entries : List Entry) : Type 0 where
 abbrev pub Unlocks : List ℕ → AgentList → Entry → Type 0
 Unlocks p before e = IsUnlockRequest p (request_of (stands_in before e.conn) e.input) × (e.output ≡ success)
 
--- none of the entries does
+-- no entry acknowledges one
 abbrev pub NoneUnlocks : List ℕ → (before : AgentList) (entries : List Entry) (after : AgentList) → Leads before entries after → Type 0
 NoneUnlocks p before [] after leads = Unit {0}
 NoneUnlocks p before (e ∷ entries) after (mid, is, leads) = (Unlocks p before e → ⊥) × NoneUnlocks p mid entries after leads
 
--- none of the entries has a signature, lists the keys or is acknowledged
+-- no entry has a signature, lists the keys or is acknowledged
 abbrev pub AreLockedOut : List Entry → Type 0
 AreLockedOut [] = Unit {0}
 AreLockedOut (e ∷ entries) = (e.signature ≡ None) × IsLockedOutput e.output × AreLockedOut entries
 
--- what is left where only time passes
+-- the agent's state if only time passes
 abbrev pub aged_along : List Entry → AgentList → AgentList
 aged_along [] l = l
 aged_along (e ∷ entries) l = aged_along entries (aged e.moment l)

@@ -1,4 +1,4 @@
--- What an agent keeps between two inputs: plain data. How keys, deadlines and connections are kept is the code's.
+-- What an agent keeps between two inputs: plain data. How keys, deadlines and connections are stored is up to the code.
 use Rattle.std.specs.Prelude.{ℕ, max, Bool, List, [], Option, None, if◌then◌else◌}
 use Rattle.sshc_agent.specs.declared.connections.Standing.{Standing}
 use Rattle.sshc_agent.specs.declared.connections.Standing.TheVariants.{Closed}
@@ -11,9 +11,9 @@ pub record AgentList : Type 0 where
   pub asks : Bool
   -- the greatest moment so far, in milliseconds
   pub latest : ℕ
-  -- in the order of their adding
+  -- in the order in which they were added
   pub keys : List HeldKey
-  -- the agent is locked where there is one, an empty one too
+  -- Some if the agent is locked; the passphrase may be empty
   pub passphrase : Option (List ℕ)
   pub conns : List (ℕ × Standing)
 
@@ -29,10 +29,10 @@ aged now l = record l { latest = max l.latest now; keys = unexpired (max l.lates
 abbrev pub seen : ℕ → AgentList → AgentList
 seen conn l = record l { conns = seen_in l.conns conn }
 
--- the connection stands so from now on
+-- the connection gets this state
 abbrev pub standing : ℕ → Standing → AgentList → AgentList
 standing conn s l = record l { conns = with_standing l.conns conn s }
 
--- no memory was found for an input: a connection seen before is closed, and of a new one nothing is kept
+-- memory ran out during an input: a connection seen before is closed, and nothing is kept of a new one
 abbrev pub starved : ℕ → ℕ → AgentList → AgentList
 starved now conn l = if is_new l.conns conn then aged now l else standing conn Closed (aged now l)

@@ -3,9 +3,9 @@ pub mod Sign
 pub mod Add
 pub mod Remove
 pub mod Lock
--- The agent table: a row for each input, by how its connection stands and by the message (draft-miller-ssh-agent, sections 3.2 to 3.7;
--- RFC 8332 for the flags of a signature).
--- By cases on plain data; each row has its name in the code.
+-- The agent table: a row for each input, chosen by the state of its connection and by the message
+-- (draft-miller-ssh-agent, sections 3.2 to 3.7; RFC 8332 for the flags of a signature).
+-- It is defined by cases on plain data; each row has a function of the same name in the code.
 use Rattle.std.specs.Prelude.{◌≡◌, ◌⊎◌, ℕ, Bool, true, false, List, [], ◌∷◌, Option, Some, None, Result, Ok, slice_get, ◌==◌, if◌then◌else◌}
 use Rattle.std.specs.Option.{is_some}
 use Rattle.sshc_wire.specs.declared.message_type.MessageType.{MessageType}
@@ -35,7 +35,7 @@ use Rattle.sshc_agent.specs.AgentTable.Lock.{lock_turn, unlock_turn}
 
 -- ---- a frame
 
--- a locked agent takes nothing but an unlock, and an unlocked one takes none
+-- a locked agent refuses every message but an unlock, and an unlocked one refuses an unlock
 abbrev pub is_refused : MessageType → Bool → Bool
 is_refused messages.Unlock locked = if locked then false else true
 is_refused message locked = locked
@@ -55,7 +55,7 @@ abbrev pub tested_turn : Option MessageType → ℕ → List ℕ → List ℕ �
 tested_turn None number body whole l = fails l
 tested_turn (Some message) number body whole l = if is_refused message (is_some l.passphrase) then fails l else message_turn message number body whole l
 
--- the same, but that an agent that asks asks first
+-- the same, but an agent that asks asks the user first
 abbrev pub asked_turn : Option MessageType → ℕ → List ℕ → List ℕ → AgentList → Turn
 asked_turn None number body whole l = fails l
 asked_turn (Some message) number body whole l =
@@ -73,24 +73,24 @@ abbrev pub allowed_turn : List ℕ → AgentList → Turn
 allowed_turn [] l = fails l
 allowed_turn (number ∷ body) l = tested_turn (message_of number) number body (number ∷ body) l
 
--- the user allowed the request of this frame, or not; the lock is tested again
+-- the user's decision on the request in this frame; the lock is tested again
 unfoldable pub request_answer_turn : Bool → List ℕ → AgentList → Turn
 request_answer_turn false whole l = fails l
 request_answer_turn true whole l = allowed_turn whole l
 
--- the user confirmed the use of the key of this frame, or not
+-- the user's decision on the use of the key of this frame
 unfoldable pub key_answer_turn : Bool → List ℕ → AgentList → Turn
 key_answer_turn false whole l = fails l
 key_answer_turn true whole l = if is_some l.passphrase then fails l else confirmed_turn whole l
 
 -- ---- an input
 
--- what a row's part comes to, on its connection
+-- the outcome of a row's turn on its connection
 abbrev pub turned : ℕ → Turn → Asking Outcome
 turned conn (says l stands output) = done (record { next = standing conn stands l; output = output })
 turned conn (signs l key rest) = sign_row conn l key rest
 
--- an input by how its connection stands; all that fits no question is ignored
+-- an input, by the state of its connection; an input that doesn't fit the open question is ignored
 abbrev pub standing_row : Option Standing → ℕ → AgentInput → AgentList → Asking Outcome
 standing_row None conn input l = done (ignored l)
 standing_row (Some standings.Closed) conn input l = done (ignored l)
@@ -105,7 +105,7 @@ standing_row (Some stands) conn input l = done (ignored l)
 unfoldable pub seen_row : ℕ → AgentInput → AgentList → Asking Outcome
 seen_row conn input l = standing_row (standing_of l.conns conn) conn input l
 
--- the row of an input at a moment, by what the signer answers
+-- the row of an input at a moment, depending on the signer's answer
 unfoldable pub agent_row : ℕ → ℕ → AgentInput → AgentList → Asking Outcome
 agent_row now conn input l = seen_row conn input (seen conn (aged now l))
 
@@ -115,19 +115,19 @@ abbrev pub is_shut : Option Standing → Bool
 is_shut (Some standings.Closed) = true
 is_shut stands = false
 
--- what is left of a row's part, once it was taken
+-- what happens after a row's turn was taken
 abbrev pub Finishes : ℕ → Taken → AgentList → AgentList → List SignCall → Result AgentOutput NoMemory → Type 0
 Finishes conn (taken.Says stands output) old new gained result = (result ≡ Ok output) × (new ≡ standing conn stands old) × (gained ≡ [])
 Finishes conn (taken.Signs at rest) old new gained result = FollowsBy (signed_at conn old (slice_get old.keys at) rest.now) old new gained result
 
--- a step that found no memory, on a connection that isn't closed; the signer may have been asked before
+-- a step that ran out of memory, on a connection that isn't closed; the signer may have been asked before
 pub record Starves (now conn : ℕ) (input : AgentInput) (before after : AgentList) (gained : List SignCall) (output : AgentOutput) : Type 0 where
   pub closed : output ≡ outputs.Closed causes.NoMemory
   pub list : after ≡ starved now conn before
   pub asked : MakesFirst (agent_row now conn input before) gained
   pub open_before : is_shut (standing_of before.conns conn) ≡ false
 
--- a step is the row of its input, by the calls that the signer's list gained, or it found no memory
+-- a step is the row of its input, with the calls that were added to the signer's list, or it ran out of memory
 abbrev pub Steps : ℕ → ℕ → AgentInput → AgentList → AgentList → List SignCall → AgentOutput → Type 0
 Steps now conn input before after gained output =
     Makes (agent_row now conn input before) gained (record { next = after; output = output }) ⊎ Starves now conn input before after gained output

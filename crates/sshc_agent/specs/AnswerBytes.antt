@@ -1,4 +1,4 @@
--- How many bytes an answer has: what a caller makes room for before the step.
+-- How many bytes an output has: the room that a caller needs before the step.
 use Rattle.std.specs.Prelude.{ℕ, length}
 use Rattle.sshc_agent.specs.declared.input.AgentOutput.{AgentOutput}
 use Rattle.sshc_agent.specs.declared.input.AgentOutput.TheVariants.{Answer, AskKey}

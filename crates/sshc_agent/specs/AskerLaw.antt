@@ -1,4 +1,5 @@
--- Whatever an agent's row asks the signer, it asks as the agent, for the connection of the input: a law above the table.
+-- Whatever a row of the agent table asks of the signer, it asks as the agent, for the connection of the input: a law
+-- about the table.
 use Rattle.std.proofs.Common.{◌≡◌, ℕ, List, Option, Some, None, Result, Ok, Err, refl}
 use Rattle.std.specs.Int.{w32}
 use Rattle.sshc_wire.specs.declared.error.WireError.{WireError}
@@ -49,7 +50,7 @@ standing_asks (Some (standings.RequestAsked whole)) conn (inputs.RequestAnswer a
 standing_asks (Some (standings.KeyAsked whole)) conn (inputs.KeyAnswer confirmed) l = turned_asks conn (key_answer_turn confirmed whole l)
 standing_asks (Some stands) conn input l = tt
 
--- each row asks as the agent alone
+-- each row asks only as the agent
 pub row_asks : (now conn : ℕ) (input : AgentInput) (before : AgentList) → AsksAs conn (agent_row now conn input before)
 unfolding agent_row seen_row
 row_asks now conn input before = standing_asks (stands_in before conn) conn input (seen conn (aged now before))

@@ -1,4 +1,4 @@
--- The connections that an agent has seen, in the order of their numbers, and how each stands: plain data.
+-- The connections that an agent has seen, ordered by number, and the state of each: plain data.
 use Rattle.std.specs.Prelude.{ℕ, Bool, true, false, not, List, Option, Some, if◌then◌else◌}
 use Rattle.std.specs.Option.{is_some}
 use Rattle.std.specs.Ordering.{nat_cmp}
@@ -7,11 +7,11 @@ use Rattle.std.specs.Map.{lookup, remove_entry}
 use Rattle.sshc_agent.specs.declared.connections.Standing.{Standing}
 use Rattle.sshc_agent.specs.declared.connections.Standing.TheVariants.{Open, RequestAsked, KeyAsked}
 
--- how the connection stands, if it was seen
+-- the state of the connection, if it was seen
 abbrev pub standing_of : List (ℕ × Standing) → ℕ → Option Standing
 standing_of conns conn = lookup (is_at (nat_cmp conn)) conns
 
--- the connection stands so from now on
+-- the connection gets this state
 abbrev pub with_standing : List (ℕ × Standing) → ℕ → Standing → List (ℕ × Standing)
 with_standing conns conn standing = insert_entry nat_cmp conns conn standing
 

@@ -17,7 +17,7 @@ pub number_by : (b : Bool) (n : ℕ) (front rest : List ℕ) (x : ℕ × List �
 number_by true n front rest x e = absurd cc
 number_by false n front rest x e = let is = ok_is {E = WireError} (from_be_bytes w32 front, rest) x e in (refl, ap (λ (p : ℕ × List ℕ). p.0) is, ap (λ (p : ℕ × List ℕ). p.1) is)
 
--- a number at the front stays there, whatever follows
+-- a number at the front is read the same, whatever follows
 number_front : (a b : List ℕ) (x : ℕ × List ℕ) → number_at w32 a ≡ Ok x → number_at w32 (a ++ b) ≡ Ok (x.0, x.1 ++ b)
 unfolding number_at
 number_front a b x e =
@@ -61,7 +61,7 @@ unfolding next_in
 by_over true bytes b x e = absurd cc
 by_over false bytes b x e = by_number (number_at w32 bytes) bytes b x refl e
 
--- what is handed out is handed out all the same where more follows
+-- what is returned is the same if more bytes follow
 pub next_more : (s : FrameBytes) (b : List ℕ) (x : AgentInput × FrameBytes) → next_in s ≡ Some x → next_in (pushed s b) ≡ Some (x.0, pushed x.1 b)
 next_more s b x e = by_over s.over s.bytes b x e
 
@@ -80,7 +80,7 @@ pushed_by false bytes a b = ap (λ (all : List ℕ). record { bytes = all; over 
 pub pushed_on : (s : FrameBytes) (a b : List ℕ) → pushed (pushed s a) b ≡ pushed s (a ++ b)
 pushed_on s a b = pushed_by s.over s.bytes a b
 
--- pieces: what two of them give, one after the other, is what they give together
+-- pieces: what two pieces yield, one after the other, is what they yield together
 pub pieces : (s t u : FrameBytes) (a b : List ℕ) (first second : List AgentInput) → GivesAll (pushed s a) first t → GivesAll (pushed t b) second u → GivesAll (pushed s (a ++ b)) (first ++ second) u
 pieces s t u a b first second one two = record {
   gives = subst (λ (v : FrameBytes). Gives v (first ++ second) u) (pushed_on s a b) (gives_on (pushed (pushed s a) b) (pushed t b) u first second (gives_more (pushed s a) t first b one.gives) two.gives);

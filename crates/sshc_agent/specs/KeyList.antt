@@ -1,5 +1,5 @@
--- The keys that an agent holds, in the order of their adding: plain data. No two have one blob, since a key that is held
--- already keeps its place.
+-- The keys that an agent holds, in the order in which they were added: plain data. No two keys have the same blob,
+-- since a key that is already held keeps its place.
 use Rattle.std.specs.Prelude.{ℕ, ◌+◌, ◌*◌, ◌-◌, ◌^◌, ◌≤◌, min, Bool, false, not, nat_le, List, [], ◌∷◌, ◌++◌, length, filter, find, position, slice_set, sum_by, bytes_eq, Option, Some, None, if◌then◌else◌}
 use Rattle.std.specs.Option.{is_some}
 use Rattle.sshc_wire.specs.Wire.{counted_text, string_text}
@@ -17,14 +17,14 @@ abbrev pub put_at : Option ℕ → List HeldKey → HeldKey → List HeldKey
 put_at None keys key = keys ++ key ∷ []
 put_at (Some at) keys key = slice_set keys at key
 
--- the key in the place of the one with its blob, or behind the others
+-- the key replaces the one with its blob, or is appended
 abbrev pub with_key : List HeldKey → HeldKey → List HeldKey
 with_key keys key = put_at (position (is_key key.blob) keys) keys key
 
 abbrev pub without_key : List HeldKey → List ℕ → List HeldKey
 without_key keys blob = filter (λ k. not (is_key blob k)) keys
 
--- a key without a deadline is held for ever
+-- a key without a deadline never expires
 abbrev pub is_past : Option ℕ → ℕ → Bool
 is_past None now = false
 is_past (Some deadline) now = nat_le deadline now
@@ -45,15 +45,15 @@ listing keys = IDENTITIES_ANSWER ∷ counted_text identity_text keys
 abbrev pub listed : HeldKey → ℕ
 listed key = length key.blob + 8
 
--- the listing with such a key in it has at most the bytes of a frame
+-- the listing with such a key in it still fits in a frame
 abbrev pub has_room : List HeldKey → List ℕ → Bool
 has_room keys blob = nat_le ((if is_some (held keys blob) then 5 else length blob + 13) + sum_by listed keys) MAX_AGENT_FRAME_LEN
 
--- the listing of the keys has at most the bytes of a frame
+-- the listing of the keys fits in a frame
 abbrev pub AreListable : List HeldKey → Type 0
 AreListable keys = 5 + sum_by listed keys ≤ MAX_AGENT_FRAME_LEN
 
--- the moment and the seconds behind it, in milliseconds; at the end of its type it stands still
+-- the moment plus the lifetime in seconds, in milliseconds; it saturates at the type's greatest number
 abbrev pub deadline_of : ℕ → Option ℕ → Option ℕ
 deadline_of now None = None
 deadline_of now (Some seconds) = Some (min (now + 1000 * seconds) (2 ^ 64 - 1))

@@ -1,6 +1,6 @@
--- What a lock means over a whole history (draft-miller-ssh-agent, section 3.7): from its acknowledgement on, until an unlock with its
--- passphrase is acknowledged, nothing is signed, listed or acknowledged.
--- Said of any cut of the history into what came before the lock, it, and what came after.
+-- What a lock means over a whole history (draft-miller-ssh-agent, section 3.7): from its acknowledgement on, until an
+-- unlock with its passphrase is acknowledged, nothing is signed, listed or acknowledged.
+-- It holds for any split of the history into what came before the lock, the lock, and what came after.
 use Rattle.std.specs.Prelude.{◌≡◌, ℕ, Bool, List, ◌∷◌, ◌++◌, Option, Some, None, Ok}
 use Rattle.sshc_wire.specs.Reads.{string_at}
 use Rattle.sshc_agent.specs.declared.entry.Entry.{Entry}
@@ -23,8 +23,8 @@ IsLockRequest p (Some request) = IsLock p request
 abbrev pub Locks : List ℕ → AgentList → Entry → Type 0
 Locks p before e = IsLockRequest p (request_of (stands_in before e.conn) e.input) × (e.output ≡ success)
 
--- behind each acknowledged lock, as long as no unlock with its passphrase is acknowledged: the agent stays locked, only time lets keys go,
--- and no entry has a signature, lists the keys or is acknowledged
+-- after each acknowledged lock, as long as no unlock with its passphrase is acknowledged: the agent stays locked, keys
+-- change only by expiring, and no entry has a signature, lists the keys or is acknowledged
 abbrev pub LocksHold : List Entry → Type 0
 LocksHold history =
     (asks : Bool) (p : List ℕ) (before locked after : AgentList) (earlier between later : List Entry) (e : Entry)

@@ -1,5 +1,5 @@
 -- A lock holds until it is taken off with its passphrase, and a refused request changes nothing.
--- Laws above the rows: by cases on each row once, and then over whatever steps there were.
+-- Laws about the rows: by cases on each row once, and then by induction over the steps.
 use Rattle.std.proofs.Common.{◌≡◌, ◌⊎◌, ℕ, max, Bool, true, false, cond, List, [], ◌∷◌, Option, Some, None, Result, Ok, Err, refl, sym, ap, subst, ◌∙◌, inl, inr}
 use Rattle.std.specs.Prelude.{◌==◌, bytes_eq}
 use Rattle.std.proofs.lemmas.Bool.{eqb-true}
@@ -111,7 +111,7 @@ LockedOutcome p request l o =
     ((o.next.passphrase ≡ Some p) × (o.next.keys ≡ l.keys) × (o.next.latest ≡ l.latest) × IsLockedOutput o.output)
     ⊎ (IsUnlockRequest p request × (o.next.passphrase ≡ None) × (o.next.keys ≡ l.keys) × (o.output ≡ success))
 
--- nothing is asked of the signer, and this comes of it
+-- the signer isn't asked, and the outcome satisfies P
 abbrev Quietly : (Outcome → Type 0) → Asking Outcome → Type 0
 Quietly P (done o) = P o
 Quietly P (asks asked on) = ⊥
@@ -177,7 +177,7 @@ step_locked p now conn input before after gained output (inr starves) is =
 
 -- ---- a history on a locked agent
 
--- what is said of an entry by its step
+-- what holds of an entry because of its step
 pub record Locked (p : List ℕ) (before mid : AgentList) (e : Entry) : Type 0 where
   pub passphrase : mid.passphrase ≡ Some p
   pub keys : mid.keys ≡ (aged e.moment before).keys
@@ -194,7 +194,7 @@ one_locked p before mid e is lock none =
       | inr off ↦ absurd (none (off.request, off.acknowledged))
     ]
 
--- what time does to keys depends on them and on the greatest moment
+-- the effect of time on keys depends only on them and on the greatest moment
 aged_alike : (entries : List Entry) (a b : AgentList) → a.keys ≡ b.keys → a.latest ≡ b.latest → (aged_along entries a).keys ≡ (aged_along entries b).keys
 aged_alike [] a b keys latest = keys
 aged_alike (e ∷ entries) a b keys latest =
@@ -202,8 +202,8 @@ aged_alike (e ∷ entries) a b keys latest =
     aged_alike entries (aged e.moment a) (aged e.moment b)
     (ap (λ (n : ℕ). unexpired n a.keys) late ∙ ap (unexpired (max b.latest e.moment)) keys) late
 
--- A lock holds until it is taken off with its passphrase: until then no signature, no listing, no acknowledgement, and of the keys
--- just those are left whose deadline is still to come.
+-- A lock holds until it is taken off with its passphrase: until then no signature, no listing, no acknowledgement, and
+-- the remaining keys are exactly those whose deadline is still to come.
 pub lock_holds : (p : List ℕ) (before : AgentList) (entries : List Entry) (after : AgentList) (leads : Leads before entries after) → before.passphrase ≡ Some p → NoneUnlocks p before entries after leads
     → (after.passphrase ≡ Some p) × (after.keys ≡ (aged_along entries before).keys) × AreLockedOut entries
 lock_holds p before [] after leads is none = (ap (λ (l : AgentList). l.passphrase) (sym leads) ∙ is, ap (λ (l : AgentList). l.keys) (sym leads), tt)

@@ -1,4 +1,5 @@
--- In every history of an agent its locks hold (LockLaw): a lock that is acknowledged is set, by cases on how its connection stands.
+-- In every history of an agent its locks hold (LockLaw): an acknowledged lock is set, by cases on the state of its
+-- connection.
 use Rattle.std.proofs.Common.{◌≡◌, ℕ, Bool, true, false, cond, List, [], ◌∷◌, drop, Option, Some, None, Result, Ok, Err, refl, sym, ap, subst, ◌∙◌, inl, inr}
 use Rattle.std.specs.Int.{w32}
 use Rattle.std.specs.Option.{is_some}
@@ -30,7 +31,7 @@ use Rattle.sshc_agent.specs.LockLaw.{IsLock, IsLockRequest, Locks, LocksHold}
 
 -- ---- frames
 
--- what stands behind a frame's length
+-- what follows a frame's length
 pub behind_length : (body : List ℕ) → drop 4 (string_text body) ≡ body
 unfolding string_text u32_text
 behind_length body = refl
@@ -50,7 +51,7 @@ failed e = let x : ◌≡◌ {A = List ℕ} (5 ∷ []) (6 ∷ []) = other_frame 
 signed : (s : List ℕ) → outputs.Answer (string_text (14 ∷ string_text s)) ≡ success → ⊥
 signed s e = let x : 14 ∷ string_text s ≡ 6 ∷ [] = other_frame (14 ∷ string_text s) (6 ∷ []) e in cc
 
--- ---- what a row of a lock request comes to
+-- the outcome of the row of a lock request
 
 abbrev Sets : List ℕ → Outcome → Type 0
 Sets p o = o.output ≡ success → o.next.passphrase ≡ Some p

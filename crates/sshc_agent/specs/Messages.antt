@@ -4,7 +4,7 @@ use Rattle.sshc_wire.specs.declared.message_type.MessageType.{MessageType}
 use Rattle.sshc_wire.specs.declared.message_type.MessageType.TheVariants.{RequestKeys, AddKeys, RemoveKeys, RemoveAllKeys, Sign, Lock, Unlock}
 use Rattle.sshc_agent.specs.declared.msg.TheConstants.{REQUEST_IDENTITIES, SIGN_REQUEST, ADD_IDENTITY, REMOVE_IDENTITY, REMOVE_ALL_IDENTITIES, LOCK, UNLOCK, ADD_ID_CONSTRAINED}
 
--- the kind of the message of this number
+-- the kind of the message with this number
 unfoldable pub message_of : ℕ → Option MessageType
 message_of number =
     if number == REQUEST_IDENTITIES then Some RequestKeys

@@ -1,5 +1,5 @@
--- A refused request leaves keys and passphrase as they were, but that time lets keys go.
--- By cases on each row once; no row is named in what the law says.
+-- A refused request leaves keys and passphrase as they were, except that keys expire.
+-- By cases on each row once; the law itself names no row.
 use Rattle.std.proofs.Common.{◌≡◌, ◌⊎◌, ℕ, Bool, true, false, cond, List, [], ◌∷◌, Option, Some, None, Result, Ok, Err, refl, ap, subst, ◌∙◌, inl, inr}
 use Rattle.std.specs.Int.{w32}
 use Rattle.std.specs.Option.{is_some}
@@ -36,7 +36,7 @@ use Rattle.sshc_agent.specs.KeyList.{has_room, held}
 use Rattle.sshc_agent.specs.Messages.{message_of}
 use Rattle.sshc_agent.specs.Turn.{Outcome, Turn, says, signs}
 
--- a row's part leaves the list, or acknowledges its request
+-- a row's turn leaves the agent's state unchanged, or acknowledges its request
 abbrev Keeps : AgentList → Turn → Type 0
 Keeps l (says next stands output) = (next ≡ l) ⊎ (output ≡ success)
 Keeps l (signs next key rest) = next ≡ l

@@ -1,4 +1,5 @@
--- What a signature needs: an unlocked agent, a key that is held and not expired, and where the key wants it a confirmation.
+-- What a signature needs: an unlocked agent, a key that is held and hasn't expired, and the user's confirmation if the
+-- key requires it.
 -- By cases on each row once; the law names no row.
 use Rattle.std.proofs.Common.{◌≡◌, ℕ, Bool, true, false, cond, List, [], ◌∷◌, Option, Some, None, Result, Ok, Err, refl, ap, subst, ◌∙◌, inl, inr}
 use Rattle.std.specs.Int.{w32}
@@ -36,12 +37,12 @@ use Rattle.sshc_agent.specs.KeyList.{has_room, held}
 use Rattle.sshc_agent.specs.Messages.{message_of}
 use Rattle.sshc_agent.specs.Turn.{Outcome, Turn, says, signs}
 
--- where a row's part lets a key sign, it may
+-- if a row's turn lets a key sign, that key may sign
 abbrev Permits : AgentList → List ℕ → Type 0 → Turn → Type 0
 Permits l whole C (says next stands output) = Unit {0}
 Permits l whole C (signs next key rest) = MaySign l whole C key
 
--- by a test, and by what it says
+-- by a test, and by its result
 either_permits : (b : Bool) (l : AgentList) (whole : List ℕ) (C : Type 0) (x y : Turn) → (b ≡ true → Permits l whole C x) → (b ≡ false → Permits l whole C y) → Permits l whole C (cond b x y)
 either_permits true l whole C x y f g = f refl
 either_permits false l whole C x y f g = g refl
@@ -200,7 +201,7 @@ key_answer_permits true whole l = either_permits (is_some l.passphrase) l whole 
 
 -- ---- an input
 
--- what is asked of the signer first
+-- the first request to the signer
 abbrev AsksFirst : (SignRequest → Type 0) → Asking Outcome → Type 0
 AsksFirst P (done o) = Unit {0}
 AsksFirst P (asks asked on) = P asked
@@ -224,7 +225,7 @@ asks_also : (P Q : SignRequest → Type 0) (asking : Asking Outcome) → ((q : S
 asks_also P Q (done o) also holds = tt
 asks_also P Q (asks asked on) also holds = also asked holds
 
--- the key that is asked may sign
+-- the key that the signer is asked for may sign
 pub record Permitted (l : AgentList) (whole : List ℕ) (C : Type 0) (conn : ℕ) (asked : SignRequest) : Type 0 where
   pub key : HeldKey
   pub may : MaySign l whole C key

@@ -1,6 +1,7 @@
--- An entry has a signature only where its step may sign: the agent isn't locked, the request is a signature's, its key is held and hasn't expired, and
--- where the key wants it, the entry is the yes to this connection's own question (draft-miller-ssh-agent, section 3.6).
--- Said of any cut of a history into what came before the entry, it, and what came after.
+-- An entry has a signature only if its step may sign: the agent isn't locked, the request is a sign request, its key is
+-- held and hasn't expired, and if the key requires it, the entry is the yes to this connection's own question
+-- (draft-miller-ssh-agent, section 3.6).
+-- It holds for any split of a history into what came before the entry, the entry, and what came after.
 use Rattle.std.proofs.Common.{◌≡◌, ℕ, Bool, List, [], ◌∷◌, ◌++◌, Some, refl, sym, ◌∙◌, ap}
 use Rattle.sshc_key.specs.Signers.{SignCall}
 use Rattle.sshc_agent.specs.declared.entry.Entry.{Entry}
@@ -8,7 +9,7 @@ use Rattle.sshc_agent.specs.AgentHistory.{IsEntry, IsPermitted, Leads, signature
 use Rattle.sshc_agent.specs.AgentList.{AgentList, empty_list}
 use Rattle.sshc_agent.specs.SignLaws.{step_permits}
 
--- the call that gave the signature, which the step permits
+-- the call that returned the signature, which the step permits
 pub record IsSignedBy (before : AgentList) (e : Entry) (signature : List ℕ) : Type 0 where
   pub call : SignCall
   pub answer : call.answer ≡ Some signature
@@ -29,6 +30,6 @@ signed_by before after e (call ∷ calls) signature is gained some = record {
   permitted = step_permits e.moment e.conn e.input before after is.gained e.output call calls is.step gained;
 }
 
--- so it is in every history
+-- this holds in every history
 pub signatures_permitted : (history : List Entry) → SignaturesArePermitted history
 signatures_permitted history asks before after earlier later e signature cut leads is some = signed_by before after e is.gained signature is refl some

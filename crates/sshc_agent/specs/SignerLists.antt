@@ -1,5 +1,6 @@
--- A signer's list of calls that only grew, by signatures of at most 65536 bytes: what it gained stands behind what it held.
--- Opened by its own laws alone, so that a goal about it stays short.
+-- A signer's list of calls that only grew, by signatures of at most 65536 bytes: the calls it gained follow those it
+-- held.
+-- Only its own laws unfold it, so that a goal about it stays short.
 use Rattle.std.proofs.Common.{◌≡◌, ℕ, ◌≤◌, List, [], ◌∷◌, ◌++◌, length, Option, Some, None, refl, sym, ap, subst, ◌∙◌, append-nil}
 use Rattle.std.proofs.lemmas.List.{drop_at}
 use Rattle.sshc_wire.specs.declared.hash_alg.HashAlg.{HashAlg}
@@ -8,7 +9,7 @@ use Rattle.sshc_key.specs.Asking.{Answer}
 use Rattle.sshc_key.specs.PairCode.{KeyPair}
 use Rattle.sshc_key.specs.Signers.{SignCall, since}
 
--- a signature has at most so many bytes
+-- a signature has at most 65536 bytes
 abbrev pub IsShortAnswer : Answer → Type 0
 IsShortAnswer None = Unit {0}
 IsShortAnswer (Some signature) = length signature ≤ 65536
@@ -25,7 +26,7 @@ behind calls more calls' is short =
     let gained : since calls calls' ≡ more = ap (since calls) is ∙ drop_at calls more (length calls) refl in
     (is ∙ ap (λ (g : List SignCall). calls ++ g) (sym gained), subst (λ (g : List SignCall). AreShort g) (sym gained) short)
 
--- nothing was asked
+-- the signer wasn't asked
 pub grew_none : (calls : List SignCall) → Grew calls calls
 unfolding Grew
 grew_none calls = behind calls [] calls (sym (append-nil calls)) tt
@@ -40,7 +41,7 @@ pub grew_refused : (calls calls' : List SignCall) (by : Asker) (key : KeyPair) (
 unfolding Grew
 grew_refused calls calls' by key hash bytes one = behind calls _ calls' one (tt, tt)
 
--- one call was made, and answered by a signature
+-- one call was made, and it returned a signature
 pub grew_signed : (calls calls' : List SignCall) (by : Asker) (key : KeyPair) (hash : Option HashAlg) (bytes signature : List ℕ)
     → calls' ≡ calls ++ (record { by = by; key = key; hash = hash; bytes = bytes; answer = Some signature }) ∷ [] → length signature ≤ 65536 → Grew calls calls'
 unfolding Grew

@@ -1,5 +1,5 @@
--- What a row of the agent table comes to, and what a call that follows it does.
--- A row is plain data: the keys and the passphrase after it, how the connection stands then, and the answer; or the key that is to
+-- The result of a row of the agent table, and what a call that implements it does.
+-- A row is plain data: the agent's state after it, the connection's new state and the answer; or the key that is to
 -- sign, with what follows its blob in the request.
 use Rattle.std.specs.Prelude.{◌≡◌, ◌<◌, length, ℕ, List, [], ◌∷◌, slice_get, Some, Result, Ok, Err}
 use Rattle.sshc_wire.specs.Wire.{string_text}
@@ -18,17 +18,17 @@ use Rattle.sshc_agent.specs.declared.msg.TheConstants.{FAILURE, SUCCESS}
 use Rattle.sshc_agent.specs.AgentList.{AgentList}
 
 pub data Turn : Type 0 where
-  -- the list, but for how the connection stands; that; the answer
+  -- the agent's state except the connection's; the connection's new state; the answer
   says : AgentList → Standing → AgentOutput → Turn
-  -- the list, the key that is to sign, and what follows its blob
+  -- the agent's state, the key that is to sign, and what follows its blob
   signs : AgentList → HeldKey → List ℕ → Turn
 
--- the list after an input, and the answer
+-- the agent's state after an input, and the answer
 pub record Outcome : Type 0 where
   pub next : AgentList
   pub output : AgentOutput
 
--- ---- the table's own words
+-- ---- terms that the table uses
 
 -- a frame with its length (draft-miller-ssh-agent, section 3)
 abbrev pub frame : List ℕ → AgentOutput
@@ -48,17 +48,17 @@ succeeds l = answers l (SUCCESS ∷ [])
 abbrev pub closes : AgentList → Cause → Turn
 closes l cause = says l Closed (outputs.Closed cause)
 
--- nothing changes, and nothing is answered
+-- nothing changes, and there is no answer
 abbrev pub ignored : AgentList → Outcome
 ignored l = record { next = l; output = outputs.Nothing }
 
 -- ---- what a call does
 
--- what a call returns that answers so
+-- the result of a call that answers with this body
 abbrev pub answered : List ℕ → Taken
 answered body = taken.Says Open (frame body)
 
--- a call that took a row's part, which leaves the connections; out of memory it changed nothing
+-- a call that took a row's turn leaves the connections unchanged; if memory ran out, it changed nothing
 abbrev pub Follows : Turn → AgentList → AgentList → Result Taken NoMemory → Type 0
 Follows turn old new (Ok (taken.Says stands output)) = (turn ≡ says new stands output) × (new.conns ≡ old.conns)
 Follows turn old new (Ok (taken.Signs at rest)) = (new ≡ old) × (key : HeldKey) × (slice_get new.keys at ≡ Some key) × (turn ≡ signs new key rest.now)
@@ -69,7 +69,8 @@ abbrev pub IsTakeable : Taken → AgentList → Type 0
 IsTakeable (taken.Says stands output) l = Unit {0}
 IsTakeable (taken.Signs at rest) l = at < length l.keys
 
--- a call that may have asked the signer, by the calls that its list gained; out of memory it changed nothing
+-- a call that may have asked the signer, with the calls that the signer's list gained; if memory ran out, it changed
+-- nothing
 abbrev pub FollowsBy : Asking Outcome → AgentList → AgentList → List SignCall → Result AgentOutput NoMemory → Type 0
 FollowsBy asking old new gained (Ok output) = Makes asking gained (record { next = new; output = output })
 FollowsBy asking old new gained (Err e) = (new ≡ old) × MakesFirst asking gained

@@ -54,7 +54,7 @@ impl Model for AgentCore {
 }
 
 impl AgentCore {
-    /// No keys and no lock. Where it asks, the user is asked about each request.
+    /// No keys and no lock. If `asks`, the user is asked about each request.
     #[tactic(auto, using(crate::proofs::Listable::none_listable))]
     pub fn new(alloc: Global, asks: bool) -> AgentCore
         ensures { result ≡ empty_list asks }
@@ -80,7 +80,7 @@ impl AgentCore {
         }
     }
 
-    /// The body as the answer, after which no question is open.
+    /// Answers with a frame of this body. No question is open afterwards.
     fn answers<'a>(&self, body: &[u8]) -> Result<Turn<'a>, NoMemory>
         ensures { IfOk result (λ t. t ≡ answered body.now) }
     {
@@ -117,7 +117,8 @@ impl AgentCore {
         Ok(Turn::Says(Standing::Open, AgentOutput::Answer(frame)))
     }
 
-    /// Whether the lock refuses the message: locked, all but an unlock; else an unlock.
+    /// Whether the lock refuses the message: a locked agent refuses all messages but an unlock, an unlocked one only an
+    /// unlock.
     fn refuses(&self, message: MessageType) -> bool
         ensures { result ≡ is_refused message (is_some self.now.passphrase) }
     {
@@ -164,7 +165,7 @@ impl AgentCore {
         self.message(message, number, body, whole)
     }
 
-    /// The user allowed the request of this frame, or not. The lock is tested again.
+    /// The user's decision on the request in this frame. The lock is tested again.
     #[tactic(auto, unfolding(crate::specs::AgentTable::request_answer_turn))]
     fn request_answer<'a>(
         &mut self,
@@ -200,7 +201,7 @@ impl AgentCore {
         self.message(message, number, body, whole)
     }
 
-    /// The user confirmed the use of the key of this frame, or not. The lock is tested again.
+    /// The user's decision on the use of the key of this frame. The lock is tested again.
     #[tactic(auto, unfolding(crate::specs::AgentTable::key_answer_turn))]
     fn key_answer<'a>(&mut self, is_confirmed: bool, whole: &'a [u8]) -> Result<Turn<'a>, NoMemory>
         ensures row { Follows (key_answer_turn is_confirmed whole.now self.old) self.old self.new result }
@@ -211,14 +212,14 @@ impl AgentCore {
         self.confirmed(whole)
     }
 
-    /// The listing of the keys has at most the bytes of a frame.
+    /// The listing of the keys has at most as many bytes as a frame may have.
     fn is_listable(&self)
         ensures { AreListable self.now.keys }
     {
         let _keys = &self.keys;
     }
 
-    /// The moment counts, unless an earlier one was greater, and keys whose deadline has come go.
+    /// Moves the clock to `now`, unless an earlier moment was later, and drops the keys whose deadline has come.
     #[tactic(auto, using(crate::proofs::Listable::unexpired_listable))]
     fn age(&mut self, now: u64)
         ensures { self.new ≡ aged now self.old }

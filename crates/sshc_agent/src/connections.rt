@@ -7,7 +7,7 @@ use std::alloc::Global;
 use std::collections::BTreeMap;
 use std::marker::Model;
 
-/// How a connection stands: at most one question is open, with the frame that it is about.
+/// The state of a connection. At most one question is open, with the frame that it is about.
 #[derive(Debug, Drop)]
 pub enum Standing {
     Open,
@@ -18,7 +18,7 @@ pub enum Standing {
     Closed,
 }
 
-/// The connections seen, in the order of their numbers, which contracts see as that list.
+/// The connections seen so far, ordered by number, which contracts see as a list.
 #[derive(Debug, Drop)]
 pub(crate) struct Connections {
     standings: BTreeMap<u32, Standing>,
@@ -44,14 +44,14 @@ impl Connections {
         }
     }
 
-    /// How the connection stands, if it was seen.
+    /// The state of the connection, if it was seen.
     pub(crate) fn standing(&self, conn: u32) -> Option<&Standing>
         ensures { option_copied result ≡ standing_of self.now conn }
     {
         self.standings.get(&conn)
     }
 
-    /// Makes the connection seen, and says whether it is new.
+    /// Records the connection as seen, and returns whether it is new.
     pub(crate) fn see(&mut self, conn: u32) -> Result<bool, NoMemory>
         ensures ok { OnOk result (self.new ≡ seen_in self.old conn) }
         ensures new { IfOk result (λ new. new ≡ is_new self.old conn) }
@@ -66,7 +66,7 @@ impl Connections {
         Ok(true)
     }
 
-    /// How a connection that was seen stands from now on.
+    /// Sets the state of a connection that was seen.
     pub(crate) fn set(&mut self, conn: u32, standing: Standing)
         requires { IsSome (standing_of self.old conn) }
         ensures { self.new ≡ with_standing self.old conn standing }
@@ -77,7 +77,7 @@ impl Connections {
         }
     }
 
-    /// Nothing is kept of the connection.
+    /// Forgets the connection.
     pub(crate) fn forget(&mut self, conn: u32)
         ensures { self.new ≡ without self.old conn }
     {

@@ -1,9 +1,9 @@
-//! Under which conditions a key is held (draft-miller-ssh-agent, section 3.2.7).
+//! The constraints under which a key is held (draft-miller-ssh-agent, section 3.2.7).
 
 /// How long a key is held, and whether each use is confirmed.
 #[derive(Clone, Copy, Debug, PartialEq, Eq)]
 pub struct Constraints {
-    /// Seconds; none for ever.
+    /// In seconds; `None` if the key doesn't expire.
     pub lifetime: Option<u32>,
     /// The user is asked before each use.
     pub confirm: bool,

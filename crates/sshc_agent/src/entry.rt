@@ -5,16 +5,16 @@ ghost use Rattle.std.specs.Prelude.{◌≡◌, IfOk};
 use crate::input::{AgentInput, AgentOutput};
 use sshc_wire::{NoMemory, Octets};
 
-/// An input of a connection with what came of it.
+/// An input of a connection, with its signature and its output.
 #[derive(Debug, Drop, PartialEq, Eq)]
 pub struct Entry {
     pub conn: u32,
-    /// Among the entries of the connection, from 0.
+    /// The index of this entry among those of its connection, from 0.
     pub number: u32,
     /// In milliseconds.
     pub moment: u64,
     pub input: AgentInput,
-    /// What the signer answered, where it signed.
+    /// The signature that the signer returned, if the step signed.
     pub signature: Option<Octets>,
     pub output: AgentOutput,
 }

@@ -1,8 +1,8 @@
-//! What a server over an agent may answer.
+//! Errors of a server that runs an agent.
 
 use sshc_key::Error;
 
-/// The caller's error, or one of the keys.
+/// An error of the caller's own type, or one of this library's `Error`.
 #[derive(Debug, Drop)]
 pub enum ServerError<E> {
     E(E),

@@ -6,7 +6,7 @@ ghost use Rattle.sshc_wire.specs.Wire.{string_text};
 use sshc_wire::{NoMemory, Octets, put_bytes};
 use std::alloc::Global;
 
-/// The body as a frame with its length. More than 2^32 - 1 bytes count as out of memory.
+/// The body as a frame with its length. `NoMemory` also for a body longer than 2^32 - 1 bytes.
 pub(crate) fn framed(alloc: Global, body: &[u8]) -> Result<Octets, NoMemory>
     ensures { IfOk result (λ o. o ≡ string_text body.now) }
 {

@@ -1,4 +1,4 @@
-//! Frames of a connection, from its bytes in whatever pieces they come (draft-miller-ssh-agent, section 3).
+//! Frames of a connection, from bytes that come in pieces of any size (draft-miller-ssh-agent, section 3).
 
 ghost use Rattle.std.specs.Prelude.{◌≡◌, ◌≤◌, OnErr, OnOk, drop, length};
 ghost use Rattle.sshc_agent.specs.AgentFrames.{NextBy, no_bytes, pushed};
@@ -9,7 +9,8 @@ use sshc_wire::{Cursor, NoMemory, Octets};
 use std::alloc::Global;
 use std::marker::Model;
 
-/// The bytes of a connection that are in no whole frame yet. A length above 262144 ends it: what comes later is dropped.
+/// The bytes of a connection that belong to no whole frame yet. After a length above 262144, all later bytes are
+/// dropped.
 #[derive(Debug, Drop)]
 pub struct Frames {
     bytes: Vec<u8>,
@@ -29,7 +30,7 @@ impl Model for Frames {
 }
 
 impl Frames {
-    /// No bytes.
+    /// Holds no bytes yet.
     pub fn new(alloc: Global) -> Frames
         ensures { result ≡ no_bytes }
     {
@@ -40,7 +41,7 @@ impl Frames {
         }
     }
 
-    /// The connection's next bytes.
+    /// Appends the connection's next bytes.
     pub fn push(&mut self, piece: &[u8]) -> Result<(), NoMemory>
         ensures ok { OnOk result (self.new ≡ pushed self.old piece.now) }
         ensures err { OnErr result (self.new ≡ self.old) }
@@ -48,14 +49,14 @@ impl Frames {
         if self.is_over {
             return Ok(());
         }
-        // What was handed out goes first, so that the bytes don't pile up.
+        // Frames already returned are dropped first, so that the bytes don't pile up.
         drop_front(&mut self.bytes, self.at);
         self.at = 0;
         self.bytes.extend_from_slice(piece)?;
         Ok(())
     }
 
-    /// The next whole frame, or a length above the limit, which is handed out once.
+    /// The next whole frame, or a length above the limit, which is returned once.
     #[tactic(auto, unfolding(crate::specs::AgentFrames::next_in))]
     pub fn next(&mut self) -> Result<Option<AgentInput>, NoMemory>
         ensures { NextBy self.old self.new result }
@@ -85,7 +86,7 @@ impl Frames {
     }
 }
 
-/// Drops so many bytes at the front.
+/// Drops the first `count` bytes.
 #[tactic(auto, using(crate::proofs::Fronts::turned_cut))]
 fn drop_front(bytes: &mut Vec<u8>, count: usize)
     requires { count ≤ length bytes.old.items }

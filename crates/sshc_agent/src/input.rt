@@ -1,10 +1,10 @@
-//! What comes to an agent, and what it answers.
+//! Inputs of an agent and its outputs.
 
 ghost use Rattle.std.specs.Prelude.{◌≡◌, IfOk};
 
 use sshc_wire::{MessageType, NoMemory, Octets};
 
-/// What comes on a connection.
+/// An input of a connection.
 #[derive(Debug, Drop, PartialEq, Eq)]
 pub enum AgentInput {
     /// A frame without its length, at most 262144 bytes.
@@ -19,7 +19,7 @@ pub enum AgentInput {
     Close,
 }
 
-/// What the agent answers.
+/// The agent's output for one input.
 #[derive(Debug, Drop, PartialEq, Eq)]
 pub enum AgentOutput {
     /// A whole frame with its length.

@@ -1,4 +1,4 @@
-//! The keys that an agent holds, in the order of their adding.
+//! The keys that an agent holds, in the order in which they were added.
 
 ghost use Rattle.std.specs.Prelude.{◌≡◌, ◌<◌, [], IfOk, MatchOption, None, OnOk, OnErr, Some, length, option_copied, slice_get};
 ghost use Rattle.sshc_wire.specs.Wire.{string_text};
@@ -18,12 +18,12 @@ pub struct HeldKey {
     /// The blob of the public key.
     pub blob: Octets,
     pub pair: PrivateKey,
-    /// From this moment on, in milliseconds, it isn't held any longer.
+    /// From this moment on, in milliseconds, the key is no longer held.
     pub deadline: Option<u64>,
     pub constraints: Constraints,
 }
 
-/// Keys in the order of their adding, which contracts see as that list.
+/// Keys in the order in which they were added, which contracts see as a list.
 #[derive(Debug, Drop)]
 pub(crate) struct KeyList {
     keys: Vec<HeldKey>,
@@ -53,14 +53,14 @@ impl KeyList {
         }
     }
 
-    /// The key of this blob.
+    /// The key with this blob.
     pub(crate) fn find(&self, blob: &[u8]) -> Option<&HeldKey>
         ensures { option_copied result ≡ held self.now blob.now }
     {
         self.keys.iter().find(|key| key.blob.as_slice() == blob)
     }
 
-    /// The place of the key of this blob.
+    /// The index of the key with this blob.
     pub(crate) fn place(&self, blob: &[u8]) -> Option<usize>
         ensures { MatchOption result (held self.now blob.now ≡ None)
             (λ at. (at < length self.now) × (held self.now blob.now ≡ slice_get self.now at)) }
@@ -68,7 +68,7 @@ impl KeyList {
         found_place(self.keys.as_slice(), blob)
     }
 
-    /// The key at this place.
+    /// The key at this index.
     pub(crate) fn key(&self, at: usize) -> &HeldKey
         requires { at < length self.now }
         ensures { slice_get self.now at ≡ Some result.now }
@@ -76,7 +76,7 @@ impl KeyList {
         &self.keys[at]
     }
 
-    /// Lets the keys go whose deadline has come.
+    /// Drops the keys whose deadline has come.
     pub(crate) fn expire(&mut self, now: u64)
         ensures { self.new ≡ unexpired now self.old }
     {
@@ -89,14 +89,14 @@ impl KeyList {
         self.keys.clear();
     }
 
-    /// Lets the key of this blob go.
+    /// Drops the key with this blob.
     pub(crate) fn remove(&mut self, blob: &[u8])
         ensures { self.new ≡ without_key self.old blob.now }
     {
         self.keys.retain(|key| key.blob.as_slice() != blob);
     }
 
-    /// Whether the listing with a key of this blob in it has at most the bytes of a frame.
+    /// Whether the listing with a key of this blob in it still fits in a frame.
     pub(crate) fn has_room(&self, blob: &Octets) -> bool
         ensures { result ≡ has_room self.now blob.now }
     {
@@ -108,7 +108,7 @@ impl KeyList {
         fits(self.keys.as_slice(), start)
     }
 
-    /// Puts the key in the place of the one with its blob, or behind the others.
+    /// Replaces the key with the same blob, or appends the key.
     pub(crate) fn put(&mut self, key: HeldKey) -> Result<(), NoMemory>
         ensures ok { OnOk result (self.new ≡ with_key self.old key) }
         ensures err { OnErr result (self.new ≡ self.old) }

@@ -1,4 +1,5 @@
-//! The core of an SSH agent: keys, constraints, a lock and frames, as a machine over moments, connections and inputs.
+//! The core of an SSH agent: keys, constraints, a lock and frames, as a state machine that takes moments, connections
+//! and inputs.
 #![tactic(auto)]
 
 mod agent_core;

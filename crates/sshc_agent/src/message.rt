@@ -6,7 +6,7 @@ ghost use Rattle.sshc_agent.specs.Messages.{message_of};
 use crate::msg;
 use sshc_wire::MessageType;
 
-/// The kind of the message of this number; none for a message that the agent doesn't know.
+/// The kind of the message with this number; `None` for a message that the agent doesn't know.
 #[tactic(auto, unfolding(crate::specs::Messages::message_of))]
 pub fn message_type(number: u8) -> Option<MessageType>
     ensures { result ≡ message_of number }

@@ -46,5 +46,5 @@ pub const SSH_AGENT_RSA_SHA2_256: u32 = 2;
 /// A flag of a sign request: an RSA key signs with SHA-512.
 pub const SSH_AGENT_RSA_SHA2_512: u32 = 4;
 
-/// The most bytes that a frame may have after its length.
+/// The maximal number of bytes in a frame after its length.
 pub const MAX_AGENT_FRAME_LEN: u32 = 262_144;

@@ -4,7 +4,7 @@ use sshc_agent::msg;
 use sshc_wire::{NoMemory, Octets, put_bytes, put_text, put_u32};
 use std::alloc::Global;
 
-/// The public key of a number: it in four bytes, and 28 times 8.
+/// The public key of a number: the number in four bytes, and 28 bytes of 8.
 fn public_key(alloc: Global, number: u32) -> Result<Octets, NoMemory> {
     let mut public = Vec::new(alloc);
     put_u32(&mut public, number)?;
@@ -12,7 +12,7 @@ fn public_key(alloc: Global, number: u32) -> Result<Octets, NoMemory> {
     Octets::from_vec(public)
 }
 
-/// Adds the pair of a number.
+/// A frame that adds the pair of a number.
 pub fn adds(alloc: Global, number: u32) -> Result<Octets, NoMemory> {
     let public = public_key(alloc, number)?;
     let mut private = Vec::new(alloc);
@@ -28,12 +28,12 @@ pub fn adds(alloc: Global, number: u32) -> Result<Octets, NoMemory> {
     Octets::from_vec(frame)
 }
 
-/// Asks for the keys.
+/// A frame that asks for the list of keys.
 pub fn lists(alloc: Global) -> Result<Octets, NoMemory> {
     Octets::from_slice(alloc, &[msg::REQUEST_IDENTITIES])
 }
 
-/// Asks for a signature over three bytes by the key of a number.
+/// A frame that asks for a signature over three bytes by the key of a number.
 pub fn asks_to_sign(alloc: Global, number: u32) -> Result<Octets, NoMemory> {
     let mut blob = Vec::new(alloc);
     put_text(&mut blob, "ssh-ed25519")?;

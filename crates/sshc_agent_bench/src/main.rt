@@ -1,6 +1,7 @@
 //! Measurements of the agent core over memory, printed as counts.
 //!
-//! The arguments `list KEYS TIMES` and `sign KEYS TIMES` add so many keys and ask so often; without arguments each runs in small.
+//! The arguments `list KEYS TIMES` and `sign KEYS TIMES` add KEYS keys and ask TIMES times; without arguments each is
+//! run with small numbers.
 #![tactic(auto)]
 
 mod frames;
@@ -12,7 +13,7 @@ use sshc_wire::NoMemory;
 use std::alloc::Global;
 use std::env;
 
-/// The number in an argument, or the other where there is none.
+/// The number in an argument, or `other` if there is none.
 fn number_or(word: Option<String>, other: u32) -> u32 {
     match word {
         Some(word) => word.as_str().parse::<u32>().unwrap_or(other),
@@ -20,7 +21,7 @@ fn number_or(word: Option<String>, other: u32) -> u32 {
     }
 }
 
-/// How many bytes an answer has; none where nothing was answered.
+/// How many bytes an answer has; 0 for any other output.
 fn size(output: &AgentOutput) -> u64 {
     match output {
         AgentOutput::Answer(frame) => frame.as_slice().len() as u64,
@@ -28,7 +29,7 @@ fn size(output: &AgentOutput) -> u64 {
     }
 }
 
-/// An agent with so many keys.
+/// An agent that holds `keys` keys.
 fn agent_with(alloc: Global, signer: &mut ToySigner, keys: u32) -> Result<AgentCore, NoMemory> {
     let mut agent = AgentCore::new(alloc, false);
     for number in 0..keys {
@@ -38,7 +39,7 @@ fn agent_with(alloc: Global, signer: &mut ToySigner, keys: u32) -> Result<AgentC
     Ok(agent)
 }
 
-/// Asks so often, and answers how many bytes were answered.
+/// Asks `times` times, and returns how many bytes the answers have.
 fn asked(
     alloc: Global,
     agent: &mut AgentCore,
@@ -60,7 +61,7 @@ fn asked(
     Ok(bytes)
 }
 
-/// One run, told in a line.
+/// Does one run, and prints its line.
 fn tell(rt: &HostRuntime, signs: bool, keys: u32, times: u32) -> anyhow::Result<()> {
     let alloc = rt.alloc();
     let mut signer = ToySigner::new(alloc);

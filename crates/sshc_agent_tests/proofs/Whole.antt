@@ -1,11 +1,11 @@
--- A signature that nothing follows.
+-- A signature with no bytes after it.
 use Rattle.std.proofs.Common.{◌≡◌, ◌↔◌, ℕ, List, [], ◌++◌, Ok, subst, ◌∙◌, append-nil, ap}
 use Rattle.sshc_key.specs.declared.signature.Signature.{Signature}
 use Rattle.sshc_key.specs.KeyGrammar.{SignatureFits, signature_text}
 use Rattle.sshc_key.specs.KeyReading.{signature_at}
 use Rattle.sshc_key.specs.Signers.{IsSignature}
 
--- what was read to the end is one whole signature
+-- a signature that was read to the end is one whole signature
 pub is_whole : (bytes : List ℕ) (s : Signature) (rest : List ℕ) → signature_at bytes ≡ Ok (s, rest) → ((t : Signature) (more : List ℕ) → (signature_at bytes ≡ Ok (t, more)) ↔ (SignatureFits t × (bytes ≡ signature_text t ++ more))) → rest ≡ []
     → IsSignature bytes
 is_whole bytes s rest read grammar none =

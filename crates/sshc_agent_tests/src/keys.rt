@@ -1,9 +1,9 @@
-//! Frames to an agent, with a key pair of Ed25519.
+//! Frames sent to an agent, about one Ed25519 key pair.
 
 use sshc_wire::{NoMemory, Octets, put_bytes, put_text, put_u32};
 use std::alloc::Global;
 
-/// The pair whose public part is 32 times 8 and whose seed is 32 times 7, as it is added.
+/// Appends the key pair as a frame that adds it holds it: the public part is 32 bytes of 8, the seed 32 bytes of 7.
 pub(crate) fn put_pair(out: &mut Vec<u8>) -> Result<(), NoMemory> {
     let mut private = Vec::from_slice(*out.allocator(), &[7u8; 32])?;
     private.extend_from_slice(&[8u8; 32])?;
@@ -23,7 +23,8 @@ pub(crate) fn blob(alloc: Global) -> Result<Vec<u8>, NoMemory> {
     Ok(out)
 }
 
-/// A frame that adds the pair with an empty comment, and constraints where the number wants them.
+/// A frame that adds the pair with an empty comment and these constraints, which are empty for a message without
+/// constraints.
 pub(crate) fn adds(alloc: Global, number: u8, constraints: &[u8]) -> Result<Octets, NoMemory> {
     let mut out = Vec::new(alloc);
     out.push(number)?;

@@ -1,4 +1,4 @@
-//! What a lock keeps out.
+//! What a locked agent refuses.
 
 use crate::keys::{adds, asks_to_sign, word};
 use crate::signer::OneSigner;
@@ -6,7 +6,7 @@ use sshc_agent::{AgentCore, AgentInput, AgentOutput};
 use sshc_wire::Octets;
 use std::test::Fail;
 
-/// The answer's bytes, and none where there is no answer.
+/// The answer's bytes; empty for any other output.
 pub(crate) fn answer(output: &AgentOutput) -> &[u8] {
     match output {
         AgentOutput::Answer(frame) => frame.as_slice(),

@@ -1,4 +1,4 @@
-//! A signer that answers always with one signature.
+//! A signer that always returns the same signature.
 
 ghost use Rattle.std.specs.Prelude.{◌≡◌, ◌≤◌, ◌++◌, ◌∷◌, [], IfSome, OnErr, OnOk, IsTrue, Some, length};
 ghost use Rattle.sshc_key.specs.Signers.{IsSignature};
@@ -11,7 +11,7 @@ use std::marker::Model;
 /// `ssh-ed25519` and the body `sign`, as two strings.
 pub(crate) const SIGNATURE: &[u8] = b"\x00\x00\x00\x0bssh-ed25519\x00\x00\x00\x04sign";
 
-/// A call of the signer, with its answer.
+/// A call of the signer, with its result.
 #[derive(Debug, Drop)]
 struct Signed {
     by: Asker,
@@ -21,7 +21,7 @@ struct Signed {
     answer: Octets,
 }
 
-/// Answers always with `SIGNATURE`, and keeps the calls.
+/// Always returns `SIGNATURE`, and records the calls.
 #[derive(Debug, Drop)]
 pub(crate) struct OneSigner {
     alloc: Global,
@@ -49,12 +49,12 @@ impl OneSigner {
         }
     }
 
-    /// How often it was asked.
+    /// How many calls it got.
     pub(crate) fn count(&self) -> usize {
         self.calls.len()
     }
 
-    /// Keeps a call.
+    /// Records a call.
     fn keep(
         &mut self,
         by: Asker,
@@ -93,7 +93,7 @@ fn is_signature(alloc: Global, bytes: &[u8]) -> bool
     }
 }
 
-/// A copy of the bytes, where they are one whole signature of at most 65536 bytes.
+/// A copy of the bytes, if they are one whole signature of at most 65536 bytes.
 fn whole(alloc: Global, bytes: &[u8]) -> Option<Vec<u8>>
     ensures whole { IfSome result (λ v. IsSignature v.items) }
     ensures short { IfSome result (λ v. length v.items ≤ 65536) }

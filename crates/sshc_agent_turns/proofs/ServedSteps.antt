@@ -1,4 +1,4 @@
--- What the steps of an event give, one after the other.
+-- The steps of an event, one after the other.
 use Rattle.std.proofs.Common.{◌≡◌, ℕ, List, [], ◌∷◌, ◌++◌, length, Option, Some, None, refl, sym, ap, subst, ◌∙◌, append-nil, append_assoc}
 use Rattle.std.proofs.lemmas.List.{drop_at}
 use Rattle.sshc_wire.specs.declared.record.Record.{Record}
@@ -35,7 +35,8 @@ gained_two a b c one two = gained_on a b c one two ∙ ap (λ (x : List SignCall
 
 -- ---- steps in a row
 
--- with these calls and records the inputs have come so far: whatever is made of those that are left, these stand before it
+-- with these calls and records the inputs have been taken so far: these come before the calls and records of the
+-- remaining inputs
 pub record GoesOn (now conn : ℕ) (all : List AgentInput) (before : AgentList) (gained : List SignCall) (records : List Record) (left : List AgentInput) (l : AgentList) : Type 0 where
   pub makes : (later : List SignCall) (t : Said) → Makes (each_turn now conn left l) later t → Makes (each_turn now conn all before) (gained ++ later) (behind records t)
   pub first : (later : List SignCall) → MakesFirst (each_turn now conn left l) later → MakesFirst (each_turn now conn all before) (gained ++ later)
@@ -67,7 +68,7 @@ module _ (now conn : ℕ) where
     pub at_begin : GoesOn now conn all before [] [] all before
     at_begin = record { makes = λ later t makes. makes; first = λ later first. first }
 
-    -- one input more
+    -- one more input
     pub one_on : (g g' : List SignCall) (records records' : List Record) (input : AgentInput) (left : List AgentInput) (l l' : AgentList) → GoesOn now conn all before g records (input ∷ left) l
         → Makes (input_turn now conn input l) g' (record { records = records'; list = l' }) → GoesOn now conn all before (g ++ g') (records ++ records') left l'
     one_on g g' records records' input left l l' so made = record {
@@ -86,12 +87,12 @@ module _ (now conn : ℕ) where
     pub cut_between : (g : List SignCall) (records : List Record) (left : List AgentInput) (l : AgentList) → GoesOn now conn all before g records left l → MakesFirst (each_turn now conn all before) g
     cut_between g records left l so = subst (MakesFirst (each_turn now conn all before)) (append-nil g) (so.first [] (none_first (each_turn now conn left l)))
 
-    -- or in one
+    -- or during one
     pub cut_in : (g g' : List SignCall) (records : List Record) (input : AgentInput) (left : List AgentInput) (l : AgentList) → GoesOn now conn all before g records (input ∷ left) l
         → MakesFirst (input_turn now conn input l) g' → MakesFirst (each_turn now conn all before) (g ++ g')
     cut_in g g' records input left l so first = so.first g' (each_cut input left l g' first)
 
--- ---- one input more of a connection's bytes
+-- ---- one more input from a connection's bytes
 
 module _ (now conn : ℕ) (all : List AgentInput) (before : AgentList) (frames next : FrameBytes) (input : AgentInput) (is : next_in frames ≡ Some (input, next)) (a b c : List SignCall)
     (grew : b ≡ a ++ since a b) (more : c ≡ b ++ since b c) (records : List Record) (l : AgentList) (on : GoesOn now conn all before (since a b) records (inputs_of frames) l) where
@@ -105,7 +106,7 @@ module _ (now conn : ℕ) (all : List AgentInput) (before : AgentList) (frames n
   pub goes_cut : MakesFirst (input_turn now conn input l) (since b c) → MakesFirst (each_turn now conn all before) (since a c)
   goes_cut first = rw (since_on a b c grew more) (cut_in now conn all before (since a b) (since b c) records input (inputs_of next) l on_first first)
 
--- the bytes give no input more
+-- the bytes contain no further input
 pub goes_none : (now conn : ℕ) (all : List AgentInput) (before : AgentList) (frames : FrameBytes) (gained : List SignCall) (records : List Record) (l : AgentList) → next_in frames ≡ None
     → GoesOn now conn all before gained records (inputs_of frames) l → Makes (each_turn now conn all before) gained (record { records = records; list = l })
 goes_none now conn all before frames gained records l none on =
@@ -113,12 +114,12 @@ goes_none now conn all before frames gained records l none on =
 
 -- ---- one input
 
--- an input's record is added, or there is none
+-- an input's record is added, if it has one
 pub said_of : (now conn : ℕ) (input : AgentInput) (before after : AgentList) (gained : List SignCall) (held held' : List Record) (said : Option Record)
     → Makes (input_turn now conn input before) gained (record { records = listed said; list = after }) → held' ≡ held ++ listed said → SaysInput now conn input before gained after held held'
 said_of now conn input before after gained held held' said made added = (listed said, added, made)
 
--- its calls are the first of what it asks
+-- its calls are a prefix of those that its turn makes
 pub cut_of : (now conn : ℕ) (input : AgentInput) (before after : AgentList) (gained : List SignCall) (said : Option Record)
     → Makes (input_turn now conn input before) gained (record { records = listed said; list = after }) → MakesFirst (input_turn now conn input before) gained
 cut_of now conn input before after gained said made = all_first (input_turn now conn input before) gained (record { records = listed said; list = after }) made
@@ -143,7 +144,7 @@ module _ (now : ℕ) (event : AgentEvent) (s : Served) (gained : List SignCall) 
   unfolding agent_turn
   event_first first = first_on (kept_with (event_bytes event s.bytes)) Inputs gained first
 
--- nothing was asked
+-- the signer wasn't asked
 pub event_none : (now : ℕ) (event : AgentEvent) (s : Served) (calls : List SignCall) → MakesFirst (agent_turn now event s) (since calls calls)
 event_none now event s calls = rw (none_since calls) (none_first (agent_turn now event s))
 

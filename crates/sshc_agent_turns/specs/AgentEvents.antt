@@ -1,5 +1,6 @@
--- The fields of an agent's events, read part after part (docs/FORMATS.md, "Events"); nothing may be left over but the bytes of a connection.
--- Readings of the whole bytes; the code moves a cursor.
+-- The fields of an agent's events, read one after the other (docs/FORMATS.md, "Events"); no byte may remain, except the
+-- bytes of a connection.
+-- The definitions are functions of all bytes; the code moves a cursor.
 use Rattle.std.specs.Prelude.{Ok, Err}
 use Rattle.sshc_wire.specs.Format.{both_at, made_at}
 use Rattle.sshc_wire.specs.Grammar.{finished_at}
@@ -14,7 +15,7 @@ use Rattle.sshc_script.specs.EventParts.{flag_at, u32_at}
 use Rattle.sshc_agent_turns.specs.declared.event.AgentEvent.{AgentEvent}
 use Rattle.sshc_agent_turns.specs.declared.event.AgentEvent.TheVariants as events
 
--- a connection, and all bytes behind it
+-- a connection, and all bytes that follow
 unfoldable pub bytes_event_of : WholeReader EventError AgentEvent
 bytes_event_of fields = u32_at fields >>= λ conn. Ok (events.Bytes conn.0 conn.1)
 
@@ -29,7 +30,7 @@ key_answer_of fields = finished_at Bad (made_at (λ x. events.Input x.0 (inputs.
 unfoldable pub close_event_of : WholeReader EventError AgentEvent
 close_event_of fields = finished_at Bad (made_at (λ conn. events.Input conn inputs.Close) u32_at) fields
 
--- the agent's event of a kind and these fields; a session's kinds have none
+-- the agent's event of a kind with these fields; Bad for a session's kinds
 unfoldable pub agent_event_of : EventKind → WholeReader EventError AgentEvent
 agent_event_of kinds.AgentBytes fields = bytes_event_of fields
 agent_event_of kinds.AgentRequestAnswer fields = request_answer_of fields

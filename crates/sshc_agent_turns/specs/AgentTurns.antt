@@ -1,4 +1,5 @@
--- What an event of an agent's connection gives: its records, and what the agent and the bytes of its connections are then.
+-- The turn of an event of an agent's connection: its records, and the agent and the bytes of its connections
+-- afterwards.
 -- The inputs of an event are a list, and each is its row of the agent table, in order; the code takes one at a time.
 use Rattle.std.specs.Prelude.{◌≡◌, ℕ, zero, suc, ◌+◌, Bool, List, [], ◌∷◌, ◌++◌, length, Option, Some, None, unwrap_or, if◌then◌else◌}
 use Rattle.std.specs.Ordering.{nat_cmp}
@@ -23,7 +24,7 @@ use Rattle.sshc_agent_turns.specs.declared.event.AgentEvent.TheVariants as event
 
 -- ---- what is kept
 
--- the agent's list, and of each connection the bytes that are in no whole frame yet
+-- the agent's state, and for each connection the bytes that belong to no whole frame yet
 pub record Served : Type 0 where
   pub list : AgentList
   pub bytes : List (ℕ × FrameBytes)
@@ -38,18 +39,18 @@ bytes_at all conn = unwrap_or (lookup (is_at (nat_cmp conn)) all) no_bytes
 abbrev pub without : List (ℕ × FrameBytes) → ℕ → List (ℕ × FrameBytes)
 without all conn = remove_entry (is_at (nat_cmp conn)) all
 
--- the connection has these bytes from now on
+-- the connection gets these bytes
 abbrev pub with_bytes : List (ℕ × FrameBytes) → ℕ → FrameBytes → List (ℕ × FrameBytes)
 with_bytes all conn left = insert_entry nat_cmp (without all conn) conn left
 
 -- ---- the inputs of bytes
 
--- inputs, and the bytes that are left then
+-- inputs, and the bytes that remain after them
 pub record Taken : Type 0 where
   pub inputs : List AgentInput
   pub left : FrameBytes
 
--- one input more, at the front
+-- one more input, at the front
 abbrev pub and_then : AgentInput → Taken → Taken
 and_then input t = record t { inputs = input ∷ t.inputs }
 
@@ -62,21 +63,21 @@ unfoldable pub taken_in : ℕ → FrameBytes → Taken
 taken_in zero s = record { inputs = []; left = s }
 taken_in (suc n) s = taken_by s (next_in s) (λ left. taken_in n left)
 
--- each input takes a byte at least, but for a length above the limit, behind which there is none
+-- each input takes at least one byte, except a length above the limit, after which there is no input
 abbrev pub most : FrameBytes → ℕ
 most s = length s.bytes + (if s.over then 0 else 1)
 
--- all inputs that the bytes give: whole frames in order, and a length above the limit
+-- all inputs that the bytes contain: whole frames in order, and a length above the limit
 abbrev pub inputs_of : FrameBytes → List AgentInput
 inputs_of s = (taken_in (most s) s).inputs
 
--- the bytes that are left behind them
+-- the bytes that remain after them
 abbrev pub rest_of : FrameBytes → FrameBytes
 rest_of s = (taken_in (most s) s).left
 
 -- ---- records
 
--- an answer, as it is reported; that the agent found no memory is not
+-- an output, as it is reported; that memory ran out isn't reported
 abbrev pub records_of : ℕ → AgentOutput → List Record
 records_of conn (outputs.Answer whole) = Agent conn (agent.Answer whole) ∷ []
 records_of conn (outputs.AskRequest message) = Agent conn (agent.AskRequest message) ∷ []
@@ -89,7 +90,7 @@ records_of conn (outputs.Closed causes.NoMemory) = []
 
 -- ---- inputs
 
--- records, and the agent's list behind them
+-- records, and the agent's state after them
 pub record Said : Type 0 where
   pub records : List Record
   pub list : AgentList
@@ -97,11 +98,11 @@ pub record Said : Type 0 where
 abbrev pub said_on : ℕ → Outcome → Said
 said_on conn o = record { records = records_of conn o.output; list = o.next }
 
--- the input's row, reported
+-- the row of the input, with its record
 abbrev pub input_turn : ℕ → ℕ → AgentInput → AgentList → Asking Said
 input_turn now conn input l = asked_on (said_on conn) (agent_row now conn input l)
 
--- an input's turn, with these calls, leaves this list, and its record stands behind those before it
+-- the turn of an input, with these calls, ends in this state, and its record is appended to those before it
 abbrev pub SaysInput : ℕ → ℕ → AgentInput → AgentList → List SignCall → AgentList → List Record → List Record → Type 0
 SaysInput now conn input before gained after held held' = (said : List Record) × (held' ≡ held ++ said) × Makes (input_turn now conn input before) gained (record { records = said; list = after })
 
@@ -124,12 +125,12 @@ abbrev pub conn_of : AgentEvent → ℕ
 conn_of (events.Bytes conn piece) = conn
 conn_of (events.Input conn input) = conn
 
--- the inputs that the event completes, or the one that it is
+-- the inputs that the event completes, or the one input that it is
 abbrev pub event_inputs : AgentEvent → List (ℕ × FrameBytes) → List AgentInput
 event_inputs (events.Bytes conn piece) all = inputs_of (pushed (bytes_at all conn) piece)
 event_inputs (events.Input conn input) all = input ∷ []
 
--- the bytes that no frame has yet
+-- the bytes that belong to no frame after the event
 abbrev pub event_bytes : AgentEvent → List (ℕ × FrameBytes) → List (ℕ × FrameBytes)
 event_bytes (events.Bytes conn piece) all = with_bytes all conn (rest_of (pushed (bytes_at all conn) piece))
 event_bytes (events.Input conn input) all = all

@@ -1,5 +1,5 @@
--- All inputs that bytes give, one by one: they are what the frames hand out (sshc_agent), and pieces of bytes give together what they give one
--- after the other.
+-- All inputs that bytes contain, one by one: they are the ones that Frames returns (sshc_agent), and pieces of bytes
+-- contain together what they contain one after the other.
 use Rattle.std.proofs.Common.{◌≡◌, ℕ, zero, suc, ◌+◌, ◌<◌, ◌≤◌, Bool, true, false, List, [], ◌∷◌, ◌++◌, length, take, drop, Option, Some, None, Result, Ok, Err, refl, sym, ap, subst, ◌∙◌, arith, length-drop}
 use Rattle.std.specs.Prelude.{nat_lt}
 use Rattle.std.specs.Int.{w32}
@@ -19,7 +19,7 @@ Next = Option (AgentInput × FrameBytes)
 some_is : (x y : AgentInput × FrameBytes) → Some x ≡ Some y → x ≡ y
 some_is x y e = cc
 
--- a frame or a length leaves less
+-- after a frame or a length fewer bytes remain
 framed_less : (over short : Bool) (n size : ℕ) (rest : List ℕ) (x : AgentInput × FrameBytes) → length rest < size → framed_by over short n rest ≡ Some x → most x.1 < size + 1
 framed_less true short n size rest x less e =
     subst (λ (y : AgentInput × FrameBytes). most y.1 < size + 1) (some_is (Oversize n, record { bytes = []; over = true }) x e) (omega (arith, less))
@@ -43,7 +43,7 @@ unfolding next_in
 by_over true bytes x e = absurd cc
 by_over false bytes x e = by_number bytes (number_at w32 bytes) x refl e
 
--- what is handed out leaves less to be handed out
+-- after an input is returned, fewer inputs can follow
 pub next_less : (s : FrameBytes) (x : AgentInput × FrameBytes) → next_in s ≡ Some x → most x.1 < most s
 next_less s x e = by_over s.over s.bytes x e
 
@@ -63,7 +63,7 @@ same_by : (on on' : FrameBytes → Taken) (s : FrameBytes) (o : Next) → ((x : 
 same_by on on' s None same = refl
 same_by on on' s (Some x) same = ap (and_then x.0) (same x refl)
 
--- however many may be taken, where these are enough
+-- the result is the same for any bounds that are great enough
 enough : (n m : ℕ) (s : FrameBytes) → most s ≤ n → most s ≤ m → taken_in n s ≡ taken_in m s
 unfolding taken_in
 enough zero m s a b = sym (nothing_taken m s (zero_none s (next_in s) refl a))
@@ -82,7 +82,7 @@ one_more : (k : ℕ) (s : FrameBytes) (x : AgentInput × FrameBytes) → most s 
 one_more zero s x size is = absurd (no_more (most x.1) (most s) (next_less s x is) (omega (arith, size)))
 one_more (suc n) s x size is = taken_one n s x is (omega (arith, size))
 
--- the first of all inputs is what is handed out, and the others are those of what is left
+-- the first of all inputs is the one returned next, and the others are those of the remaining bytes
 pub inputs_more : (s : FrameBytes) (x : AgentInput × FrameBytes) → next_in s ≡ Some x → inputs_of s ≡ x.0 ∷ inputs_of x.1
 inputs_more s x is = ap (λ (t : Taken). t.inputs) (one_more (most s) s x refl is)
 
@@ -95,7 +95,7 @@ inputs_none s none = ap (λ (t : Taken). t.inputs) (nothing_taken (most s) s non
 pub rest_none : (s : FrameBytes) → next_in s ≡ None → rest_of s ≡ s
 rest_none s none = ap (λ (t : Taken). t.left) (nothing_taken (most s) s none)
 
--- ---- they are what is handed out, and there is nothing behind them
+-- ---- they are the inputs returned, and no others follow
 
 gives_by : (n : ℕ) (s : FrameBytes) (o : Next) → next_in s ≡ o → most s ≤ n → GivesAll s (inputs_of s) (rest_of s)
 gives_by n s None is fits = rw (inputs_none s is, rest_none s is) (record { gives = refl; nothing = is })
@@ -110,7 +110,8 @@ gives_inputs s = gives_by (most s) s (next_in s) refl (omega arith)
 
 -- ---- pieces
 
--- the inputs of bytes that come in two pieces are those of the first, and then those of the second behind what the first left
+-- the inputs of bytes that come in two pieces are those of the first, and then those of the second after the bytes that
+-- the first left over
 pub inputs_in_pieces : (s : FrameBytes) (a b : List ℕ) → inputs_of (pushed s (a ++ b)) ≡ inputs_of (pushed s a) ++ inputs_of (pushed (rest_of (pushed s a)) b)
 inputs_in_pieces s a b =
     let one = gives_inputs (pushed s a) in
@@ -119,14 +120,14 @@ inputs_in_pieces s a b =
     one_list (pushed s (a ++ b)) (rest_of (pushed s (a ++ b))) (rest_of (pushed (rest_of (pushed s a)) b)) (inputs_of (pushed s (a ++ b))) (inputs_of (pushed s a) ++ inputs_of (pushed (rest_of (pushed s a)) b))
     (gives_inputs (pushed s (a ++ b))) both
 
--- what is left behind the same inputs is the same
+-- after the same inputs the same bytes remain
 same_rest : (s t u : FrameBytes) (inputs : List AgentInput) → Gives s inputs t → Gives s inputs u → t ≡ u
 same_rest s t u [] one two = sym one ∙ two
 same_rest s t u (input ∷ inputs) one two =
     let is = some_is (input, one.0) (input, two.0) (sym one.1 ∙ two.1) in
     same_rest one.0 t u inputs one.2 (subst (λ (v : FrameBytes). Gives v inputs u) (sym (ap (λ (p : AgentInput × FrameBytes). p.1) is)) two.2)
 
--- and so are the bytes that are left
+-- and so are the remaining bytes
 pub rest_in_pieces : (s : FrameBytes) (a b : List ℕ) → rest_of (pushed s (a ++ b)) ≡ rest_of (pushed (rest_of (pushed s a)) b)
 rest_in_pieces s a b =
     let left : FrameBytes = rest_of (pushed s a) in

@@ -1,5 +1,6 @@
--- Bytes of a connection that come in two events at one moment say what they say in one event: the same records in the same order, by the same
--- calls of the signer, and the same agent and the same bytes of each connection are left. So it is with any number of pieces.
+-- Bytes of a connection that come in two events at one moment have the turn that they have in one event: the same
+-- records in the same order, by the same calls of the signer, and afterwards the same agent state and the same bytes of
+-- each connection. This extends to any number of pieces.
 use Rattle.std.proofs.Common.{◌≡◌, ◌≢◌, ◌⊎◌, inl, inr, ℕ, Bool, true, false, cond, List, [], ◌∷◌, ◌++◌, Option, Some, None, refl, sym, ap, subst, ◌∙◌, append_assoc, ◌<◌, arith}
 use Rattle.std.proofs.lemmas.Bool.{ltb-true}
 use Rattle.std.specs.Prelude.{◌==◌, nat_lt, unwrap_or}
@@ -20,13 +21,13 @@ use Rattle.sshc_agent_turns.specs.AgentTurns.{AgentTurn, Said, Served, agent_tur
 use Rattle.sshc_agent_turns.specs.InputLaws.{inputs_in_pieces, rest_in_pieces}
 use Rattle.sshc_agent_turns.specs.TurnLaws.{on_made, two_made}
 
--- ---- what is said
+-- ---- records and states
 
 -- the same agent, and the same bytes of each connection
 abbrev pub AreSame : Served → Served → Type 0
 AreSame s t = (s.list ≡ t.list) × ((conn : ℕ) → bytes_at s.bytes conn ≡ bytes_at t.bytes conn)
 
--- two events one after the other at one moment make these calls and say these records, and such an agent is left
+-- two events one after the other at one moment make these calls and yield these records, and end in the same state
 pub record InTwo (now : ℕ) (first second : AgentEvent) (s : Served) (gained : List SignCall) (t : AgentTurn) : Type 0 where
   pub calls : List SignCall
   pub more : List SignCall
@@ -99,7 +100,7 @@ All = List (ℕ × FrameBytes)
 abbrev at_conn : ℕ → All → Option FrameBytes
 at_conn conn all = lookup (is_at (nat_cmp conn)) all
 
--- what the tests on two numbers come to
+-- the three orders of two numbers, with the results of the tests
 data Order (x y : ℕ) : Type 0 where
   Below : nat_lt x y ≡ true → x ≢ y → Order x y
   Same : nat_lt x y ≡ false → (x == y) ≡ true → x ≡ y → Order x y
@@ -123,7 +124,7 @@ not_below x = by (nat_lt x x) refl
 same_number : (x : ℕ) → (x == x) ≡ true
 same_number x = (Decides-eqb x x).1 refl
 
--- the connection has the bytes that it was given
+-- the connection has the bytes that were stored for it
 given_at : (all : All) (conn : ℕ) (left : FrameBytes) → at_conn conn (insert_entry nat_cmp all conn left) ≡ Some left
 given_at [] conn left = rw (not_below conn, same_number conn) refl
 given_at (e ∷ all) conn left = by (given_at all conn left) (order_of conn e.0)
@@ -133,7 +134,7 @@ given_at (e ∷ all) conn left = by (given_at all conn left) (order_of conn e.0)
     by later (Same less same is) = rw (less, same, less, same) refl
     by later (Above less same other) = rw (less, same, less, same) later
 
--- another connection's are passed over
+-- the entry of another connection is skipped
 passed : (e : ℕ × FrameBytes) (all : All) (conn : ℕ) → conn ≢ e.0 → at_conn conn (e ∷ all) ≡ at_conn conn all
 passed e all conn other = by (order_of conn e.0)
   where
@@ -169,7 +170,7 @@ own_bytes all conn left = ap (λ (o : Option FrameBytes). unwrap_or o no_bytes) 
 other_bytes : (all : All) (conn other : ℕ) (left : FrameBytes) → other ≢ conn → bytes_at (with_bytes all conn left) other ≡ bytes_at all other
 other_bytes all conn other left differ = ap (λ (o : Option FrameBytes). unwrap_or o no_bytes) (others_given (without all conn) conn other left differ ∙ others_left all conn other differ)
 
--- bytes that are given again stand in place of those given before
+-- bytes stored again replace those stored before
 given_again : (all : All) (conn : ℕ) (first left : FrameBytes) (other : ℕ) → bytes_at (with_bytes all conn left) other ≡ bytes_at (with_bytes (with_bytes all conn first) conn left) other
 given_again all conn first left other = by (order_of other conn)
   where
@@ -184,7 +185,7 @@ given_again all conn first left other = by (order_of other conn)
 -- ---- two events
 
 module _ (now conn : ℕ) (a b : List ℕ) (s : Served) where
-  -- what the first leaves of the connection's bytes
+  -- the connection's bytes that remain after the first event
   abbrev left : FrameBytes
   left = rest_of (pushed (bytes_at s.bytes conn) a)
 
@@ -202,7 +203,7 @@ module _ (now conn : ℕ) (a b : List ℕ) (s : Served) where
       let rest : rest_of (pushed (bytes_at s.bytes conn) (a ++ b)) ≡ rest_of (pushed (bytes_at between conn) b) = rest_in_pieces (bytes_at s.bytes conn) a b ∙ ap (λ (f : FrameBytes). rest_of (pushed f b)) (sym behind_first) in
       ap (λ (f : FrameBytes). bytes_at (with_bytes s.bytes conn f) other) rest ∙ given_again s.bytes conn left (rest_of (pushed (bytes_at between conn) b)) other
 
-  -- one event says what its bytes say in two
+  -- the turn of one event is the turn of its bytes in two events
   in_two : (gained : List SignCall) (t : AgentTurn) → Makes (agent_turn now (events.Bytes conn (a ++ b)) s) gained t → InTwo now (events.Bytes conn a) (events.Bytes conn b) s gained t
   unfolding agent_turn
   in_two gained t makes =
@@ -224,7 +225,7 @@ module _ (now conn : ℕ) (a b : List ℕ) (s : Served) where
         same = subst (λ (x : AgentTurn). AreSame x.state last.state) whole.2 (ap (λ (x : Said). x.list) parts.is, all_left);
       }
 
-  -- two events say what their bytes say in one
+  -- the turn of two events is the turn of their bytes in one event
   in_one : (calls more : List SignCall) (mid last : AgentTurn) → Makes (agent_turn now (events.Bytes conn a) s) calls mid → Makes (agent_turn now (events.Bytes conn b) mid.state) more last
       → (t : AgentTurn) × Makes (agent_turn now (events.Bytes conn (a ++ b)) s) (calls ++ more) t × (t.records ≡ mid.records ++ last.records) × AreSame t.state last.state
   unfolding agent_turn
@@ -250,7 +251,7 @@ module _ (now conn : ℕ) (a b : List ℕ) (s : Served) where
             subst (λ (x : AgentTurn). AreSame t.state x.state) second.2 (refl, all_left),
           )
 
--- what is the same takes each event the same
+-- equal states have the same turn of each event
 same_turn : (now : ℕ) (event : AgentEvent) (s s' : Served) (gained : List SignCall) (t : AgentTurn) → AreSame s s' → Makes (agent_turn now event s) gained t
     → (t' : AgentTurn) × Makes (agent_turn now event s') gained t' × (t.records ≡ t'.records) × AreSame t.state t'.state
 unfolding agent_turn

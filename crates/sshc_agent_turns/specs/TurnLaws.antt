@@ -1,5 +1,5 @@
--- The turn of an agent's event is a piece of the agent's history (sshc_agent): each input is one entry, in order, with its signature and its
--- answer, which is reported. So what holds of every history holds of the turns of a run.
+-- The turn of an agent's event is a piece of the agent's history (sshc_agent): each input is one entry, in order, with
+-- its signature and its output, which is reported. So what holds of every history holds of the turns of a run.
 use Rattle.std.proofs.Common.{◌≡◌, inl, ℕ, List, [], ◌∷◌, ◌++◌, refl, sym, ap, subst, ◌∙◌}
 use Rattle.sshc_wire.specs.declared.record.Record.{Record}
 use Rattle.sshc_key.specs.Signers.{SignCall}
@@ -13,9 +13,9 @@ use Rattle.sshc_agent.specs.Turn.{Outcome}
 use Rattle.sshc_agent_turns.specs.declared.event.AgentEvent.{AgentEvent}
 use Rattle.sshc_agent_turns.specs.AgentTurns.{AgentTurn, Said, Served, agent_turn, behind, conn_of, each_turn, event_bytes, event_inputs, input_turn, kept_with, records_of, said_on}
 
--- ---- what asks the signer, taken apart
+-- ---- requests to the signer, taken apart
 
--- what a mapped one comes to is mapped
+-- the outcome of a mapped request is the mapped outcome
 pub on_made : {A : Type 0} {B : Type 0} (f : A → B) (asking : Asking A) (gained : List SignCall) (y : B) → Makes (asked_on f asking) gained y → (x : A) × Makes asking gained x × (f x ≡ y)
 on_made f (done x) [] y is = (x, refl, is)
 on_made f (done x) (call ∷ gained) y never = absurd never
@@ -40,7 +40,7 @@ two_made (asks asked on) f (call ∷ gained) y (is, makes) =
 
 -- ---- a turn as entries
 
--- what the entries report
+-- the records that the entries report
 abbrev pub reported : List Entry → List Record
 reported [] = []
 reported (e ∷ entries) = records_of e.conn e.output ++ reported entries
@@ -52,7 +52,8 @@ AreInputs now conn [] (e ∷ entries) = ⊥
 AreInputs now conn (input ∷ inputs) [] = ⊥
 AreInputs now conn (input ∷ inputs) (e ∷ entries) = (e.moment ≡ now) × (e.conn ≡ conn) × (e.input ≡ input) × AreInputs now conn inputs entries
 
--- behind an earlier history these entries lead from one list to another, numbered on, and they report these records
+-- after an earlier history these entries lead from one state to another, with numbers that continue, and they report
+-- these records
 pub record IsPiece (now conn : ℕ) (inputs : List AgentInput) (earlier : List Entry) (before : AgentList) (records : List Record) (after : AgentList) : Type 0 where
   pub entries : List Entry
   pub leads : Leads before entries after

@@ -9,12 +9,12 @@ use sshc_script::{EventError, EventKind};
 use sshc_wire::{Cursor, Octets};
 use std::alloc::Global;
 
-/// What comes on a connection of the agent.
+/// An event of one of the agent's connections.
 #[derive(Debug, Drop)]
 pub enum AgentEvent {
     /// Bytes, which need not be whole frames.
     Bytes { conn: u32, piece: Octets },
-    /// The user's answer to a question, or that the client went away.
+    /// The user's answer to a question, or the end of the connection by the client.
     Input { conn: u32, input: AgentInput },
 }
 
@@ -65,8 +65,8 @@ fn close_event(c: &mut Cursor<'_>) -> Result<AgentEvent, EventError>
     })
 }
 
-/// The agent's event of this kind and these fields; a session's kinds have none. A part that is short is `Bad`, and so is
-/// a byte left over.
+/// Reads the agent's event of this kind from its fields. `Bad` if a field is too short, if bytes remain, or if the kind
+/// is a session's.
 #[tactic(auto, unfolding(crate::specs::AgentEvents::agent_event_of))]
 pub fn read_agent_event(
     alloc: Global,

@@ -1,4 +1,4 @@
-//! An agent in a script: the events of its connections, and what each gives.
+//! An agent in a script: the events of its connections, and the records of each.
 #![tactic(auto)]
 
 mod event;

@@ -1,4 +1,4 @@
-//! An agent with the bytes of its connections, and what each of its events gives.
+//! An agent with the bytes of its connections, and the records of each event.
 
 ghost use Rattle.std.specs.Prelude.{◌≡◌, ◌++◌, [], IfOk, OnErr, OnOk, false};
 ghost use Rattle.sshc_key.specs.Asking.{Makes, MakesFirst};
@@ -15,7 +15,7 @@ use std::alloc::Global;
 use std::collections::BTreeMap;
 use std::marker::Model;
 
-/// An agent, and of each connection the bytes that are in no whole frame yet.
+/// An agent, and for each connection the bytes that belong to no whole frame yet.
 #[derive(Debug, Drop)]
 pub struct ServedAgent {
     alloc: Global,
@@ -47,7 +47,7 @@ fn add(out: &mut Outbox, said: Option<Record>) -> Result<(), NoMemory>
     }
 }
 
-/// Takes one input, and adds its record.
+/// Takes one input, and adds its record to `out`.
 #[tactic(auto, using(crate::proofs::ServedSteps::said_of, crate::proofs::ServedSteps::cut_of))]
 fn take_one<G: LocalSigner>(
     core: &mut AgentCore,
@@ -70,7 +70,7 @@ fn take_one<G: LocalSigner>(
     add(out, said)
 }
 
-/// The same of an input that is let go then.
+/// The same for an input passed by value.
 fn take_whole<G: LocalSigner>(
     core: &mut AgentCore,
     now: u64,
@@ -91,7 +91,7 @@ fn take_whole<G: LocalSigner>(
     take_one(core, now, conn, &input, signer, out)
 }
 
-/// All inputs that the bytes give, in order, each with its record.
+/// Takes all inputs that the bytes contain, in order, and returns their records.
 fn serve<G: LocalSigner>(
     alloc: Global,
     core: &mut AgentCore,
@@ -119,7 +119,7 @@ fn serve<G: LocalSigner>(
 }
 
 impl ServedAgent {
-    /// No keys, no lock, no connection. Where it asks, the user is asked about each request.
+    /// No keys, no lock, no connection. If `asks`, the user is asked about each request.
     pub fn new(alloc: Global, asks: bool) -> ServedAgent
         ensures { result ≡ idle asks }
     {
@@ -130,7 +130,7 @@ impl ServedAgent {
         }
     }
 
-    /// Takes the bytes of the connection out.
+    /// Removes and returns the bytes of the connection; no bytes for a new connection.
     fn take_frames(&mut self, conn: u32) -> Frames
         ensures frames { result ≡ bytes_at self.old.bytes conn }
         ensures list { self.new.list ≡ self.old.list }
@@ -142,7 +142,7 @@ impl ServedAgent {
         }
     }
 
-    /// Bytes of a connection.
+    /// Takes an event of bytes.
     #[tactic(auto, using(crate::proofs::ServedSteps::bytes_event_made, crate::proofs::ServedSteps::bytes_event_first, crate::proofs::ServedSteps::bytes_event_all, crate::proofs::ServedSteps::event_none, crate::proofs::ServedSteps::none_gained))]
     fn take_bytes<G: LocalSigner>(
         &mut self,
@@ -166,7 +166,7 @@ impl ServedAgent {
         Ok(said)
     }
 
-    /// One input of a connection.
+    /// Takes an event of one input.
     #[tactic(auto, using(crate::proofs::ServedSteps::input_event_made, crate::proofs::ServedSteps::input_event_first))]
     fn take_input<G: LocalSigner>(
         &mut self,
@@ -188,19 +188,20 @@ impl ServedAgent {
         Ok(out)
     }
 
-    /// Takes an event at a moment in milliseconds, and says its records in order. A piece's frames and, where a length is
-    /// above 262144, that length are one step of the agent each. Out of memory nothing is said.
+    /// Takes an event at a moment in milliseconds, and returns its records in order. Each whole frame of a piece is one
+    /// step of the agent, and so is a length above 262144. Returns no records if memory runs out.
     pub fn take<G: LocalSigner>(
         &mut self,
         now: u64,
         event: &AgentEvent,
         signer: &mut G,
     ) -> Result<Outbox, NoMemory>
-        // The event is its turn, by the calls that the signer's list gained.
+        // The records and the new state are those of the event's turn, with the calls that were added to the signer's
+        // list.
         ensures turn { IfOk result
             (λ said. Makes (agent_turn now event.now self.old) (since (G.calls signer.old) (G.calls signer.new))
             (record { records = said.records; state = self.new })) }
-        // Out of memory, the calls are the first of the turn's.
+        // If memory runs out, the calls are a prefix of the turn's.
         ensures memory { OnErr result
             (MakesFirst (agent_turn now event.now self.old) (since (G.calls signer.old) (G.calls signer.new))) }
         ensures gained { G.calls signer.new ≡ G.calls signer.old ++ since (G.calls signer.old) (G.calls signer.new) }

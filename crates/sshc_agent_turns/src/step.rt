@@ -1,4 +1,4 @@
-//! One step of the agent, reported.
+//! One step of the agent, with its record.
 
 ghost use Rattle.std.specs.Prelude.{◌≡◌, ◌++◌, IfOk, OnErr, OnOk};
 ghost use Rattle.sshc_key.specs.Asking.{Makes, MakesFirst};
@@ -10,7 +10,7 @@ use sshc_agent::{AgentCore, AgentInput, AgentOutput, Cause};
 use sshc_key::LocalSigner;
 use sshc_wire::{AgentFault, AgentRecord, NoMemory, Record};
 
-/// The record of an answer, if it has one; none is made of an answer that the agent found no memory.
+/// The record of an output; `None` for no output, and `NoMemory` if the agent closed the connection for lack of memory.
 fn record_of(conn: u32, output: AgentOutput) -> Result<Option<Record>, NoMemory>
     ensures ok { IfOk result (λ said. listed said ≡ records_of conn output) }
     ensures told { OnOk result (output ≡ AgentOutput.Closed Cause.NoMemory → ⊥) }
@@ -28,7 +28,7 @@ fn record_of(conn: u32, output: AgentOutput) -> Result<Option<Record>, NoMemory>
     Ok(Some(Record::Agent { conn, answer }))
 }
 
-/// Takes an input of a connection at a moment in milliseconds, and gives the record of its answer, if it has one.
+/// Takes an input of a connection at a moment in milliseconds, and returns the record of its output, if it has one.
 #[tactic(auto, using(crate::proofs::Steps::input_made))]
 pub fn step_input<G: LocalSigner>(
     core: &mut AgentCore,
@@ -37,13 +37,13 @@ pub fn step_input<G: LocalSigner>(
     input: &AgentInput,
     signer: &mut G,
 ) -> Result<Option<Record>, NoMemory>
-    // The step is the input's turn, by the calls that the signer's list gained.
+    // The record and the new state are those of the input's turn, with the calls that were added to the signer's list.
     ensures turn { IfOk result
         (λ said. Makes (input_turn now conn input.now core.old) (since (G.calls signer.old) (G.calls signer.new))
         (record { records = listed said; list = core.new })) }
     // The signer's list only grows.
     ensures gained { G.calls signer.new ≡ G.calls signer.old ++ since (G.calls signer.old) (G.calls signer.new) }
-    // Out of memory, these are the first of the calls that it makes.
+    // If memory runs out, these are a prefix of the turn's calls.
     ensures memory { OnErr result
         (MakesFirst (input_turn now conn input.now core.old) (since (G.calls signer.old) (G.calls signer.new))) }
 {

@@ -10,7 +10,7 @@ use Rattle.sshc_key.specs.declared.error.Error.TheVariants.{NoMemory, ReadFault,
 use Rattle.sshc_agent.specs.declared.msg.TheConstants.{MAX_AGENT_FRAME_LEN}
 use Rattle.sshc_ask.specs.SourceState.{SourceState, TakesWhole, StopsBy, ReadsPart, ReadsAnswer}
 
--- bytes behind bytes
+-- bytes after bytes
 both_left : (a b : List ℕ) (s m t : Option (List ℕ)) → s ≡ prepend a m → m ≡ prepend b t → s ≡ prepend (a ++ b) t
 both_left a b s m t first second = first ∙ ap (prepend a) second ∙ prepend-prepend a b t
 
@@ -22,7 +22,7 @@ whole_is : (n : ℕ) (bytes : List ℕ) → length bytes ≡ n → u32_text n ++
 unfolding string_text
 whole_is n bytes len = ap (λ (k : ℕ). u32_text k ++ bytes) (sym len)
 
--- a reading that stopped stopped by the same cause seen from further back
+-- a reading that stopped has the same cause seen from an earlier state
 stops_from : (e : Error) (s m t : SourceState) → m.faults ≡ s.faults → StopsBy e m t → StopsBy e s t
 stops_from ReadFault s m t same stops = subst (λ (f : ℕ). Rose f t.faults) same stops
 stops_from UnexpectedEnd s m t same stops = (stops.0 ∙ same, stops.1)

@@ -1,4 +1,4 @@
--- A call that sent its frame and read what came.
+-- A call that sent its frame and read the answer.
 use Rattle.std.proofs.Common.{◌≡◌, ℕ, ◌+◌, ◌≤◌, List, [], length, Option, Result, Ok, Err, refl, sym, subst, arith, inl, inr}
 use Rattle.std.specs.Prelude.{Vec}
 use Rattle.std.specs.declared.alloc.Global.{Global}
@@ -10,7 +10,7 @@ use Rattle.sshc_ask.specs.StreamState.{StreamState}
 use Rattle.sshc_ask.specs.CallLaws.{is_complete}
 use Rattle.sshc_ask.specs.AgentCalls.{AnswerIs, Answers, Calls, Course, UnheardBy, answered, oversized, unheard, unsent}
 
--- what was read behind a frame that was written whole
+-- what was read after a frame that was written whole
 pub record Wrote (frame : List ℕ) (s t : StreamState) : Type 0 where
   pub held : t.held ≡ append s.held frame
   pub faults : t.write_faults ≡ s.write_faults
@@ -67,7 +67,7 @@ heard frame s t (Err e) wrote (inr (given, cut, takes, stops)) = record {
 some_held : (o : Option (List ℕ)) → o ≡ append o []
 some_held o = sym (append-nothing o)
 
--- nothing was done for lack of memory
+-- nothing was done, because memory ran out
 pub unstarted : {X : Type 0} (frame : List ℕ) (reading : List ℕ → Type 0) (s : StreamState) → Calls {X = X} frame reading s s (Err NoMemory)
 unstarted frame reading s = record {
   course = unsent;
@@ -107,7 +107,7 @@ read_so v (unheard given) reading s t r fits h = absurd h
 read_so v (oversized n) reading s t r fits h = absurd h
 read_so v (answered a) reading s t r fits h = (subst reading h.0 fits, h.1)
 
--- an answer that came, and what was made of it
+-- an answer that came, and its reading
 pub read_whole : {X : Type 0} (frame : List ℕ) (reading : List ℕ → Type 0) (s t : StreamState) (v : Vec ℕ Global) (r : Result X Error) → Calls frame (AnswerIs (Ok v)) s t (Ok v) → reading v.items → Calls {X = X} frame reading s t r
 read_whole frame reading s t v r call fits = record {
   course = call.course;

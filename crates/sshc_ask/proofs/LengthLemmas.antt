@@ -1,4 +1,4 @@
--- Four bytes and the number that they are.
+-- Four bytes and the number that they encode.
 use Rattle.std.proofs.Common.{◌≡◌, ℕ, List, length, sym, refl}
 use Rattle.std.specs.Int.{w32, from_be_bytes}
 use Rattle.std.proofs.lemmas.Nat.{be_bytes_4}

@@ -1,5 +1,5 @@
--- A call of an agent: its frame goes out, an answer comes in, and the call answers what its reading says.
--- How far a call came is told by the bytes that it took; the code writes and reads piece by piece.
+-- A call of an agent: its frame is written, an answer is read, and the call's result is its reading of that answer.
+-- How far a call came is described by the bytes that it took; the code writes and reads piece by piece.
 pub mod Frames
 pub mod Readings
 use Rattle.std.specs.Prelude.{◌≡◌, ◌+◌, ◌^◌, ◌<◌, ◌≤◌, ℕ, List, [], ◌++◌, length, Option, Some, None, Bool, true, false, Result, Ok, Err, Vec}
@@ -16,28 +16,28 @@ use Rattle.sshc_ask.specs.StreamState.{StreamState, NoFaults, ReadFails, WriteFa
 pub data Course : Type 0 where
   -- its frame was not written whole
   unsent : Course
-  -- reading stopped behind these bytes, which are no whole answer
+  -- reading stopped after these bytes, which are no whole answer
   unheard : List ℕ → Course
   -- the answer's length is above the limit
   oversized : ℕ → Course
-  -- an answer came, whose bytes behind its length these are
+  -- an answer came, with these bytes after its length
   answered : List ℕ → Course
 
--- the limit on an answer (draft-miller-ssh-agent names none; this is OpenSSH's)
+-- the limit on an answer (draft-miller-ssh-agent sets none; this is OpenSSH's)
 abbrev pub IsCourse : Course → Type 0
 IsCourse unsent = Unit {0}
 IsCourse (unheard given) = IsCut given
 IsCourse (oversized n) = (MAX_AGENT_FRAME_LEN < n) × (n < 2 ^ 32)
 IsCourse (answered answer) = length answer ≤ MAX_AGENT_FRAME_LEN
 
--- what a call took from the source: never a byte behind an answer
+-- what a call took from the source: never a byte after an answer
 abbrev pub taken : Course → List ℕ
 taken unsent = []
 taken (unheard given) = given
 taken (oversized n) = u32_text n
 taken (answered answer) = string_text answer
 
--- what a call wrote: the whole frame, but where it was not sent
+-- what a call wrote: the whole frame, unless it was not sent
 abbrev pub Sent : Course → List ℕ → Option (List ℕ) → Option (List ℕ) → Type 0
 Sent unsent frame old new = WroteFront old new frame
 Sent (unheard given) frame old new = new ≡ append old frame
@@ -57,7 +57,7 @@ UnheardBy UnexpectedEnd before after = NoFaults before after × IsAtEnd after.le
 UnheardBy NoMemory before after = NoFaults before after
 UnheardBy e before after = ⊥
 
--- what a call answers, by how far it came; to an answer it answers by its reading
+-- a call's result, by how far it came; if an answer came, the result is its reading
 abbrev pub Answers : {X : Type 0} → Course → (List ℕ → Type 0) → StreamState → StreamState → Result X Error → Type 0
 Answers unsent reading before after (Ok x) = ⊥
 Answers unsent reading before after (Err e) = UnsentBy e before after
@@ -67,19 +67,19 @@ Answers (oversized n) reading before after (Ok x) = ⊥
 Answers (oversized n) reading before after (Err e) = (e ≡ AgentProtocolError) × NoFaults before after
 Answers (answered answer) reading before after result = reading answer × NoFaults before after
 
--- where this answer is at the front of what the source has, and this behind it
+-- the source's bytes begin with the frame of `found`, followed by `rest`
 abbrev pub Finds : List ℕ → List ℕ → Option (List ℕ) → Type 0
 Finds found rest before = (length found ≤ MAX_AGENT_FRAME_LEN) × (before ≡ Some (string_text found ++ rest))
 
--- a call that sent its frame is answered by the answer that it finds, or it stopped reading before the source's end, by a fault or
--- out of memory
+-- a call that sent its frame reads the answer that is there, or it stopped reading before the source's end, by a fault
+-- or out of memory
 abbrev pub IsComplete : Course → Option (List ℕ) → Option (List ℕ) → Type 0
 IsComplete unsent before after = Unit {0}
 IsComplete (unheard given) before after = (found rest : List ℕ) → Finds found rest before → IsAtEnd after → ⊥
 IsComplete (oversized n) before after = (found rest : List ℕ) → Finds found rest before → ⊥
 IsComplete (answered answer) before after = (found rest : List ℕ) → Finds found rest before → (answer ≡ found) × (after ≡ Some rest)
 
--- a call with this frame: what it writes, what it reads, and what it answers
+-- a call with this frame: what it writes, what it reads, and its result
 pub record Calls {X : Type 0} (frame : List ℕ) (reading : List ℕ → Type 0) (before after : StreamState) (result : Result X Error) : Type 0 where
   pub course : Course
   pub is : IsCourse course
@@ -97,7 +97,7 @@ abbrev pub AnswerIs : Result (Vec ℕ Global) Error → List ℕ → Type 0
 AnswerIs (Ok v) answer = v.items ≡ answer
 AnswerIs (Err e) answer = ⊥
 
--- what was found is appended; nothing is appended where nothing was found
+-- a string that was found is appended; without one, nothing is appended
 abbrev pub Found : List ℕ → List ℕ → Result Bool Error → Option (List ℕ) → Type 0
 Found old new (Ok true) found = (text : List ℕ) × (found ≡ Some text) × (new ≡ old ++ text)
 Found old new (Ok false) found = (found ≡ None) × (new ≡ old)

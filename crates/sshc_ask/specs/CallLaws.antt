@@ -1,4 +1,4 @@
--- A call that finds a whole answer is answered by it, unless a fault or a lack of memory ended it before.
+-- A call that finds a whole answer returns its reading, unless a fault or lack of memory ended it before.
 use Rattle.std.proofs.Common.{◌≡◌, ℕ, ◌+◌, ◌^◌, ◌<◌, ◌≤◌, ◌⊎◌, inl, inr, List, [], ◌∷◌, ◌++◌, length, Option, Some, None, Ok, Result, refl, sym, ap, subst, ◌∙◌, arith, append_assoc, length-append}
 use Rattle.std.specs.Int.{w32}
 use Rattle.sshc_wire.specs.declared.error.WireError.{WireError}
@@ -38,7 +38,7 @@ string_parts s rest = append_assoc (u32_text (length s)) s rest
 
 -- ---- a cut answer is no whole one
 
--- where fewer bytes than an answer were taken, and nothing is left, there was no answer
+-- if fewer bytes than an answer were taken, and no bytes remain, there was no answer
 no_answer_left : (answer rest given : List ℕ) → length answer ≤ MAX_AGENT_FRAME_LEN → IsCourse (unheard given) → string_text answer ++ rest ≡ given ++ [] → ⊥
 no_answer_left answer rest given few (inl short) same =
     let size = ap length (sym (string_parts answer rest) ∙ same) in
@@ -66,7 +66,7 @@ answered_with answer rest found (Some more) few is left =
     let same = one_string answer found rest more (omega (arith, few)) (omega (arith, is)) (some_is _ _ left) in
     (sym same.0, ap (λ (r : List ℕ). Some r) (sym same.1))
 
--- with a whole answer at the front of what is left
+-- with a whole answer at the front of the remaining bytes
 pub is_complete : (course : Course) (before after : Option (List ℕ)) → IsCourse course → before ≡ prepend (taken course) after → IsComplete course before after
 is_complete unsent before after is left = tt
 is_complete (unheard given) before after is left = λ found rest finds nothing. ended_with found rest given after finds.0 is (sym finds.1 ∙ left) nothing

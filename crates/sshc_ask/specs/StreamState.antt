@@ -3,7 +3,7 @@ use Rattle.std.specs.Prelude.{◌≡◌, ℕ, List, Option}
 use Rattle.sshc_wire.specs.Faults.{Rose}
 
 pub record StreamState : Type 0 where
-  -- the bytes that the sink holds and those that the source has left, where the stream tells them
+  -- the bytes that the sink holds and those that remain in the source, if contracts see them
   pub held : Option (List ℕ)
   pub left : Option (List ℕ)
   -- how many writes and reads were made, and how many of them failed
@@ -11,7 +11,7 @@ pub record StreamState : Type 0 where
   pub reads : ℕ
   pub write_faults : ℕ
   pub read_faults : ℕ
-  -- how often a signature was refused to a login
+  -- how often a signature for a login was refused
   pub refusals : ℕ
 
 -- no write and no read failed

@@ -1,4 +1,4 @@
-//! What the calls make of an answer, which is given without its length (draft-miller-ssh-agent, section 3).
+//! How the calls read an answer, which comes without its length (draft-miller-ssh-agent, section 3).
 
 ghost use Rattle.std.specs.Prelude.{◌≡◌, [], ◌++◌, option_map};
 ghost use Rattle.sshc_wire.specs.Counted.{times_at};
@@ -10,7 +10,7 @@ use sshc_key::{AgentIdentity, Error, KeyData, PublicKey, parse_public_key};
 use sshc_wire::{Cursor, Text};
 use std::alloc::Global;
 
-/// Whether the agent acknowledged.
+/// `Ok` if the agent acknowledged the request.
 #[tactic(auto, unfolding(crate::specs::AgentCalls::Readings::success_reading))]
 pub(crate) fn success_in(answer: &[u8]) -> Result<(), Error>
     ensures { GivesAll (λ x. x) result (success_reading answer.now) }
@@ -27,7 +27,7 @@ pub(crate) fn success_in(answer: &[u8]) -> Result<(), Error>
     }
 }
 
-/// Whether the agent acknowledged an extension.
+/// `Ok` if the agent acknowledged an extension.
 #[tactic(auto, unfolding(crate::specs::AgentCalls::Readings::extension_reading))]
 pub(crate) fn extension_in(answer: &[u8]) -> Result<(), Error>
     ensures { GivesAll (λ x. x) result (extension_reading answer.now) }
@@ -44,7 +44,7 @@ pub(crate) fn extension_in(answer: &[u8]) -> Result<(), Error>
     }
 }
 
-/// The string that the agent gave with its acknowledgement, if it did.
+/// The string that the agent sent with its acknowledgement, if it did.
 #[tactic(auto, unfolding(crate::specs::AgentCalls::Readings::query_reading))]
 pub(crate) fn string_in(answer: &[u8]) -> Option<&[u8]>
     ensures { option_map (λ text. text.now) result ≡ query_reading answer.now }
@@ -97,7 +97,7 @@ fn read_identity(alloc: Global, c: &mut Cursor<'_>) -> Result<AgentIdentity, Err
     Ok(identity(key, Text::from_str(alloc, comment)?))
 }
 
-/// Reads so many keys of a listing.
+/// Reads `count` keys of a listing.
 fn read_identities(
     alloc: Global,
     count: u32,

@@ -1,4 +1,4 @@
-//! The calls of a client, by what they ask for.
+//! The calls of a client, grouped by purpose.
 
 mod extension;
 mod identities;

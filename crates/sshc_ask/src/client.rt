@@ -15,8 +15,8 @@ use sshc_wire::AgentStream;
 use std::alloc::Global;
 use std::marker::Model;
 
-/// A client of an agent over a stream, which contracts see as the state of that stream, and how often a signature was
-/// refused to a login.
+/// A client of an agent over a stream, which contracts see as the state of that stream, and how often a signature for a
+/// login was refused.
 #[derive(Drop)]
 pub struct AgentClient<S: AgentStream> {
     pub(crate) alloc: Global,
@@ -41,7 +41,7 @@ impl<S: AgentStream> Model for AgentClient<S> {
 }
 
 impl<S: AgentStream> AgentClient<S> {
-    /// A client over this stream. Nothing is written or read.
+    /// A client over this stream. Reads and writes nothing.
     pub fn connect(alloc: Global, stream: S) -> AgentClient<S>
         ensures { result ≡ record {
           held = S.contents stream;
@@ -60,7 +60,7 @@ impl<S: AgentStream> AgentClient<S> {
         }
     }
 
-    /// The stream as the calls left it.
+    /// The stream in the state after the calls.
     pub fn into_inner(self) -> S
         ensures { self ≡ record self {
           held = S.contents result;
@@ -82,7 +82,7 @@ impl<S: AgentStream> AgentClient<S> {
         send(&mut self.stream, &frame)?;
         read_answer(self.alloc, &mut self.stream)
     }
-    /// Asks for what the agent acknowledges or refuses.
+    /// Sends a request that the agent acknowledges or refuses.
     pub(crate) fn succeed(&mut self, message: Message) -> Result<(), Error>
         ensures { Calls (string_text message) (λ answer. GivesAll (λ x. x) result (success_reading answer))
             self.old self.new result }

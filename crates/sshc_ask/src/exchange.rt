@@ -1,4 +1,4 @@
-//! A frame goes out and an answer comes in (draft-miller-ssh-agent, section 3).
+//! Sends a frame and reads its answer (draft-miller-ssh-agent, section 3).
 
 ghost use Rattle.std.specs.Prelude.{◌≡◌, ◌+◌, ◌≤◌, length};
 ghost use Rattle.sshc_wire.specs.Wire.{u32_text};
@@ -23,7 +23,7 @@ pub(crate) fn send<K: Sink>(sink: &mut K, frame: &[u8]) -> Result<(), Error>
     }
 }
 
-/// Reads so many bytes. A source that ends before them is an unexpected end.
+/// Reads `count` bytes. A source that ends before them is an unexpected end.
 fn read_part<S: Source>(alloc: Global, source: &mut S, count: usize) -> Result<Vec<u8>, Error>
     ensures read { ReadsPart count (source_state (S.left source.old) (S.reads source.old) (S.faults source.old))
         (source_state (S.left source.new) (S.reads source.new) (S.faults source.new)) result }
@@ -44,13 +44,13 @@ fn read_part<S: Source>(alloc: Global, source: &mut S, count: usize) -> Result<V
     }
 }
 
-/// The number that four bytes are.
+/// The number in four bytes, most significant byte first.
 #[tactic(auto, using(crate::proofs::LengthLemmas::four_bytes))]
 fn number_of(bytes: &[u8]) -> u32
     requires { length bytes.now ≡ 4 }
     ensures { bytes.now ≡ u32_text result }
 {
-    // A cursor's clauses say that what it reads are bytes.
+    // The contract of the cursor ensures that what it reads are bytes.
     let bytes = Cursor::new(bytes).rest();
     u32::from_be_bytes([bytes[0], bytes[1], bytes[2], bytes[3]])
 }

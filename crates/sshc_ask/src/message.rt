@@ -11,10 +11,11 @@ use sshc_wire::{NoMemory, put_bool, put_bytes, put_u32};
 use std::alloc::Global;
 use std::marker::Model;
 
-/// The most bytes of a string, and one.
+/// One more than the greatest length of a string.
 const TOO_LONG: usize = 1 << 32;
 
-/// A message that is being written, which contracts see as its bytes. Its length has its place in front of them already.
+/// A message that is being written, which contracts see as its bytes. Room for its length is already reserved in front
+/// of them.
 #[derive(Drop)]
 pub(crate) struct Message {
     bytes: Vec<u8>,
@@ -31,7 +32,7 @@ impl Model for Message {
 }
 
 impl Message {
-    /// A message of this number without fields yet.
+    /// A message with this number and no fields yet.
     pub(crate) fn new(alloc: Global, number: u8) -> Result<Message, NoMemory>
         ensures { IfOk result (λ m. m ≡ number ∷ []) }
     {
@@ -106,7 +107,7 @@ impl Message {
         Ok(())
     }
 
-    /// Appends the number of constraints, and these. 2^32 of them or more count as out of memory.
+    /// Appends the number of constraints, and then the constraints. `NoMemory` also for 2^32 constraints or more.
     #[tactic(auto, unfolding(sshc_wire::specs::Wire::counted_text))]
     pub(crate) fn counted_constraints(&mut self, constraints: &[Constraint]) -> Result<(), NoMemory>
         ensures { OnOk result (self.new ≡ self.old ++ counted_text constraint_text constraints.now) }
@@ -133,7 +134,7 @@ impl Message {
     }
 }
 
-/// Puts a length into its place at the front.
+/// Writes a length into the room reserved at the front.
 #[tactic(auto, unfolding(sshc_wire::specs::Wire::u32_text))]
 fn put_length(frame: &mut [u8], count: u32)
     requires { 4 ≤ length frame.old }

@@ -1,4 +1,4 @@
-//! Opens streams to agents: an agent is found by the path of its socket.
+//! Opens streams to agents by the path of the agent's socket.
 
 ghost use Rattle.std.specs.Prelude.{◌≡◌, ◌↔◌, ◌⊎◌, ℕ, List, Option, None, Err, IfErr, IfOk, option_copied};
 ghost use Rattle.sshc_ask.specs.Opens.{Counts, and_path, and_path_in};
@@ -8,7 +8,7 @@ use sshc_key::Error;
 use sshc_wire::AgentStream;
 use std::alloc::Global;
 
-/// Why a path was not opened.
+/// Why a path could not be opened.
 #[derive(Clone, Copy, Debug, PartialEq, Eq)]
 pub enum OpenFailed {
     /// Nothing has this path.
@@ -19,11 +19,11 @@ pub enum OpenFailed {
     NoMemory,
 }
 
-/// Opens streams by paths. It keeps two counts of failures: of paths that were not found, and of all others.
+/// Opens streams by path, and counts its failures: paths that were not found, and all others except out of memory.
 pub trait Opener {
     type Stream: AgentStream;
 
-    /// The paths that it was asked to open, in order, where it tells them.
+    /// The paths that it was asked to open, in order; None if contracts can't see them.
     ghost paths: { Self → Option (List (List ℕ)) };
 
     /// How many of them were not found.
@@ -36,7 +36,7 @@ pub trait Opener {
         ensures asked { paths self.new ≡ and_path (paths self.old) path.now }
         ensures not_found { Counts OpenFailed.NotFound (missing self.old) (missing self.new) result }
         ensures other { Counts OpenFailed.Other (failures self.old) (failures self.new) result }
-        // What was opened has been neither read nor written to.
+        // A stream that was opened has been neither read nor written to.
         ensures unused { IfOk result (λ s. (Self.Stream.reads s ≡ 0) × (Self.Stream.writes s ≡ 0)) };
 }
 
@@ -51,7 +51,7 @@ pub fn connect_uds<O: Opener>(
     ensures not_found { Counts Error.BadAuthSock (O.missing opener.old) (O.missing opener.new) result }
     ensures other { Counts Error.ReadFault (O.failures opener.old) (O.failures opener.new) result }
     ensures errors { IfErr result (λ e. (e ≡ Error.BadAuthSock) ⊎ ((e ≡ Error.ReadFault) ⊎ (e ≡ Error.NoMemory))) }
-    // Nothing was asked of the agent yet.
+    // The agent has not been asked anything yet.
     ensures unused { IfOk result (λ client. (client.reads ≡ 0) × (client.writes ≡ 0)) }
 {
     match opener.open(path) {
@@ -62,8 +62,8 @@ pub fn connect_uds<O: Opener>(
     }
 }
 
-/// A client of the agent whose path a variable holds, as SSH_AUTH_SOCK does; its value is handed in. Without one
-/// nothing is opened.
+/// A client of the agent whose path is the value of an environment variable such as SSH_AUTH_SOCK; `var` is that value.
+/// Without one, nothing is opened, and the result is `EnvVar`.
 pub fn connect_env<O: Opener>(
     alloc: Global,
     var: Option<&str>,

@@ -1,4 +1,4 @@
-//! What the calls make of the answer to a sign request (draft-miller-ssh-agent, section 3.6; RFC 8332).
+//! How the calls read the answer to a sign request (draft-miller-ssh-agent, section 3.6; RFC 8332).
 
 ghost use Rattle.std.specs.Prelude.{◌≡◌, ◌++◌, IfOk, OnOk, Ok, string_bytes};
 ghost use Rattle.sshc_wire.specs.Wire.{string_text};
@@ -22,7 +22,7 @@ fn is_name_asked(asked: Option<HashAlg>, name: &str) -> bool
     }
 }
 
-/// Reads one whole signature. Its name is judged before the parts behind it are read.
+/// Reads one whole signature. Its name is checked before the following fields are read.
 #[tactic(auto, unfolding(crate::specs::AgentCalls::Readings::asked_signature, sshc_key::specs::KeyReading::utf8_at))]
 fn signature_of(alloc: Global, asked: Option<HashAlg>, text: &[u8]) -> Result<Signature, Error>
     ensures { GivesAll (λ s. s) result (asked_signature asked text.now) }
@@ -37,7 +37,7 @@ fn signature_of(alloc: Global, asked: Option<HashAlg>, text: &[u8]) -> Result<Si
     Ok(signature)
 }
 
-/// The string of an answer, where it is such a signature.
+/// The signature string of an answer, after it was checked.
 #[tactic(auto, unfolding(crate::specs::AgentCalls::Readings::signature_text_in, sshc_key::specs::KeyReading::octets_at))]
 fn signature_text(alloc: Global, asked: Option<HashAlg>, body: &[u8]) -> Result<&[u8], Error>
     ensures { GivesAll (λ text. text.now) result (signature_text_in asked body.now) }
@@ -57,7 +57,7 @@ fn put_string(out: &mut Vec<u8>, text: &[u8]) -> Result<(), NoMemory>
     put_bytes(out, text)
 }
 
-/// The bytes that were to be signed, and behind them the signature of the answer as a string.
+/// The bytes that were to be signed, followed by the signature of the answer as a string.
 #[tactic(auto, unfolding(crate::specs::AgentCalls::Readings::sign_reading))]
 pub(crate) fn signed_in(
     alloc: Global,
@@ -92,7 +92,8 @@ pub(crate) fn signature_in(alloc: Global, answer: &[u8]) -> Result<Signature, Er
     }
 }
 
-/// The base64 without padding of what follows the number of the answer to a sign request; of any other answer nothing.
+/// The base64 without padding of what follows the message number in the answer to a sign request; empty for any other
+/// answer.
 #[tactic(auto, unfolding(crate::specs::AgentCalls::Readings::base64_reading))]
 pub(crate) fn base64_in(alloc: Global, answer: &[u8]) -> Result<String, NoMemory>
     ensures { IfOk result (λ text. string_bytes text ≡ base64_reading answer.now) }

@@ -1,4 +1,5 @@
-//! Unix sockets, which tell no contents. The opener is proved against its trait; that a real socket behaves so is not.
+//! Unix sockets, whose contents contracts can't see. The opener is proved against its trait; that a real socket behaves
+//! so is not.
 
 ghost use Rattle.std.specs.Prelude.{IfOk, None, ◌≡◌};
 ghost use Rattle.sshc_ask.specs.Opens.{CountsFault};
@@ -12,10 +13,10 @@ use std::marker::Model;
 use std::net::Net;
 use std::os::unix::net::UnixStream;
 
-/// A Unix socket, which is read behind a buffer.
+/// A Unix socket with a buffer for reading.
 pub type UnixAgentStream = Duplex<StdSource<UnixStream>, StdSink<UnixStream>>;
 
-/// Opens Unix sockets. A path that doesn't exist is not found.
+/// Opens Unix sockets. A path that doesn't exist is `NotFound`.
 #[derive(Drop)]
 pub struct UnixOpener<'a, R> {
     system: &'a R,
@@ -33,7 +34,7 @@ impl<'a, R> Model for UnixOpener<'a, R> {
 }
 
 impl<'a, R: Net + AllocGlobal> UnixOpener<'a, R> {
-    /// An opener that nothing was asked of yet.
+    /// An opener that was not used yet.
     pub fn new(system: &'a R) -> UnixOpener<'a, R>
         ensures { result ≡ record { missing = 0; failures = 0 } }
     {
@@ -60,7 +61,7 @@ impl<'a, R: Net + AllocGlobal> UnixOpener<'a, R> {
     }
 }
 
-/// Why opening failed, counted.
+/// Why opening failed, which is added to the counts.
 fn failed(error: io::Error, missing: &mut u64, failures: &mut u64) -> OpenFailed
     ensures not_found { CountsFault OpenFailed.NotFound missing.old missing.new result }
     ensures other { CountsFault OpenFailed.Other failures.old failures.new result }

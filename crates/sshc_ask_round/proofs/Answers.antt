@@ -1,4 +1,4 @@
--- The calls read what the agent answers.
+-- The calls read the agent's answers.
 use Rattle.std.proofs.Common.{◌≡◌, ℕ, ◌+◌, ◌≤◌, ◌<◌, ◌^◌, Bool, true, false, List, [], ◌∷◌, ◌++◌, length, Option, None, Result, Ok, Err, refl, sym, ap, ◌∙◌, arith, append_assoc, length-append}
 use Rattle.std.specs.Prelude.{if◌then◌else◌}
 use Rattle.std.specs.List.{flat_map}
@@ -43,7 +43,7 @@ reads_answers = record {
 abbrev Found : Type 0
 Found = Result (List AgentIdentity × List ℕ) Error
 
--- nothing is left behind these
+-- these, and no bytes remain
 abbrev all_of : List AgentIdentity → Found
 all_of xs = Ok (xs, [])
 
@@ -70,14 +70,14 @@ in_front_is x (Err e) = refl
 abbrev keys_in_front : Key → Result (List AgentIdentity) Error → Result (List AgentIdentity) Error
 keys_in_front key more = more >>= λ xs. Ok (identity_of key [] ∷ xs)
 
--- a key and those that follow, and what is left
+-- a key and those that follow, and the remaining bytes
 then_found : (k : Result Key Error) (rest : List ℕ) (later : List ℕ → Found) (more : Result (List AgentIdentity) Error) → later rest ≡ (more >>= all_of)
     → ((k >>= one_of rest) >>= λ x. in_front x.0 (later x.1)) ≡ ((k >>= λ key. keys_in_front key more) >>= all_of)
 then_found (Err e) rest later more is = refl
 then_found (Ok key) rest later (Ok xs) is = rw is refl
 then_found (Ok key) rest later (Err e) is = rw is refl
 
--- so many keys, the first and then the others
+-- the first of several keys and then the others
 first_key : (n : ℕ) (r : Result (AgentIdentity × List ℕ) Error) → (r >>= λ x. times_at n identity_at x.1 >>= λ xs. Ok (x.0 ∷ xs.0, xs.1)) ≡ (r >>= λ x. in_front x.0 (times_at n identity_at x.1))
 first_key n (Ok x) = in_front_is x.0 (times_at n identity_at x.1)
 first_key n (Err e) = refl
@@ -100,7 +100,7 @@ only : (r : Result (List AgentIdentity) Error) → ((r >>= all_of) >>= λ found.
 only (Ok xs) = refl
 only (Err e) = refl
 
--- a listing has at least so many bytes as keys
+-- a listing has at least as many bytes as keys
 few_keys : (keys : List HeldKey) → length keys ≤ length (flat_map identity_text keys)
 few_keys [] = omega arith
 few_keys (key ∷ keys) =
@@ -127,7 +127,7 @@ unfolding asked_signature
 asked_again asked s fits =
     rw (utf8s.again s.name (string_text s.body ++ sk_text s.sk) fits.name, (whole SshEncoding signatures).again s fits) refl
 
--- by whether the name is the one that was asked
+-- by whether the name is one that was asked for
 signed_by : (b : Bool) (s : Signature) (bytes sig : List ℕ) → (((if b then Ok s else Err AgentProtocolError) >>= λ x. Ok sig) >>= λ text. Ok (bytes ++ string_text text)) ≡ (if b then Ok (bytes ++ string_text sig) else Err AgentProtocolError)
 signed_by true s bytes sig = refl
 signed_by false s bytes sig = refl

@@ -38,13 +38,13 @@ use Rattle.sshc_ask_round.specs.AgentRound.{AreSeconds, IsPair, IsSayable, added
 use Rattle.sshc_ask_round.proofs.Constraints.{constraints_again}
 use Rattle.sshc_ask_round.proofs.Short.{no_text, short_alone, short_front, string_alone}
 
--- an agent that asks nobody tests its lock, and takes the message
+-- an agent that doesn't ask its user tests its lock, and takes the message
 unasked : (m : MessageType) (number : ℕ) (body whole : List ℕ) (l : AgentList) → l.asks ≡ false
     → asked_turn (Some m) number body whole l ≡ (if is_refused m (is_some l.passphrase) then fails l else message_turn m number body whole l)
 unasked m number body whole l quiet =
     ap (λ (a : Bool). if is_refused m (is_some l.passphrase) then fails l else (if a then says l (standings.RequestAsked whole) (outputs.AskRequest m) else message_turn m number body whole l)) quiet
 
--- what is made of a string, once it is read
+-- the result of reading a string
 abbrev OneString : Type 0
 OneString = Result (List ℕ × List ℕ) WireError
 

@@ -1,5 +1,6 @@
--- The agent round: the messages of a client's calls and what an agent makes of them, and the agent's answers and what the calls read.
--- Each half has definitions of its own; nothing here is a definition of either.
+-- The agent round: the messages of a client's calls and how an agent takes them, and the agent's answers and how the
+-- calls read them.
+-- Client and agent each have definitions of their own, which this file only compares.
 use Rattle.std.specs.Prelude.{◌≡◌, ℕ, ◌<◌, ◌≤◌, ◌^◌, false, List, [], ◌∷◌, ◌++◌, length, Option, Some, None, Result, Ok, Err, if◌then◌else◌}
 use Rattle.std.specs.Option.{is_some}
 use Rattle.sshc_wire.specs.Reads.{◌>>=◌}
@@ -36,7 +37,7 @@ use Rattle.sshc_ask.specs.AgentCalls.Readings.{base64_reading, extension_reading
 abbrev pub unlocked : AgentList → Turn → Turn
 unlocked l turn = if is_some l.passphrase then fails l else turn
 
--- the constraints under which a key is held; an extension, and a second lifetime, are refused
+-- the constraints under which a key is held; an extension or a second lifetime is refused
 abbrev pub held_under : List Constraint → Constraints → Option Constraints
 held_under [] c = Some c
 held_under (KeyLifetime seconds ∷ more) c = and_so (with_one c (Some seconds)) (held_under more)
@@ -69,7 +70,7 @@ call_turn remove_all_identities l = unlocked l (succeeds (record l { keys = [] }
 call_turn (extension name contents) l = fails l
 call_turn (query_extension name) l = fails l
 
--- ---- which calls it speaks of
+-- ---- the calls that the law covers
 
 -- each number of seconds fits its four bytes
 abbrev pub AreSeconds : List Constraint → Type 0
@@ -82,19 +83,19 @@ abbrev pub IsPair : Option Pair → Type 0
 IsPair None = ⊥
 IsPair (Some p) = PairFits p
 
--- a pair that is added is in the grammar, and its lifetimes are numbers of four bytes; of other calls nothing is asked
+-- a pair that is added is in the grammar, and its lifetimes are numbers of four bytes; other calls have no condition
 abbrev pub IsSayable : Call → Type 0
 IsSayable (add_identity pair constraints) = IsPair (pair_in pair.public.0 pair.pair) × AreSeconds constraints
 IsSayable call = Unit {0}
 
 -- ---- what the calls read
 
--- the keys that are held, in order; SshKey where one of them can't be read
+-- the keys that are held, in order; SshKey if one of them can't be read
 abbrev pub readable_keys : List HeldKey → Result (List AgentIdentity) Error
 readable_keys [] = Ok []
 readable_keys (key ∷ keys) = key_or_fault (blob_key key.blob) >>= λ k. readable_keys keys >>= λ more. Ok (identity_of k [] ∷ more)
 
--- what the calls answer to SUCCESS and to FAILURE
+-- the results of the calls for SUCCESS and for FAILURE
 pub record ReadsAnswers : Type 0 where
   pub success : success_reading (SUCCESS ∷ []) ≡ Ok tt
   pub failure : success_reading (FAILURE ∷ []) ≡ Err AgentFailure
@@ -112,15 +113,16 @@ signed_answer s = SIGN_RESPONSE ∷ string_text (signature_text s)
 -- ---- the law
 
 pub record IsAgentRound : Type 0 where
-  -- an agent that asks nobody takes the message of a call, on a connection on which no question is open, as just that call
+  -- an agent that doesn't ask its user takes the message of a call, on a connection on which no question is open, as
+  -- exactly that call
   pub takes : (now conn : ℕ) (l : AgentList) (call : Call) → l.asks ≡ false → standing_of (seen conn (aged now l)).conns conn ≡ Some standings.Open
       → length (message call) ≤ MAX_AGENT_FRAME_LEN → IsSayable call
       → agent_row now conn (inputs.Frame (message call)) l ≡ turned conn (call_turn call (seen conn (aged now l)))
-  -- a key that may sign is asked to sign just the bytes, with the hash that was asked for
+  -- a key that may sign is asked to sign exactly the bytes, with the hash that was asked for
   pub signs : (conn : ℕ) (l : AgentList) (held : HeldKey) (key : Key) (hash : Option HashAlg) (bytes : List ℕ) → length (message (sign_request key hash bytes)) ≤ MAX_AGENT_FRAME_LEN
       → sign_row conn l held (asked_rest key hash bytes) ≡ asked_row conn l held bytes (hash_flag (sent_hash key hash))
   pub hash : (e n : List ℕ) (hash : Option HashAlg) → hash_of (plain (rsa e n)) (hash_flag (sent_hash (plain (rsa e n)) hash)) ≡ hash
-  -- the calls read what the agent answers
+  -- the calls read the agent's answers
   pub reads : ReadsAnswers
   pub lists : (keys : List HeldKey) → length (listing keys) ≤ MAX_AGENT_FRAME_LEN → identities_reading (listing keys) ≡ readable_keys keys
   pub signed : (asked : Option HashAlg) (bytes : List ℕ) (s : Signature) → SignatureFits s → length (signature_text s) < 2 ^ 32

@@ -1,5 +1,6 @@
-//! Worked calls of an agent's client: reads rows of a call, of an agent's answer and of calls of the stream that fail, and prints
-//! whether what is written, what is left to read and what the call returns come out so. The first argument names the file.
+//! Worked calls of an agent's client: reads rows with a call, an agent's answer and the calls of the stream that fail,
+//! and prints whether the bytes written, the bytes left to read and the call's result are those of the row. The first
+//! argument names the file.
 #![tactic(auto)]
 
 mod outcome;

@@ -1,4 +1,4 @@
-//! Makes the call that the words of a row name, and tells what it returned in words.
+//! Makes the call that a row names, and describes its result in words.
 
 use crate::pieces::{PieceSink, PieceSource};
 use crate::row::bytes_of;
@@ -62,8 +62,8 @@ fn hash_of(word: &str) -> Option<HashAlg> {
     }
 }
 
-/// The constraints of a word: a letter for each, `l` for a lifetime of an hour, `c` for a confirmation, `x` for the extension `x` with
-/// the details `d`.
+/// The constraints in a word, a letter for each: `l` for a lifetime of an hour, `c` for a confirmation, `x` for the
+/// extension `x` with the details `d`.
 fn constraints_of(alloc: Global, word: &str) -> anyhow::Result<Vec<Constraint>> {
     let mut constraints = Vec::new(alloc);
     for letter in word.as_bytes() {
@@ -103,7 +103,7 @@ fn binding_of(alloc: Global, words: Words<'_>) -> anyhow::Result<AgentSessionBin
     ))
 }
 
-/// How many keys are listed, and of each its sort and its comment.
+/// How many keys are listed, and the kind and comment of each.
 fn listed(alloc: Global, client: &mut Client) -> anyhow::Result<String> {
     let found = match client.request_identities() {
         Ok(found) => found,
@@ -153,7 +153,7 @@ fn signed(alloc: Global, client: &mut Client, words: Words<'_>) -> anyhow::Resul
     hex_or_error(alloc, result)
 }
 
-/// What calls of keys return.
+/// The results of calls about keys.
 fn of_keys(alloc: Global, client: &mut Client, words: Words<'_>) -> anyhow::Result<String> {
     let result = match words.command {
         "add" => {
@@ -171,7 +171,7 @@ fn of_keys(alloc: Global, client: &mut Client, words: Words<'_>) -> anyhow::Resu
     ok_or_error(alloc, result)
 }
 
-/// What the call that hands its client back returned, and the client.
+/// The client, and the result of the call that consumes and returns its client.
 fn signed_in_base64(
     alloc: Global,
     client: Client,
@@ -187,7 +187,7 @@ fn signed_in_base64(
     Ok((client, text))
 }
 
-/// What a call that is lent its client returned.
+/// The result of a call that borrows its client.
 fn outcome(alloc: Global, client: &mut Client, words: Words<'_>) -> anyhow::Result<String> {
     let first = words.first.as_bytes();
     match words.command {
@@ -203,7 +203,7 @@ fn outcome(alloc: Global, client: &mut Client, words: Words<'_>) -> anyhow::Resu
     }
 }
 
-/// What the call returned, and the client.
+/// The client, and the result of the call.
 pub fn returned(alloc: Global, mut client: Client, call: &str) -> anyhow::Result<(Client, String)> {
     let words = words_of(call);
     if words.command == "sign-base64" {

@@ -1,11 +1,11 @@
-//! A source and a sink in memory that move whatever there is, or a byte at a time.
+//! A source and a sink in memory that move all bytes at once, or one byte at a time.
 
 ghost use Rattle.std.specs.Prelude.{Some};
 ghost use Rattle.sshc_wire.specs.Beside.{no_side};
 
 use sshc_wire::{Failed, MemSink, MemSource, Sink, Source};
 
-/// Bytes in memory, which may come one at a time.
+/// Bytes in memory, which can be read one at a time.
 #[derive(Debug, Drop)]
 pub struct PieceSource {
     pub source: MemSource,
@@ -33,7 +33,7 @@ impl Source for PieceSource {
     }
 }
 
-/// A list of bytes in memory, which may take one at a time.
+/// A list of bytes in memory, which can be written one at a time.
 #[derive(Debug, Drop)]
 pub struct PieceSink {
     pub sink: MemSink,

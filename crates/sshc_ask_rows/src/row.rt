@@ -1,4 +1,4 @@
-//! A row: a call, what the agent answers, and what must come of it.
+//! A row: a call, the agent's answer, and the expected outcome.
 
 use crate::outcome::{Client, returned};
 use crate::pieces::{PieceSink, PieceSource};
@@ -6,12 +6,12 @@ use sshc_ask::{AgentClient, Duplex};
 use sshc_wire::{MemSink, MemSource, read_up_to};
 use std::alloc::Global;
 
-/// The most bytes that a row leaves to read.
+/// The maximal number of bytes that a row leaves unread.
 const MOST: usize = 4096;
 
-/// The fields of a line, which bars part: a name, the call, the bytes that the agent answers, the numbers of the reads and of the
-/// writes that fail, the bytes that are written and those that are left, and what the call returns. Bytes are in hexadecimal.
-/// The stream of a row whose name begins with `slow-` moves a byte at a time.
+/// The fields of a line, separated by `|`: a name, the call, the bytes of the agent's answer, the numbers of the reads
+/// and of the writes that fail, the bytes that are written and those left to read, and the call's result. Bytes are in
+/// hexadecimal. The stream of a row whose name begins with `slow-` moves one byte at a time.
 #[derive(Clone, Copy, Debug)]
 pub struct Row<'a> {
     pub name: &'a str,
@@ -24,7 +24,7 @@ pub struct Row<'a> {
     pub returned: &'a str,
 }
 
-/// A field without white space around it; the empty text where there is none.
+/// A field without white space around it; the empty text for a missing field.
 fn trimmed(field: Option<&str>) -> &str {
     match field {
         Some(text) => text.trim(),
@@ -56,7 +56,7 @@ impl<'a> Row<'a> {
     }
 }
 
-/// The bytes of a field; no bytes where it has none.
+/// The bytes of a field in hexadecimal; no bytes if it can't be decoded.
 pub fn bytes_of(alloc: Global, field: &str) -> anyhow::Result<Vec<u8>> {
     match hex::decode(alloc, field) {
         Ok(bytes) => Ok(bytes),
@@ -87,7 +87,7 @@ fn client_of(alloc: Global, row: &Row<'_>) -> anyhow::Result<Client> {
     Ok(AgentClient::connect(alloc, Duplex { source, sink }))
 }
 
-/// Makes the call of a row, and compares what comes of it.
+/// Makes the call of a row, and compares its outcome with the row's.
 pub fn is_right(alloc: Global, row: &Row<'_>) -> anyhow::Result<bool> {
     let (client, returned) = returned(alloc, client_of(alloc, row)?, row.call)?;
     let stream = client.into_inner();

@@ -9,7 +9,7 @@ use std::env;
 
 type Client = AgentClient<UnixAgentStream>;
 
-/// A command: its name and its arguments, which are empty where a line has fewer words.
+/// A command: its name and its arguments, which are empty if the line has fewer words.
 #[derive(Clone, Copy, Debug)]
 struct Command<'a> {
     name: &'a str,
@@ -109,7 +109,7 @@ fn answer(alloc: Global, client: &mut Client, command: Command<'_>) -> Result<St
     Ok(String::from_str(alloc, "done")?)
 }
 
-/// Prints what the command of a line answers, or the name of its error.
+/// Prints the result of the command in a line, or the name of its error.
 fn reply(rt: &HostRuntime, client: &mut Client, line: &str) -> anyhow::Result<()> {
     match answer(rt.alloc(), client, command_of(line)) {
         Ok(text) => println!(rt; "{text}")?,
@@ -126,7 +126,7 @@ fn serve(rt: &HostRuntime, client: &mut Client) -> anyhow::Result<()> {
     Ok(())
 }
 
-/// The first argument behind the program's name.
+/// The first command-line argument.
 fn path_of(rt: &HostRuntime) -> anyhow::Result<Option<String>> {
     let mut words = env::args(rt)?;
     let _program = words.next();

@@ -1,4 +1,4 @@
--- When the verdicts agree: each part that is left matches as before, and what is dropped was said before.
+-- When the verdicts agree: each part that is kept matches as before, and each dropped part repeats an earlier one.
 use Rattle.std.proofs.Common.{◌≡◌, ℕ, Bool, true, false, List, [], ◌∷◌, Option, Some, None, Result, Ok, Err, IfErr, refl, ap, sym, ◌∙◌, subst, arith}
 use Rattle.std.specs.Prelude.{if◌then◌else◌, is_some}
 use Rattle.std.specs.List.{join_with_byte}
@@ -15,7 +15,7 @@ use Rattle.sshc_audit.proofs.Parts.{EachLacks, parts_join}
 use Rattle.sshc_audit.proofs.Following.{numbered, parts_of, Follows, SameFound, found_same}
 use Rattle.sshc_audit.proofs.JudgedBy.{is_bad, is_contrary, is_held, first_of, number_of, are_read, says_why, verdict_by, judged_read}
 
--- ---- verdicts by what is found first
+-- ---- verdicts by the first line found
 
 agree_unreadable : (changes : List Change) (e : Error) → IsUnreadable e → Agree changes (Err e) (Err e)
 agree_unreadable changes (KeyChanged line) h = absurd h
@@ -78,7 +78,7 @@ certificate_case : (changes : List Change) (b : Bool) (x y : Result Bool Error) 
 certificate_case changes true x y h = refl
 certificate_case changes false x y h = h
 
--- the verdicts agree where each part that is left matches as before, and each that is dropped says what an earlier one says
+-- the verdicts agree if each part that is kept matches as before, and each dropped part repeats an earlier one
 pub agrees : (text : List ℕ) (changes : List Change) (host : List ℕ) → parts_of changes ≡ parts_at 10 text → EachLacks (left changes) 10 → Follows host [] changes → Agrees text changes host
 unfolding judged known_keys
 agrees text changes host parts each follows key =

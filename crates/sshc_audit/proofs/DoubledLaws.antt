@@ -1,4 +1,4 @@
--- What dropping doubled lines does to the verdicts.
+-- How dropping doubled lines affects the verdicts.
 use Rattle.std.proofs.Common.{◌≡◌, ◌≢◌, inl, inr, ℕ, Bool, true, false, List, [], ◌∷◌, ◌++◌, Option, Some, None, refl, ap, sym, ◌∙◌, subst}
 use Rattle.std.specs.Prelude.{◌&&◌, ◌||◌, if◌then◌else◌, bytes_eq}
 use mathlib.Core.Bool.{beq}
@@ -14,7 +14,7 @@ use Rattle.sshc_audit.proofs.Following.{parts_of, IsAmong, Follows}
 use Rattle.sshc_audit.proofs.LineFacts.{is_line, key_by, line_key_is, mark_apart}
 use Rattle.sshc_audit.proofs.Agreement.{agrees}
 
--- what each of these parts says was said
+-- the keys of these parts are among those seen
 abbrev pub Covers : List ℕ → List (List ℕ) → List (List ℕ) → Type 0
 Covers host [] seen = Unit {0}
 Covers host (part ∷ parts) seen = IsAmong (line_key host part) seen × Covers host parts seen
@@ -68,7 +68,7 @@ module _ (host : List ℕ) (unmarked : field_matches host revoked ≡ false) whe
       subst (λ (o : Option (List ℕ)). IsAmong o seen) (sym (said_same part other (line_of part) (line_of other) refl refl e)) first
   doubled_case part other more seen false e h first later = later h
 
-  -- what a doubled line says was said
+  -- the key of a doubled line is among those seen
   doubled_among : (earlier seen : List (List ℕ)) (part : List ℕ) → is_doubled earlier part ≡ true → Covers host earlier seen → IsAmong (line_key host part) seen
   doubled_among [] seen part h covers = cc h
   doubled_among (other ∷ more) seen part h covers =
@@ -104,7 +104,7 @@ undoubled_lacks byte earlier [] each = tt
 undoubled_lacks byte earlier (part ∷ parts) each =
     left_lacks byte part (undoubled (earlier ++ part ∷ []) parts) (is_doubled earlier part) each.0 (undoubled_lacks byte (earlier ++ part ∷ []) parts each.1)
 
--- dropping doubled lines changes no verdict but for its line number
+-- dropping doubled lines changes no verdict except for its line number
 pub doubled_agrees : (text host : List ℕ) → host ≢ revoked → Agrees text (drops_doubled text) host
 doubled_agrees text host apart =
     agrees text (drops_doubled text) host (undoubled_parts [] (parts_at 10 text)) (undoubled_lacks 10 [] (parts_at 10 text) (parts_lack 10 text))

@@ -1,4 +1,4 @@
--- What the first matching line that passes a test is before and after a rewriting.
+-- The first matching line that passes a test, before and after a rewriting.
 use Rattle.std.proofs.Common.{◌≡◌, ◌⊎◌, inl, inr, ℕ, ◌+◌, Bool, true, false, List, [], ◌∷◌, ◌++◌, length, Option, Some, None, refl, ap, ◌∙◌, arith}
 use Rattle.std.specs.Prelude.{map, find, option_map}
 use Rattle.std.specs.List.{cons_option, filter_map, enumerate_from}
@@ -18,18 +18,18 @@ abbrev pub Among : List ℕ → List (List ℕ) → Type 0
 Among x [] = ⊥
 Among x (y ∷ ys) = (x ≡ y) ⊎ Among x ys
 
--- where there is a text it is one of these
+-- if there is a text it is one of these
 abbrev pub IsAmong : Option (List ℕ) → List (List ℕ) → Type 0
 IsAmong None xs = Unit {0}
 IsAmong (Some x) xs = Among x xs
 
--- a part matches as what is left of it; one that is dropped has the third field of an earlier one
+-- a part matches as its replacement does; a dropped part has the third field of an earlier one
 abbrev pub Follows : List ℕ → List (List ℕ) → List Change → Type 0
 Follows host seen [] = Unit {0}
 Follows host seen ((part, Some text) ∷ changes) = (line_key host text ≡ line_key host part) × Follows host (cons_option (line_key host part) seen) changes
 Follows host seen ((part, None) ∷ changes) = IsAmong (line_key host part) seen × Follows host seen changes
 
--- two matching lines with one third field are the same line, by their numbers behind n and m
+-- two matching lines with the same third field are the same line, by their numbers after n and m
 abbrev pub SameFound : List Change → ℕ → ℕ → Option (ℕ × List ℕ) → Option (ℕ × List ℕ) → Type 0
 SameFound changes n m None None = Unit {0}
 SameFound changes n m (Some a) (Some b) =
@@ -87,7 +87,7 @@ module _ (host : List ℕ) (test : List ℕ → Bool) where
       skipped ((part, Some text) ∷ changes) n m _ _ _ _ (find_skips (n, field) (numbered host (n + 1) (parts_of changes)) e) (find_skips (m, field) (numbered host (m + 1) (left changes)) e)
       (left_later part text changes n m _ _ (later (e, fail)))
 
-  -- a part that is left, by what it says
+  -- a part that is kept, by its third field
   left_case : (seen : List (List ℕ)) (part text : List ℕ) (changes : List Change) (n m : ℕ) (o : Option (List ℕ)) → AllFail seen
       → (AllFail (cons_option o seen) → SameFound changes (n + 1) (m + 1) (found (numbered host (n + 1) (parts_of changes))) (found (numbered host (m + 1) (left changes))))
       → SameFound ((part, Some text) ∷ changes) n m (found (cons_option (option_map (λ key. (n, key)) o) (numbered host (n + 1) (parts_of changes))))
@@ -95,7 +95,7 @@ module _ (host : List ℕ) (test : List ℕ → Bool) where
   left_case seen part text changes n m None fail later = left_later part text changes n m _ _ (later fail)
   left_case seen part text changes n m (Some field) fail later = left_test seen part text field changes n m (test field) refl fail later
 
-  -- a part that is dropped, by what it says
+  -- a part that is dropped, by its third field
   dropped_case : (seen : List (List ℕ)) (part : List ℕ) (changes : List Change) (n m : ℕ) (o : Option (List ℕ)) → IsAmong o seen → AllFail seen
       → SameFound changes (n + 1) m (found (numbered host (n + 1) (parts_of changes))) (found (numbered host m (left changes)))
       → SameFound ((part, None) ∷ changes) n m (found (cons_option (option_map (λ key. (n, key)) o) (numbered host (n + 1) (parts_of changes)))) (found (numbered host m (left changes)))

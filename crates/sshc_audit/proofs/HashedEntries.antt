@@ -56,7 +56,7 @@ pub hmac_bytes : (key message : List ℕ) → IsBytes (hmac_sha1 key message)
 unfolding hmac_sha1
 hmac_bytes key message = bytes_at _ (sha1_are _)
 
--- ---- base64 is read back
+-- ---- base64 is decoded again
 
 no_line_end : (b : ℕ) → (b == 13) ≡ false → (b == 10) ≡ false → is_no_line_end b ≡ true
 no_line_end b no_return no_feed = rw (no_return, no_feed) refl
@@ -136,7 +136,7 @@ hashed_lacks salt entry byte bar one base64 =
 pub comma_lacks : (m : List ℕ) → Lacks (encode_of standard m) 44
 comma_lacks m = base64_lacks m 44 refl refl (Lacks-from_test 44 standard.encode_table refl)
 
--- what is no name begins no comment
+-- an entry that isn't a name begins no comment
 some_length : (b : ℕ) (rest : List ℕ) → (length (b ∷ rest) == 0) ≡ false
 some_length b rest = let some : 0 < length (b ∷ rest) = omega arith in grind (arith, nat_tests, some)
 

@@ -1,4 +1,4 @@
--- What hashing names does to the verdicts.
+-- How hashing names affects the verdicts.
 use Rattle.std.proofs.Common.{◌≡◌, ℕ, zero, suc, ◌+◌, ◌≤◌, Bool, true, false, List, [], ◌∷◌, ◌++◌, length, drop, Option, Some, None, refl, ap, sym, ◌∙◌, arith}
 use Rattle.std.specs.Prelude.{◌==◌, ◌||◌, if◌then◌else◌, option_map}
 use Rattle.std.specs.List.{list_any, join_with_byte, flat_map, cons_option, AllByRecursion}
@@ -124,7 +124,7 @@ no_comment_case salts entry false e = no_name_comment entry e
 
 -- ---- a host field
 
--- what becomes of a host field with these entries
+-- the new host field for these entries
 pub record HashedField (host field rest hashed : List ℕ) : Type 0 where
   pub space : Lacks hashed 32
   pub begun : is_comment (hashed ++ 32 ∷ rest) ≡ false
@@ -204,7 +204,7 @@ hashed_judged text salts host key are alone =
     ∙ parts_match host 1 salts (parts_at 10 text) are alone in
     ap (λ (found : List (ℕ × List ℕ)). judged_by (read_lines found) key) lines
 
--- all that is said of a text whose names were hashed with these salts
+-- all that holds of a text whose names were hashed with these salts
 pub hashes : (text : List ℕ) (before after : SaltState) (salts : List (List ℕ)) (new : List ℕ) → Took before after salts → length salts ≡ names_of text → new ≡ hashed_text text salts
     → Hashes text before after new
 hashes text before after salts new took count is =

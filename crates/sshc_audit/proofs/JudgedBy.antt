@@ -10,7 +10,7 @@ use Rattle.sshc_key.specs.declared.error.Error.{Error}
 use Rattle.sshc_key.specs.declared.error.Error.TheVariants.{KeyChanged}
 use Rattle.sshc_hosts.specs.Judgement.{KnownKey, same_algorithm, contradicts, has_key, verdict, judged_among, read_lines}
 
--- what a third field is to a key: it can't be read, contradicts it, or has it
+-- how a third field relates to a key: it can't be read, contradicts it, or has it
 abbrev pub is_bad_by : Result Key Error → Bool
 is_bad_by (Ok k) = false
 is_bad_by (Err e) = true
@@ -75,7 +75,7 @@ first_held key k line known lines e rest =
     held_case (key_eq key k) line (list_any (has_key key) known) (first_of (is_held key) lines) rest
     ∙ ap is_some (sym (find_by (λ (l : ℕ × List ℕ). is_held key l.1) line lines (key_eq key k) (ap (has_by key) e)))
 
--- what reading one more line gives
+-- the result of reading one more line
 abbrev pub with_line : ℕ → Result Key Error → Result (List KnownKey) Error → Result (List KnownKey) Error
 with_line n key rest = key >>= (λ k. rest >>= (λ known. Ok ((n, (k, [])) ∷ known)))
 
@@ -99,7 +99,7 @@ pub are_read : (key : Key) (lines : List (ℕ × List ℕ)) → first_of is_bad 
 are_read key [] none = record { known = []; read = refl; contrary = refl; held = refl }
 are_read key (line ∷ lines) none = read_case key line lines (decoded_key line.1) refl none (are_read key lines)
 
--- the first line that can't be read says why the lines can't be
+-- the reason why the first unreadable line can't be read is the reason why the lines can't be
 abbrev pub SaysWhy : List (ℕ × List ℕ) → ℕ × List ℕ → Type 0
 SaysWhy lines bad = (e : Error) × (read_lines lines ≡ Err e) × (decoded_key bad.1 ≡ Err e)
 

@@ -21,7 +21,7 @@ abbrev pub marked_fields : Bool → List (List ℕ) → List (List ℕ)
 marked_fields true fields = revoked ∷ fields
 marked_fields false fields = fields
 
--- the fields behind the mark are those of the line
+-- the fields after the mark are those of the line
 abbrev pub HasFields : Bool → List (List ℕ) → Line → Type 0
 HasFields marked fields line =
     (name : List ℕ) × (later : List (List ℕ)) × (fields ≡ line.host ∷ name ∷ line.key ∷ later) × (line.rest ≡ join_with_byte 32 (name ∷ line.key ∷ later)) × (line.marked ≡ marked)
@@ -128,7 +128,7 @@ matches_as_before host part line field is plain begun same =
     ∙ marked_same host field line.host is.name line.key is.later line.marked same
     ∙ sym (matches_by host part _ is.no_comment is.fields)
 
--- the third field by what the line says, for a host text that isn't the mark
+-- the third field by the line's fields, for a host text that isn't the mark
 abbrev pub key_by : List ℕ → Bool → List ℕ → List ℕ → Option (List ℕ)
 key_by host true field key = None
 key_by host false field key = if field_matches host field then Some key else None
@@ -150,11 +150,11 @@ key_none : (host field key : List ℕ) (marked : Bool) → field_matches host fi
 key_none host field key true miss = refl
 key_none host field key false miss = ap (λ (b : Bool). if b then Some key else None) miss
 
--- a line none of whose entries matches
+-- a line with no entry that matches
 pub line_key_none : (host part : List ℕ) (line : Line) → IsLine part line → field_matches host revoked ≡ false → field_matches host line.host ≡ false → line_key host part ≡ None
 line_key_none host part line is unmarked miss = line_key_is host part line is unmarked ∙ key_none host line.host line.key line.marked miss
 
--- another host field none of whose entries matches
+-- another host field with no entry that matches
 pub with_host_none : (host part : List ℕ) (line : Line) (field : List ℕ) → IsLine part line → Lacks field 32 → is_comment (field ++ 32 ∷ line.rest) ≡ false
     → field_matches host revoked ≡ false → field_matches host field ≡ false → line_key host (with_host line field) ≡ None
 with_host_none host part line field is plain begun unmarked miss =

@@ -1,4 +1,4 @@
--- What is left to do at a turn of a loop over parts or entries.
+-- What remains to be done in a turn of a loop over parts or entries.
 use Rattle.std.proofs.Common.{◌≡◌, ℕ, Bool, true, false, List, [], ◌∷◌, ◌++◌, Option, Some, None, Result, IfOk, refl, ap, sym, ◌∙◌, subst}
 use Rattle.std.specs.Prelude.{if◌then◌else◌, filter, map}
 use Rattle.std.specs.List.{cons_option}
@@ -39,7 +39,7 @@ entries_next out out' host entry whole entries behind is so_far added =
 
 -- ---- parts without the host
 
--- what is left once the host is removed from these parts
+-- the parts that remain once the host is removed from them
 abbrev pub left_without : List ℕ → List (List ℕ) → List (List ℕ)
 left_without host parts = left (map (λ part. (part, part_without host part)) parts)
 

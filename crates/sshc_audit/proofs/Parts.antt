@@ -47,7 +47,7 @@ parts_also_lack c byte (x ∷ xs) none =
 pub join_parts : (c : ℕ) (xs : List ℕ) → join_with_byte c (parts_at c xs) ≡ xs
 join_parts c xs = join_with_byte-slice_split c xs
 
--- joined texts, parted
+-- joined texts, split again
 pub parts_join : (c : ℕ) (x : List ℕ) (xs : List (List ℕ)) → EachLacks (x ∷ xs) c → parts_at c (join_with_byte c (x ∷ xs)) ≡ x ∷ xs
 parts_join c x [] each = parts_at-lacking c x each.0
 parts_join c x (y ∷ ys) each = parts_at-first c x (join_with_byte c (y ∷ ys)) each.0 ∙ ap (λ (parts : List (List ℕ)). x ∷ parts) (parts_join c y ys each.1)
@@ -73,7 +73,7 @@ some_next : (out : Joined) (x : List ℕ) (xs : List (List ℕ)) → joined_on o
 some_next out x [] = sym (append_assoc out.text (lead out.is_first out.separator) x)
 some_next out x (y ∷ ys) = regroup out.text (lead out.is_first out.separator) x (out.separator ∷ join_with_byte out.separator (y ∷ ys))
 
--- one text, or none, and then the others
+-- one text, if there is one, and then the others
 pub joined_next : (out : Joined) (o : Option (List ℕ)) (xs : List (List ℕ)) → joined_on out (cons_option o xs) ≡ joined_on (with_text out o) xs
 joined_next out None xs = refl
 joined_next out (Some x) xs = some_next out x xs
@@ -83,7 +83,7 @@ pub joined_all : (c : ℕ) (xs : List (List ℕ)) → joined_on (nothing_joined 
 joined_all c [] = refl
 joined_all c (x ∷ xs) = refl
 
--- what was joined once these texts are added; none where there were none
+-- the joined text once these texts are added; None if there are none
 abbrev pub joined_any : Joined → List (List ℕ) → Option (List ℕ)
 joined_any out [] = if out.is_first then None else Some out.text
 joined_any out (x ∷ xs) = Some (joined_on out (x ∷ xs))

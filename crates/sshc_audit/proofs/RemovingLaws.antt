@@ -1,4 +1,4 @@
--- What removing a host does to the verdicts.
+-- How removing a host affects the verdicts.
 use Rattle.std.proofs.Common.{◌≡◌, ℕ, ◌+◌, Bool, true, false, List, [], ◌∷◌, ◌++◌, Option, Some, None, Result, Ok, refl, ap, sym, ◌∙◌, subst}
 use Rattle.std.specs.Prelude.{◌==◌, ◌&&◌, ◌||◌, not, if◌then◌else◌, map, filter, option_map}
 use Rattle.std.specs.List.{list_any, list_all, join_with_byte, flat_map, cons_option}
@@ -36,7 +36,7 @@ module _ (p q : List ℕ → Bool) where
       let (miss, none) = either_false (p x) (list_any p (filter (λ y. not (q y)) xs)) h in
       later none ∙ ap (λ (b : Bool). b || list_any p xs) (sym miss)
 
-  -- what passes q decides whether any passes p, where none that fails q passes p
+  -- whether any element passes p depends only on those that pass q, if no element that fails q passes p
   any_staying : (xs : List (List ℕ)) → list_any p (filter (λ y. not (q y)) xs) ≡ false → list_any p (filter q xs) ≡ list_any p xs
   any_staying [] h = refl
   any_staying (x ∷ xs) h = stay_case x xs (q x) refl h (any_staying xs)
@@ -217,7 +217,7 @@ removed_parts : (host : List ℕ) (parts : List (List ℕ)) → parts_of (map (�
 removed_parts host [] = refl
 removed_parts host (part ∷ parts) = ap (λ (ps : List (List ℕ)). part ∷ ps) (removed_parts host parts)
 
--- what stands in place of a part lacks line feeds
+-- the replacement of a part has no line feeds
 abbrev pub LacksIfAny : Option (List ℕ) → Type 0
 LacksIfAny None = Unit {0}
 LacksIfAny (Some text) = Lacks text 10
@@ -246,7 +246,7 @@ removed_lacks : (host : List ℕ) (parts : List (List ℕ)) → EachLacks parts 
 removed_lacks host [] each = tt
 removed_lacks host (part ∷ parts) each = left_lacks (part_without host part) _ (lacks_part host part (line_of part) refl each.0) (removed_lacks host parts each.1)
 
--- removing a host changes no verdict for a host text that no removed entry matches, but for its line number
+-- removing a host changes no verdict for a host text that no removed entry matches, except for its line number
 pub removed_agrees : (text host other : List ℕ) → begins_apart other ≡ false → NoneMatches other (removed_entries text host) → Agrees text (removes_host text host) other
 removed_agrees text host other apart none =
     agrees text (removes_host text host) other (removed_parts host (parts_at 10 text)) (removed_lacks host (parts_at 10 text) (parts_lack 10 text))

@@ -12,7 +12,7 @@ use Rattle.sshc_audit.specs.Removing.{with_host}
 use Rattle.sshc_hosts.specs.MatchingLines.{parts_at}
 use Rattle.sshc_audit.proofs.Parts.{joined_on, joined_next, joined_all}
 
--- ---- answered salts
+-- ---- returned salts
 
 left_same : (o : Option (List (List ℕ))) → o ≡ before_left [] o
 left_same None = refl
@@ -37,7 +37,7 @@ took_more s mid t a b first then_ = record {
   sized = sized_more a b first.sized then_.sized;
 }
 
--- ---- no more than so many salts
+-- ---- at most so many salts
 
 pub took_nothing_at_most : (s t : SaltState) → Took s t [] → TookAtMost s t 0
 took_nothing_at_most s t took = record { salts = []; took = took; few = omega arith }
@@ -51,7 +51,7 @@ untouched_at_most s n = record { salts = []; took = took_none s; few = omega ari
 pub at_most_more : (s t : SaltState) (n m : ℕ) → n ≤ m → TookAtMost s t n → TookAtMost s t m
 at_most_more s t n m le h = record { salts = h.salts; took = h.took; few = omega (arith, h.few, le) }
 
--- salts that made a text, which was not handed on
+-- salts for a text that was not returned
 pub made_at_most : (s t : SaltState) (n : ℕ) (make : List (List ℕ) → List ℕ) (text : List ℕ) → Made s t n make text → TookAtMost s t n
 made_at_most s t n make text made = record { salts = made.salts; took = made.took; few = omega (arith, made.count) }
 
@@ -64,7 +64,7 @@ wants_most : (old : Option (List (List ℕ))) (m n : ℕ) → m ≤ n → IfSome
 wants_most None m n le h = tt
 wants_most (Some rest) m n le h = omega (arith, le, h)
 
--- what is wanting once some salts were answered was wanting before
+-- if salts are missing after some were returned, they were missing before
 pub wants_before : (s mid : SaltState) (salts : List (List ℕ)) (m n all : ℕ) → Took s mid salts → length salts ≡ m → m + n ≤ all → Wants mid n → Wants s all
 wants_before s mid salts m n all took long le wants =
     wants_most s.left (m + n) all le (wants_case salts s.left mid.left m n took.left long wants)
@@ -77,7 +77,7 @@ drop_front [] more (suc n) e = absurd (omega (arith, e))
 drop_front (x ∷ salts) more zero e = absurd (omega (arith, e))
 drop_front (x ∷ salts) more (suc n) e = drop_front salts more n (omega (arith, e))
 
--- what is made of a text rests on the salts alone that it needs
+-- the result for a text depends only on the salts that it needs
 abbrev pub TakesOnly : {Y : Type 0} → (List ℕ → ℕ) → (List (List ℕ) → List ℕ → Y) → Type 0
 TakesOnly {Y} needs make = (text : List ℕ) (salts more : List (List ℕ)) → length salts ≡ needs text → make (salts ++ more) text ≡ make salts text
 
@@ -91,7 +91,7 @@ module _ {Y : Type 0} (needs : List ℕ → ℕ) (make : List (List ℕ) → Lis
 
 -- ---- a loop over texts
 
--- how far a loop has come that makes a text of each and joins them
+-- the progress of a loop that makes a text of each and joins them
 pub record SoFar (needs : List ℕ → ℕ) (make : List (List ℕ) → List ℕ → List ℕ) (all rest : List (List ℕ)) (separator : ℕ) (s now : SaltState) (out : Joined) : Type 0 where
   pub done : List (List ℕ)
   pub took : Took s now done
@@ -141,7 +141,7 @@ module _ (needs : List ℕ → ℕ) (make : List (List ℕ) → List ℕ → Lis
     few = omega (arith, so.count, more.few, length-append so.done more.salts);
   }
 
-  -- a text that was refused
+  -- a text for which there were too few salts
   pub loop_few : (rest : List (List ℕ)) (text : List ℕ) (texts : List (List ℕ)) (mid now : SaltState) (out : Joined) → rest ≡ text ∷ texts → SoFar needs make all rest separator s mid out
       → TookAtMost mid now (needs text) → TookAtMost s now (total needs all)
   loop_few rest text texts mid now out is so more = few_of text texts mid now out (subst (λ (r : List (List ℕ)). SoFar needs make all r separator s mid out) is so) more
@@ -168,7 +168,7 @@ entry_only_case false entry salts more long = refl
 pub entry_only : TakesOnly entry_needs hashed_or_same
 entry_only entry salts more long = entry_only_case (is_name entry) entry salts more long
 
--- salts that a list of entries needs, and more
+-- the salts that a list of entries needs, and the rest
 split_salts : (n m : ℕ) (salts : List (List ℕ)) → length salts ≡ n + m → (front back : List (List ℕ)) × (salts ≡ front ++ back) × (length front ≡ n) × (length back ≡ m)
 split_salts zero m salts long = ([], salts, refl, refl, omega (arith, long))
 split_salts (suc n) m [] long = absurd (omega (arith, long))

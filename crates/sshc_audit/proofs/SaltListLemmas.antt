@@ -1,4 +1,4 @@
--- A list of salts that are handed out one after the other.
+-- A list of salts that are returned one after the other.
 use Rattle.std.proofs.Common.{◌≡◌, ℕ, suc, ◌+◌, ◌<◌, ◌≤◌, List, [], ◌∷◌, ◌++◌, length, take, drop, get_or, Some, refl, ap, sym, ◌∙◌, arith, drop-cons, length-drop}
 use Rattle.std.proofs.lemmas.List.{take_more, append-nil}
 use Rattle.sshc_audit.specs.Salts.{IsSalt, Took, Wants}

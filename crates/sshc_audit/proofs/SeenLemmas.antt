@@ -1,4 +1,4 @@
--- The set of what earlier lines say.
+-- The set of the compared fields of earlier lines.
 use Rattle.std.proofs.Common.{◌≡◌, ℕ, Bool, true, false, List, [], ◌∷◌, ◌++◌, Option, Some, None, refl, ap, sym, ◌∙◌}
 use Rattle.std.specs.Prelude.{◌||◌, not, if◌then◌else◌}
 use Rattle.std.specs.List.{list_any}
@@ -26,12 +26,12 @@ none_says : (o : Option Line) → both_say o None ≡ false
 none_says None = refl
 none_says (Some line) = refl
 
--- a part that is no line is not doubled
+-- a part that isn't a line isn't doubled
 pub no_line_doubled : (earlier : List (List ℕ)) (part : List ℕ) → line_of part ≡ None → false ≡ is_doubled earlier part
 no_line_doubled earlier part is =
     sym (any_false (λ other. both_say (line_of other) (line_of part)) earlier (λ other. ap (both_say (line_of other)) is ∙ none_says (line_of other)))
 
--- what a line says, as it is kept
+-- the compared fields of a line, as the set keeps them
 abbrev pub IsKept : Said → Line → Type 0
 IsKept said line = (said.0 ≡ line.marked) × (said.1.now ≡ line.host) × (said.2.now ≡ line.key)
 
@@ -43,7 +43,7 @@ not_not : (b : Bool) → not (not b) ≡ b
 not_not true = refl
 not_not false = refl
 
--- a line that was added to the set as it was not there is not doubled
+-- a line that was added to the set because it was not there isn't doubled
 pub seen_answer : {S : Type 0} (seen : HashSet Said S) (earlier : List (List ℕ)) (part : List ℕ) (line : Line) (said : Said) (added : Bool) → IsSeen seen earlier → line_of part ≡ Some line
     → IsKept said line → added ≡ not (contains same_said seen said) → not added ≡ is_doubled earlier part
 seen_answer seen earlier part line said added is line_is kept new =
@@ -61,7 +61,7 @@ kept_is : (said q : Said) (line : Line) → IsKept said line
     → same_said said q ≡ says q (Some line)
 kept_is said q line is = rw (is.0, is.1, is.2) refl
 
--- the set once the line was added
+-- the set after the line was added
 pub seen_next : {S : Type 0} (seen seen' : HashSet Said S) (earlier : List (List ℕ)) (part : List ℕ) (line : Line) (said : Said) → IsSeen seen earlier → line_of part ≡ Some line → IsKept said line
     → UpdatesBy same_said (same_said said) seen seen' true
     → IsSeen seen' (earlier ++ part ∷ [])

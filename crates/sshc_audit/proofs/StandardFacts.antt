@@ -12,7 +12,7 @@ a_doubled_line : rewritten (drops_doubled (codes "a n k x\n#c\na n k y\n")) ≡ 
 unfolding line_of
 a_doubled_line = refl
 
--- a mark tells two lines apart, and a line of an authority is none
+-- a mark distinguishes two lines, and a part marked `@b` isn't a line
 marks_tell_apart : rewritten (drops_doubled (codes "a n k\n@revoked a n k\n@b a n k\n@b a n k")) ≡ codes "a n k\n@revoked a n k\n@b a n k\n@b a n k"
 unfolding line_of
 marks_tell_apart = refl
@@ -27,7 +27,7 @@ no_comment_is_made : rewritten (removes_host (codes "a,#b,@c n k\na,#b,d n k\n#a
 unfolding line_of
 no_comment_is_made = refl
 
--- what needs a salt: each entry of a line that isn't empty and isn't hashed
+-- the entries that need a salt: each entry of a line that isn't empty and isn't hashed
 names_that_need_salts : names_of (codes "a,,b n k\n|1|x,c n k\n#d n k\n@e f n k\n@revoked g n k\nh n") ≡ 4
 unfolding line_of
 names_that_need_salts = refl

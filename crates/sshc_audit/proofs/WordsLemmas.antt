@@ -1,4 +1,4 @@
--- No answer has the status of words that the program doesn't know.
+-- No answer has the status of invalid arguments.
 use Rattle.std.proofs.Common.{◌≡◌, inl, inr, ℕ, List, Option, Result, Ok, Err, sym, ◌∙◌, arith}
 use Rattle.sshc_words.specs.Adding.{Adds}
 use Rattle.sshc_audit.specs.declared.refusal.Refusal.{Refusal}

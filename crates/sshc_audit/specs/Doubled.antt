@@ -1,4 +1,4 @@
--- Dropping the lines of a known hosts text that say again what an earlier line says.
+-- Dropping the lines of a known hosts text that repeat an earlier line.
 -- Each part is compared with all earlier ones; the code keeps a set.
 use Rattle.std.specs.Prelude.{◌≡◌, ℕ, Bool, false, ◌&&◌, List, [], ◌∷◌, ◌++◌, Option, Some, None, if◌then◌else◌, bytes_eq}
 use mathlib.Core.Bool.{beq}
@@ -17,22 +17,22 @@ abbrev pub both_say : Option Line → Option Line → Bool
 both_say (Some line) (Some other) = says_same line other
 both_say line other = false
 
--- the part is a line, and says what an earlier part says
+-- the part is a line that repeats an earlier part
 abbrev pub is_doubled : List (List ℕ) → List ℕ → Bool
 is_doubled earlier part = list_any (λ other. both_say (line_of other) (line_of part)) earlier
 
--- what becomes of the parts behind these earlier ones
+-- the changes of the parts after these earlier ones
 abbrev pub undoubled : List (List ℕ) → List (List ℕ) → List Change
 undoubled earlier [] = []
 undoubled earlier (part ∷ parts) = (part, if is_doubled earlier part then None else Some part) ∷ undoubled (earlier ++ part ∷ []) parts
 
--- each line is dropped that says what an earlier line says
+-- each line that repeats an earlier line is dropped
 abbrev pub drops_doubled : List ℕ → List Change
 drops_doubled text = undoubled [] (parts_at 10 text)
 
 -- ---- the set that the code keeps
 
--- what a line says, as it is kept
+-- the compared fields of a line, as the set keeps them
 abbrev pub Said : Type 0
 Said = Bool × (Bor (List ℕ)) × (Bor (List ℕ))
 
@@ -40,11 +40,11 @@ abbrev pub says : Said → Option Line → Bool
 says said None = false
 says said (Some line) = (beq line.marked said.0 && bytes_eq line.host said.1.now) && bytes_eq line.key said.2.now
 
--- two of these are the same
+-- two of these are equal
 abbrev pub same_said : Said → Said → Bool
 same_said a b = (beq a.0 b.0 && bytes_eq a.1.now b.1.now) && bytes_eq a.2.now b.2.now
 
--- the set has what each of these earlier parts says, and nothing else
+-- the set has the compared fields of each of these earlier parts, and no others
 abbrev pub IsSeen : {S : Type 0} → HashSet Said S → List (List ℕ) → Type 0
 IsSeen seen earlier =
     (said : Said) → contains same_said seen said ≡ list_any (λ other. says said (line_of other)) earlier

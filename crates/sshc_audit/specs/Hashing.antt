@@ -1,4 +1,5 @@
--- Hashing the names of a known hosts text, as OpenSSH's `HashKnownHosts` writes them (ssh_config(5)): HMAC-SHA1 under a salt.
+-- Hashing the names of a known hosts text, as OpenSSH's `HashKnownHosts` writes them (ssh_config(5)): HMAC-SHA1 under a
+-- salt.
 -- Each list of entries takes its salts from the front of a whole list; the code asks for one salt after another.
 use Rattle.std.specs.Prelude.{◌≡◌, ℕ, ◌+◌, Bool, not, ◌&&◌, ◌==◌, List, [], ◌∷◌, ◌++◌, length, drop, Option, Some, None, if◌then◌else◌, codes, bytes_eq}
 use Rattle.std.specs.List.{join_with_byte, flat_map, AllByRecursion}
@@ -26,12 +27,12 @@ abbrev pub first_salt : List (List ℕ) → List ℕ
 first_salt [] = []
 first_salt (salt ∷ salts) = salt
 
--- what is made of each text, which takes as many salts as it needs
+-- the results for each text, which takes as many salts as it needs
 abbrev pub with_salts : {Y : Type 0} → (List ℕ → ℕ) → (List (List ℕ) → List ℕ → Y) → List (List ℕ) → List (List ℕ) → List Y
 with_salts needs make salts [] = []
 with_salts needs make salts (text ∷ texts) = make salts text ∷ with_salts needs make (drop (needs text) salts) texts
 
--- what the texts need together
+-- how many salts the texts need together
 abbrev pub total : (List ℕ → ℕ) → List (List ℕ) → ℕ
 total needs [] = 0
 total needs (text ∷ texts) = needs text + total needs texts
@@ -89,18 +90,18 @@ hashed_text text salts = join_with_byte 10 (with_salts part_needs hashed_part sa
 abbrev pub salted_names : List ℕ → List (List ℕ) → List (List ℕ × List ℕ)
 salted_names text salts = flat_map (λ named. named) (with_salts part_needs salted_part salts (parts_at 10 text))
 
--- ---- what the new text says
+-- ---- the meaning of the new text
 
--- the host text shares its HMAC with no name that is hashed but its own
+-- the host text has the same HMAC as a hashed name only if it is that name
 abbrev pub IsAlone : List ℕ → List (List ℕ × List ℕ) → Type 0
 IsAlone host named = AllByRecursion (λ name. hmac_sha1 name.0 host ≡ hmac_sha1 name.0 name.1 → name.1 ≡ host) named
 
--- a name that is hashed matches exactly the host texts with its HMAC
+-- a hashed name matches exactly the host texts with its HMAC
 abbrev pub MatchesByHash : List (List ℕ × List ℕ) → Type 0
 MatchesByHash named =
     AllByRecursion (λ name. (host : List ℕ) → entry_matches host (hashed_entry name.0 name.1) ≡ bytes_eq (hmac_sha1 name.0 host) (hmac_sha1 name.0 name.1)) named
 
--- the new text by its rule, with one answered salt for each name; what the new entries match; and the verdicts
+-- the new text by its rule, with one returned salt for each name; what the new entries match; and the verdicts
 pub record Hashes (old : List ℕ) (before after : SaltState) (new : List ℕ) : Type 0 where
   pub salts : List (List ℕ)
   pub took : Took before after salts

@@ -23,7 +23,7 @@ with_piece out piece = record out { text = out.text ++ piece }
 abbrev pub with_start : Joined → Joined
 with_start out = record out { text = out.text ++ lead out.is_first out.separator; is_first = false }
 
--- one more text, or none
+-- one more text, if there is one
 abbrev pub with_text : Joined → Option (List ℕ) → Joined
 with_text out None = out
 with_text out (Some text) = with_piece (with_start out) text

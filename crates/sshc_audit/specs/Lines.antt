@@ -14,14 +14,15 @@ abbrev pub is_mark : List ℕ → Bool
 is_mark [] = false
 is_mark (b ∷ rest) = (b == 64) && not (list_any (λ c. c == 44) rest)
 
--- a line: whether it is marked `@revoked`, its host field, its third field, and all that is behind the host field and its space
+-- a line: whether it is marked `@revoked`, its host field, its third field, and everything after the host field and its
+-- space
 pub record Line : Type 0 where
   pub marked : Bool
   pub host : List ℕ
   pub key : List ℕ
   pub rest : List ℕ
 
--- the line of these fields, which stand behind the mark, where there are three at least
+-- the line of these fields, which follow the mark, if there are at least three
 abbrev pub line_in : Bool → List (List ℕ) → Option Line
 line_in marked (host ∷ name ∷ key ∷ later) =
     Some (record { marked = marked; host = host; key = key; rest = join_with_byte 32 (name ∷ key ∷ later) })
@@ -34,7 +35,7 @@ line_by (first ∷ fields) =
     if bytes_eq first revoked then line_in true fields
     else (if is_mark first then None else line_in false (first ∷ fields))
 
--- the line that a part of the text is; comments, parts with another mark and parts with too few fields are none
+-- the line in a part of the text; None for comments, parts with another mark and parts with too few fields
 unfoldable pub line_of : List ℕ → Option Line
 line_of part = if is_comment part then None else line_by (parts_at 32 part)
 
@@ -47,7 +48,7 @@ mark_text false = []
 abbrev pub line_text : Line → List ℕ
 line_text line = mark_text line.marked ++ (line.host ++ 32 ∷ line.rest)
 
--- ---- what the code's type stands for
+-- ---- the line that a value of the code's type represents
 
 abbrev pub line_seen : LineFields → Line
 line_seen line = record { marked = line.marked; host = line.host.now; key = line.key.now; rest = line.rest.now }

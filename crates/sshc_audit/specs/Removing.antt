@@ -23,12 +23,12 @@ entries line = parts_at 44 line.host
 abbrev pub with_host : Line → List ℕ → List ℕ
 with_host line host = line_text (record line { host = host })
 
--- the entries with commas between them; none where there are none
+-- the entries with commas between them; None if there are none
 abbrev pub joined_entries : List (List ℕ) → Option (List ℕ)
 joined_entries [] = None
 joined_entries (entry ∷ more) = Some (join_with_byte 44 (entry ∷ more))
 
--- what becomes of a line: one with an entry that matches the host keeps the entries that stay
+-- the new text of a line: one with an entry that matches the host keeps only the entries that stay
 abbrev pub line_without : List ℕ → List ℕ → Line → Option (List ℕ)
 line_without host part line =
     if field_matches host line.host then option_map (with_host line) (joined_entries (filter (stays host) (entries line))) else Some part
@@ -37,7 +37,7 @@ abbrev pub part_by : List ℕ → List ℕ → Option Line → Option (List ℕ)
 part_by host part None = Some part
 part_by host part (Some line) = line_without host part line
 
--- what becomes of a part
+-- the new text of a part
 abbrev pub part_without : List ℕ → List ℕ → Option (List ℕ)
 part_without host part = part_by host part (line_of part)
 

@@ -7,25 +7,25 @@ use Rattle.sshc_key.specs.declared.error.Error.{Error}
 use Rattle.sshc_key.specs.declared.error.Error.TheVariants.{KeyChanged}
 use Rattle.sshc_hosts.specs.Judgement.{judged}
 
--- a part of the text and what stands in its place; none where it is dropped
+-- a part of the text and its replacement; None if it is dropped
 abbrev pub Change : Type 0
 Change = List ℕ × Option (List ℕ)
 
--- what stands in place of the parts, without those that are dropped
+-- the replacements of the parts, without the dropped ones
 abbrev pub left : List Change → List (List ℕ)
 left changes = filter_map (λ change. change.1) changes
 
--- the new text: what is left, with a line feed between each two
+-- the new text: the replacements, with a line feed between each two
 abbrev pub rewritten : List Change → List ℕ
 rewritten changes = join_with_byte 10 (left changes)
 
--- the line of number n is left, and its number is then m
+-- the line with number n is kept, and its new number is m
 abbrev pub IsSameLine : List Change → ℕ → ℕ → Type 0
 IsSameLine changes n m =
     (before behind : List Change) × (part text : List ℕ)
     × (changes ≡ before ++ (part, Some text) ∷ behind) × (n ≡ length before + 1) × (m ≡ length (left before) + 1)
 
--- two verdicts agree where they are equal but for the number of a line, and the lines that they name are the same line
+-- two verdicts agree if they are equal except for the number of a line, and the lines that they name are the same line
 abbrev pub Agree : List Change → Result Bool Error → Result Bool Error → Type 0
 Agree changes (Err (KeyChanged n)) (Err (KeyChanged m)) = IsSameLine changes n m
 Agree changes (Err (KeyChanged n)) after = ⊥

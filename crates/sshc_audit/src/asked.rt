@@ -1,4 +1,4 @@
-//! What the words of the auditor ask.
+//! The auditor's command-line arguments.
 
 ghost use Rattle.std.specs.Prelude.{◌≡◌, IfSome, IsNone, length};
 ghost use Rattle.sshc_audit.specs.AuditWords.{Asked, Asks, asked_by};
@@ -6,7 +6,7 @@ ghost use Rattle.sshc_audit.specs.AuditWords.{Asked, Asks, asked_by};
 use sshc_wire::Text;
 use sshc_words::port_of;
 
-/// What the words ask: the path of a known hosts file, with the path of its salts, or with a host at a port.
+/// What the arguments ask for: the path of a known hosts file, with the path of its salts, or with a host at a port.
 #[derive(Clone, Copy, Debug)]
 pub enum AuditAsked<'a> {
     Hash {
@@ -23,7 +23,7 @@ pub enum AuditAsked<'a> {
     },
 }
 
-/// What two words ask.
+/// The request of two arguments.
 fn two_words<'a>(words: &'a [Text]) -> Option<AuditAsked<'a>>
     requires { length words.now ≡ 2 }
     ensures some { IfSome result (λ asked. Asks words.now (asked_by asked)) }
@@ -37,7 +37,7 @@ fn two_words<'a>(words: &'a [Text]) -> Option<AuditAsked<'a>>
     })
 }
 
-/// What three words ask.
+/// The request of three arguments.
 fn three_words<'a>(words: &'a [Text]) -> Option<AuditAsked<'a>>
     requires { length words.now ≡ 3 }
     ensures some { IfSome result (λ asked. Asks words.now (asked_by asked)) }
@@ -52,7 +52,7 @@ fn three_words<'a>(words: &'a [Text]) -> Option<AuditAsked<'a>>
     })
 }
 
-/// What four words ask.
+/// The request of four arguments.
 fn four_words<'a>(words: &'a [Text]) -> Option<AuditAsked<'a>>
     requires { length words.now ≡ 4 }
     ensures some { IfSome result (λ asked. Asks words.now (asked_by asked)) }
@@ -71,7 +71,7 @@ fn four_words<'a>(words: &'a [Text]) -> Option<AuditAsked<'a>>
     }
 }
 
-/// What the words ask, where they are of one of the three forms.
+/// The request of the arguments, if they have one of the three forms.
 pub fn audit_asked<'a>(words: &'a [Text]) -> Option<AuditAsked<'a>>
     ensures some { IfSome result (λ asked. Asks words.now (asked_by asked)) }
     ensures none { IsNone result → (asked : Asked) → Asks words.now asked → ⊥ }

@@ -1,4 +1,4 @@
-//! Doubled lines are dropped.
+//! Drops doubled lines.
 
 ghost use Rattle.std.specs.Prelude.{◌≡◌, ◌≢◌, ◌++◌, ◌∷◌, [], List, ℕ, IfOk, OnOk, Some, None, if◌then◌else◌};
 ghost use Rattle.sshc_audit.specs.Lines.{revoked};
@@ -13,10 +13,10 @@ use sshc_wire::{NoMemory, Text};
 use std::alloc::Global;
 use std::collections::HashSet;
 
-/// What a line says: whether it is marked `@revoked`, its host field and its third field.
+/// The fields by which lines are compared: whether the line is marked `@revoked`, its host field and its third field.
 type Said<'a> = (bool, &'a str, &'a str);
 
-/// Whether the part is a line that says what an earlier one says. It counts as an earlier one from then on.
+/// Whether the part is a line with the same compared fields as an earlier one. Adds the part to the earlier ones.
 fn is_doubled<'a>(seen: &mut HashSet<Said<'a>>, part: &'a str) -> Result<bool, NoMemory>
     ensures answer { (earlier : List (List ℕ)) → IsSeen seen.old earlier
         → IfOk result (λ b. b ≡ is_doubled earlier part.now) }
@@ -47,9 +47,9 @@ fn add_undoubled<'a>(
     }
 }
 
-/// The known hosts text without each line whose mark, host field and third field are those of an earlier line.
-/// No verdict changes but for its line number. The host text `@revoked` is left out: the judgement takes the mark for a
-/// host field.
+/// The known hosts text without each line whose mark, host field and third field are those of an earlier line. No
+/// verdict changes except for its line number. The law excludes the host text `@revoked`, because the judgement takes
+/// the mark for a host field.
 #[tactic(auto, using(crate::proofs::DoubledLaws::doubled_agrees))]
 pub fn drop_doubled(alloc: Global, text: &str) -> Result<Text, NoMemory>
     ensures text { IfOk result (λ t. t ≡ rewritten (drops_doubled text.now)) }

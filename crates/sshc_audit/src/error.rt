@@ -13,7 +13,7 @@ pub enum AuditError {
     /// Out of memory.
     #[error("NoMemory")]
     NoMemory,
-    /// There was no salt, and the salts' count of faults rose.
+    /// There was no salt for a name, and the salts' count of faults rose.
     #[error("SaltFault")]
     SaltFault,
 }

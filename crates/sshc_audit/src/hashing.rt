@@ -1,4 +1,4 @@
-//! Names are hashed.
+//! Hashes names.
 
 ghost use Rattle.std.specs.Prelude.{◌≡◌, ◌∷◌, [], IfOk, OnOk, OnErr, IsErrOf};
 ghost use Rattle.sshc_hosts.specs.MatchingLines.{parts_at};
@@ -23,7 +23,7 @@ fn is_name(entry: &str) -> bool
     !entry.is_empty() && !entry.starts_with("|1|")
 }
 
-/// Adds the name that is hashed under the salt.
+/// Adds the name, hashed with the salt.
 fn push_hashed(out: &mut Joining, salt: &[u8; 20], entry: &str) -> Result<(), NoMemory>
     ensures { OnOk result (out.new ≡ with_piece out.old (hashed_entry salt.now entry.now)) }
 {
@@ -49,7 +49,7 @@ fn next_salt<S: Salts>(salts: &mut S) -> Result<[u8; 20], AuditError>
     }
 }
 
-/// Adds the name that is hashed under the next salt.
+/// Adds the name, hashed with the next salt.
 fn add_hashed<S: Salts>(salts: &mut S, out: &mut Joining, entry: &str) -> Result<(), AuditError>
     ensures made { OnOk result (MadeNext (S.state salts.old) (S.state salts.new)
         1 (λ ss. hashed_entry (first_salt ss) entry.now) out.old out.new) }
@@ -63,7 +63,7 @@ fn add_hashed<S: Salts>(salts: &mut S, out: &mut Joining, entry: &str) -> Result
     Ok(())
 }
 
-/// Adds the entry, hashed where it is a name.
+/// Adds the entry, hashed if it is a name.
 fn add_entry<S: Salts>(salts: &mut S, out: &mut Joining, entry: &str) -> Result<(), AuditError>
     ensures made { OnOk result (MadeNext (S.state salts.old) (S.state salts.new)
         (entry_needs entry.now) (λ ss. hashed_or_same ss entry.now) out.old out.new) }
@@ -121,9 +121,9 @@ fn add_part<S: Salts>(
     }
 }
 
-/// The known hosts text with each name hashed under the next salt: HMAC-SHA1, as OpenSSH's `HashKnownHosts` has it.
-/// Entries that are empty or hashed already stay. `SaltFault` comes only where there was no salt for a name; after an
-/// error the salts that were answered are gone, no more than there are names.
+/// The known hosts text with each name hashed under the next salt: HMAC-SHA1, as OpenSSH's `HashKnownHosts` writes it.
+/// Entries that are empty or already hashed stay. `SaltFault` is returned only if there was no salt for a name; after
+/// an error the salts already taken are used up, at most as many as there are names.
 pub fn hash_names<S: Salts>(alloc: Global, text: &str, salts: &mut S) -> Result<Text, AuditError>
     ensures hashed { IfOk result (λ t. Hashes text.now (S.state salts.old) (S.state salts.new) t) }
     ensures wants { IsErrOf result SaltFault → Wants (S.state salts.old) (names_of text.now) }

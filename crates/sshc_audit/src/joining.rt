@@ -10,7 +10,7 @@ use sshc_wire::{NoMemory, Text};
 use std::alloc::Global;
 use std::marker::Model;
 
-/// Texts in one, with an ASCII byte between each two.
+/// Texts joined into one, separated by an ASCII byte.
 #[derive(Debug, Drop)]
 pub struct Joining {
     separator: u8,
@@ -61,7 +61,7 @@ impl Joining {
         Ok(())
     }
 
-    /// Adds the padded base64 of bytes to the text that was begun last.
+    /// Adds the padded base64 of the bytes to the text that was begun last.
     pub fn push_base64(&mut self, bytes: &[u8]) -> Result<(), NoMemory>
         ensures { OnOk result (self.new ≡ with_piece self.old (encode_of standard bytes.now)) }
     {
@@ -84,7 +84,7 @@ impl Joining {
         self.is_first
     }
 
-    /// All that was written.
+    /// The joined text.
     pub fn into_text(self) -> Result<Text, NoMemory>
         ensures { IfOk result (λ t. t ≡ self.text) }
     {

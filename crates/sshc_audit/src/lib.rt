@@ -1,4 +1,4 @@
-//! Rewriting known hosts texts: names are hashed, doubled lines are dropped, a host is removed.
+//! Rewriting known hosts texts: hashing names, dropping doubled lines, removing a host.
 #![tactic(auto)]
 
 mod asked;

@@ -10,8 +10,8 @@ use crate::joining::Joining;
 use sshc_hosts::{cut, is_comment};
 use sshc_wire::NoMemory;
 
-/// A line: whether it is marked `@revoked`, its host field, its third field, and all behind the host field and its
-/// space.
+/// A line: whether it is marked `@revoked`, its host field, its third field, and everything after the host field and
+/// its space.
 #[derive(Clone, Copy, Debug)]
 pub struct LineFields<'a> {
     pub marked: bool,
@@ -30,7 +30,7 @@ fn is_mark(field: &str) -> bool
     }
 }
 
-/// The line with this host field and the fields of what is behind it.
+/// The line with this host field, and with the fields of the text after it.
 fn line_with<'a>(marked: bool, host: &'a str, rest: &'a str) -> Option<LineFields<'a>>
     ensures { option_map line_seen result ≡ line_in marked (host.now ∷ parts_at 32 rest.now) }
 {
@@ -49,7 +49,7 @@ fn line_with<'a>(marked: bool, host: &'a str, rest: &'a str) -> Option<LineField
     }
 }
 
-/// The line of the fields in a text, which stands behind the mark.
+/// The line of the fields in a text, from which the mark was removed.
 fn line_in(marked: bool, text: &str) -> Option<LineFields<'_>>
     ensures { option_map line_seen result ≡ line_in marked (parts_at 32 text.now) }
 {
@@ -60,7 +60,7 @@ fn line_in(marked: bool, text: &str) -> Option<LineFields<'_>>
     }
 }
 
-/// The line that a part of the text is. Comments, parts with another mark and parts with too few fields are none.
+/// The line in a part of the text. `None` for comments, parts with another mark and parts with too few fields.
 #[tactic(auto, unfolding(crate::specs::Lines::line_of))]
 pub fn line_of(part: &str) -> Option<LineFields<'_>>
     ensures { option_map line_seen result ≡ line_of part.now }
@@ -81,7 +81,7 @@ pub fn line_of(part: &str) -> Option<LineFields<'_>>
     line_in(false, part)
 }
 
-/// The mark and its space.
+/// The mark with its space; empty for an unmarked line.
 fn mark_text(marked: bool) -> &'static str
     ensures { result.now ≡ mark_text marked }
 {

@@ -1,4 +1,4 @@
-//! Why there is no new text for the words of the auditor.
+//! Why the auditor has no new text for its arguments.
 
 ghost use Rattle.std.specs.Prelude.{◌≡◌};
 ghost use Rattle.sshc_audit.specs.declared.refusal.Refusal.TheVariants.{NoMemory as OutOfMemory};
@@ -8,7 +8,7 @@ use sshc_wire::NoMemory;
 /// Why there is no new text.
 #[derive(Clone, Copy, Debug, PartialEq, Eq)]
 pub enum Refusal {
-    /// A file is no text, or reading it failed.
+    /// A file isn't UTF-8 text, or reading it failed.
     KnownFile,
     /// The file of the salts has too few.
     SaltFault,

@@ -1,4 +1,4 @@
-//! A host is removed.
+//! Removes a host.
 
 ghost use Rattle.std.specs.Prelude.{◌≡◌, IfOk, OnOk, Some, Ok, List, ℕ, false, true, not, ◌&&◌, filter, option_map, if◌then◌else◌};
 ghost use Rattle.sshc_key.specs.KeyGrammar.{Key};
@@ -16,7 +16,7 @@ use sshc_hosts::{cut, has_host, host_text, is_host};
 use sshc_wire::{NoMemory, Text};
 use std::alloc::Global;
 
-/// Whether an entry begins with `#` or `@`, so that at the front of its line it would make a comment or a mark.
+/// Whether an entry begins with `#` or `@`, so that it would make its line a comment or a marked line if it came first.
 fn begins_apart(entry: &str) -> bool
     ensures { result ≡ begins_apart entry.now }
 {
@@ -26,14 +26,14 @@ fn begins_apart(entry: &str) -> bool
     }
 }
 
-/// Whether an entry stays in a line that loses the host.
+/// Whether an entry stays in a line from which the host is removed.
 fn stays(alloc: Global, host: &str, entry: &str) -> Result<bool, NoMemory>
     ensures { IfOk result (λ b. b ≡ stays host.now entry.now) }
 {
     Ok(!is_host(alloc, host, entry)? && !begins_apart(entry))
 }
 
-/// Adds the entry, where it stays.
+/// Adds the entry, if it stays.
 fn add_entry(alloc: Global, out: &mut Joining, host: &str, entry: &str) -> Result<(), NoMemory>
     ensures { OnOk result (out.new ≡ with_text out.old (if stays host.now entry.now then Some entry.now else None)) }
 {
@@ -44,7 +44,7 @@ fn add_entry(alloc: Global, out: &mut Joining, host: &str, entry: &str) -> Resul
     }
 }
 
-/// The entries that stay, joined by commas; none where there are none.
+/// The entries that stay, joined by commas; `None` if there are none.
 fn entries_without(alloc: Global, host: &str, field: &str) -> Result<Option<Text>, NoMemory>
     ensures { IfOk result (λ kept. kept ≡ joined_entries (filter (stays host.now) (parts_at 44 field.now))) }
 {
@@ -60,7 +60,7 @@ fn entries_without(alloc: Global, host: &str, field: &str) -> Result<Option<Text
     }
 }
 
-/// What was joined, where there was anything.
+/// The joined text, if any text was added.
 fn kept(out: Joining) -> Result<Option<Text>, NoMemory>
     ensures { IfOk result (λ kept. kept ≡ (if out.is_first then None else Some out.text)) }
 {
@@ -71,7 +71,7 @@ fn kept(out: Joining) -> Result<Option<Text>, NoMemory>
     }
 }
 
-/// Adds what becomes of a line.
+/// Adds the line without the host, unless it is dropped.
 fn add_line_without(
     alloc: Global,
     out: &mut Joining,
@@ -90,7 +90,7 @@ fn add_line_without(
     }
 }
 
-/// Adds what becomes of a part.
+/// Adds the part without the host, unless it is dropped.
 fn add_without(alloc: Global, out: &mut Joining, host: &str, part: &str) -> Result<(), NoMemory>
     ensures { OnOk result (out.new ≡ with_text out.old (part_without host.now part.now)) }
 {
@@ -116,8 +116,8 @@ fn text_without(alloc: Global, text: &str, host: &str) -> Result<Text, NoMemory>
     }
 }
 
-/// The known hosts text without the entries that match the host at the port. A line that loses one loses its entries
-/// that begin with `#` or `@` too, and a line that loses its last entry is dropped.
+/// The known hosts text without the entries that match the host at the port. A line that loses an entry also loses its
+/// entries that begin with `#` or `@`, and a line that loses its last entry is dropped.
 #[tactic(auto, using(crate::proofs::RemovingLaws::removed_agrees, crate::proofs::RemovingLaws::removed_unknown))]
 pub fn remove_host(alloc: Global, text: &str, host: &str, port: u16) -> Result<Text, NoMemory>
     ensures text { IfOk result (λ t. t ≡ rewritten (removes_host text.now (host_text host.now port))) }

@@ -1,4 +1,4 @@
-//! Salts of a text.
+//! Salts read from a text.
 
 ghost use Rattle.std.specs.Prelude.{◌≡◌, IfOk, length};
 ghost use Rattle.base64.specs.GeneralPurpose.{IsBytes};
@@ -11,7 +11,7 @@ use sshc_wire::{Failed, NoMemory};
 use std::alloc::Global;
 use std::marker::Model;
 
-/// A list of salts, which are handed out one after the other. Where none is left it counts a fault.
+/// A list of salts, which are returned one after the other. If none remains, it counts a fault.
 #[derive(Debug, Drop)]
 pub struct SaltList {
     salts: Vec<[u8; 20]>,
@@ -49,12 +49,12 @@ fn salts_in(alloc: Global, text: &str) -> Result<Vec<[u8; 20]>, NoMemory>
     }
 }
 
-/// Tells proofs that the numbers in a slice of bytes are bytes.
+/// Shows the verifier that the numbers in a slice of bytes are bytes.
 fn holds_bytes(_bytes: &[u8])
     ensures { IsBytes _bytes.now }
 {}
 
-/// Tells proofs that a salt has 20 bytes.
+/// Shows the verifier that a salt has 20 bytes.
 fn is_salt(salt: &[u8; 20])
     ensures long { length salt.now ≡ 20 }
     ensures bytes { IsBytes salt.now }
@@ -80,7 +80,7 @@ impl Salts for SaltList {
 
     ghost state = { state_of };
 
-    /// There is a fault exactly where no salt is left.
+    /// Fails exactly if no salt remains.
     fn salt(&mut self) -> Result<[u8; 20], Failed> {
         if self.next < self.salts.len() {
             let salt = self.salts[self.next];

@@ -1,4 +1,4 @@
-//! Who answers salts.
+//! Where salts come from.
 
 ghost use Rattle.std.specs.Prelude.{◌≡◌, ◌∷◌, [], IfOk, OnErr, IsErrOf};
 ghost use Rattle.sshc_wire.specs.Faults.{HasCause};
@@ -6,13 +6,14 @@ ghost use Rattle.sshc_audit.specs.Salts.{SaltState, Took, Wants};
 
 use sshc_wire::Failed;
 
-/// Answers salts for hashed names, each of 20 bytes. It keeps the list of its answers and a count of its faults.
+/// Returns salts for hashed names, each of 20 bytes. Contracts see the list of salts that it returned and its count of
+/// faults.
 pub trait Salts {
     ghost use Rattle.sshc_audit.specs.Salts.{SaltState, Took, Wants};
 
     ghost state: { Self → SaltState };
 
-    /// The next salt. There is a fault only where no salt is left.
+    /// The next salt. Fails only if no salt remains.
     fn salt(&mut self) -> Result<[u8; 20], Failed>
         ensures took { IfOk result (λ salt. Took (state self.old) (state self.new) (salt ∷ [])) }
         ensures none { OnErr result (Took (state self.old) (state self.new) []) }

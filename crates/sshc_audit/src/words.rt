@@ -1,4 +1,4 @@
-//! The words of the auditor: what is asked is done, and its text or the reason why there is none is written.
+//! Runs the auditor's command-line arguments, and writes the new text or the reason why there is none.
 
 ghost use Rattle.std.specs.Prelude.{◌≡◌, ◌≤◌, IfOk, Ok, Err, codes};
 ghost use Rattle.sshc_words.specs.Adding.{Adds};
@@ -17,7 +17,7 @@ use sshc_wire::{Failed, Files, Found, Sink, Text};
 use sshc_words::{KNOWN_FILE_STATUS, NO_MEMORY_STATUS, WORDS_STATUS, add_line};
 use std::alloc::Global;
 
-/// The status of a salt that is wanting.
+/// The exit status if a name has no salt.
 const SALT_FAULT_STATUS: u8 = 45;
 
 /// The text of the file at the path. A file that can't be opened is an empty text.
@@ -37,7 +37,7 @@ fn text_at<F: Files>(alloc: Global, files: &mut F, path: &str) -> Result<Text, R
     }
 }
 
-/// The text with its names hashed under the salts of the lines.
+/// The text with its names hashed with the salts in the lines.
 fn hashed_with(alloc: Global, text: &str, lines: &str) -> Result<Text, Refusal>
     ensures { HashesWith text.now lines.now result }
 {
@@ -49,7 +49,7 @@ fn hashed_with(alloc: Global, text: &str, lines: &str) -> Result<Text, Refusal>
     }
 }
 
-/// The text of FILE with its names hashed under the salts of SALTS.
+/// The text of FILE with its names hashed with the salts of SALTS.
 fn hashed<F: Files>(alloc: Global, files: &mut F, file: &str, salts: &str) -> Result<Text, Refusal>
     ensures answer { IsAnswer (hash file.now salts.now) (F.contents files.old)
         (F.read_faults files.old) (F.read_faults files.new) result }
@@ -89,7 +89,7 @@ fn removed<F: Files>(
     Ok(remove_host(alloc, text.as_str(), host, port)?)
 }
 
-/// The new text of what is asked, or why there is none.
+/// The new text for the request, or why there is none.
 fn answer_of<F: Files>(alloc: Global, asked: AuditAsked<'_>, files: &mut F) -> Result<Text, Refusal>
     ensures answer { IsAnswer (asked_by asked.entry) (F.contents files.old)
         (F.read_faults files.old) (F.read_faults files.new) result }
@@ -103,7 +103,7 @@ fn answer_of<F: Files>(alloc: Global, asked: AuditAsked<'_>, files: &mut F) -> R
     }
 }
 
-/// Writes the new text, or the line that says why there is none, and returns the status.
+/// Writes the new text, or the line with the reason why there is none, and returns the status.
 fn add_answer<K: Sink>(sink: &mut K, answer: &Result<Text, Refusal>) -> u8
     ensures { Adds (written_for answer.now) (status_for answer.now)
         (K.contents sink.old) (K.contents sink.new) (K.faults sink.old) (K.faults sink.new) result }
@@ -116,7 +116,7 @@ fn add_answer<K: Sink>(sink: &mut K, answer: &Result<Text, Refusal>) -> u8
     }
 }
 
-/// Does what is asked, and returns the status.
+/// Runs the request, and returns the status.
 fn run_asked<F: Files, K: Sink>(
     alloc: Global,
     asked: AuditAsked<'_>,
@@ -133,10 +133,10 @@ fn run_asked<F: Files, K: Sink>(
     add_answer(sink, &answer)
 }
 
-/// Runs the words `hash FILE SALTS`, `drop FILE` or `remove HOST PORT FILE`: writes the new text, and returns the
-/// status 0. Else a line is written: `error words` with the status 2, `error known-file` with 3 for a file that is no
-/// text or can't be read, `error salt-fault` with 45 where a name has no salt, `error no-memory` with 20. What can't be
-/// written whole is cut, with the status 22, or 20 where memory ran out.
+/// Runs the arguments `hash FILE SALTS`, `drop FILE` or `remove HOST PORT FILE`: writes the new text, and returns the
+/// status 0. Otherwise it writes a line: `error words` with the status 2 for invalid arguments, `error known-file` with
+/// 3 for a file that isn't UTF-8 text or can't be read, `error salt-fault` with 45 if a name has no salt, `error
+/// no-memory` with 20. A text that can't be written whole is cut, with the status 22, or 20 if memory ran out.
 pub fn audit_words<F: Files, K: Sink>(
     alloc: Global,
     words: &[Text],

@@ -1,12 +1,13 @@
-//! Worked rows of the auditor: runs the words of each row over the files beside it, and prints whether what is written and the
-//! status are those of the row, and whether ssh-keygen made the same file. The first argument names the file of the rows.
+//! Worked rows of the auditor: runs the arguments of each row over the files next to it, and prints whether the text
+//! written and the status are those of the row, and whether ssh-keygen made the same file. The first argument names the
+//! file of rows.
 #![tactic(auto)]
 
 use sshc_audit::audit_words;
 use sshc_wire::{Files, Found, MemSink, NoMemory, StdFiles, Text};
 use std::env;
 
-/// The text of a file; the empty text where there is none.
+/// The text of a file; empty if it can't be read.
 fn text_of(rt: &HostRuntime, path: &str) -> Text {
     match StdFiles::new(rt).read_text(path) {
         Ok(Found::Text(text)) => text,
@@ -14,7 +15,7 @@ fn text_of(rt: &HostRuntime, path: &str) -> Text {
     }
 }
 
-/// A row: its name, the status, the files with what is to be written and with what ssh-keygen made, and the words.
+/// A row: its name, the status, the files with the expected text and with ssh-keygen's, and the arguments.
 #[derive(Debug, Drop)]
 struct Row<'a> {
     name: &'a str,
@@ -24,7 +25,7 @@ struct Row<'a> {
     words: Vec<Text>,
 }
 
-/// The row of a line. Lines that begin with `#`, and those with too few words, have none.
+/// The row in a line. `None` if the line's first word is `#` or it has fewer than four words.
 fn row_of<'a>(rt: &HostRuntime, line: &'a str) -> Result<Option<Row<'a>>, NoMemory> {
     let mut parts = line.split_whitespace();
     let (Some(name), Some(status)) = (parts.next(), parts.next()) else {
@@ -49,7 +50,7 @@ fn row_of<'a>(rt: &HostRuntime, line: &'a str) -> Result<Option<Row<'a>>, NoMemo
     }))
 }
 
-/// Whether the words write what is wanted, and return the status that is.
+/// Whether the arguments write the expected text, and return the expected status.
 fn is_right(rt: &HostRuntime, row: &Row<'_>, wanted: &str) -> bool {
     let mut sink = MemSink::new(Vec::new(rt.alloc()), Vec::new(rt.alloc()));
     let mut files = StdFiles::new(rt);
@@ -57,7 +58,7 @@ fn is_right(rt: &HostRuntime, row: &Row<'_>, wanted: &str) -> bool {
     row.status.parse::<u8>() == Ok(status) && sink.contents() == wanted.as_bytes()
 }
 
-/// Prints how a row came out.
+/// Prints the outcome of a row.
 fn print_row(rt: &HostRuntime, row: &Row<'_>) -> anyhow::Result<()> {
     let wanted = text_of(rt, row.ours);
     let verdict = if is_right(rt, row, wanted.as_str()) {

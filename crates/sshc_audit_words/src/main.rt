@@ -1,4 +1,4 @@
-//! The program `sshc_audit_words`: it hands real files and standard output to `audit_words`.
+//! The program `sshc_audit_words`: it passes real files and standard output to `audit_words`.
 #![tactic(auto)]
 
 use sshc_audit::audit_words;
@@ -6,10 +6,10 @@ use sshc_wire::{NoMemory, StdFiles, StdSink, Text};
 use std::process::ExitCode;
 use std::{env, io};
 
-/// The status where memory ran out.
+/// The status if memory ran out.
 const NO_MEMORY: u8 = 20;
 
-/// The words behind the program's own name; none where they can't be had.
+/// The command-line arguments after the program's name; empty if they can't be read.
 fn words_of(rt: &HostRuntime) -> Result<Vec<Text>, NoMemory> {
     let mut words = Vec::new(rt.alloc());
     let Ok(mut given) = env::args(rt) else {

@@ -11,7 +11,7 @@ use Rattle.base64.specs.Engines.{standard}
 use Rattle.sshc_hosts.specs.Learning.{Lacks}
 use Rattle.sshc_hosts.proofs.LearningLemmas.{Lacks-nothing, Lacks-append, Lacks-cons}
 
--- each byte is another one
+-- every byte differs from this one
 abbrev pub lacks : ℕ → List ℕ → Bool
 lacks byte xs = list_all (λ b. not (b == byte)) xs
 
@@ -19,14 +19,14 @@ by_not : (b : Bool) → not b ≡ true → b ≡ false
 by_not true e = cc
 by_not false e = refl
 
--- a text lacks a byte that a test finds nowhere
+-- a text lacks a byte if no byte passes the test
 pub Lacks-from_test : (byte : ℕ) (xs : List ℕ) → lacks byte xs ≡ true → Lacks xs byte
 Lacks-from_test byte xs all k d within = by_not (get_or xs k d == byte) (AllPass-from_list_all (λ b. not (b == byte)) xs all k d within)
 
 apart : (b byte : ℕ) → (b == byte) ≡ false → not (b == byte) ≡ true
 apart b byte e = ap not e
 
--- a byte that a table lacks, and that isn't 0, is nowhere read from it
+-- a byte that a table lacks, and that isn't 0, is never read from it
 read_lacks : (table : List ℕ) (byte i : ℕ) → (0 == byte) ≡ false → Lacks table byte → not (slice_index table i == byte) ≡ true
 read_lacks table byte i some none =
     elim (cases_lt i (length table)) [

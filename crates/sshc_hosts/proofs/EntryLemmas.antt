@@ -1,4 +1,4 @@
--- The first entry of a host field, by the place of the first comma or space, and what is behind the field.
+-- The first entry of a host field, by the index of the first comma or space, and the text after the field.
 use Rattle.std.proofs.Common.{◌≡◌, ℕ, suc, ◌+◌, ◌-◌, ◌<◌, Bool, true, false, List, [], ◌∷◌, ◌++◌, length, take, drop, get_or, Option, Some, None, refl, ap, sym, ◌∙◌, arith, drop-cons, ◌⊎◌, inl, inr, Bor, option_copied, IfNone, IfSome}
 use Rattle.std.specs.Prelude.{◌==◌, ◌||◌, if◌then◌else◌}
 use Rattle.std.specs.List.{All, list_any, onto_first, slice_range}
@@ -27,7 +27,7 @@ one_of a b false false ha hb h = let e : false ≡ true = h in absurd (cc)
 is_one : (a b : ℕ) → (a == 44 || b == 32) ≡ true → (a ≡ 44) ⊎ (b ≡ 32)
 is_one a b h = one_of a b (a == 44) (b == 32) refl refl h
 
--- a place that was found
+-- an index that was found
 pub found_at : (xs : List ℕ) (i : ℕ) → IsFirstByte (is_byte2 44 32) xs (Some i) → (i < length xs) × ((get_or xs i 0 ≡ 44) ⊎ (get_or xs i 0 ≡ 32))
 found_at xs i (before, here) = (before.high, is_one (get_or xs i 0) (get_or xs i 0) here)
 
@@ -82,7 +82,7 @@ one_entry : (b : Bool) → (b || false) ≡ b
 one_entry true = refl
 one_entry false = refl
 
--- an entry that a space ends is the whole field
+-- an entry that ends at a space is the whole field
 whole_field : (host entry : List ℕ) → All (λ b. (b == 44) ≡ false) entry → field_matches host entry ≡ entry_matches host entry
 whole_field host entry no_comma =
     ap (λ parts. list_any (λ e. entry_matches host e) parts) (slice_split_none (λ b. b == 44) entry no_comma) ∙ one_entry (entry_matches host entry)
@@ -101,7 +101,7 @@ begins_more : (c x : ℕ) (xs : List ℕ) (b : Bool) → (x == c) ≡ b → Begi
 begins_more c x xs true h later = ([], parts_at c xs, slice_split-cons_yes (λ b. b == c) x xs h)
 begins_more c x xs false h (first, more, is) = (x ∷ first, more, slice_split-cons_no (λ b. b == c) x xs h ∙ ap (onto_first x) is)
 
--- the parts of a text begin with one
+-- the parts of a text are never an empty list
 some_part : (c : ℕ) (xs : List ℕ) → Begins (parts_at c xs)
 some_part c [] = ([], [], refl)
 some_part c (x ∷ xs) = begins_more c x xs (x == c) refl (some_part c xs)
@@ -153,7 +153,7 @@ comma_by mark (inr is) isnt = let e : true ≡ false = ap (λ m. m == 32) (sym i
 pub is_comma : (text entry rest : List ℕ) (mark : ℕ) → CutsEntry text entry mark rest → (mark == 32) ≡ false → mark ≡ 44
 is_comma text entry rest mark cut isnt = comma_by mark cut.ends isnt
 
--- what is behind a field with the host in its first entry, by what is behind the next space
+-- the text after a field with the host in its first entry, by the text after the next space
 pub cut_behind : (host text entry rest first : List ℕ) (mark : ℕ) (r : Option (Bor (List ℕ))) → CutsEntry text entry mark rest → mark ≡ 44 → true ≡ entry_matches host entry
     → IfNone r (parts_at 32 rest ≡ first ∷ []) → IfSome r (λ b. parts_at 32 rest ≡ first ∷ parts_at 32 b.now)
     → key_behind (option_copied r) ≡ third_field host (parts_at 32 text)

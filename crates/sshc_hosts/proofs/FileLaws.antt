@@ -1,4 +1,4 @@
--- What learning a key in a file does to the judgement by that file.
+-- How learning a key in a file affects the judgement by that file.
 use Rattle.std.proofs.Common.{◌≡◌, ℕ, Bool, true, false, List, [], ◌∷◌, ◌++◌, Option, Some, None, Result, Ok, Err, OnOk, refl, ap, sym, ◌∙◌, subst}
 use Rattle.std.specs.Prelude.{bytes_eq, if◌then◌else◌, option_map}
 use Rattle.std.specs.Str.{is_utf8, IsUtf8}
@@ -14,7 +14,7 @@ use Rattle.sshc_hosts.specs.Learning.{Learns, once_learned}
 use Rattle.sshc_key.specs.KeyFiles.{Told, AnswersBy}
 use Rattle.sshc_hosts.specs.HostsFile.{text_found, text_at, judged_at, LearnsAt, LearnsIn}
 
--- the bytes of a file, none where there is no file
+-- the bytes of a file; empty if there is no file
 held : Option (List ℕ) → List ℕ
 held None = []
 held (Some bytes) = bytes
@@ -40,7 +40,7 @@ unfolding held
 found_is None text e = cc
 found_is (Some bytes) text e = utf8_case bytes text (is_utf8 bytes) e
 
--- the text behind which text is added
+-- the text of a file to which text was added
 text_at-added : (files : Told) (path text added : List ℕ) → text_at files path ≡ Ok text → IsUtf8 text → IsUtf8 added → text_at (with_text files path added) path ≡ Ok (text ++ added)
 text_at-added files path text added is utf8 more =
     let whole : is_utf8 (text ++ added) ≡ true = is_utf8-from_IsUtf8 (text ++ added) (IsUtf8-append text added utf8 more) in
@@ -60,7 +60,7 @@ learns_at files path text added host key is utf8 more law =
       others = λ other k apart. judged_by_text (with_text files path added) path (text ++ added) other k now ∙ law.others other k apart ∙ sym (judged_by_text files path text other k is);
     }
 
--- the same, of files as they are told
+-- the same, for the files as far as contracts see them
 learns_told : (old new : Option Told) (path text added host : List ℕ) (key : Key) → AnswersBy {X = List ℕ} (λ t. t) (Ok text) old (λ told. text_at told path)
     → IsUtf8 text → IsUtf8 added → Learns text added host key → new ≡ option_map (λ told. with_text told path added) old → LearnsIn old new path host key
 learns_told None new path text added host key is utf8 more law e = tt

@@ -1,4 +1,4 @@
--- The judgement where one line more matches.
+-- The judgement if one more line matches.
 use Rattle.std.proofs.Common.{◌≡◌, ℕ, Bool, true, false, List, [], ◌∷◌, ◌++◌, Option, Some, None, Result, Ok, Err, refl, ap, ◌∙◌}
 use Rattle.std.specs.Prelude.{not, ◌&&◌, ◌||◌, find}
 use Rattle.std.specs.List.{list_any}
@@ -12,7 +12,7 @@ use Rattle.sshc_hosts.specs.Learning.{once_learned}
 use Rattle.sshc_hosts.specs.Judgement.{KnownKey, is_certificate, same_algorithm, contradicts, has_key, verdict, judged_among, read_lines, judged_by}
 use Rattle.sshc_key.specs.KeyText.{decoded_key}
 
--- ---- reading one line more
+-- ---- reading one more line
 
 more_case : (line : ℕ × List ℕ) (key : Result Key Error) (rest : Result (List KnownKey) Error) (more : List KnownKey)
     → (key >>= (λ k. (rest >>= (λ lines. Ok (lines ++ more))) >>= (λ lines. Ok ((line.0, (k, [])) ∷ lines))))
@@ -28,7 +28,7 @@ read_lines-more (line ∷ found) n field key is =
     ap (λ rest. decoded_key line.1 >>= (λ k. rest >>= (λ lines. Ok ((line.0, (k, [])) ∷ lines)))) (read_lines-more found n field key is)
     ∙ more_case line (decoded_key line.1) (read_lines found) ((n, (key, [])) ∷ [])
 
--- ---- one key more
+-- ---- one more key
 
 same_itself : (key : Key) → key_eq key key ≡ true
 same_itself key = (key_eq-Decides key key).1 refl
@@ -70,7 +70,7 @@ judged_case : (key : Key) (n : ℕ) (lines : Result (List KnownKey) Error)
 judged_case key n (Ok lines) = among-more key lines n
 judged_case key n (Err e) = refl
 
--- a key that is no certificate, where one line more matches that has it
+-- a key that is no certificate, if one more line matches that has it
 pub judged-more : (found : List (ℕ × List ℕ)) (n : ℕ) (field : List ℕ) (key : Key) → is_certificate key ≡ false → decoded_key field ≡ Ok key
     → judged_by (read_lines (found ++ (n, field) ∷ [])) key ≡ once_learned (judged_by (read_lines found) key)
 judged-more found n field key plain is =

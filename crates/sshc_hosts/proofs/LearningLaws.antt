@@ -1,4 +1,5 @@
--- What learning a key does to the judgement: the key is accepted unless an old line refuses it, and no other host's judgement changes.
+-- How learning a key affects the judgement: the key is accepted unless an old line refuses it, and no other host's
+-- judgement changes.
 use Rattle.std.proofs.Common.{◌<◌, ◌^◌, ◌≡◌, ◌≢◌, ℕ, Bool, true, false, List, [], ◌∷◌, ◌++◌, Some, None, Ok, refl, ap, sym, ◌∙◌}
 use Rattle.std.specs.Prelude.{if◌then◌else◌, option_map, bytes_eq}
 use Rattle.std.specs.List.{cons_option}
@@ -38,7 +39,7 @@ one_line host name field rest line =
     Lacks-append host (32 ∷ (name ++ 32 ∷ rest)) 10 line.learnable.no_line_feed
     (Lacks-cons 32 (name ++ 32 ∷ rest) 10 refl (Lacks-append name (32 ∷ rest) 10 line.name_line_feed (Lacks-cons 32 rest 10 refl line.rest_line_feed)))
 
--- what matches, by whether the added line does
+-- the matching lines, by whether the added line matches
 added_matches : (old other host name field rest : List ℕ) (b : Bool) → IsLearnedLine host name field rest → bytes_eq host other ≡ b
     → matching (old ++ added_line old (host ++ 32 ∷ (name ++ 32 ∷ rest))) other
     ≡ matching old other ++ cons_option (option_map (λ key. (added_number old (ends_line old), key)) (if b then Some field else None)) []

@@ -63,7 +63,7 @@ IsLearnable-host_text host port short fit = learnable_case host port (port == 22
 
 -- ---- the fields of the line
 
--- the fields of a line that begins with a name and an algorithm, and goes on with more fields
+-- the fields of a line that begins with a name and an algorithm, and continues with more fields
 three_fields : (host name rest : List ℕ) → Lacks host 32 → Lacks name 32 → parts_at 32 (host ++ 32 ∷ (name ++ 32 ∷ rest)) ≡ host ∷ name ∷ parts_at 32 rest
 three_fields host name rest plain_host plain_name =
     parts_at-first 32 host (name ++ 32 ∷ rest) plain_host ∙ ap (λ (fields : List (List ℕ)). host ∷ fields) (parts_at-first 32 name rest plain_name)
@@ -86,7 +86,7 @@ field_is other host fit =
     let entry : entry_matches other host ≡ bytes_eq host other = ap (λ b. if b then hashed_matches other (parts_at 124 host) else bytes_eq host other) fit.not_hashed in
     ap (λ parts. list_any (λ e. entry_matches other e) parts) one ∙ any_single (λ e. entry_matches other e) host ∙ entry
 
--- the third field of the line, where the host text is this one
+-- the third field of the line, if the host text is this one
 pub line_key-learned : (other host name rest key : List ℕ) (later : List (List ℕ)) → IsLearnable host → Lacks name 32 → parts_at 32 rest ≡ key ∷ later
     → line_key other (host ++ 32 ∷ (name ++ 32 ∷ rest)) ≡ (if bytes_eq host other then Some key else None)
 line_key-learned other host name rest key later fit plain_name behind =

@@ -61,7 +61,7 @@ matching-append host xs ys =
     ∙ ap (filter_map (numbered_key host)) (enumerate_from-append 1 (parts_at 10 xs) (parts_at 10 ys))
     ∙ filter_map-append (numbered_key host) (enumerate_from 1 (parts_at 10 xs)) (enumerate_from (1 + length (parts_at 10 xs)) (parts_at 10 ys))
 
--- an empty line behind a text matches nothing
+-- an empty line after a text matches nothing
 pub matching-line_feed : (host xs : List ℕ) → matching (xs ++ 10 ∷ []) host ≡ matching xs host
 matching-line_feed host xs = matching-append host xs [] ∙ append-nil (matching xs host)
 
@@ -70,7 +70,7 @@ matching_from-line : (host line : List ℕ) (n : ℕ) → Lacks line 10 → matc
 matching_from-line host line n whole =
     ap (λ parts. filter_map (numbered_key host) (enumerate_from n parts)) (parts_at-first 10 line [] whole)
 
--- a line behind a text and a line feed
+-- a line after a text and a line feed
 pub matching-line : (host xs line : List ℕ) → Lacks line 10 → matching (xs ++ 10 ∷ (line ++ 10 ∷ [])) host ≡ matching xs host ++ cons_option (numbered_key host (1 + length (parts_at 10 xs), line)) []
 matching-line host xs line whole =
     matching-append host xs (line ++ 10 ∷ []) ∙ ap (λ found. matching xs host ++ found) (matching_from-line host line (1 + length (parts_at 10 xs)) whole)
@@ -86,7 +86,7 @@ by_last text i byte long last =
     let behind : drop i text ≡ byte ∷ [] = drop-cons text i 0 within ∙ ap (λ b. b ∷ drop (suc i) text) last ∙ ap (λ later. byte ∷ later) rest in
     sym (take-append-drop i text) ∙ ap (λ end. take i text ++ end) behind
 
--- a text that ends with a line feed, by what stands before it
+-- a text that ends with a line feed, by the text before it
 before_line_feed : (text : List ℕ) → ends_line text ≡ true → text ≡ take (length text - 1) text ++ 10 ∷ []
 before_line_feed [] ends = absurd (cc)
 before_line_feed (b ∷ text) ends = by_last (b ∷ text) (length (b ∷ text) - 1) 10 (omega arith) (let last : get_or (b ∷ text) (length (b ∷ text) - 1) 0 ≡ 10 = grind (arith, nat_tests, ends) in last)
@@ -106,7 +106,7 @@ added_case host old line true ends whole =
     ap (λ text. matching text host) now ∙ matching-line host body line whole ∙ ap (λ found. found ++ cons_option (numbered_key host (added_number old true, line)) []) (sym before)
 added_case host old line false ends whole = matching-line host old line whole
 
--- what matches where a line was added: what matched before, and perhaps the line
+-- the matching lines after a line was added: those that matched before, and perhaps the line
 pub matching-added : (host old line : List ℕ) → Lacks line 10
     → matching (old ++ added_line old line) host ≡ matching old host ++ cons_option (numbered_key host (added_number old (ends_line old), line)) []
 matching-added host old line whole = added_case host old line (ends_line old) refl whole

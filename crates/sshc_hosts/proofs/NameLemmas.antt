@@ -10,7 +10,7 @@ other_byte : (b byte : ℕ) (same : Bool) → eqb b byte ≡ same → is_word_by
 other_byte b byte false e white h = refl
 other_byte b byte true e white h = let bad : false ≡ true = sym white ∙ ap is_word_byte (sym (eqb-true b byte e)) ∙ h in absurd cc
 
--- a word lacks each byte that is none of a word
+-- a word lacks each byte that can't occur in a word
 word_lacks : (w : List ℕ) (byte : ℕ) → is_word_byte byte ≡ false → is_word w ≡ true → Lacks w byte
 word_lacks w byte white h k d within = other_byte _ byte _ refl white (AllPass-from_list_all is_word_byte w h k d within)
 

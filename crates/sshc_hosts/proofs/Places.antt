@@ -1,4 +1,4 @@
--- The first place of a byte, as a search tells it.
+-- The index of the first occurrence of a byte, as a search returns it.
 use Rattle.std.proofs.Common.{◌≡◌, ℕ, ◌<◌, Bool, true, false, cond, List, [], ◌∷◌, suc, length, get_or, Option, Some, None, refl, ap, sym, ◌∙◌, arith, nat_lt}
 use Rattle.std.specs.Prelude.{position, ◌==◌, filter, not, ◌&&◌, ◌||◌, is_some}
 use Rattle.std.specs.List.{position_or_len}
@@ -12,7 +12,7 @@ not_true : (b : Bool) → (b ≡ true → ⊥) → b ≡ false
 not_true true h = absurd (h refl)
 not_true false h = refl
 
--- the place that the first one is
+-- the index of the first one
 place_is : (p : ℕ → Bool) (text : List ℕ) (i : ℕ) → i < length text → position_or_len p text ≡ i → Some i ≡ position p text
 place_is p text i within is =
     sym (ap (λ (n : ℕ). cond (nat_lt n (length text)) (Some n) None) is ∙ ap (λ (b : Bool). cond b (Some i) None) (lt-ltb i (length text) within))

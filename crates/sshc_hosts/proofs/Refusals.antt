@@ -1,4 +1,4 @@
--- From what is said to what is answered: which errors the calls that read and judge answer.
+-- From the errors of the definitions to those of the code: which errors the calls that read and judge return.
 use Rattle.std.proofs.Common.{Result, Ok, Err, IfErr, subst}
 use Rattle.sshc_key.specs.Gives.{Fails, GivesAll}
 use Rattle.sshc_key.specs.declared.error.Error.{Error}

@@ -1,4 +1,4 @@
--- The parts of a list at a byte, by the place of the first such byte.
+-- The parts of a list at a byte, by the index of the first such byte.
 use Rattle.std.proofs.Common.{◌≡◌, ℕ, ◌+◌, ◌<◌, ◌≤◌, Bool, true, false, cond, List, [], ◌∷◌, length, take, drop, Some, None, refl, ap, sym, ◌∙◌, arith, nat_lt}
 use Rattle.std.specs.Prelude.{position}
 use Rattle.std.specs.List.{slice_split, position_or_len, before_first, after_first, onto_first, slice_range}
@@ -39,7 +39,7 @@ split_whole p xs h =
     let no : nat_lt (position_or_len p xs) (length xs) ≡ false = none_is (nat_lt (position_or_len p xs) (length xs)) (position_or_len p xs) h in
     whole_by p xs (grind (arith, nat_tests, no))
 
--- the first part and the rest, by the place of the first such byte
+-- the first part and the rest, by the index of the first such byte
 pub split_parts : (p : ℕ → Bool) (xs : List ℕ) (i : ℕ) (front rest : List ℕ) → Some i ≡ position p xs → front ≡ slice_range xs 0 i → rest ≡ drop (i + 1) xs → slice_split p xs ≡ front ∷ slice_split p rest
 split_parts p xs i front rest h is_front is_rest =
     let whole : slice_range xs 0 i ≡ take i xs = ap (λ n. take n xs) (omega arith) in
@@ -47,7 +47,7 @@ split_parts p xs i front rest h is_front is_rest =
     let same : front ≡ take i xs = is_front ∙ whole in
     rw (same, is_rest) parts
 
--- a text may be cut right before and right after the first such byte, where that byte is ASCII
+-- a text may be cut right before and right after the first such byte, if that byte is ASCII
 first_byte : (at i : ℕ) (xs : List ℕ) → at < 128 → Some i ≡ position (λ b. b == at) xs → (i < length xs) × (get_or xs i 0 < 128)
 first_byte at i xs ascii h =
     let (within, is, before) = position-Some (λ b. b == at) xs i 0 (sym h) in

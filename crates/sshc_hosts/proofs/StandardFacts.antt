@@ -1,5 +1,5 @@
--- Worked examples of the definitions, by computing them. A line with a whole key is worked in StandardKey; more of them, and lines with
--- hashes, are tested in sshc_hosts_tests.
+-- Worked examples of the definitions, by computing them. A line with a whole key is worked in StandardKey; more of
+-- them, and lines with hashes, are tested in sshc_hosts_tests.
 use Rattle.std.proofs.Common.{◌≡◌, List, ℕ, [], ◌∷◌, ◌++◌, refl}
 use Rattle.std.specs.Prelude.{codes}
 use Rattle.sshc_hosts.specs.HostText.{host_text}
@@ -22,7 +22,7 @@ by_port : matching four_lines (codes "[localhost]:13265") ≡ (1, codes "K1") �
 unfolding four_lines
 by_port = refl
 
--- a front of a name is another name
+-- a prefix of a name is another name
 by_front : matching four_lines (codes "pijul") ≡ []
 unfolding four_lines
 by_front = refl

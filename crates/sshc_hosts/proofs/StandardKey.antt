@@ -1,4 +1,5 @@
--- A worked known hosts line with a whole key: its base64 is decoded to the key's blob, and a text of that line alone accepts the key.
+-- A worked known hosts line with a whole key: its base64 is decoded to the key's blob, and a text of that line alone
+-- accepts the key.
 use Rattle.std.proofs.Common.{◌≡◌, ℕ, List, [], ◌∷◌, ◌++◌, Ok, Some, true, false, refl, ap, ◌∙◌}
 use Rattle.std.specs.Fmt.{digits}
 use Rattle.std.specs.Prelude.{codes, filter}
@@ -20,7 +21,7 @@ use Rattle.sshc_hosts.proofs.JudgementLemmas.{judged-more}
 abbrev pub key_field : List ℕ
 key_field = codes "AAAAC3NzaC1lZDI1NTE5AAAAIJdD7y3aLq454yWBdwLWbieU1ebz9/cu7/QEXn9OIeZJ"
 
--- the 11 bytes `ssh-ed25519` and the 32 bytes of the key, each behind their number
+-- the 11 bytes `ssh-ed25519` and the 32 bytes of the key, each preceded by its length
 abbrev pub key_blob : List ℕ
 key_blob =
     0 ∷ 0 ∷ 0 ∷ 11 ∷ 115 ∷ 115 ∷ 104 ∷ 45 ∷ 101 ∷ 100 ∷ 50 ∷ 53 ∷ 53 ∷ 49 ∷ 57 ∷ 0 ∷ 0 ∷ 0 ∷ 32 ∷ 151 ∷ 67 ∷ 239 ∷ 45 ∷ 218 ∷ 46 ∷ 174
@@ -30,7 +31,7 @@ pub field_decodes : decode_of standard (filter is_no_line_end key_field) ≡ Ok 
 unfolding base64_on_literals
 field_decodes = refl
 
--- the text's key is the one at the front of these bytes
+-- the key in the base64 text is the one at the front of these bytes
 pub field_key : decoded_key key_field ≡ key_or_fault (blob_key key_blob)
 unfolding decoded_key
 field_key = ap (λ r. decoded r) field_decodes
@@ -45,7 +46,7 @@ line_matches : matching localhost_line (host_text (codes "localhost") 13265) ≡
 unfolding host_text digits
 line_matches = refl
 
--- where no line matched before, a line that has the key accepts it
+-- if no line matched before, a line that has the key accepts it
 first_accepts : (key : Key) → is_certificate key ≡ false → once_learned (judged_by (read_lines []) key) ≡ Ok true
 first_accepts key plain = rw plain refl
 

@@ -1,4 +1,4 @@
--- What it says of the matching lines that a key is accepted: each can be read, none contradicts the key, and one has it.
+-- What an accepted key means for the matching lines: each can be read, no line contradicts the key, and one has it.
 use Rattle.std.proofs.Common.{◌≡◌, ◌↔◌, ℕ, Bool, true, false, List, Option, Some, None, Result, Ok, Err, refl, sym, ◌∙◌}
 use Rattle.std.specs.Prelude.{if◌then◌else◌, find}
 use Rattle.std.specs.List.{list_any}
@@ -8,7 +8,7 @@ use Rattle.sshc_key.specs.declared.error.Error.{Error}
 use Rattle.sshc_hosts.specs.MatchingLines.{matching}
 use Rattle.sshc_hosts.specs.Judgement.{KnownKey, contradicts, has_key, verdict, judged_among, is_certificate, read_lines, known_keys, judged}
 
--- the key is no certificate, the matching lines have these keys, none of them contradicts it, and one has it
+-- the key is no certificate, the matching lines have these keys, no line contradicts it, and one has it
 pub record IsAcceptedBy (text host : List ℕ) (key : Key) : Type 0 where
   pub no_certificate : is_certificate key ≡ false
   pub lines : List KnownKey
@@ -36,7 +36,7 @@ by_kind : (text host : List ℕ) (key : Key) (b : Bool) → is_certificate key �
 by_kind text host key true is e = absurd cc
 by_kind text host key false is e = by_lines text host key (read_lines (matching text host)) refl is e
 
--- a key is accepted just so
+-- a key is accepted exactly then
 pub accepted_just : (text host : List ℕ) (key : Key) → (judged text host key ≡ Ok true) ↔ IsAcceptedBy text host key
 unfolding judged known_keys
 accepted_just text host key = (

@@ -1,5 +1,5 @@
--- The first entry of a host field, and what is behind it.
--- The definition speaks of the whole text; the code finds the first comma or space.
+-- The first entry of a host field, and the text after it.
+-- The definition is about the whole text; the code finds the first comma or space.
 use Rattle.std.specs.Prelude.{ℕ, false, List, ◌∷◌, ◌++◌, Option, Some, None, ◌==◌, ◌≡◌, ◌⊎◌}
 use Rattle.std.specs.List.{All}
 use Rattle.sshc_hosts.specs.MatchingLines.{parts_at}
@@ -11,7 +11,7 @@ pub record CutsEntry (text entry : List ℕ) (mark : ℕ) (rest : List ℕ) : Ty
   pub no_space : All (λ b. (b == 32) ≡ false) entry
   pub ends : (mark ≡ 44) ⊎ (mark ≡ 32)
 
--- the third field of a line, which is the second part of what is behind its first field
+-- the third field of a line, which is the second part of the text after its first field
 abbrev pub second : List (List ℕ) → Option (List ℕ)
 second (name ∷ key ∷ later) = Some key
 second parts = None

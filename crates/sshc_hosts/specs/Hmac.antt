@@ -1,4 +1,4 @@
--- HMAC with SHA-1 (RFC 2104, section 2), as OpenSSH's hashed host names have it.
+-- HMAC with SHA-1 (RFC 2104, section 2), as OpenSSH uses it for hashed host names.
 -- Each definition is a whole list; the code fills two blocks and hashes piece by piece.
 use Rattle.std.specs.Prelude.{ℕ, ◌-◌, List, ◌++◌, length, map, replicate, bit_xor, nat_lt, if◌then◌else◌}
 use Rattle.sha1.specs.Sha1.{sha1}
@@ -15,7 +15,7 @@ short_key key = if nat_lt block_length (length key) then sha1 key else key
 abbrev pub block_key : List ℕ → List ℕ
 block_key key = short_key key ++ replicate (block_length - length (short_key key)) 0
 
--- each byte of a block by exclusive or with one byte
+-- the exclusive or of each byte of a block with one byte
 abbrev pub padded_by : ℕ → List ℕ → List ℕ
 padded_by pad block = map (λ k. bit_xor k pad) block
 

@@ -1,5 +1,7 @@
--- The judgement of a host key by the matching lines of a known hosts text (OpenSSH's sshd(8), "SSH_KNOWN_HOSTS FILE FORMAT").
--- Five cases over the whole list of matching lines, the first that fits; the code reads that list once, and then goes over its keys.
+-- The judgement of a host key by the matching lines of a known hosts text (OpenSSH's sshd(8), "SSH_KNOWN_HOSTS FILE
+-- FORMAT").
+-- Five cases over the whole list of matching lines; the first that fits is the result. The code reads that list once,
+-- and then goes over its keys.
 use Rattle.std.specs.Prelude.{[], ◌∷◌, if◌then◌else◌, ℕ, Bool, true, false, not, ◌&&◌, List, Option, Some, None, Result, Ok, Err, bytes_eq, find}
 use Rattle.std.specs.List.{list_any}
 use Rattle.sshc_wire.specs.Reads.{◌>>=◌}
@@ -44,11 +46,11 @@ abbrev pub verdict : Option KnownKey → Bool → Result Bool Error
 verdict (Some known) accepted = Err (KeyChanged known.0)
 verdict None accepted = Ok accepted
 
--- the first line that contradicts the key refuses it, and else each line that has it accepts it
+-- the first line that contradicts the key refuses it; otherwise each line that has it accepts it
 abbrev pub judged_among : Key → List KnownKey → Result Bool Error
 judged_among key lines = verdict (find (contradicts key) lines) (list_any (has_key key) lines)
 
--- the lines with their keys, or why the first that can't be read can't
+-- the lines with their keys, or why the first unreadable line can't be read
 abbrev pub read_lines : List (ℕ × List ℕ) → Result (List KnownKey) Error
 read_lines [] = Ok []
 read_lines (line ∷ lines) = do
@@ -68,14 +70,14 @@ judged_by known key = if is_certificate key then Ok false else (known >>= judged
 unfoldable pub judged : List ℕ → List ℕ → Key → Result Bool Error
 judged text host key = judged_by (known_keys text host) key
 
--- why a call that reads the lines refuses: a line that can't be read, or out of memory
+-- the errors of a call that reads the lines: a line that can't be read, or out of memory
 abbrev pub IsUnreadable : Error → Type 0
 IsUnreadable Decode = Unit {0}
 IsUnreadable SshKey = Unit {0}
 IsUnreadable NoMemory = Unit {0}
 IsUnreadable e = ⊥
 
--- why a call that judges refuses
+-- the errors of a call that judges
 abbrev pub IsRefusal : Error → Type 0
 IsRefusal (KeyChanged line) = Unit {0}
 IsRefusal e = IsUnreadable e

@@ -1,5 +1,5 @@
--- What a known hosts text becomes where a key is learned, and which hosts can be learned.
--- The line stands whole behind the old text; the code appends its parts.
+-- The known hosts text after a key was learned, and which hosts can be learned.
+-- The whole line comes after the old text; the code appends its parts.
 use Rattle.std.specs.Prelude.{◌≡◌, ◌≢◌, ℕ, ◌-◌, ◌<◌, ◌≤◌, Bool, true, false, Result, Ok, Err, List, [], ◌∷◌, ◌++◌, length, slice_index, ◌==◌, if◌then◌else◌, All}
 use Rattle.sshc_key.specs.KeyGrammar.{Key, key_text, Fits}
 use Rattle.sshc_key.specs.Algorithms.{openssh_text}
@@ -12,7 +12,7 @@ use Rattle.sshc_hosts.specs.MatchingLines.{is_hashed, is_comment}
 abbrev pub ends_line : List ℕ → Bool
 ends_line text = slice_index text (length text - 1) == 10
 
--- a line feed, unless the old text ends with one, also where it is empty
+-- a line feed, unless the old text ends with one; also after an empty text
 abbrev pub line_feed_after : List ℕ → List ℕ
 line_feed_after old = if ends_line old then [] else 10 ∷ []
 
@@ -20,11 +20,12 @@ line_feed_after old = if ends_line old then [] else 10 ∷ []
 abbrev pub added_line : List ℕ → List ℕ → List ℕ
 added_line old line = line_feed_after old ++ line ++ 10 ∷ []
 
--- the byte stands nowhere in the text
+-- the text doesn't contain the byte
 abbrev pub Lacks : List ℕ → ℕ → Type 0
 Lacks text byte = All (λ b. (b == byte) ≡ false) text
 
--- a host that can be learned: not empty, without space, comma and line feed, and taken neither for a comment nor for a hash
+-- a host that can be learned: not empty, without space, comma and line feed, and read neither as a comment nor as a
+-- hash
 pub record IsLearnable (host : List ℕ) : Type 0 where
   pub some : 0 < length host
   pub no_space : Lacks host 32
@@ -33,7 +34,7 @@ pub record IsLearnable (host : List ℕ) : Type 0 where
   pub no_comment : is_comment host ≡ false
   pub not_hashed : is_hashed host ≡ false
 
--- what is added where a key is learned for a host text
+-- the text that is added to learn a key for a host text
 unfoldable pub learned : List ℕ → List ℕ → Key × List ℕ → List ℕ
 learned old host key = added_line old (host ++ 32 ∷ openssh_text key.0 key.1)
 
@@ -44,7 +45,7 @@ pub record IsLearnableKey (key : Key × List ℕ) : Type 0 where
   pub nesting : markers (key_text key.0) ≤ 8
   pub one_line : Lacks key.1 10
 
--- what becomes of a verdict where the key is learned: it is accepted, unless an old line refuses it
+-- the verdict after the key was learned: it is accepted, unless an old line refuses it
 abbrev pub once_learned : Result Bool Error → Result Bool Error
 once_learned (Ok accepted) = Ok true
 once_learned (Err e) = Err e

@@ -1,4 +1,4 @@
--- The lines of a known hosts text that speak of a host (OpenSSH's sshd(8), "SSH_KNOWN_HOSTS FILE FORMAT").
+-- The lines of a known hosts text that match a host (OpenSSH's sshd(8), "SSH_KNOWN_HOSTS FILE FORMAT").
 -- A filter over all numbered lines; the code cuts off one line after another.
 use Rattle.std.specs.Prelude.{ℕ, Bool, false, List, [], ◌∷◌, Option, Some, None, ◌==◌, if◌then◌else◌, filter, option_map}
 use Rattle.std.specs.List.{slice_split, list_any, filter_map, enumerate_from, starts_with}
@@ -22,12 +22,12 @@ abbrev pub hash_matches : List ℕ → Option (List ℕ) → Option (List ℕ) �
 hash_matches host (Some salt) (Some hash) = bytes_eq (hmac_sha1 salt host) hash
 hash_matches host salt hash = false
 
--- by the parts of a hashed entry at `|`: the third is the salt, the fourth the hash, and later ones don't count
+-- by the parts of a hashed entry at `|`: the third is the salt, the fourth the hash, and later ones are ignored
 abbrev pub hashed_matches : List ℕ → List (List ℕ) → Bool
 hashed_matches host (front ∷ version ∷ salt ∷ hash ∷ later) = hash_matches host (base64_bytes salt) (base64_bytes hash)
 hashed_matches host parts = false
 
--- an entry that begins `|1|` is hashed
+-- an entry that begins with `|1|` is hashed
 abbrev pub is_hashed : List ℕ → Bool
 is_hashed entry = starts_with nat_eq entry (124 ∷ 49 ∷ 124 ∷ [])
 
@@ -35,7 +35,7 @@ is_hashed entry = starts_with nat_eq entry (124 ∷ 49 ∷ 124 ∷ [])
 abbrev pub entry_matches : List ℕ → List ℕ → Bool
 entry_matches host entry = if is_hashed entry then hashed_matches host (parts_at 124 entry) else bytes_eq entry host
 
--- a host field is a list of entries, parted by commas
+-- a host field is a list of entries, separated by commas
 abbrev pub field_matches : List ℕ → List ℕ → Bool
 field_matches host field = list_any (λ entry. entry_matches host entry) (parts_at 44 field)
 

@@ -1,4 +1,4 @@
--- Which errors reading and judging say: laws about the definitions, for the crates above too.
+-- Which errors reading and judging return: laws about the definitions, also for crates that use this one.
 use Rattle.std.proofs.Common.{ℕ, Bool, true, false, List, [], ◌∷◌, Option, Some, None, Result, Ok, Err, IfErr}
 use Rattle.std.specs.Prelude.{if◌then◌else◌, find, filter}
 use Rattle.std.specs.List.{list_any}

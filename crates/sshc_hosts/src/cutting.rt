@@ -5,7 +5,7 @@ ghost use Rattle.sshc_hosts.specs.MatchingLines.{parts_at};
 
 use memchr::memchr;
 
-/// The place of the first such byte.
+/// The index of the first such byte.
 #[tactic(auto, using(crate::proofs::Places::first_place))]
 fn first_of(text: &str, at: u8) -> Option<usize>
     ensures { result ≡ position (λ b. b == at) text.now }
@@ -13,7 +13,7 @@ fn first_of(text: &str, at: u8) -> Option<usize>
     memchr(at, text.as_bytes())
 }
 
-/// The part before the first such ASCII character, and what is behind that character, if there is one.
+/// The part before the first such ASCII character, and the text after that character, if there is one.
 pub fn cut(text: &str, at: u8) -> (&str, Option<&str>)
     requires { at < 128 }
     ensures none { IfNone result.1 (parts_at at text.now ≡ result.0.now ∷ []) }

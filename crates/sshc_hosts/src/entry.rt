@@ -61,7 +61,7 @@ fn is_hash_of(alloc: Global, host: &str, salt: &str, hash: &str) -> Result<bool,
     Ok(digest.as_slice() == hash.as_slice())
 }
 
-/// Whether the parts of a hashed entry have the host's hash.
+/// Whether a hashed entry has the host's hash.
 fn is_hashed_host(alloc: Global, host: &str, entry: &str) -> Result<bool, NoMemory>
     ensures { IfOk result (λ b. b ≡ hashed_matches host.now (parts_at 124 entry.now)) }
 {
@@ -78,7 +78,7 @@ fn is_hashed_host(alloc: Global, host: &str, entry: &str) -> Result<bool, NoMemo
     is_hash_of(alloc, host, salt, hash)
 }
 
-/// Whether an entry of a host field is the host text: by its hash, where it begins `|1|`, and else byte by byte.
+/// Whether an entry of a host field is the host text: by its hash if it begins with `|1|`, and byte by byte otherwise.
 pub fn is_host(alloc: Global, host: &str, entry: &str) -> Result<bool, NoMemory>
     ensures { IfOk result (λ b. b ≡ entry_matches host.now entry.now) }
 {

@@ -86,7 +86,8 @@ fn add_at<F: Files>(files: &mut F, path: &str, text: &str) -> Result<(), Error>
     }
 }
 
-/// Adds a line with the key for the host at the port to the known hosts file at the path. What stands in the file stays.
+/// Adds a line with the key for the host at the port to the known hosts file at the path. The file's earlier bytes
+/// stay.
 pub fn learn_known_hosts_path<F: Files>(
     alloc: Global,
     files: &mut F,

@@ -8,7 +8,7 @@ use sha1::Sha1;
 
 const BLOCK_LENGTH: usize = 64;
 
-/// The bytes, of which a block has room for all, with zeros up to a block.
+/// The bytes, which fit in a block, followed by zeros up to a block's length.
 fn filled(bytes: &[u8]) -> [u8; BLOCK_LENGTH]
     requires { length bytes.now ≤ block_length }
     ensures { result ≡ bytes.now ++ replicate (block_length - length bytes.now) 0 }
@@ -18,7 +18,7 @@ fn filled(bytes: &[u8]) -> [u8; BLOCK_LENGTH]
     block
 }
 
-/// The key with zeros up to a block. Of a longer key it is the digest that is filled.
+/// The key with zeros up to a block's length. A longer key is replaced by its digest first.
 fn filled_key(key: &[u8]) -> [u8; BLOCK_LENGTH]
     ensures { result ≡ block_key key.now }
 {
@@ -29,7 +29,7 @@ fn filled_key(key: &[u8]) -> [u8; BLOCK_LENGTH]
     }
 }
 
-/// Each byte of the block by exclusive or with one byte.
+/// The exclusive or of each byte of the block with `pad`.
 fn padded(block: &[u8; BLOCK_LENGTH], pad: u8) -> [u8; BLOCK_LENGTH]
     ensures { result ≡ padded_by pad block.now }
 {

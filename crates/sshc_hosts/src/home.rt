@@ -1,4 +1,4 @@
-//! Known hosts in a home.
+//! Known hosts in a home directory.
 
 ghost use Rattle.std.specs.Prelude.{◌≡◌, IfErr, IfOk, OnOk, OnErr, IsErrOf, option_copied, string_bytes};
 ghost use Rattle.sshc_hosts.specs.HostText.{host_text};
@@ -12,14 +12,15 @@ use sshc_key::{Error, PublicKey};
 use sshc_wire::{Files, NoMemory};
 use std::alloc::Global;
 
-/// The path of a home's known hosts.
+/// The path of the known hosts file in a home directory.
 pub fn path_in(alloc: Global, home: &str) -> Result<String, NoMemory>
     ensures { IfOk result (λ path. string_bytes path ≡ home_path home.now) }
 {
     Ok(format!(in alloc; "{home}/.ssh/known_hosts")?)
 }
 
-/// The keys that a home's known hosts record for the host at the port, with the numbers of their lines.
+/// The keys that the known hosts file in a home directory records for the host at the port, with the numbers of their
+/// lines.
 pub fn known_host_keys<F: Files>(
     alloc: Global,
     files: &mut F,
@@ -44,7 +45,7 @@ pub fn known_host_keys<F: Files>(
     }
 }
 
-/// Whether a home's known hosts accept the key for the host at the port.
+/// Whether the known hosts file in a home directory accepts the key for the host at the port.
 pub fn check_known_hosts<F: Files>(
     alloc: Global,
     files: &mut F,
@@ -70,7 +71,7 @@ pub fn check_known_hosts<F: Files>(
     }
 }
 
-/// Adds a line with the key for the host at the port to a home's known hosts.
+/// Adds a line with the key for the host at the port to the known hosts file in a home directory.
 pub fn learn_known_hosts<F: Files>(
     alloc: Global,
     files: &mut F,

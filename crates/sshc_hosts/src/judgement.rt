@@ -1,4 +1,4 @@
-//! Whether a host key is one that the matching lines record.
+//! Whether a host key is one that the matching lines of a known hosts text record.
 
 ghost use Rattle.std.specs.Prelude.{◌≡◌, true, option_copied, option_map, find, map, IfErr};
 ghost use Rattle.std.specs.List.{list_any};
@@ -88,7 +88,7 @@ fn changed_line(key: &PublicKey, known: &[(u64, PublicKey)]) -> Option<u64>
     None
 }
 
-/// Whether a line has the key.
+/// Whether a line records the key.
 fn is_known(key: &PublicKey, known: &[(u64, PublicKey)]) -> bool
     ensures { result ≡ list_any (has_key key.now.0) known.now }
 {
@@ -100,7 +100,7 @@ fn is_known(key: &PublicKey, known: &[(u64, PublicKey)]) -> bool
     false
 }
 
-/// Whether the key is one of the known keys, or the first line that contradicts it.
+/// Whether the key is one of the known keys; `KeyChanged` with the first line that contradicts it.
 fn judge_among(key: &PublicKey, known: &[(u64, PublicKey)]) -> Result<bool, Error>
     ensures { result ≡ judged_among key.now.0 known.now }
 {
@@ -117,7 +117,7 @@ fn line_key(alloc: Global, field: &str) -> Result<PublicKey, Error>
     parse_public_key_base64(alloc, field)
 }
 
-/// The lines with their keys, or why the first that can't be read can't.
+/// The lines with their keys, or why the first unreadable line can't be read.
 fn read_lines(alloc: Global, lines: &[(u64, &str)]) -> Result<Vec<(u64, PublicKey)>, Error>
     ensures { GivesAll (λ known. known.items) result (read_lines (map (λ line. (line.0, line.1.now)) lines.now)) }
 {
@@ -130,7 +130,7 @@ fn read_lines(alloc: Global, lines: &[(u64, &str)]) -> Result<Vec<(u64, PublicKe
 }
 
 /// The keys that a known hosts text records for the host at the port, with the numbers of their lines, counted from 1.
-/// A matching line that can't be read refuses them all.
+/// If a matching line can't be read, the result is that line's error.
 #[tactic(auto, unfolding(crate::specs::Judgement::known_keys))]
 pub fn known_host_keys_text(
     alloc: Global,
@@ -156,7 +156,7 @@ pub fn judge_text(
     key: &PublicKey,
 ) -> Result<bool, Error>
     ensures verdict { GivesAll (λ accepted. accepted) result (judged text.now (host_text host.now port) key.now.0) }
-    // A key is accepted where each matching line can be read, none contradicts it and one has it.
+    // A key is accepted if each matching line can be read, no line contradicts it, and one line records it.
     ensures accepted { result ≡ Ok true → IsAcceptedBy text.now (host_text host.now port) key.now.0 }
     ensures refusal { IfErr result IsRefusal }
 {

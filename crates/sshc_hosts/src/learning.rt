@@ -1,4 +1,4 @@
-//! What is added to a known hosts text where a key is learned.
+//! The text that is added to a known hosts text to learn a key.
 
 ghost use Rattle.std.specs.Prelude.{◌≡◌, ◌++◌, ◌∷◌, IfOk};
 ghost use Rattle.sshc_hosts.specs.Learning.{ends_line, line_feed_after, added_line, learned, IsLearnable, IsLearnableKey, Learns};
@@ -26,7 +26,7 @@ fn line_feed_after(old: &str) -> &'static str
     if ends_line(old) { "" } else { "\n" }
 }
 
-/// A line of a host text and a key's text, which begins a line of its own behind the old text.
+/// A line of a host text and a key's text, as it is added to the old text: on a line of its own.
 fn added_line(alloc: Global, old: &str, host: &str, key: &str) -> Result<Text, NoMemory>
     ensures { IfOk result (λ t. t ≡ added_line old.now (host.now ++ 32 ∷ key.now)) }
 {
@@ -34,7 +34,7 @@ fn added_line(alloc: Global, old: &str, host: &str, key: &str) -> Result<Text, N
     Text::from_string(format!(in alloc; "{line_feed}{host} {key}\n")?)
 }
 
-/// What is added to a known hosts text where the key is learned for the host at the port: a line of its own.
+/// The text that is added to a known hosts text to learn the key for the host at the port: a line of its own.
 pub fn learn_text(
     alloc: Global,
     old: &str,

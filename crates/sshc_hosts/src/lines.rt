@@ -1,4 +1,4 @@
-//! The lines of a known hosts text that speak of a host.
+//! The lines of a known hosts text that match a host.
 
 ghost use Rattle.std.specs.Prelude.{◌≡◌, ◌<◌, ◌==◌, All, IfNone, IfOk, IfSome, false, length, map, option_copied};
 ghost use Rattle.memchr.specs.Find.{IsFirstByte, is_byte2};
@@ -11,7 +11,7 @@ use memchr::memchr2;
 use sshc_wire::NoMemory;
 use std::alloc::Global;
 
-/// Whether an entry of the host field, which commas part, is the host text.
+/// Whether an entry of the host field, whose entries are separated by commas, is the host text.
 pub fn has_host(alloc: Global, host: &str, field: &str) -> Result<bool, NoMemory>
     ensures { IfOk result (λ b. b ≡ field_matches host.now field.now) }
 {
@@ -38,14 +38,14 @@ pub fn is_comment(line: &str) -> bool
     }
 }
 
-/// The place of the first comma or space.
+/// The index of the first comma or space.
 fn first_end(text: &str) -> Option<usize>
     ensures { IsFirstByte (is_byte2 44 32) text.now result }
 {
     memchr2(b',', b' ', text.as_bytes())
 }
 
-/// The text up to its first comma or space, that character, and what is behind it.
+/// The text up to its first comma or space, that character, and the text after it.
 fn cut_entry(text: &str) -> Option<(&str, u8, &str)>
     ensures none { IfNone result (All (λ b. (b == 32) ≡ false) text.now) }
     ensures some { IfSome result (λ cut. CutsEntry text.now cut.0.now cut.1 cut.2.now) }
@@ -57,9 +57,9 @@ fn cut_entry(text: &str) -> Option<(&str, u8, &str)>
     }
 }
 
-/// What is behind the first field of a line, where that field has the host and a space ends it.
-/// One search finds the end of an entry and that of the field: a search in the whole line takes vectors, where one in a
-/// short field would go byte by byte.
+/// The text after the first field of a line, if that field has the host and a space ends it. One search finds the end
+/// of an entry and that of the field: a search in the whole line uses vector instructions, while one in a short field
+/// would go byte by byte.
 fn behind_host<'a>(alloc: Global, host: &str, line: &'a str) -> Result<Option<&'a str>, NoMemory>
     ensures { IfOk result (λ rest. key_behind (option_copied rest) ≡ third_field host.now (parts_at 32 line.now)) }
 {
@@ -101,7 +101,7 @@ fn key_of<'a>(alloc: Global, host: &str, line: &'a str) -> Result<Option<&'a str
     }
 }
 
-/// The matching lines, by their numbers from 1, and their third fields.
+/// The matching lines: their numbers, counted from 1, and their third fields.
 pub fn matching_lines<'a>(
     alloc: Global,
     text: &'a str,

@@ -1,4 +1,4 @@
-//! Calls over files and homes.
+//! Calls on files and home directories.
 
 use crate::keys::{FOUR_LINES, K1, K2, K2X};
 use sshc_hosts::{
@@ -10,7 +10,7 @@ use sshc_wire::{MemFiles, Octets, Text};
 use std::alloc::Global;
 use std::test::Fail;
 
-/// Files with the four lines at `known`, bytes that are no text at `bytes`, and one line in a home.
+/// Files with the four lines at `known`, bytes that aren't UTF-8 at `bytes`, and one line in a home directory.
 fn some_files(alloc: Global, failing: Vec<u64>) -> Result<MemFiles, Fail> {
     let home = format!(in alloc; "h ssh-ed25519 {K1}")?;
     let mut contents = Vec::new(alloc);
@@ -84,7 +84,7 @@ fn judges_by_homes(rt: HostRuntime) -> Result<(), Fail> {
     Ok(())
 }
 
-/// The bytes of the file, where there is one.
+/// The bytes of the file, if there is one.
 fn held<'a>(files: &'a MemFiles, path: &str) -> Option<&'a [u8]> {
     for (name, bytes) in files.contents() {
         if name.as_str() == path {
@@ -114,7 +114,8 @@ fn lists_by_homes(rt: HostRuntime) -> Result<(), Fail> {
     Ok(())
 }
 
-/// A line of its own in a file that is there, in a new one and in a home; then the key is accepted.
+/// Learns a key in an existing file, in a new one and in a home directory, each on a line of its own; then the key is
+/// accepted.
 #[test]
 fn learns_in_files(rt: HostRuntime) -> Result<(), Fail> {
     let alloc = rt.alloc();
@@ -156,7 +157,7 @@ fn learns_in_files(rt: HostRuntime) -> Result<(), Fail> {
     Ok(())
 }
 
-/// A failed read, a failed append and a file that is no text: the files keep what they had.
+/// After a failed read, a failed append, or with a file that isn't UTF-8 text, the files keep their bytes.
 #[test]
 fn keeps_files_at_faults(rt: HostRuntime) -> Result<(), Fail> {
     let alloc = rt.alloc();

@@ -173,7 +173,7 @@ fn finds_what_ssh_keygen_finds(rt: HostRuntime) -> Result<(), Fail> {
     Ok(())
 }
 
-/// Where ssh-keygen finds more by rules that these texts don't have here: patterns, markers, tabs and leading blanks.
+/// Here ssh-keygen finds more, by rules that this crate doesn't implement: patterns, markers, tabs and leading blanks.
 #[test]
 fn takes_no_patterns_markers_or_tabs(rt: HostRuntime) -> Result<(), Fail> {
     for (name, text, finds) in [

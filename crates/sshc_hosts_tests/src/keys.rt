@@ -8,7 +8,8 @@ pub const K2X: &str = "AAAAC3NzaC1lZDI1NTE5AAAAIA6rWI3G2sz07DnfFlrouTcysQlj2P+jp
 
 pub const K3: &str = "AAAAC3NzaC1lZDI1NTE5AAAAILIG2T/B0l0gaqj3puu510tu9N1OkQ4znY3LYuEm5zCF";
 
-/// A host certificate, from `ssh-keygen -q -s ca -I host-id -h -n h.example -V 20260101:20270101 hk.pub` (two Ed25519 keys).
+/// A host certificate, from `ssh-keygen -q -s ca -I host-id -h -n h.example -V 20260101:20270101 hk.pub` (two Ed25519
+/// keys).
 pub const CERTIFICATE: &str =
     "AAAAIHNzaC1lZDI1NTE5LWNlcnQtdjAxQG9wZW5zc2guY29tAAAAIDO2c3p6eMdqhi8UCe6Yfh/8c/hg0SPATwma1cWE28klAAAAIO86gCcDnr1vwpMh4cM+WR89ag+tUV94EN/k1iUZxFFwAAAAAAAAAAAAAAACAAAAB2hvc3QtaWQAAAANAAAACWguZXhhbXBsZQAAAABpVbkAAAAAAGs27IAAAAAAAAAAAAAAAAAAAAAzAAAAC3NzaC1lZDI1NTE5AAAAILBsDyuzGtdVhAQ+cddnpwvuwlYEO+UInLkG9v8E6XUaAAAAUwAAAAtzc2gtZWQyNTUxOQAAAEDB5mjqZc/AhXyF3yf8A/A9K1mZKZxJ6m1AvEvF/CjnkOClZd5K/I5OzP91mqpt0oPElkPbvmoFMe2c+B0SjR0E";
 

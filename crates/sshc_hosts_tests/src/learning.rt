@@ -1,4 +1,4 @@
-//! What learning writes.
+//! The lines that learning writes.
 
 use crate::keys::K1;
 use sshc_hosts::learn_text;

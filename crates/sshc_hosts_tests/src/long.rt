@@ -5,7 +5,7 @@ use sshc_hosts::{judge_text, known_host_keys_text};
 use sshc_key::{Error, parse_public_key_base64};
 use std::test::Fail;
 
-/// A comment of a megabyte behind a key, and a host field of a megabyte.
+/// A comment of a megabyte after a key, and a host field of a megabyte.
 #[test]
 fn reads_a_line_of_a_megabyte(rt: HostRuntime) -> Result<(), Fail> {
     let alloc = rt.alloc();

@@ -1,4 +1,4 @@
-//! The words of known hosts over files and a sink in memory.
+//! The `hosts` command-line arguments over files and a sink in memory.
 
 use crate::keys::{CERTIFICATE, FOUR_LINES, K1, K2, K2X};
 use sshc_wire::{MemFiles, MemSink, Octets, Text};
@@ -6,7 +6,7 @@ use sshc_words::run_hosts_words;
 use std::alloc::Global;
 use std::test::Fail;
 
-/// What the words left: their status, what was written, and the bytes of the file `known`.
+/// The outcome of a run: its status, the text written, and the bytes of the file `known`.
 #[derive(Drop)]
 struct Done {
     status: Option<u8>,
@@ -14,7 +14,7 @@ struct Done {
     known: Option<Vec<u8>>,
 }
 
-/// The words, parted at single spaces.
+/// The arguments in a text, separated by single spaces.
 fn words_of(alloc: Global, text: &str) -> Result<Vec<Text>, Fail> {
     let mut words = Vec::new(alloc);
     for word in text.split(' ') {
@@ -23,7 +23,7 @@ fn words_of(alloc: Global, text: &str) -> Result<Vec<Text>, Fail> {
     Ok(words)
 }
 
-/// A file `known` of these bytes, where there is one.
+/// Files with a file `known` of these bytes, if there are any.
 fn file_of(alloc: Global, known: Option<&[u8]>, failing: Vec<u64>) -> Result<MemFiles, Fail> {
     let mut contents = Vec::new(alloc);
     if let Some(bytes) = known {
@@ -41,7 +41,7 @@ fn known_in(alloc: Global, files: &MemFiles) -> Result<Option<Vec<u8>>, Fail> {
     }
 }
 
-/// Runs the words over the file `known`. The calls of these numbers fail.
+/// Runs the arguments over the file `known`. The calls with these numbers fail.
 fn done_by(
     alloc: Global,
     known: Option<&[u8]>,
@@ -62,7 +62,7 @@ fn done_by(
     })
 }
 
-/// The call that fails, or none.
+/// The number of the call that fails, if one does.
 fn failing(alloc: Global, call: Option<u64>) -> Result<Vec<u64>, Fail> {
     match call {
         Some(call) => Ok(vec![in alloc; call]?),
@@ -70,7 +70,7 @@ fn failing(alloc: Global, call: Option<u64>) -> Result<Vec<u64>, Fail> {
     }
 }
 
-/// The same, where no call fails.
+/// The same, with no failing call.
 fn done_well(alloc: Global, known: Option<&str>, words: &str, key: &str) -> Result<Done, Fail> {
     let words = format!(in alloc; "{words}{key}")?;
     match known {
@@ -230,7 +230,7 @@ fn lists_keys(rt: HostRuntime) -> Result<(), Fail> {
     Ok(())
 }
 
-/// The line is added behind what stands there, and to a file that isn't there behind a line feed.
+/// The line is added after the bytes of the file, and to a new file after a line feed.
 #[test]
 fn learns_keys(rt: HostRuntime) -> Result<(), Fail> {
     for (name, known, key, want) in [
@@ -274,7 +274,7 @@ fn learns_keys(rt: HostRuntime) -> Result<(), Fail> {
     Ok(())
 }
 
-/// A file that is no text, and a word KEY that can't be read, which is tested first.
+/// A file that isn't UTF-8 text, and an argument KEY that can't be read, which is tested first.
 #[test]
 fn tells_what_is_no_text(rt: HostRuntime) -> Result<(), Fail> {
     let alloc = rt.alloc();
@@ -335,7 +335,7 @@ fn tells_what_is_no_text(rt: HostRuntime) -> Result<(), Fail> {
     Ok(())
 }
 
-/// Words of no form: nothing is answered and nothing is written.
+/// Invalid arguments: `None` is returned and nothing is written.
 #[test]
 fn knows_no_other_words(rt: HostRuntime) -> Result<(), Fail> {
     for words in [
@@ -362,7 +362,7 @@ fn knows_no_other_words(rt: HostRuntime) -> Result<(), Fail> {
     Ok(())
 }
 
-/// A failed call of the files or of the sink. Learning reads, then adds.
+/// A failed call of the files or of the sink. Learning first reads, then adds.
 #[test]
 fn tells_faults(rt: HostRuntime) -> Result<(), Fail> {
     let alloc = rt.alloc();
@@ -438,7 +438,7 @@ fn tells_faults(rt: HostRuntime) -> Result<(), Fail> {
     Ok(())
 }
 
-/// A line a write: the second of two lines is cut.
+/// Each line is one write: the second of two lines is cut.
 #[test]
 fn cuts_the_second_line(rt: HostRuntime) -> Result<(), Fail> {
     let alloc = rt.alloc();

@@ -1,4 +1,4 @@
--- What a caller is told of a call, and that the call of Close asks nothing and says nothing.
+-- What a caller knows about a call, and that the call of Close asks no question and writes nothing.
 use Rattle.std.proofs.Common.{◌≡◌, ℕ, List, [], ◌∷◌, ◌++◌, Option, Some, None, Result, Ok, Err, IfOk, OnErr, refl, sym, ap, subst, arith, inl, inr}
 use Rattle.sshc_wire.specs.Faults.{Rose}
 use Rattle.sshc_key.specs.Signers.{SignCall}

@@ -1,4 +1,4 @@
--- Bytes that are read piece by piece, and the input that their frames give.
+-- Bytes that are read piece by piece, and the inputs in their frames.
 use Rattle.std.proofs.Common.{◌≡◌, ◌⊎◌, ℕ, Bool, true, false, List, [], ◌∷◌, ◌++◌, Option, Some, None, Result, Ok, Err, refl, sym, ap, subst, ◌∙◌}
 use Rattle.std.specs.Prelude.{nat_lt, length}
 use Rattle.std.specs.Int.{w32}
@@ -20,7 +20,7 @@ Next = Option (AgentInput × FrameBytes)
 is_some : (x y : AgentInput × FrameBytes) → Some x ≡ Some y → x ≡ y
 is_some x y e = cc
 
--- what frames give is a frame or a length above the limit
+-- an input from frames is a frame or a length above the limit
 abbrev IsFramed : AgentInput → Type 0
 IsFramed input = framed input ≡ input ∷ []
 

@@ -1,4 +1,5 @@
--- What a shared agent keeps may go to another thread, field by field. A search over the whole of it stops at its bounds.
+-- The state of a shared agent may be sent to another thread, shown field by field. A proof search over the whole of it
+-- would exceed its bounds.
 use denote.RattleType.{RattleType}
 use denote.Ref.{NamedLft}
 use denote.Param.Send.{IsSend, IsSync, sendable}

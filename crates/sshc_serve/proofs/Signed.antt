@@ -1,4 +1,4 @@
--- What the calls of a connection ask the signer: of one call, and of calls one after another.
+-- The signer's calls during a connection's calls: for one call, and for calls one after another.
 use Rattle.std.proofs.Common.{◌≡◌, ℕ, List, [], ◌∷◌, ◌++◌, Result, Ok, Err, IfOk, OnErr, OnOk, refl, sym, ap, subst, ◌∙◌, append_assoc}
 use Rattle.std.proofs.lemmas.List.{append-nil}
 use Rattle.sshc_key.specs.Signers.{SignCall, since}
@@ -42,7 +42,7 @@ steps_on conn [] more gained gained' none on = subst (λ (g : List SignCall). Ar
 steps_on conn (call ∷ calls) more gained gained' (first, rest, parts, step, steps) on =
     (first, rest ++ gained', ap (λ (g : List SignCall). g ++ gained') parts ∙ append_assoc first rest gained', step, steps_on conn calls more rest gained' steps on)
 
--- calls, and more calls behind them
+-- calls, and more calls after them
 pub signs_on : (signed mid signed' : List SignCall) (seat seat' seat'' : SeatState) → Signs signed mid seat seat' → Signs mid signed' seat' seat'' → Signs signed signed' seat seat''
 signs_on signed mid signed' seat seat' seat'' s t =
     record {

@@ -1,4 +1,4 @@
--- A connection that goes on by one call, and the ways in which it ends.
+-- A connection that continues by one call, and the ways in which it ends.
 use Rattle.std.proofs.Common.{◌≡◌, ◌≤◌, ◌⊎◌, ℕ, List, [], ◌∷◌, ◌++◌, Option, Some, None, Result, Ok, Err, refl, sym, ap, subst, ◌∙◌, arith, append_assoc, inl, inr}
 use Rattle.std.proofs.lemmas.List.{append-nil}
 use Rattle.sshc_wire.specs.declared.error.NoMemory.{NoMemory}
@@ -105,7 +105,7 @@ asks_open outputs.Nothing q asks is = absurd is
 -- ---- a connection
 
 module _ (allows : Allows) (confirms : Confirms) (before : StreamSeen) (seat0 : SeatState) where
-  -- nothing was called yet
+  -- no call was made yet
   pub begun : Serving allows confirms before before seat0 seat0 no_bytes None
   begun =
       record {
@@ -125,7 +125,7 @@ module _ (allows : Allows) (confirms : Confirms) (before : StreamSeen) (seat0 : 
         unrefused = refl;
       }
 
-  -- an input that is to be called
+  -- an input that is to be passed to the agent
   pub record Taking (now : StreamSeen) (seat : SeatState) (frames : FrameBytes) (input : AgentInput) : Type 0 where
     pub added : List Call
     pub calls : seat.calls ≡ seat0.calls ++ added
@@ -401,7 +401,7 @@ module _ (allows : Allows) (confirms : Confirms) (before : StreamSeen) (seat0 : 
         ending = starved tt;
       }
 
-  -- ---- one round: an input is fetched and called
+  -- ---- one round: an input is fetched and passed to the agent
 
   module _ (now mid next : StreamSeen) (seat seat' : SeatState) (frames frames' : FrameBytes) (answer : Option AgentInput) (input : AgentInput)
       (s : Serving allows confirms before now seat0 seat frames answer) (f : Fetched answer frames frames' now mid (Ok (Some input)))

@@ -1,4 +1,4 @@
--- The moments of a connection's calls: of one call, of one more, and of the last.
+-- The moments of a connection's calls: for one call, for one more, and for the last.
 use Rattle.std.proofs.Common.{◌≡◌, ◌⊎◌, ℕ, ◌+◌, List, [], ◌∷◌, ◌++◌, length, Option, Result, Ok, Err, IfOk, OnErr, refl, sym, ap, subst, ◌∙◌, arith, append_assoc, length-append, inl, inr}
 use Rattle.std.proofs.lemmas.List.{append-nil, append_cancel_left, map-append}
 use Rattle.sshc_wire.specs.declared.error.NoMemory.{NoMemory}

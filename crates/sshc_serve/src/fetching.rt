@@ -12,7 +12,7 @@ use std::sync::Wait;
 /// How many bytes are read at once.
 const PIECE: usize = 4096;
 
-/// Reads into the buffer, which leaves what was written.
+/// Reads into the buffer. Nothing is written to the stream.
 fn read_piece<S: AgentStream>(stream: &mut S, buf: &mut [u8]) -> Result<usize, Failed>
     ensures bound { IfOk result (λ n. n ≤ length buf.new) }
     ensures bytes { IfOk result (λ n. S.left stream.old ≡ prepend (take n buf.new) (S.left stream.new)) }
@@ -25,7 +25,7 @@ fn read_piece<S: AgentStream>(stream: &mut S, buf: &mut [u8]) -> Result<usize, F
     stream.read(buf)
 }
 
-/// Reads more bytes. False where the source ended or failed.
+/// Reads more bytes. Returns false if the source ended or failed.
 pub(crate) fn read_more<S: AgentStream>(
     stream: &mut S,
     frames: &mut Frames,
@@ -51,7 +51,7 @@ pub(crate) fn read_more<S: AgentStream>(
     }
 }
 
-/// The next input of the stream's frames. None where the source ended or failed and no whole frame is left.
+/// The next input in the stream's frames. `None` if the source ended or failed and no whole frame remains.
 #[tactic(auto, using(crate::proofs::Reading::ended))]
 fn next_input<S: AgentStream, R: Wait>(
     rt: &R,
@@ -79,7 +79,7 @@ fn next_input<S: AgentStream, R: Wait>(
     unreachable!()
 }
 
-/// What is called next: the answer to the open question, or the stream's next input.
+/// The input of the next call: the answer to the open question, or the stream's next input.
 pub(crate) fn fetch<S: AgentStream, R: Wait>(
     rt: &R,
     stream: &mut S,

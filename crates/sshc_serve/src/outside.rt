@@ -1,4 +1,4 @@
-//! What a server is given: who answers questions, where streams come from, the clock, and a pause for tests.
+//! What a server needs from its caller: the user who answers questions, the listener, the clock, and a pause for tests.
 
 ghost use Rattle.std.specs.Prelude.{◌≡◌, ◌∷◌, ℕ, [], Bool, List, Option, true};
 ghost use Rattle.sshc_wire.specs.Contents.{append};
@@ -7,15 +7,15 @@ ghost use Rattle.sshc_wire.specs.declared.message_type.MessageType.{MessageType 
 
 use sshc_wire::{AgentStream, Failed, MessageType};
 
-/// Answers the agent's questions, as its user does.
+/// Answers the agent's questions in its user's place.
 pub trait Agent: Send + Sync {
-    /// What it may answer where a request of this kind is asked about.
+    /// The answers that it may give to the question about a request of this kind.
     ghost allows: { Self → Kind → Bool → Type 0 };
 
-    /// What it may answer where the key of this blob is asked about.
+    /// The answers that it may give to the question about the key with this blob.
     ghost confirms: { Self → List ℕ → Bool → Type 0 };
 
-    /// Whether the key of this blob may sign.
+    /// Whether the key with this blob may sign.
     fn confirm(&self, blob: &[u8]) -> bool
         ensures { confirms self.now blob.now result };
 
@@ -39,18 +39,18 @@ impl Agent for () {
     }
 }
 
-/// Gives one stream after another. It keeps a count of its faults.
+/// Accepts one stream after another, and counts its faults.
 pub trait Listener {
     type Stream: AgentStream + Send + Drop;
 
     ghost faults: { Self → ℕ };
 
-    /// The next stream, which it waits for.
+    /// Waits for the next stream and returns it.
     fn accept(&mut self) -> Result<Self::Stream, Failed>
         ensures cause { HasCause (faults self.old) (faults self.new) result };
 }
 
-/// What is called before each call of a connection, outside the agent's lock: calls are numbered from 0.
+/// Is called before each call of a connection, while the agent's mutex isn't held. Calls are numbered from 0.
 pub trait Pause: Sync {
     fn before(&self, conn: u32, number: u32);
 }
@@ -59,12 +59,12 @@ impl Pause for () {
     fn before(&self, _conn: u32, _number: u32) {}
 }
 
-/// Tells moments in milliseconds.
+/// Returns moments in milliseconds.
 pub trait Clock {
-    /// The moments that it has returned, in their order, where it keeps them.
+    /// The moments that it has returned, in order; None if contracts can't see them.
     ghost told: { Self → Option (List ℕ) };
 
-    /// The moment now, which is the last of these from then on.
+    /// The current moment.
     fn now(&mut self) -> u64
         ensures told { told self.new ≡ append (told self.old) (result ∷ []) };
 }

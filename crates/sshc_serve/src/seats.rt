@@ -5,8 +5,8 @@ use std::alloc::Global;
 use std::sync::Wait;
 use std::sync::ledger::Ledger;
 
-/// The seats that came back, and how many are still out. There is room for these, so that none is lost for lack of
-/// memory.
+/// The seats that came back, and how many are still out. Room for these is reserved, so that no seat is lost because
+/// memory runs out.
 #[derive(Drop)]
 pub(crate) struct Seats<L: Ledger> {
     back: Vec<Seat<L>>,
@@ -21,7 +21,7 @@ impl<L: Settings> Seats<L> {
         }
     }
 
-    /// The seat of the agent's next connection. None out of memory, or where the agent's journal is full.
+    /// The seat of the agent's next connection. `None` if memory runs out or the agent's journal is full.
     pub(crate) fn connect<R: Wait>(&mut self, rt: &R, shared: &AgentShared<L>) -> Option<Seat<L>> {
         let out = self.out.saturating_add(1);
         self.back.reserve(out).ok()?;
@@ -30,7 +30,7 @@ impl<L: Settings> Seats<L> {
         Some(seat)
     }
 
-    /// Takes the seat of a connection that ended, for which there is room.
+    /// Takes back the seat of a connection that ended; room for it is reserved.
     pub(crate) fn take_back(&mut self, seat: Seat<L>) {
         self.out = self.out.saturating_sub(1);
         let _ = self.back.push(seat);

@@ -1,4 +1,4 @@
-//! Serves many connections beside one another, each in a thread of its own.
+//! Serves many connections concurrently, each in a thread of its own.
 
 ghost use Rattle.std.specs.Prelude.{◌≡◌, ◌≤◌, IfErr, IfOk, OnOk, true};
 ghost use Rattle.std.specs.Thread.{IsSend, IsSync};
@@ -22,10 +22,10 @@ use std::sync::{Mutex, Wait};
 use std::thread;
 use std::thread::Threads;
 
-/// The parts of the ledger that counts an agent's entries.
+/// How many parts the ledger has that counts an agent's entries.
 const PARTS: u64 = 67_108_864;
 
-/// What a connection has of its own.
+/// The parts that belong to one connection.
 #[derive(Drop)]
 struct Connection<L: Ledger, S: AgentStream + Drop, G: LocalSigner + Drop, C: Clock + Drop> {
     seat: Seat<L>,
@@ -34,7 +34,7 @@ struct Connection<L: Ledger, S: AgentStream + Drop, G: LocalSigner + Drop, C: Cl
     clock: C,
 }
 
-/// What all connections share: the agent with its user, and the seats.
+/// The parts that all connections share: the agent with its user, and the seats.
 #[derive(Drop)]
 struct Server<'a, L: Settings, A: Agent, P: Pause> {
     alloc: Global,
@@ -45,8 +45,8 @@ struct Server<'a, L: Settings, A: Agent, P: Pause> {
 }
 
 impl<'a, L: Settings, A: Agent, P: Pause> Server<'a, L, A, P> {
-    /// Gives the stream a seat, and a signer and a clock of its own. A stream for which one of them can't be had is
-    /// closed.
+    /// Makes a connection of the stream, with a seat, a signer and a clock of its own. The stream is closed if one of
+    /// them can't be made.
     fn seated<S: AgentStream + Drop, G: LocalSigner + Clone, C: Clock + Clone, R: Wait>(
         &self,
         rt: &R,
@@ -97,8 +97,8 @@ impl<'a, L: Settings, A: Agent, P: Pause> Server<'a, L, A, P> {
     }
 }
 
-/// Serves each stream that is accepted in a thread of its own, or right here where none can be started, until the
-/// listener fails or finds no memory. It returns once all connections have ended, and hands the listener back.
+/// Serves each accepted stream in a thread of its own, or in the current thread if none can be started, until the
+/// listener fails or memory runs out. Returns the listener once all connections have ended.
 fn serve_all<
     'l,
     L: Settings + Send,
@@ -149,7 +149,7 @@ fn serve_all<
     )
 }
 
-/// The server over the ledger of one agent.
+/// Serves the streams of the listener, with the ledger of one agent.
 fn serve_by<
     'a,
     L: Settings + Send,
@@ -201,9 +201,9 @@ fn serve_by<
     }
 }
 
-/// Serves each stream that the listener accepts, beside the others: an agent that asks about each request, with a
-/// signer and a clock of its own for each connection. A connection ends alone. Ends where the listener fails and all
-/// connections have ended, and then gives the history of all calls.
+/// Serves each stream that the listener accepts, concurrently: an agent that asks about each request, with a signer and
+/// a clock of its own for each connection. The end of one connection doesn't affect the others. Once the listener has
+/// failed and all connections have ended, returns the history of all calls.
 pub fn serve<
     I: Listener,
     A: Agent,
@@ -221,9 +221,9 @@ pub fn serve<
     clock: &C,
     journal_limit: u32,
 ) -> Result<Vec<Entry>, CloseError>
-    // The history comes only where the listener failed.
+    // The history is returned only if the listener failed.
     ensures fault { OnOk result (Rose (I.faults listener.old) (I.faults listener.new)) }
-    // It is one of an agent that asks, and weighs no more than it may.
+    // It is a history of an agent that asks, and weighs at most the limit.
     ensures legal { IfOk result (λ h. IsLegalBy true h.items) }
     ensures within { IfOk result (λ h. journal_weight 0 h.items ≤ journal_limit) }
     ensures locks { IfOk result (λ h. LocksHold h.items) }

@@ -14,8 +14,8 @@ use sshc_wire::{AgentStream, NoMemory};
 use std::alloc::Global;
 use std::sync::Wait;
 
-/// Serves a connection until its stream ends or fails, the agent closes it, a call is refused or memory runs out. Where the
-/// stream's source ends or fails, the last call is Close.
+/// Serves a connection until its stream ends or fails, the agent closes it, a call is refused or memory runs out. If
+/// the stream's source ends or fails, the last call is Close.
 pub fn serve_one<
     L: Settings,
     S: AgentStream,
@@ -41,7 +41,7 @@ pub fn serve_one<
         seat result.0 result.1 }
     // Each call is made at a moment that the clock returned for it.
     ensures moments { Timed (C.told clock.old) (C.told clock.new) seat result.0 }
-    // The signer is asked just what the steps of the calls ask.
+    // The signer gets exactly the calls of the connection's steps.
     ensures signs { Signs (G.calls signer.old) (G.calls signer.new) seat result.0 }
 {
     let mut frames = Frames::new(alloc);

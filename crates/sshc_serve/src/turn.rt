@@ -1,4 +1,4 @@
-//! One call of a connection, and what follows its answer.
+//! One call of a connection, and what is done after its answer.
 
 ghost use Rattle.std.specs.Prelude.{◌≡◌, ◌≤◌, IfOk, OnErr, OnOk};
 ghost use Rattle.sshc_wire.specs.Contents.{WroteFront, append};
@@ -16,7 +16,7 @@ use sshc_wire::{AgentStream, Failed, write_whole};
 use std::sync::Wait;
 use std::sync::ledger::Ledger;
 
-/// What follows a call.
+/// What comes after a call.
 #[derive(Debug, Drop)]
 pub(crate) enum Next {
     /// The stream's next input.
@@ -27,13 +27,13 @@ pub(crate) enum Next {
     Refused,
     /// Nothing: the agent closed the connection.
     Closed,
-    /// Nothing: the answer was written in part.
+    /// Nothing: writing the answer failed.
     WriteFailed,
     /// Nothing: memory ran out while the answer was written.
     Starved,
 }
 
-/// Writes the answer, which leaves what is to be read.
+/// Writes the answer. Nothing is read from the stream.
 fn write_answer<S: AgentStream>(stream: &mut S, frame: &[u8]) -> Result<(), Failed>
     ensures whole { OnOk result (S.contents stream.new ≡ append (S.contents stream.old) frame.now) }
     ensures cut { OnErr result (WroteFront (S.contents stream.old) (S.contents stream.new) frame.now) }
@@ -77,7 +77,7 @@ fn next_number<L: Ledger>(seat: &Seat<L>) -> u32 {
     u32::try_from(seat.calls().len()).unwrap_or(u32::MAX)
 }
 
-/// A call of the agent at the clock's moment.
+/// Calls the agent at the clock's moment.
 fn called<L: Settings, G: LocalSigner, P: Pause, C: Clock, R: Wait>(
     rt: &R,
     shared: &AgentShared<L>,
@@ -97,7 +97,7 @@ fn called<L: Settings, G: LocalSigner, P: Pause, C: Clock, R: Wait>(
     shared.call(rt, seat, now, input, signer)
 }
 
-/// A call of the agent, and what follows its answer.
+/// Calls the agent, and does what comes after its answer.
 pub(crate) fn turn<
     L: Settings,
     S: AgentStream,
@@ -137,7 +137,7 @@ pub(crate) fn turn<
     }
 }
 
-/// The last call of a connection, whose client went away.
+/// Makes the last call of a connection, after the client closed it.
 pub(crate) fn close<L: Settings, G: LocalSigner, P: Pause, C: Clock, R: Wait>(
     rt: &R,
     shared: &AgentShared<L>,

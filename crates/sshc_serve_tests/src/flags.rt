@@ -5,11 +5,11 @@ use std::sync::atomic::AtomicBool;
 use std::sync::atomic::Ordering::SeqCst;
 use std::thread;
 
-/// After so many turns a flag counts as not raised.
+/// How often a thread yields before it gives up on a flag.
 const TURNS: u32 = 100_000_000;
 
-/// Flag A is raised where connection 1 is about to answer the question about its key; flag B where connection 2 gets
-/// its answer.
+/// Flag `asked` is raised when connection 1 is about to answer the question about its key; flag `answered` when
+/// connection 2 gets its answer.
 #[derive(Drop)]
 pub(crate) struct Flags {
     asked: AtomicBool,
@@ -26,7 +26,7 @@ impl Flags {
         }
     }
 
-    /// Turns until the flag is raised.
+    /// Yields until the flag is raised, or sets `late` after `TURNS` turns.
     fn wait_for(&self, flag: &AtomicBool) {
         for _ in 0..TURNS {
             if flag.load(SeqCst) {
@@ -43,8 +43,7 @@ impl Flags {
     }
 }
 
-/// Connection 1 waits before its call 4 until connection 2 has an answer; connection 2 begins where connection 1
-/// waits.
+/// Connection 1 waits before its call 4 until connection 2 has an answer; connection 2 begins once connection 1 waits.
 impl Pause for Flags {
     fn before(&self, conn: u32, number: u32) {
         if conn == 1 && number == 4 {

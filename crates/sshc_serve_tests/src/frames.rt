@@ -1,10 +1,10 @@
-//! Frames to an agent with their lengths, about one key pair of Ed25519.
+//! Frames sent to an agent, with their lengths, about one Ed25519 key pair.
 
 use sshc_agent::AgentInput;
 use sshc_wire::{NoMemory, Octets, put_bytes, put_text, put_u32};
 use std::alloc::Global;
 
-/// Puts a frame with its length.
+/// Appends a frame with its length.
 fn put_frame(out: &mut Vec<u8>, frame: &[u8]) -> Result<(), NoMemory> {
     if frame.len() < 1_000 {
         put_bytes(out, frame)?;
@@ -12,7 +12,8 @@ fn put_frame(out: &mut Vec<u8>, frame: &[u8]) -> Result<(), NoMemory> {
     Ok(())
 }
 
-/// Puts a frame that adds the pair whose public part is 32 times 8 and whose seed is 32 times 7. Each use is confirmed.
+/// Appends a frame that adds the pair whose public part is 32 bytes of 8 and whose seed is 32 bytes of 7. Each use must
+/// be confirmed.
 pub(crate) fn put_add(alloc: Global, out: &mut Vec<u8>) -> Result<(), NoMemory> {
     let mut private = [7u8; 64];
     private[32..].fill(8);
@@ -26,7 +27,7 @@ pub(crate) fn put_add(alloc: Global, out: &mut Vec<u8>) -> Result<(), NoMemory> 
     put_frame(out, &frame)
 }
 
-/// Puts a frame that asks the pair for a signature.
+/// Appends a frame that asks the pair for a signature.
 pub(crate) fn put_sign(alloc: Global, out: &mut Vec<u8>) -> Result<(), NoMemory> {
     let mut blob = Vec::new(alloc);
     put_text(&mut blob, "ssh-ed25519")?;
@@ -39,7 +40,7 @@ pub(crate) fn put_sign(alloc: Global, out: &mut Vec<u8>) -> Result<(), NoMemory>
     put_frame(out, &frame)
 }
 
-/// Puts a frame that locks with `pw`.
+/// Appends a frame that locks with `pw`.
 pub(crate) fn put_lock(out: &mut Vec<u8>) -> Result<(), NoMemory> {
     put_frame(out, b"\x16\x00\x00\x00\x02pw")
 }

@@ -55,7 +55,7 @@ pub(crate) fn stream<'a>(
     }
 }
 
-/// Gives its streams from the last to the first. Then it fails, or finds no memory.
+/// Accepts its streams from the last to the first. Then it fails, or runs out of memory.
 #[derive(Drop)]
 pub(crate) struct Streams<'a> {
     left: Vec<FlagStream<'a>>,

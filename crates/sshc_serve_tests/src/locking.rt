@@ -14,7 +14,7 @@ use std::sync::Wait;
 use std::test::*;
 use std::thread::Threads;
 
-/// No time goes by.
+/// A clock that always returns the same moment.
 #[derive(Clone, Copy, Drop)]
 struct Standstill;
 
@@ -26,7 +26,7 @@ impl Clock for Standstill {
     }
 }
 
-/// The answer of a connection's call.
+/// The agent's answer to a call of a connection.
 fn answer_of(history: &[Entry], conn: u32, number: u32) -> Option<&[u8]> {
     for entry in history {
         if entry.conn == conn && entry.number == number {
@@ -43,7 +43,7 @@ fn calls_of(history: &[Entry], conn: u32) -> usize {
     history.iter().filter(|entry| entry.conn == conn).count()
 }
 
-/// What is served of these streams, at a clock that stands still.
+/// Serves these streams, with a clock that doesn't move.
 fn served<R: Threads + Wait + Sync>(
     rt: &R,
     alloc: Global,

@@ -14,7 +14,7 @@ use std::test::*;
 use std::thread;
 use std::thread::Threads;
 
-/// A hundred listings of one seat.
+/// A hundred listings by one seat.
 fn hundred<L: Settings, R: Wait>(
     rt: &R,
     alloc: Global,

@@ -1,4 +1,4 @@
--- The signer may go to another thread: the toy pair's keeps its calls, each with a key.
+-- The signer may be sent to another thread: it keeps the calls of the toy signer, each with a key.
 use denote.Param.Send.{IsSend, sendable}
 use Rattle.std.proofs.Crossing.{crosses}
 use Rattle.sshc_wire.proofs.octets.Octets.TheSendSync as octets

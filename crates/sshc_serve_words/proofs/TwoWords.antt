@@ -1,7 +1,7 @@
--- Two words by their places.
+-- Two arguments by their indexes.
 use Rattle.std.proofs.Common.{◌≡◌, ℕ, List, [], ◌∷◌, length, get_or, subst, arith}
 
--- the word at a place, by another name
+-- the argument at an index, by another name
 pub at_place : (words : List (List ℕ)) (i : ℕ) (a b : List ℕ) → b ≡ get_or words i b → b ≡ a → a ≡ get_or words i a
 at_place words i a b is same = subst (λ (x : List ℕ). x ≡ get_or words i x) same is
 

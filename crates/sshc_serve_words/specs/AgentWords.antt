@@ -13,7 +13,7 @@ error_status NoMemory = 20
 error_status (Torn conn at got kept) = 47
 error_status (SeatsOut made given) = 48
 
--- a server that ended with a history, one that ended without, or no socket
+-- a server that ended with a history, one that ended without, or a socket that can't be created
 pub data EndsAgent (status : ℕ) : Type 0 where
   ended : status ≡ 0 → EndsAgent status
   failed : (why : CloseError) → status ≡ error_status why → EndsAgent status

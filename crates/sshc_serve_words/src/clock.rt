@@ -6,8 +6,8 @@ use sshc_serve::Clock;
 use std::alloc::AllocError;
 use std::time::Clock as SystemTime;
 
-/// Milliseconds since an arbitrary start. Where the system tells no time the moment is 0, which counts as the latest
-/// one.
+/// Milliseconds since an arbitrary start. If the system returns no time, the moment is 0, which the agent treats as its
+/// latest moment.
 #[derive(Drop)]
 pub struct SystemClock<'a, R> {
     system: &'a R,

@@ -1,4 +1,5 @@
-//! The words `agent SOCKET`: an agent at a Unix socket, with real streams, a real clock and a signer for tests.
+//! The command-line arguments `agent SOCKET`: an agent at a Unix socket, with real streams, a real clock and a signer
+//! for tests.
 #![tactic(auto)]
 
 mod clock;

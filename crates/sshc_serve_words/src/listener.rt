@@ -1,5 +1,5 @@
-//! A Unix socket at which streams are accepted. It tells no contents; that a real socket behaves as its trait says is
-//! not proved.
+//! A Unix socket at which streams are accepted. Contracts can't see their contents; that a real socket behaves as its
+//! trait says is not proved.
 
 ghost use Rattle.std.specs.Prelude.{◌≡◌, IfOk};
 
@@ -13,7 +13,7 @@ use std::net::Net;
 use std::os::unix::net::UnixListener;
 use std::rt::Files;
 
-/// A listener, and how often it failed.
+/// A listening socket, and how often it failed.
 #[derive(Drop)]
 pub struct UnixAgents {
     inner: UnixListener,
@@ -30,7 +30,7 @@ impl Model for UnixAgents {
 }
 
 impl UnixAgents {
-    /// Makes a socket at the path.
+    /// Creates a socket at the path, and listens.
     pub fn bind<R: Files + Net>(rt: &R, alloc: Global, path: &str) -> io::Result<UnixAgents>
         ensures { IfOk result (λ a. a ≡ 0) }
     {

@@ -1,4 +1,4 @@
-//! A signer that each connection has afresh.
+//! A signer of which each connection has a new copy.
 
 ghost use Rattle.std.specs.Prelude.{◌≡◌, []};
 
@@ -6,7 +6,7 @@ use sshc_key::{Asker, HashAlg, LocalSigner, PrivateKey, SignRefused};
 use sshc_toy::ToySigner;
 use std::alloc::{AllocError, Global};
 
-/// The toy pair's signer. A copy of it has answered nothing yet.
+/// The signer of the toy pair. A copy of it has no recorded calls.
 #[derive(Drop)]
 pub struct FreshSigner {
     alloc: Global,

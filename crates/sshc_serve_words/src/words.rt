@@ -1,4 +1,4 @@
-//! What the words `agent SOCKET` do.
+//! Runs the command-line arguments `agent SOCKET`.
 
 ghost use Rattle.std.specs.Prelude.{◌≡◌, ◌≢◌, ◌↔◌, IsSome};
 ghost use Rattle.sshc_serve_words.specs.AgentWords.{EndsAgent, IsAgent, error_status};
@@ -16,10 +16,10 @@ use std::sync::Wait;
 use std::thread::Threads;
 use std::time::Clock;
 
-/// What the journal of an agent may weigh: 64 for each connection and each call, and the bytes of each call's frame.
+/// The greatest weight of an agent's journal: 64 for each connection and each call, and the bytes of each call's frame.
 const JOURNAL_LIMIT: u32 = 268_435_456;
 
-/// The server ended, as its listener failed.
+/// The server ended because its listener failed.
 const ENDED: u8 = 0;
 
 const WRONG_WORDS: u8 = 2;
@@ -32,7 +32,7 @@ const TORN: u8 = 47;
 
 const SEATS_OUT: u8 = 48;
 
-/// The path of the socket, where the words are `agent` and it.
+/// The path of the socket, if the arguments are `agent` and a path.
 fn socket_of(words: &[Text]) -> Option<&str>
     ensures { IsSome result ↔ IsAgent words.now }
 {
@@ -48,7 +48,7 @@ fn socket_of(words: &[Text]) -> Option<&str>
     }
 }
 
-/// The status of what a server answered.
+/// The exit status for an error of the server.
 fn status_of(why: CloseError) -> u8
     ensures status { result ≡ error_status why }
     ensures other { result ≢ 2 }
@@ -60,7 +60,7 @@ fn status_of(why: CloseError) -> u8
     }
 }
 
-/// An agent at this socket. Each of its user's questions is answered by yes.
+/// Serves an agent at this socket. Each question to its user is answered with yes.
 fn serve_at<R: Files + Net + Clock + Threads + Wait + Sync>(rt: &R, alloc: Global, path: &str) -> u8
     ensures ends { EndsAgent result }
     ensures other { result ≢ 2 }
@@ -83,9 +83,9 @@ fn serve_at<R: Files + Net + Clock + Threads + Wait + Sync>(rt: &R, alloc: Globa
     }
 }
 
-/// Runs an agent at a Unix socket, where the words are `agent` and its path. The status where it returns: 0 where the
-/// listener failed, 2 for other words, 20 out of memory, 46 where the socket can't be made, 47 and 48 where the
-/// history isn't whole.
+/// Runs an agent at a Unix socket, if the arguments are `agent` and its path. Returns an exit status: 0 if the listener
+/// failed, 2 for invalid arguments, 20 out of memory, 46 if the socket can't be created, 47 and 48 if the history isn't
+/// whole.
 pub fn serve_words<R: Files + Net + Clock + Threads + Wait + Sync>(
     rt: &R,
     alloc: Global,

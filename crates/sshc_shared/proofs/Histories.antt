@@ -35,7 +35,7 @@ count_push conn journal e =
 pub weight_push : (seats : ℕ) (journal : List Entry) (e : Entry) → journal_weight seats (journal ++ e ∷ []) ≡ journal_weight seats journal + entry_weight e.input
 weight_push seats journal e = omega (arith, sum_by_push (λ (x : Entry). entry_weight x.input) journal e)
 
--- each entry weighs 64 at least
+-- each entry weighs at least 64
 sum_at_least : (journal : List Entry) → 64 * length journal ≤ sum_by (λ (e : Entry). entry_weight e.input) journal
 sum_at_least [] = omega arith
 sum_at_least (e ∷ journal) = omega (arith, sum_at_least journal, sum_by-cons (λ (x : Entry). entry_weight x.input) e journal)

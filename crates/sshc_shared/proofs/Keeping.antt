@@ -1,4 +1,4 @@
--- What lies under the lock when one entry is added, and when nothing is.
+-- The state behind the mutex when one entry is added, and when nothing is.
 use Rattle.std.proofs.Common.{◌≡◌, ◌<◌, ◌≤◌, ℕ, ◌+◌, List, [], ◌∷◌, ◌++◌, length, None, refl, sym, ap, subst, ◌∙◌, arith, length-append, Bool, true, false, ◌==◌, if◌then◌else◌, nat_lt}
 use Rattle.std.proofs.lemmas.Bool.{eq-eqb}
 use Rattle.std.proofs.lemmas.Bool.Decides.{nat_tests}
@@ -67,7 +67,7 @@ due_none s seat input same within =
 pub journal_short : (asks : Bool) (list : AgentList) (h : List Entry) (counts : Counts) (total amount parts made weight limit : ℕ) → IsKept asks list h counts total amount parts made weight limit → length h < 4294967296
 journal_short asks list h counts total amount parts made weight limit k = omega (arith, k.weighs, k.within, k.small, entries_weigh made h)
 
--- what the caller of a call that was answered is told
+-- what the caller of a call that was answered knows
 pub tells_from : (old new : SharedState) (before after : SeatState) (now : ℕ) (input : AgentInput) (gained : List SignCall) (output : AgentOutput) → Adds old new before after now input gained output → IsHistoryOf old.asks old.journal old.list → Tells before after (call_of now input output) gained
 tells_from old new before after now input gained output adds history =
     record {

@@ -1,4 +1,4 @@
--- Where a connection's entries and a seat's calls part.
+-- Where a connection's entries and a seat's calls begin to differ.
 use Rattle.std.proofs.Common.{◌≡◌, ◌<◌, ◌≤◌, ℕ, zero, suc, ◌+◌, List, [], ◌∷◌, ◌++◌, length, take, drop, Some, None, refl, sym, ap, ◌∙◌, arith, length-take, true, false, ◌==◌, get_or, slice_get}
 use Rattle.std.proofs.lemmas.List.{drop_more, append-nil}
 use Rattle.std.proofs.lemmas.Option.{slice_get_past}

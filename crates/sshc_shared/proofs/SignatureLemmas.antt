@@ -1,4 +1,4 @@
--- An answer holds a signature just where the signer gave one: by cases on each row once.
+-- An answer holds a signature exactly if the signer returned one: by cases on each row once.
 use Rattle.std.proofs.Common.{◌≡◌, ℕ, Bool, true, false, cond, List, [], ◌∷◌, Option, Some, None, Result, Ok, Err, refl, ap, subst, ◌∙◌, inl, inr}
 use Rattle.std.specs.Int.{w32}
 use Rattle.std.specs.Option.{is_some}
@@ -40,7 +40,7 @@ use Rattle.sshc_shared.specs.Calls.{entry_of, signature_at, signature_of}
 of_frame : (body : List ℕ) → signature_of (frame body) ≡ signature_at body
 of_frame body = ap signature_at (behind_length body)
 
--- ---- turns: an answer holds no signature but by the signer
+-- ---- turns: an answer holds no signature, unless the signer made it
 
 abbrev Unsigned : Turn → Type 0
 Unsigned (says next stands output) = signature_of output ≡ None
@@ -151,7 +151,7 @@ unfolding key_answer_turn
 key_answer_plain false whole l = of_frame _
 key_answer_plain true whole l = either (is_some l.passphrase) _ _ (of_frame _) (confirmed_plain whole l)
 
--- ---- what a row asks and comes to
+-- ---- the requests of a row and its outcome
 
 abbrev ToldAfter : Answer → Asking Outcome → Type 0
 ToldAfter answer (done o) = signature_of o.output ≡ answer
@@ -208,7 +208,7 @@ none_first : (asking : Asking Outcome) → MakesFirst asking []
 none_first (done x) = tt
 none_first (asks asked on) = tt
 
--- a step is an entry with the signature that its answer holds
+-- a step is an entry with the signature in its answer
 pub entry_is : (now conn number : ℕ) (input : AgentInput) (before after : AgentList) (gained : List SignCall) (output : AgentOutput) → Steps now conn input before after gained output → IsEntry before (entry_of conn number now input output) after
 entry_is now conn number input before after gained output (inl makes) =
     record { gained = gained; step = inl makes; signature = makes_told (agent_row now conn input before) gained (record { next = after; output = output }) (row_told now conn input before) makes }

@@ -1,5 +1,5 @@
--- What a caller keeps of its entries, and the signature that an answer holds (draft-miller-ssh-agent, section 3.6).
--- Said of whole lists of entries; the code goes through the journal once for each connection.
+-- The calls that a caller keeps of its entries, and the signature in an answer (draft-miller-ssh-agent, section 3.6).
+-- The definitions are about whole lists of entries; the code goes through the journal once for each connection.
 use Rattle.std.specs.Prelude.{ℕ, ◌+◌, ◌*◌, List, [], ◌∷◌, drop, filter, length, map, sum_by, Option, Some, None, ◌==◌, if◌then◌else◌}
 use Rattle.sshc_agent.specs.declared.entry.Entry.{Entry}
 use Rattle.sshc_agent.specs.declared.input.AgentInput.{AgentInput}
@@ -11,12 +11,12 @@ use Rattle.sshc_shared.specs.declared.call.Call.{Call}
 
 -- ---- signatures
 
--- what follows the type and its own length, in an answer of type 14
+-- what follows the type and the signature's length, in an answer of type 14
 abbrev pub signature_at : List ℕ → Option (List ℕ)
 signature_at [] = None
 signature_at (number ∷ body) = if number == SIGN_RESPONSE then Some (drop 4 body) else None
 
--- the signature of an answer, behind the frame's length
+-- the signature of an answer, after the frame's length
 abbrev pub signature_of : AgentOutput → Option (List ℕ)
 signature_of (outputs.Answer frame) = signature_at (drop 4 frame)
 signature_of output = None
@@ -39,7 +39,7 @@ calls_of conn entries = map call_in (filter (λ e. e.conn == conn) entries)
 
 -- ---- weights
 
--- the bytes of the frame, if the input is one
+-- the number of bytes in the frame, if the input is one
 abbrev pub frame_length : AgentInput → ℕ
 frame_length (inputs.Frame whole) = length whole
 frame_length input = 0

@@ -1,4 +1,4 @@
--- When a shared agent may be closed, and why not; and what a caller sees of a call.
+-- When a shared agent can be closed, and why not; and what a caller knows about a call.
 use Rattle.std.specs.Prelude.{◌≡◌, ◌≢◌, ◌≤◌, ℕ, Bool, List, [], ◌∷◌, ◌++◌, length, Option, slice_get, All, Contains, sum_by}
 use Rattle.sshc_agent.specs.declared.entry.Entry.{Entry}
 use Rattle.sshc_agent.specs.AgentHistory.{IsLegal, count_of}
@@ -18,14 +18,15 @@ pub record IsLegalBy (asks : Bool) (history : List Entry) : Type 0 where
   pub legal : IsLegal history
   pub asks_is : legal.asks ≡ asks
 
--- the history is legal, has each seat's calls in its order, each once, and no others, and weighs no more than it may
+-- the history is legal, has each seat's calls in their order, each once, and no others, and weighs no more than the
+-- limit
 pub record Accounts (asks : Bool) (limit : ℕ) (history : List Entry) (seats : List SeatState) : Type 0 where
   pub legal : IsLegalBy asks history
   pub each : All (λ seat. calls_of seat.conn history ≡ seat.calls) seats
   pub together : length history ≡ sum_by (λ seat. length seat.calls) seats
   pub within : journal_weight (length seats) history ≤ limit
 
--- the seat's call at a place differs from another
+-- the seat's call at an index differs from the journal's
 pub record IsTorn (seat : SeatState) (conn at : ℕ) (got kept : Option Call) : Type 0 where
   pub whose : seat.conn ≡ conn
   pub got_is : got ≡ slice_get seat.calls at
@@ -37,21 +38,22 @@ CloseCause seats NoRoom = Unit {0}
 CloseCause seats (SeatsOut made given) = (made ≢ given) × (given ≡ length seats)
 CloseCause seats (Torn conn at got kept) = (seat : SeatState) × Contains seats seat × IsTorn seat conn at got kept
 
--- and what lies under the lock says of it
+-- the same, with what the state behind the mutex shows
 abbrev pub LockedCause : SharedState → List SeatState → CloseError → Type 0
 LockedCause s seats NoRoom = Unit {0}
 LockedCause s seats (SeatsOut made given) = (made ≡ s.made) × (made ≢ given) × (given ≡ length seats)
 LockedCause s seats (Torn conn at got kept) =
     ((seat : SeatState) × Contains seats seat × IsTorn seat conn at got kept) × (kept ≡ slice_get (calls_of conn s.journal) at)
 
--- a call is a step of an agent to which some legal history leads, and the signer is asked what that step asks
+-- a call is a step of an agent to which some legal history leads, and the signer gets the calls of that step
 pub record IsStep (conn : ℕ) (call : Call) (gained : List SignCall) : Type 0 where
   pub earlier : List Entry
   pub legal : IsLegal earlier
   pub next : AgentList
   pub step : Steps call.moment conn call.input legal.last next gained call.output
 
--- the call is such a step, behind just as many entries of its connection as the seat has earlier calls, and the seat has it then
+-- the call is such a step, after exactly as many entries of its connection as the seat has earlier calls, and the seat
+-- has the call afterwards
 pub record Tells (before after : SeatState) (call : Call) (gained : List SignCall) : Type 0 where
   pub step : IsStep before.conn call gained
   pub numbered : length before.calls ≡ count_of before.conn step.earlier

@@ -1,4 +1,4 @@
--- A count for each connection, which is 0 where it has none. The code keeps a map.
+-- A count for each connection, which is 0 for a connection without one. The code keeps a map.
 use Rattle.std.specs.Prelude.{ℕ, unwrap_or}
 use Rattle.std.specs.BTreeMap.{get}
 use Rattle.std.specs.Ordering.{nat_cmp}

@@ -1,5 +1,5 @@
--- What lies under the lock of a shared agent, what each of its calls does, and what a seat keeps: plain data.
--- The code keeps a map of counts, a ledger's book and a weight beside it.
+-- The state behind the mutex of a shared agent, what each of its calls does, and what a seat keeps: plain data.
+-- In addition, the code keeps a map of counts, a ledger's book and a weight.
 use Rattle.std.specs.Prelude.{◌≡◌, ℕ, ◌+◌, ◌-◌, ◌^◌, ◌<◌, ◌≤◌, min, nat_lt, Bool, List, [], ◌∷◌, ◌++◌, length, Option, Some, None, ◌==◌, if◌then◌else◌}
 use Rattle.sshc_key.specs.Signers.{SignCall}
 use Rattle.sshc_agent.specs.declared.entry.Entry.{Entry}
@@ -15,7 +15,7 @@ use Rattle.sshc_shared.specs.declared.error.CallRefused.TheVariants.{JournalFull
 use Rattle.sshc_shared.specs.Calls.{call_of, entry_of, entry_weight, journal_weight}
 use Rattle.sshc_shared.specs.Counting.{count_in}
 
--- the agent, its history so far, how many seats were made, and what the journal may weigh
+-- the agent, its history so far, how many seats were made, and the greatest weight of the journal
 pub record SharedState : Type 0 where
   pub asks : Bool
   pub list : AgentList
@@ -31,12 +31,12 @@ pub record SeatState : Type 0 where
   pub parts : ℕ
   pub amount : ℕ
 
--- a history leads from an agent that holds nothing to this list
+-- a history leads from an agent that holds nothing to this agent state
 pub record IsHistoryOf (asks : Bool) (journal : List Entry) (list : AgentList) : Type 0 where
   pub leads : Leads (empty_list asks) journal list
   pub numbers : AreNumbered [] journal
 
--- the journal is legal and leads to the list; counts, ledger and weight agree with it
+-- the journal is legal and leads to the agent state; counts, ledger and weight agree with it
 pub record IsKept (asks : Bool) (list : AgentList) (journal : List Entry) (counts : Counts) (total amount parts made weight limit : ℕ) : Type 0 where
   pub history : IsHistoryOf asks journal list
   pub counted : (conn : ℕ) → count_in counts conn ≡ count_of conn journal
@@ -55,11 +55,11 @@ weight_of s = journal_weight s.made s.journal
 abbrev pub new_seat : ℕ → SeatState
 new_seat conn = record { conn = conn; calls = []; refused = 0; parts = 1; amount = 0 }
 
--- a seat with one call more
+-- a seat with one more call
 abbrev pub with_call : SeatState → Call → SeatState
 with_call seat call = record seat { calls = seat.calls ++ call ∷ []; amount = seat.amount + 1 }
 
--- a seat with one refused call more; at its type's end the count stands still
+-- a seat with one more refused call; the count saturates at its type's greatest number
 abbrev pub refused_once : SeatState → SeatState
 refused_once seat = record seat { refused = min (seat.refused + 1) (2 ^ 64 - 1) }
 
@@ -68,7 +68,7 @@ refused_once seat = record seat { refused = min (seat.refused + 1) (2 ^ 64 - 1) 
 abbrev pub next_entry : SeatState → ℕ → AgentInput → AgentOutput → Entry
 next_entry seat now input output = entry_of seat.conn (length seat.calls) now input output
 
--- one step and the one entry of it, which the seat has too; by the calls that the signer's list gained
+-- one step and its one entry, which the seat has too; with the calls that were added to the signer's list
 pub record Adds (old new : SharedState) (before after : SeatState) (now : ℕ) (input : AgentInput) (gained : List SignCall) (output : AgentOutput) : Type 0 where
   pub numbered : length before.calls ≡ count_of before.conn old.journal
   pub step : Steps now before.conn input old.list new.list gained output
@@ -78,7 +78,7 @@ pub record Adds (old new : SharedState) (before after : SeatState) (now : ℕ) (
   pub limit : new.limit ≡ old.limit
   pub seat : after ≡ with_call before (call_of now input output)
 
--- the refusal that is due before anything else: first where the numbers differ, then by the weight
+-- the refusal that is tested before anything else: first whether the numbers differ, then the weight
 abbrev pub due : SharedState → SeatState → AgentInput → Option CallRefused
 due s seat input =
     if (length seat.calls == count_of seat.conn s.journal)

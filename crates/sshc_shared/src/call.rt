@@ -1,4 +1,4 @@
-//! A call of a seat, beside the entry of the history that tells it.
+//! A call of a seat, which corresponds to one entry of the history.
 
 ghost use Rattle.std.specs.Prelude.{◌≡◌, ◌↔◌, IfOk, IsTrue};
 ghost use Rattle.sshc_shared.specs.Calls.{call_in, frame_length};
@@ -6,7 +6,7 @@ ghost use Rattle.sshc_shared.specs.Calls.{call_in, frame_length};
 use sshc_agent::{AgentInput, AgentOutput, Entry};
 use sshc_wire::NoMemory;
 
-/// An input at a moment in milliseconds, and its answer.
+/// An input at a moment in milliseconds, and its output.
 #[derive(Debug, Drop)]
 pub struct Call {
     pub moment: u64,
@@ -28,7 +28,7 @@ impl Call {
     }
 }
 
-/// How many bytes the input's frame has.
+/// How many bytes the input's frame has; 0 for any other input.
 pub(crate) fn frame_length(input: &AgentInput) -> usize
     ensures { result ≡ frame_length input.now }
 {

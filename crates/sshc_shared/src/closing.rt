@@ -1,4 +1,4 @@
-//! Closing a shared agent: all seats are back, and their calls are the journal's.
+//! Closing a shared agent: all seats are back, and their calls are those of the journal.
 
 ghost use Rattle.std.specs.Prelude.{◌≡◌, ◌≤◌, All, IfErr, IfOk, MatchOption, length, sum_by};
 ghost use Rattle.sshc_shared.specs.Calls.{calls_of, journal_weight};
@@ -13,11 +13,11 @@ use crate::tear::first_tear;
 use sshc_agent::Entry;
 use sshc_wire::NoMemory;
 
-/// The ledger's parts, of which each seat has one.
+/// How many parts the ledger has. Each seat has one.
 const PARTS: usize = 67_108_864;
 
 impl<L: Settings> AgentState<L> {
-    /// The first place at which a seat and the journal differ.
+    /// The first call in which a seat and the journal differ.
     fn torn(&self, seats: &[Seat<L>]) -> Result<Option<CloseError>, NoMemory>
         ensures { IfOk result
             (λ r. MatchOption r (All (λ p. calls_of p.conn self.now.journal ≡ p.calls) seats.now)
@@ -40,7 +40,7 @@ impl<L: Settings> AgentState<L> {
         Ok(None)
     }
 
-    /// How many seats there are. There are no more than the ledger has parts.
+    /// How many seats there are: at most as many as the ledger has parts.
     fn counted(self, seats: Vec<Seat<L>>) -> (AgentState<L>, Vec<Seat<L>>, u32)
         ensures state { result.0 ≡ self }
         ensures seats { result.1.items ≡ seats.items }
@@ -64,7 +64,7 @@ impl<L: Settings> AgentState<L> {
         unreachable!()
     }
 
-    /// Every part is back, so the seats' calls are all that the journal has.
+    /// Every part is back, so the seats' calls are all the entries of the journal.
     fn settle(self, seats: Vec<Seat<L>>) -> Vec<Entry>
         requires { length seats.items ≡ self.made }
         ensures journal { result.items ≡ self.journal }
@@ -89,14 +89,15 @@ impl<L: Settings> AgentState<L> {
         journal
     }
 
-    /// The journal, where every seat is back and its calls stand in it. Else all is handed back with what is wrong.
+    /// The journal, if every seat is back and its calls are in the journal. Otherwise returns the state and the seats
+    /// with the error.
     pub fn close(
         self,
         seats: Vec<Seat<L>>,
     ) -> Result<Vec<Entry>, (AgentState<L>, Vec<Seat<L>>, CloseError)>
         ensures journal { IfOk result (λ h. h.items ≡ self.journal) }
         ensures accounts { IfOk result (λ h. Accounts L.asks L.limit h.items seats.items) }
-        // From each acknowledged lock to the unlock with its passphrase nothing is signed, listed or acknowledged.
+        // From each acknowledged lock to the unlock with its passphrase, nothing is signed, listed or acknowledged.
         ensures locks { IfOk result (λ h. LocksHold h.items) }
         ensures same { IfErr result (λ r. (r.0 ≡ self) × (r.1.items ≡ seats.items)) }
         ensures cause { IfErr result (λ r. LockedCause self seats.items r.2) }

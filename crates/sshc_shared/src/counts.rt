@@ -31,7 +31,7 @@ impl Counts {
         self.of.get(&conn).copied().unwrap_or(0)
     }
 
-    /// Makes the connection's count, if it has none.
+    /// Adds a count of 0 for the connection, if it has none.
     pub(crate) fn open(&mut self, conn: u32) -> Result<(), NoMemory>
         ensures same { (c : ℕ) → count_in self.new c ≡ count_in self.old c }
         ensures there { OnOk result (IsSome (get nat_cmp self.new.of conn)) }
@@ -42,7 +42,7 @@ impl Counts {
         Ok(())
     }
 
-    /// One entry more.
+    /// Adds one to the connection's count.
     pub(crate) fn raise(&mut self, conn: u32)
         requires there { IsSome (get nat_cmp self.old.of conn) }
         requires fits { count_in self.old conn + 1 < 2 ^ 32 }

@@ -8,7 +8,7 @@ pub enum CallRefused {
     /// With it the journal would weigh more than its limit.
     JournalFull,
     NoMemory,
-    /// The seat's number of calls, and the journal's number of entries of its connection, which differ.
+    /// The seat's number of calls, and the number of entries that the journal has for its connection, which differ.
     Miscounted { seat: u32, kept: u32 },
 }
 
@@ -16,12 +16,12 @@ pub enum CallRefused {
 #[derive(Debug, Drop)]
 pub enum CloseError {
     NoMemory,
-    /// The number of seats that were made, and the number handed in, which differ.
+    /// The number of seats that were made, and the number passed to `close`, which differ.
     SeatsOut {
         made: u32,
         given: u32,
     },
-    /// The calls of a seat and of the journal at one place of a connection, which differ; none where a list has ended.
+    /// The seat's call at an index, and the journal's, which differ; `None` if that list has already ended.
     Torn {
         conn: u32,
         at: u32,

@@ -1,4 +1,4 @@
-//! One agent that many connections share: one history of all their calls, under one lock.
+//! One agent that many connections share: a single history of all their calls, behind a mutex.
 #![tactic(auto)]
 
 mod call;

@@ -1,4 +1,4 @@
-//! Room that is made before a step, so that no copy of its answer fails for lack of memory.
+//! Room that is reserved before a step, so that copying its answer can't run out of memory.
 
 ghost use Rattle.std.specs.Prelude.{◌≡◌, ◌<◌, ◌≤◌, ℕ, IfOk, IsSome, OnOk, drop, length, vec_capacity, vec_len};
 ghost use Rattle.std.specs.BTreeMap.{get};
@@ -18,10 +18,10 @@ use std::mem;
 /// The bytes of a frame's length.
 const LENGTH_BYTES: usize = 4;
 
-/// The most bytes that an answer has: those of a frame, and its length.
+/// The maximal number of bytes in an answer: those of a frame, and its length.
 const ANSWER_BYTES: usize = 262_148;
 
-/// A buffer for each copy of an answer, which a copy takes where no other memory is found for it.
+/// A buffer for each copy of an answer, which is used if no other memory can be allocated for the copy.
 #[derive(Drop)]
 pub(crate) struct Rooms {
     signature: Vec<u8>,
@@ -29,7 +29,7 @@ pub(crate) struct Rooms {
     told: Vec<u8>,
 }
 
-/// Makes room for the greatest answer, if the buffer has none.
+/// Reserves room for the longest answer.
 fn make_room(buffer: &mut Vec<u8>) -> Result<(), NoMemory>
     ensures { OnOk result (262148 ≤ vec_capacity buffer.new) }
 {
@@ -38,7 +38,7 @@ fn make_room(buffer: &mut Vec<u8>) -> Result<(), NoMemory>
     Ok(())
 }
 
-/// The buffer with these bytes in it, for which it has room.
+/// The buffer, with these bytes as its contents; it has room for them.
 fn filled(buffer: Vec<u8>, bytes: &[u8]) -> Octets
     requires room { length bytes.now ≤ vec_capacity buffer }
     requires short { length bytes.now ≤ 262148 }
@@ -52,7 +52,7 @@ fn filled(buffer: Vec<u8>, bytes: &[u8]) -> Octets
     unreachable!()
 }
 
-/// A copy that is just as large as the bytes are, or in the buffer.
+/// A copy in newly allocated memory of just the bytes' size, or in the buffer if that can't be allocated.
 fn copied(buffer: &mut Vec<u8>, bytes: &[u8]) -> Octets
     requires room { 262148 ≤ vec_capacity buffer.old }
     requires short { length bytes.now ≤ 262148 }
@@ -79,7 +79,7 @@ fn output_in(buffer: &mut Vec<u8>, output: &AgentOutput) -> AgentOutput
     }
 }
 
-/// The signature in a frame without its length, if it is one of type 14.
+/// The signature in a frame without its length, if it is a SIGN_RESPONSE (14).
 fn signature_at(buffer: &mut Vec<u8>, body: &[u8]) -> Option<Octets>
     requires room { 262148 ≤ vec_capacity buffer.old }
     requires short { length body.now ≤ 262148 }
@@ -96,7 +96,7 @@ fn signature_at(buffer: &mut Vec<u8>, body: &[u8]) -> Option<Octets>
     }
 }
 
-/// What follows so many bytes.
+/// The bytes after the first `count`.
 fn behind(bytes: &[u8], count: usize) -> &[u8]
     ensures { result.now ≡ drop count bytes.now }
 {
@@ -131,7 +131,7 @@ impl Rooms {
         }
     }
 
-    /// Makes the room that a call with this input needs for an entry, a call and their bytes, and copies the input.
+    /// Reserves the room that a call with this input needs for an entry, a call and their bytes, and copies the input.
     pub(crate) fn make(
         &mut self,
         input: &AgentInput,

@@ -1,4 +1,4 @@
-//! A connection's place at a shared agent.
+//! A connection's seat at a shared agent.
 
 ghost use Rattle.std.specs.Prelude.{◌≡◌};
 ghost use Rattle.sshc_shared.specs.Kept.{refused_once};
@@ -7,7 +7,7 @@ use crate::call::Call;
 use std::marker::Model;
 use std::sync::ledger::{Ledger, Share};
 
-/// A connection's number, its calls so far, how many calls were refused, and its part of the agent's ledger.
+/// A connection's number, its calls so far, how many of its calls were refused, and its part of the agent's ledger.
 #[derive(Drop)]
 pub struct Seat<L: Ledger> {
     pub(crate) conn: u32,
@@ -35,7 +35,7 @@ impl<L: Ledger> Seat<L> {
         self.conn
     }
 
-    /// The calls that were answered, in their order.
+    /// The calls that weren't refused, in order.
     pub fn calls(&self) -> &[Call]
         ensures { result.now ≡ self.now.calls }
     {
@@ -49,7 +49,7 @@ impl<L: Ledger> Seat<L> {
         self.refused
     }
 
-    /// One more call was refused.
+    /// Counts one more refused call.
     pub(crate) fn refuse(&mut self)
         ensures { self.new ≡ refused_once self.old }
     {

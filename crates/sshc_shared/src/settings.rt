@@ -1,12 +1,12 @@
-//! The settings of one shared agent, by name.
+//! The settings of one shared agent, as a type.
 
 ghost use Rattle.std.specs.Prelude.{◌≡◌, ℕ, Bool, false};
 
 use std::marker::{Brand, PhantomData};
 use std::sync::ledger::Ledger;
 
-/// Names one shared agent: its ledger, whether its user is asked about each request, and what its journal may weigh. Who
-/// makes the agent picks them at the call that is generic in the name.
+/// A type that identifies one shared agent: its ledger, whether its user is asked about each request, and the greatest
+/// weight of its journal. They are chosen by the caller that makes the agent, in a call that is generic in this type.
 pub trait Settings: Ledger {
     ghost asks: { Bool };
 

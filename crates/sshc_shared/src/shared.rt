@@ -25,8 +25,9 @@ pub struct AgentShared<L: Settings> {
 }
 
 impl<L: Settings> AgentShared<L> {
-    /// An agent that nothing was called of yet. Where it asks, the user is asked about each request. Its journal weighs at most
-    /// so much: 64 for each seat and entry, and the bytes of an entry's frame. The ledger has 2^26 parts.
+    /// An agent that was not called yet. If `asks`, the user is asked about each request. Its journal weighs at most
+    /// `journal_limit`: 64 for each seat and each entry, plus the bytes of each entry's frame. The ledger has 2^26
+    /// parts.
     pub fn new(
         alloc: Global,
         blank: Blank,
@@ -63,7 +64,7 @@ impl<L: Settings> AgentShared<L> {
             (λ out. Tells seat result.0 (call_of now input out) (since (G.calls signer.old) (G.calls signer.new))) }
         ensures refused { OnErr result.1 (result.0 ≡ refused_once seat) }
         ensures seen { IfErr result.1 (λ e. RefusalSeen seat e) }
-        // The signer's list gains what the step asks; nothing where the call is refused.
+        // The calls that the step makes are added to the signer's list; none if the call is refused.
         ensures asked { OnOk result.1
             (G.calls signer.new ≡ G.calls signer.old ++ since (G.calls signer.old) (G.calls signer.new)) }
         ensures unasked { OnErr result.1 (G.calls signer.new ≡ G.calls signer.old) }
@@ -71,14 +72,14 @@ impl<L: Settings> AgentShared<L> {
         self.state.lock(rt).call(seat, now, input, signer)
     }
 
-    /// The history of all calls of an agent with the settings of its name, where all seats are back and their calls stand in
-    /// it, in their order and with the answers that they got. Else all is handed back with what is wrong.
+    /// The history of all calls of an agent with the settings of its type, if all seats are back and their calls are in
+    /// it, in their order and with the outputs that they got. Otherwise returns the agent and the seats with the error.
     pub fn close(
         self,
         seats: Vec<Seat<L>>,
     ) -> Result<Vec<Entry>, (AgentShared<L>, Vec<Seat<L>>, CloseError)>
         ensures accounts { IfOk result (λ h. Accounts L.asks L.limit h.items seats.items) }
-        // From each acknowledged lock to the unlock with its passphrase nothing is signed, listed or acknowledged.
+        // From each acknowledged lock to the unlock with its passphrase, nothing is signed, listed or acknowledged.
         ensures locks { IfOk result (λ h. LocksHold h.items) }
         ensures same { IfErr result (λ r. r.1.items ≡ seats.items) }
         ensures cause { IfErr result (λ r. CloseCause seats.items r.2) }

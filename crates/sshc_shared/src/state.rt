@@ -1,4 +1,4 @@
-//! What lies under the lock: the agent, the journal of all calls, a count for each connection, and the ledger.
+//! The state behind the mutex: the agent, the journal of all calls, a count for each connection, and the ledger.
 
 ghost use Rattle.std.specs.Prelude.{◌≡◌, ◌≤◌, ◌+◌, ◌++◌, ◌<◌, [], IfErr, IfOk, MatchOption, OnErr, OnOk};
 ghost use Rattle.sshc_agent.specs.AgentList.{empty_list};
@@ -20,17 +20,17 @@ use std::alloc::Global;
 use std::marker::{Model, PhantomData};
 use std::sync::ledger::{Blank, Book, Ledger, Share};
 
-/// What a seat weighs in the journal, and what an entry weighs beside its frame.
+/// The weight of a seat in the journal, and that of an entry without its frame.
 const ENTRY_WEIGHT: u64 = 64;
 
-/// That the ledger has this many parts in all.
+/// Proves that the ledger has this many parts in all.
 #[derive(Drop)]
 pub(crate) struct Whole<L: Ledger> {
     pub(crate) of: PhantomData<L>,
     ghost whole: { L.parts ≡ 67108864 },
 }
 
-/// An agent with the history of all its calls. What lies under the lock of a shared agent.
+/// An agent with the history of all its calls: the state behind the mutex of a shared agent.
 #[derive(Drop)]
 pub struct AgentState<L: Settings> {
     pub(crate) alloc: Global,
@@ -61,7 +61,7 @@ impl<L: Settings> Model for AgentState<L> {
 }
 
 impl<L: Settings> AgentState<L> {
-    /// Nothing was called yet. Where it asks, the user is asked about each request. The ledger has 2^26 parts.
+    /// No calls yet. If `asks`, the user is asked about each request. The ledger has 2^26 parts.
     pub fn new(alloc: Global, blank: Blank, asks: bool, journal_limit: u32) -> AgentState<L>
         requires parts { blank.parts ≡ 67108864 }
         requires ledger { (blank.name ≡ L.name) × (blank.parts ≡ L.parts) }
@@ -96,7 +96,7 @@ impl<L: Settings> AgentState<L> {
         let _journal = &self.journal;
     }
 
-    /// It asks and is limited as its name says.
+    /// Its `asks` and its limit are those of its settings.
     pub fn is_as_named(&self)
         ensures asks { self.now.asks ≡ L.asks }
         ensures limit { self.now.limit ≡ L.limit }
@@ -109,7 +109,7 @@ impl<L: Settings> AgentState<L> {
         ensures seat { IfOk result (λ s. s ≡ new_seat (self.old.made + 1)) }
         ensures made { IfOk result (λ s. self.new ≡ record self.old { made = self.old.made + 1 }) }
         ensures room { IfOk result (λ s. weight_of self.old + 64 ≤ self.old.limit) }
-        // Where it is refused, the journal would weigh more than its limit, and nothing changes.
+        // If it is refused, the journal would weigh more than its limit, and nothing changes.
         ensures full { IfErr result (λ e. (e ≡ CallRefused.JournalFull) × (self.old.limit < weight_of self.old + 64)) }
         ensures same { OnErr result (self.new ≡ self.old) }
     {
@@ -180,8 +180,8 @@ impl<L: Settings> AgentState<L> {
         Ok(output)
     }
 
-    /// Takes an input of the seat's connection at a moment in milliseconds: one step of the agent, with its entry in the
-    /// journal and its call in the seat. A refused call changes nothing but the seat's count of such calls.
+    /// Takes an input of the seat's connection at a moment in milliseconds: one step of the agent, with its entry in
+    /// the journal and its call in the seat. A refused call changes only the seat's count of refused calls.
     #[tactic(auto, using(crate::proofs::Keeping::tells_from))]
     pub fn call<G: LocalSigner>(
         &mut self,
@@ -193,14 +193,14 @@ impl<L: Settings> AgentState<L> {
         ensures adds { IfOk result.1
             (λ out. Adds
             self.old self.new seat result.0 now input (since (G.calls signer.old) (G.calls signer.new)) out) }
-        // So the answer is that of a step behind a legal history.
+        // So the output is that of a step after a legal history.
         ensures tells { IfOk result.1
             (λ out. Tells seat result.0 (call_of now input out) (since (G.calls signer.old) (G.calls signer.new))) }
         ensures same { OnErr result.1 ((self.new ≡ self.old) × (result.0 ≡ refused_once seat)) }
-        // Miscounted and JournalFull come just where they are due; else only out of memory refuses.
+        // Miscounted and JournalFull are returned exactly if they are due; any other refusal is NoMemory.
         ensures due { MatchOption (due self.old seat input) (IfErr result.1 (λ e. e ≡ CallRefused.NoMemory))
             (λ e. result.1 ≡ Err e) }
-        // The signer's list gains what the step asks; nothing where the call is refused.
+        // The calls that the step makes are added to the signer's list; none if the call is refused.
         ensures asked { OnOk result.1
             (G.calls signer.new ≡ G.calls signer.old ++ since (G.calls signer.old) (G.calls signer.new)) }
         ensures unasked { OnErr result.1 (G.calls signer.new ≡ G.calls signer.old) }

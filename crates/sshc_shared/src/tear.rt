@@ -7,7 +7,7 @@ use crate::call::{Call, call_in, is_call};
 use sshc_agent::Entry;
 use sshc_wire::NoMemory;
 
-/// A place, the seat's call there, and the journal's.
+/// An index, the seat's call there, and the journal's.
 #[derive(Debug, Drop)]
 pub(crate) struct Tear {
     pub(crate) at: u32,
@@ -15,7 +15,7 @@ pub(crate) struct Tear {
     pub(crate) kept: Option<Call>,
 }
 
-/// The first place at which a connection's entries and these calls differ, with both.
+/// The first index at which a connection's entries and these calls differ, with both calls.
 pub(crate) fn first_tear(
     journal: &[Entry],
     conn: u32,

@@ -1,4 +1,4 @@
-//! Frames to an agent, with a key pair of Ed25519.
+//! Frames sent to an agent, about one Ed25519 key pair.
 
 use sshc_agent::AgentInput;
 use sshc_wire::{NoMemory, Octets, put_bytes, put_text, put_u32};
@@ -9,7 +9,8 @@ pub(crate) fn lists(alloc: Global) -> Result<AgentInput, NoMemory> {
     Ok(AgentInput::Frame(Octets::from_slice(alloc, &[11])?))
 }
 
-/// A frame that adds the pair whose public part is 32 times 8 and whose seed is 32 times 7, with an empty comment.
+/// A frame that adds the pair whose public part is 32 bytes of 8 and whose seed is 32 bytes of 7, with an empty
+/// comment.
 pub(crate) fn adds(alloc: Global) -> Result<AgentInput, NoMemory> {
     let mut private = [7u8; 64];
     private[32..].fill(8);

@@ -1,4 +1,4 @@
-//! Tests of the shared agent: calls on seats by hand.
+//! Tests of the shared agent: hand-written calls on seats.
 #![tactic(auto)]
 
 #[cfg(test)]

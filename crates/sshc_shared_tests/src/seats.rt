@@ -1,4 +1,4 @@
-//! Calls by hand on seats of one thread.
+//! Hand-written calls on seats in one thread.
 
 ghost use Rattle.std.specs.Prelude.{◌≡◌, false};
 
@@ -12,10 +12,10 @@ use std::sync::Wait;
 use std::sync::ledger::Blank;
 use std::test::*;
 
-/// The ledger's parts.
+/// How many parts the ledger has.
 const PARTS: u64 = 67_108_864;
 
-/// A call whose answer is one of the agent's.
+/// A call that isn't refused.
 fn answered<L: Settings, R: Wait>(
     rt: &R,
     alloc: Global,
@@ -27,7 +27,7 @@ fn answered<L: Settings, R: Wait>(
     (seat, answer.ok())
 }
 
-/// Two listings where the journal has room for one.
+/// Two listings with room for one in the journal.
 fn one_of_two<L: Settings, R: Wait>(
     rt: &R,
     alloc: Global,
@@ -58,7 +58,7 @@ fn the_journal_is_full(rt: HostRuntime) -> Result<(), Fail> {
     Ok(())
 }
 
-/// Whether a second seat is refused where the journal has room for one.
+/// Whether a second seat is refused if the journal has room for one.
 fn second_seat<L: Settings, R: Wait>(
     rt: &R,
     alloc: Global,
@@ -80,7 +80,7 @@ fn seats_weigh_too(rt: HostRuntime) -> Result<(), Fail> {
     Ok(())
 }
 
-/// What is wrong where the one seat isn't handed in.
+/// The error if the one seat isn't passed to `close`.
 fn seat_out<L: Settings, R: Wait>(rt: &R, alloc: Global, blank: Blank) -> Option<CloseError>
     requires parts { blank.parts ≡ 67108864 }
     requires ledger { (blank.name ≡ L.name) × (blank.parts ≡ L.parts) }

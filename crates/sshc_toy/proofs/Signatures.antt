@@ -1,4 +1,4 @@
--- Two strings are a signature, where the name isn't a security key's, and a short one.
+-- Two strings are a signature, if the name isn't a security key's, and short.
 use Rattle.std.proofs.Common.{◌≡◌, ◌≤◌, ◌<◌, ◌+◌, ◌^◌, ◌&&◌, ℕ, Bool, true, false, not, List, [], ◌++◌, None, length, refl, sym, ap, ◌∙◌, subst, arith, lit<, length-append}
 use Rattle.std.proofs.lemmas.Bool.{leb-true}
 use Rattle.std.proofs.lemmas.List.{append-nil}

@@ -1,4 +1,4 @@
-//! The calls of a signer, kept with their answers.
+//! The calls of a signer, recorded with their answers.
 
 ghost use Rattle.std.specs.Prelude.{◌≡◌, ◌≤◌, ◌++◌, ◌∷◌, [], None, Some, OnOk, OnErr};
 ghost use Rattle.sshc_wire.specs.Faults.{Rose};
@@ -8,7 +8,7 @@ use sshc_wire::{NoMemory, Octets};
 use std::alloc::Global;
 use std::marker::Model;
 
-/// A call of a signer, with its answer, none where it was refused.
+/// A call of a signer, with its answer; `None` if it was refused.
 #[derive(Debug, Drop)]
 struct Kept {
     by: Asker,
@@ -18,7 +18,7 @@ struct Kept {
     answer: Option<Octets>,
 }
 
-/// The calls in their order, and how often one was refused.
+/// The calls in order, and how often one was refused.
 #[derive(Debug, Drop)]
 pub(crate) struct Calls {
     alloc: Global,
@@ -55,7 +55,7 @@ impl Calls {
         self.alloc
     }
 
-    /// Keeps a call that was answered.
+    /// Records a call that was answered.
     pub(crate) fn keep_answer(
         &mut self,
         by: Asker,
@@ -82,7 +82,7 @@ impl Calls {
         Ok(())
     }
 
-    /// Keeps a call that was refused, and counts it.
+    /// Records a call that was refused, and counts it.
     pub(crate) fn keep_refusal(
         &mut self,
         by: Asker,

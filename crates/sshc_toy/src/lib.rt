@@ -1,4 +1,5 @@
-//! Signers and verifiers without arithmetic, for runs without a server: the toy pair, and a pair that refuses.
+//! Signers and verifiers without public-key arithmetic, for runs without a server: the toy pair, and a pair that
+//! refuses.
 #![tactic(auto)]
 
 mod keeping;

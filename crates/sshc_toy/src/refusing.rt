@@ -10,7 +10,7 @@ use sshc_wire::NoMemory;
 use std::alloc::Global;
 use std::marker::Model;
 
-/// Refuses each signature, and keeps the calls, which contracts see as calls without an answer.
+/// Refuses each signature, and records the calls, which contracts see as calls without an answer.
 #[derive(Debug, Drop)]
 pub struct RefusingSigner {
     calls: Calls,
@@ -29,7 +29,7 @@ impl Model for RefusingSigner {
 }
 
 impl RefusingSigner {
-    /// A signer that nothing was asked of yet.
+    /// A signer that has had no calls yet.
     pub fn new(alloc: Global) -> RefusingSigner
         ensures { result ≡ record { calls = []; refusals = 0 } }
     {

@@ -13,8 +13,9 @@ use sshc_wire::{NoMemory, Text, put_bytes, put_text};
 use std::alloc::Global;
 use std::marker::Model;
 
-/// Signs by an HMAC under the key's blob, which whoever knows the public key can make, and keeps its calls: for runs without a
-/// server. It refuses security keys, of which there are no pairs, and names of more than 64 bytes.
+/// Signs by an HMAC under the key's blob, which anyone who knows the public key can make, and records its calls: for
+/// runs without a server. It refuses security keys, for which there are no pairs, and signature names of more than 64
+/// bytes.
 #[derive(Debug, Drop)]
 pub struct ToySigner {
     calls: Calls,
@@ -35,14 +36,14 @@ impl Model for ToySigner {
 /// The longest name of a signature, in bytes.
 const LONGEST_NAME: usize = 64;
 
-/// Whether signatures have this name here.
+/// Whether the toy signer makes signatures with this name.
 fn can_sign(name: &str) -> bool
     ensures { result ≡ can_sign name.now }
 {
     !name.starts_with("sk-") && name.len() <= LONGEST_NAME
 }
 
-/// The text of a signature of this name and body.
+/// The encoding of a signature with this name and body.
 fn signature_text(alloc: Global, name: &Text, body: &[u8; 20]) -> Result<Vec<u8>, NoMemory>
     ensures { IfOk result (λ v. v.items ≡ signature_text (record { name = name.now; body = body.now; sk = None })) }
 {
@@ -52,7 +53,7 @@ fn signature_text(alloc: Global, name: &Text, body: &[u8; 20]) -> Result<Vec<u8>
     Ok(out)
 }
 
-/// A signature of this name and body.
+/// A signature with this name and body.
 fn signature_of(alloc: Global, name: &Text, body: &[u8; 20]) -> Result<Vec<u8>, NoMemory>
     requires name { can_sign name.now ≡ true }
     ensures text { IfOk result
@@ -65,7 +66,7 @@ fn signature_of(alloc: Global, name: &Text, body: &[u8; 20]) -> Result<Vec<u8>, 
     Ok(out)
 }
 
-/// The signature of the key over the bytes, where it has a name that signs here.
+/// The signature of the key over the bytes, if its name is one that can sign.
 fn toy_answer(
     alloc: Global,
     key: &PrivateKey,
@@ -84,7 +85,7 @@ fn toy_answer(
 }
 
 impl ToySigner {
-    /// A signer that nothing was asked of yet.
+    /// A signer that has had no calls yet.
     pub fn new(alloc: Global) -> ToySigner
         ensures { result ≡ record { calls = []; refusals = 0 } }
     {
@@ -99,7 +100,7 @@ impl LocalSigner for ToySigner {
 
     ghost refusals = { λ s. s.refusals };
 
-    /// The string of the key's name with the hash, and the string of the HMAC.
+    /// Returns the key's signature name with the hash as a string, and the HMAC as a string.
     fn sign(
         &mut self,
         by: Asker,

@@ -9,7 +9,8 @@ use sshc_key::{KeyData, PublicKey, PublicKeyBase64, Signature, Verifier};
 use sshc_wire::{NoMemory, Text};
 use std::alloc::Global;
 
-/// Accepts what the toy signer answers: of a plain key a signature of one of its names, without a counter, whose body is the HMAC.
+/// Accepts what the toy signer returns: for a plain key, a signature with one of its names, without a counter, whose
+/// body is the HMAC.
 #[derive(Debug, Drop)]
 pub struct ToyVerifier {
     alloc: Global,

@@ -1,4 +1,4 @@
--- An answer of a vector, seen as that of its items.
+-- A result with a vector, seen as one with its items.
 use Rattle.std.proofs.Common.{ℕ, List, Vec, Option, Some, None, Result, Ok, Err}
 use Rattle.sshc_key.specs.KeyFiles.{Told, AnswersBy, HasReadCause}
 use Rattle.sshc_key.specs.declared.error.Error.{Error}

@@ -1,4 +1,4 @@
--- What is asked, from the second word, the place and the words behind KNOWN.
+-- The request, from the second argument, the place and the arguments after KNOWN.
 use Rattle.std.proofs.Common.{◌≡◌, ℕ, List, [], ◌∷◌, length, refl, arith, Option, Some, None, IfSome}
 use Rattle.std.specs.Prelude.{codes}
 use Rattle.sshc_words.specs.Port.{IsPort}

@@ -1,4 +1,4 @@
--- The word PORT.
+-- The argument PORT.
 use Rattle.std.specs.Prelude.{◌≡◌, ℕ, ◌≤◌, ◌<◌, List, length}
 use Rattle.std.specs.Str.Parse.{IsNumeral, digits_value}
 

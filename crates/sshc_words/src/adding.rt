@@ -1,23 +1,23 @@
-//! Lines that the program adds to its sink, and the statuses of those that are cut.
+//! Lines that the program writes to its sink, and the statuses if they are cut.
 
 ghost use Rattle.std.specs.Prelude.{◌≤◌};
 ghost use Rattle.sshc_words.specs.Adding.{Adds};
 
 use sshc_wire::{Failed, Sink, write_whole};
 
-/// The status of words that the program doesn't know.
+/// The exit status for invalid command-line arguments.
 pub const WORDS_STATUS: u8 = 2;
 
-/// The status of a known hosts file that is no text or can't be read.
+/// The exit status for a known hosts file that isn't UTF-8 text or can't be read.
 pub const KNOWN_FILE_STATUS: u8 = 3;
 
-/// The statuses of errors begin here, in the order of a run's errors.
+/// The exit statuses of errors begin here, in the order of a run's errors.
 pub const NO_MEMORY_STATUS: u8 = 20;
 
-/// The status of a line that the sink refused.
+/// The exit status for a line that the sink refused.
 pub const WRITE_FAULT_STATUS: u8 = 22;
 
-/// Adds a line, and answers its status, or that of a failed write.
+/// Writes a line, and returns its status, or that of a failed write.
 pub fn add_line<K: Sink>(sink: &mut K, line: &str, status: u8) -> u8
     ensures adds { Adds line.now status (K.contents sink.old) (K.contents sink.new) (K.faults sink.old)
         (K.faults sink.new) result }

@@ -1,4 +1,4 @@
-//! What the words of known hosts ask.
+//! The `hosts` command-line arguments.
 
 ghost use Rattle.std.specs.Prelude.{◌∷◌, [], IfSome, IsNone};
 ghost use Rattle.sshc_words.specs.Asked.{Asked, Asks, HasParts, place, asked_by};
@@ -14,7 +14,7 @@ pub struct KnownAt<'a> {
     pub path: &'a str,
 }
 
-/// What the words ask. The key is the word KEY as it stands.
+/// The request of the arguments. The key is the argument KEY, unparsed.
 #[derive(Clone, Copy, Debug)]
 pub enum HostsWords<'a> {
     Check { at: KnownAt<'a>, key: &'a str },
@@ -22,7 +22,7 @@ pub enum HostsWords<'a> {
     Learn { at: KnownAt<'a>, key: &'a str },
 }
 
-/// What is asked of a key.
+/// The request about a key.
 fn with_key<'a>(verb: &str, at: KnownAt<'a>, key: &'a str) -> Option<HostsWords<'a>>
     ensures some { IfSome result (λ asked. HasParts verb.now (place at.entry) (key.now ∷ []) (asked_by asked)) }
     ensures none { IsNone result → (asked : Asked) → HasParts verb.now (place at.entry) (key.now ∷ []) asked → ⊥ }
@@ -36,7 +36,7 @@ fn with_key<'a>(verb: &str, at: KnownAt<'a>, key: &'a str) -> Option<HostsWords<
     None
 }
 
-/// What is asked by the second word and the words behind KNOWN.
+/// The request of the second argument and the arguments after KNOWN.
 fn with_verb<'a>(verb: &str, at: KnownAt<'a>, last: &'a [Text]) -> Option<HostsWords<'a>>
     ensures some { IfSome result (λ asked. HasParts verb.now (place at.entry) last.now (asked_by asked)) }
     ensures none { IsNone result → (asked : Asked) → HasParts verb.now (place at.entry) last.now asked → ⊥ }
@@ -50,7 +50,7 @@ fn with_verb<'a>(verb: &str, at: KnownAt<'a>, last: &'a [Text]) -> Option<HostsW
     None
 }
 
-/// What the words ask, where they are of one of the three forms.
+/// The request of the arguments, if they have one of the three forms.
 pub fn hosts_words<'a>(words: &'a [Text]) -> Option<HostsWords<'a>>
     ensures some { IfSome result (λ asked. Asks words.now (asked_by asked)) }
     ensures none { IsNone result → (asked : Asked) → Asks words.now asked → ⊥ }

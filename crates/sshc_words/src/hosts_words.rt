@@ -1,4 +1,4 @@
-//! The words of known hosts: a key is checked, the known keys are listed, a key is learned.
+//! Runs the `hosts` command-line arguments: a key is checked, the known keys are listed, a key is learned.
 
 ghost use Rattle.std.specs.Prelude.{◌≡◌, IfOk, None};
 ghost use Rattle.sshc_words.specs.Asked.{Asked, Asks, place, asked_by};
@@ -13,10 +13,10 @@ use sshc_key::{Error, PublicKey, parse_public_key_base64};
 use sshc_wire::{Files, NoMemory, Sink, Text};
 use std::alloc::Global;
 
-/// The status of a word KEY that can't be read.
+/// The exit status for an argument KEY that can't be read.
 const KEY_STATUS: u8 = 5;
 
-/// The key that a word has, with no comment; none where it can't be read.
+/// The key in an argument, with no comment; `None` if it can't be read.
 fn key_of(alloc: Global, word: &str) -> Result<Option<PublicKey>, NoMemory>
     ensures { IfOk result (λ found. IsKeyFound word.now found) }
 {
@@ -27,7 +27,7 @@ fn key_of(alloc: Global, word: &str) -> Result<Option<PublicKey>, NoMemory>
     }
 }
 
-/// Judges a key by the file, and tells the verdict.
+/// Judges a key by the file, and writes the verdict.
 fn judge<F: Files, K: Sink>(
     alloc: Global,
     at: KnownAt<'_>,
@@ -45,7 +45,7 @@ fn judge<F: Files, K: Sink>(
     add_verdict(alloc, sink, answer)
 }
 
-/// Learns a key in the file, and tells whether.
+/// Learns a key in the file, and writes whether it was learned.
 fn learn<F: Files, K: Sink>(
     alloc: Global,
     at: KnownAt<'_>,
@@ -63,7 +63,7 @@ fn learn<F: Files, K: Sink>(
     add_learning(alloc, sink, answer)
 }
 
-/// Runs the words `hosts check HOST PORT KNOWN KEY`. KEY is read before the file.
+/// Runs the arguments `hosts check HOST PORT KNOWN KEY`. KEY is read before the file.
 fn run_check<F: Files, K: Sink>(
     alloc: Global,
     at: KnownAt<'_>,
@@ -84,7 +84,7 @@ fn run_check<F: Files, K: Sink>(
     }
 }
 
-/// Runs the words `hosts keys HOST PORT KNOWN`.
+/// Runs the arguments `hosts keys HOST PORT KNOWN`.
 fn run_keys<F: Files, K: Sink>(alloc: Global, at: KnownAt<'_>, files: &mut F, sink: &mut K) -> u8
     ensures gives { KeysGives (place at.entry)
         (outside (F.contents files.old) (F.read_faults files.old) (F.append_faults files.old) (K.contents sink.old)
@@ -98,7 +98,7 @@ fn run_keys<F: Files, K: Sink>(alloc: Global, at: KnownAt<'_>, files: &mut F, si
     }
 }
 
-/// Runs the words `hosts learn HOST PORT KNOWN KEY`. KEY is read before the file.
+/// Runs the arguments `hosts learn HOST PORT KNOWN KEY`. KEY is read before the file.
 fn run_learn<F: Files, K: Sink>(
     alloc: Global,
     at: KnownAt<'_>,
@@ -119,7 +119,7 @@ fn run_learn<F: Files, K: Sink>(
     }
 }
 
-/// Does what is asked, and answers the program's status.
+/// Runs the request, and returns the exit status.
 fn run_asked<F: Files, K: Sink>(
     alloc: Global,
     asked: HostsWords<'_>,
@@ -139,9 +139,10 @@ fn run_asked<F: Files, K: Sink>(
     }
 }
 
-/// Runs the words of known hosts, and answers the program's status: 0, or 1 for an unknown key, 3 for a known hosts file
-/// that is no text or can't be read, 4 for one that can't be added to, 5 for a word KEY that can't be read, 29 to 31 for
-/// a refusal of known hosts, 20 and 22 for a line that was cut. Answers nothing, and does nothing, by other words.
+/// Runs the `hosts` arguments, and returns the exit status: 0, or 1 for an unknown key, 3 for a known hosts file that
+/// isn't UTF-8 text or can't be read, 4 for one that can't be added to, 5 for an argument KEY that can't be read, 29 to
+/// 31 for another error of known hosts, 20 and 22 for a line that was cut. For other arguments, returns `None` and does
+/// nothing.
 pub fn run_hosts_words<F: Files, K: Sink>(
     alloc: Global,
     words: &[Text],

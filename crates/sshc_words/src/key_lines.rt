@@ -33,7 +33,7 @@ fn key_line(alloc: Global, known: &(u64, PublicKey)) -> Result<String, NoMemory>
     Ok(format!(in alloc; "{number} {key}\n")?)
 }
 
-/// Writes the line of a known key, or a front of it.
+/// Writes the line of a known key, or a prefix of it.
 fn write_key_line<K: Sink>(
     alloc: Global,
     sink: &mut K,
@@ -49,7 +49,7 @@ fn write_key_line<K: Sink>(
     }
 }
 
-/// Writes a line a key, or a front of these lines.
+/// Writes one line per key, or a prefix of these lines.
 fn write_key_lines<K: Sink>(
     alloc: Global,
     sink: &mut K,
@@ -65,7 +65,7 @@ fn write_key_lines<K: Sink>(
     Ok(())
 }
 
-/// Adds a line a key, and answers their status, or that of a failed write.
+/// Writes one line per key, and returns their status, or that of a failed write.
 pub fn add_key_lines<K: Sink>(alloc: Global, sink: &mut K, keys: &[(u64, PublicKey)]) -> u8
     ensures adds { Adds (key_lines keys.now) 0 (K.contents sink.old) (K.contents sink.new) (K.faults sink.old)
         (K.faults sink.new) result }

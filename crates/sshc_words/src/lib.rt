@@ -1,4 +1,4 @@
-//! The program's words that need no script: known hosts are checked, listed and learned.
+//! The program's arguments that need no script: known hosts are checked, listed and learned.
 #![tactic(auto)]
 
 mod adding;

@@ -1,9 +1,9 @@
-//! Ports in words.
+//! Ports in command-line arguments.
 
 ghost use Rattle.std.specs.Prelude.{ℕ, IfSome, IsNone};
 ghost use Rattle.sshc_words.specs.Port.{IsPort};
 
-/// The port that a word of one to five decimal digits names.
+/// The port in an argument of one to five decimal digits.
 pub fn port_of(word: &str) -> Option<u16>
     ensures some { IfSome result (λ port. IsPort word.now port) }
     ensures none { IsNone result → (port : ℕ) → IsPort word.now port → ⊥ }

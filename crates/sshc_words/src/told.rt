@@ -1,4 +1,4 @@
-//! Lines that tell what known hosts answer.
+//! Lines for the results of known hosts calls.
 
 ghost use Rattle.std.specs.Prelude.{◌≡◌, ◌≤◌, IfOk, string_bytes};
 ghost use Rattle.sshc_words.specs.Adding.{Adds};
@@ -9,7 +9,7 @@ use sshc_key::Error;
 use sshc_wire::{NoMemory, Sink};
 use std::alloc::Global;
 
-/// The line that tells why known hosts refuse.
+/// The line for an error of known hosts.
 fn refusal_line(alloc: Global, e: Error) -> Result<String, NoMemory>
     ensures { IfOk result (λ text. string_bytes text ≡ refusal_line e) }
 {
@@ -37,7 +37,7 @@ fn refusal_status(e: Error) -> u8
     }
 }
 
-/// Adds the line that tells a refusal, and answers its status.
+/// Writes the line for an error, and returns its status.
 pub fn add_refusal<K: Sink>(alloc: Global, sink: &mut K, e: Error) -> u8
     ensures adds { Adds (told_refusal e).lines (told_refusal e).status (K.contents sink.old) (K.contents sink.new)
         (K.faults sink.old) (K.faults sink.new) result }
@@ -49,7 +49,7 @@ pub fn add_refusal<K: Sink>(alloc: Global, sink: &mut K, e: Error) -> u8
     }
 }
 
-/// Adds the line that tells a verdict, and answers its status.
+/// Writes the line for a verdict, and returns its status.
 pub fn add_verdict<K: Sink>(alloc: Global, sink: &mut K, answer: Result<bool, Error>) -> u8
     ensures adds { Adds (told_verdict answer).lines (told_verdict answer).status (K.contents sink.old)
         (K.contents sink.new) (K.faults sink.old) (K.faults sink.new) result }
@@ -62,7 +62,7 @@ pub fn add_verdict<K: Sink>(alloc: Global, sink: &mut K, answer: Result<bool, Er
     }
 }
 
-/// Adds the line that tells that a key was learned, or why not, and answers its status.
+/// Writes the line that a key was learned, or why not, and returns its status.
 pub fn add_learning<K: Sink>(alloc: Global, sink: &mut K, answer: Result<(), Error>) -> u8
     ensures adds { Adds (told_learning answer).lines (told_learning answer).status (K.contents sink.old)
         (K.contents sink.new) (K.faults sink.old) (K.faults sink.new) result }

@@ -1,5 +1,5 @@
--- 17 and 25, ADD_IDENTITY and ADD_ID_CONSTRAINED (draft-miller-ssh-agent, sections 3.2 and 3.2.7): the pair, a comment, and for 25
--- constraints up to the end.
+-- 17 and 25, ADD_IDENTITY and ADD_ID_CONSTRAINED (draft-miller-ssh-agent, sections 3.2 and 3.2.7): the pair, a comment,
+-- and for 25 constraints up to the end.
 use Rattle.std.specs.Prelude.{ℕ, Bool, true, false, List, [], ◌∷◌, Option, Some, None, Result, Ok, Err, ◌==◌, if◌then◌else◌}
 use Rattle.std.specs.Int.{w32}
 use Rattle.sshc_wire.specs.declared.error.WireError.{WireError}
@@ -19,7 +19,7 @@ use Rattle.sshc_agent.specs.Turn.{Turn, fails, succeeds}
 
 -- ---- constraints
 
--- one constraint: a lifetime in seconds, or none for a confirmation
+-- one constraint: a lifetime in seconds, or None for a confirmation
 abbrev pub by_kind : ℕ → List ℕ → Result (Option ℕ × List ℕ) WireError
 by_kind kind rest =
     if kind == CONSTRAIN_LIFETIME then (number_at w32 rest >>= λ seconds. Ok (Some seconds.0, seconds.1))
@@ -36,7 +36,7 @@ abbrev pub with_lifetime : Option ℕ → ℕ → Constraints → Option Constra
 with_lifetime None seconds c = Some (record c { lifetime = Some seconds })
 with_lifetime (Some earlier) seconds c = None
 
--- one constraint more; a confirmation counts once
+-- one more constraint; a second confirmation changes nothing
 abbrev pub with_one : Constraints → Option ℕ → Option Constraints
 with_one c None = Some (record c { confirm = true })
 with_one c (Some seconds) = with_lifetime c.lifetime seconds c
@@ -54,13 +54,13 @@ abbrev pub kept_in : Result (List (Option ℕ)) WireError → Constraints → Op
 kept_in (Err e) c = None
 kept_in (Ok found) c = kept_of found c
 
--- the constraints that the bytes hold to their end, if they can be read
+-- the constraints that the bytes hold, up to their end; None if they can't be read or hold two lifetimes
 abbrev pub constraints_in : List ℕ → Option Constraints
 constraints_in bytes = kept_in (all_at constraint_at bytes) unconstrained
 
 -- ---- the row
 
--- the pair is held under these constraints from now on, where the listing stays short enough
+-- the pair is held under these constraints from now on, unless the listing would get too long
 abbrev pub added_turn : Option Constraints → KeyPair → AgentList → Turn
 added_turn None pair l = fails l
 added_turn (Some c) pair l =

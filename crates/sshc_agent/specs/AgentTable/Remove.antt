@@ -11,7 +11,7 @@ abbrev pub remove_in : Result (List ℕ × List ℕ) WireError → AgentList →
 remove_in (Err e) l = fails l
 remove_in (Ok blob) l = if is_some (held l.keys blob.0) then succeeds (record l { keys = without_key l.keys blob.0 }) else fails l
 
--- the key of this blob goes, if it is held
+-- the key with this blob is removed, if it is held
 unfoldable pub remove_turn : List ℕ → AgentList → Turn
 remove_turn body l = remove_in (string_at body) l
 

@@ -18,7 +18,7 @@ use Rattle.sshc_agent.specs.AgentList.{AgentList, standing}
 use Rattle.sshc_agent.specs.KeyList.{held}
 use Rattle.sshc_agent.specs.Turn.{Outcome, Turn, closes, fails, frame, ignored, says, signs}
 
--- a key that wants a confirmation is asked about, and else it signs
+-- a key that requires a confirmation is asked about; any other key signs
 abbrev pub held_turn : Option HeldKey → List ℕ → List ℕ → AgentList → Turn
 held_turn None rest whole l = fails l
 held_turn (Some key) rest whole l = if key.constraints.confirm then says l (KeyAsked whole) (outputs.AskKey key.blob) else signs l key rest
@@ -27,11 +27,11 @@ abbrev pub sign_request_in : Result (List ℕ × List ℕ) WireError → List �
 sign_request_in (Err e) whole l = closes l Unreadable
 sign_request_in (Ok blob) whole l = held_turn (held l.keys blob.0) blob.1 whole l
 
--- a blob that can't be read closes the connection; one of no key that is held fails
+-- a blob that can't be read closes the connection; a blob of a key that isn't held is answered with FAILURE
 unfoldable pub sign_request_turn : List ℕ → List ℕ → AgentList → Turn
 sign_request_turn body whole l = sign_request_in (string_at body) whole l
 
--- the key that was confirmed signs, if it is held still
+-- the confirmed key signs, if it is still held
 abbrev pub held_still : Option HeldKey → List ℕ → AgentList → Turn
 held_still None rest l = fails l
 held_still (Some key) rest l = signs l key rest
@@ -46,7 +46,7 @@ confirmed_turn (number ∷ body) l = confirmed_in (string_at body) l
 
 -- ---- the signature
 
--- the hash by the flags, where 2 is tested first
+-- the hash that the flags ask for; flag 2 is tested first
 abbrev pub flagged_hash : ℕ → Option HashAlg
 flagged_hash flags =
     if not (bit_and flags SSH_AGENT_RSA_SHA2_256 == 0) then Some Sha256
@@ -57,7 +57,7 @@ abbrev pub hash_of : Key → ℕ → Option HashAlg
 hash_of (plain (rsa e n)) flags = flagged_hash flags
 hash_of key flags = None
 
--- the signer refused, which closes the connection, or its answer is handed on
+-- the signer refused, which closes the connection, or its signature is the answer
 abbrev pub signed_row : ℕ → AgentList → Answer → Asking Outcome
 signed_row conn l None = done (record { next = standing conn Closed l; output = outputs.Closed SignerRefused })
 signed_row conn l (Some signature) = done (record { next = standing conn Open l; output = frame (SIGN_RESPONSE ∷ string_text signature) })
@@ -65,7 +65,7 @@ signed_row conn l (Some signature) = done (record { next = standing conn Open l;
 abbrev pub unreadable_row : ℕ → AgentList → Asking Outcome
 unreadable_row conn l = done (record { next = standing conn Closed l; output = outputs.Closed Unreadable })
 
--- the key is asked to sign the bytes
+-- the signer is asked to sign the bytes with the key
 abbrev pub asked_row : ℕ → AgentList → HeldKey → List ℕ → ℕ → Asking Outcome
 asked_row conn l key bytes flags =
     asks (record { by = Agent conn; key = key.pair; hash = hash_of key.pair.public.0 flags; bytes = bytes }) (λ answer. signed_row conn l answer)
@@ -87,6 +87,6 @@ bytes_row (Ok bytes) conn l key = flags_row (number_at w32 bytes.1) bytes.0 conn
 unfoldable pub signed_at : ℕ → AgentList → Option HeldKey → List ℕ → Asking Outcome
 signed_at conn l key rest = bytes_row (string_at rest) conn l key
 
--- the key is asked to sign
+-- the signer is asked to sign with the key
 abbrev pub sign_row : ℕ → AgentList → HeldKey → List ℕ → Asking Outcome
 sign_row conn l key rest = signed_at conn l (Some key) rest

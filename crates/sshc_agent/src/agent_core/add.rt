@@ -21,7 +21,7 @@ const UNCONSTRAINED: Constraints = Constraints {
     confirm: false,
 };
 
-/// The moment from which on a key of this lifetime isn't held any longer.
+/// The moment from which a key of this lifetime is no longer held.
 fn deadline_of(now: u64, lifetime: Option<u32>) -> Option<u64>
     ensures { result ≡ deadline_of now lifetime }
 {
@@ -31,7 +31,7 @@ fn deadline_of(now: u64, lifetime: Option<u32>) -> Option<u64>
     }
 }
 
-/// One constraint: a lifetime in seconds, or none for a confirmation.
+/// Reads one constraint: a lifetime in seconds, or `None` for a confirmation.
 #[tactic(auto, unfolding(crate::specs::AgentTable::Add::constraint_at))]
 fn constraint_of(c: &mut Cursor<'_>) -> Result<Option<u32>, WireError>
     ensures { MatchResult result (λ x. constraint_at c.old ≡ Ok (x, c.new)) (λ e. constraint_at c.old ≡ Err e) }
@@ -43,7 +43,7 @@ fn constraint_of(c: &mut Cursor<'_>) -> Result<Option<u32>, WireError>
     }
 }
 
-/// The constraints with one more; a second lifetime is refused.
+/// Adds a constraint to those read so far; `None` for a second lifetime.
 fn with_one(held: Constraints, one: Option<u32>) -> Option<Constraints>
     ensures { result ≡ with_one held one }
 {
@@ -60,7 +60,7 @@ fn with_one(held: Constraints, one: Option<u32>) -> Option<Constraints>
     }
 }
 
-/// The constraints with the one at the front, if there is one and it may join them.
+/// Reads the next constraint and adds it to `held`; `None` if it can't be read or is a second lifetime.
 #[tactic(auto, using(crate::proofs::Constrained::kept_fails, crate::proofs::Constrained::kept_no_more, crate::proofs::Constrained::kept_next, crate::proofs::Constrained::shorter))]
 fn next_held(c: &mut Cursor<'_>, held: Constraints) -> Option<Constraints>
     requires { 0 < length c.old }
@@ -74,7 +74,7 @@ fn next_held(c: &mut Cursor<'_>, held: Constraints) -> Option<Constraints>
     }
 }
 
-/// The constraints up to the end, if they can be read.
+/// The constraints up to the end of the bytes; `None` if they can't be read or hold two lifetimes.
 #[tactic(auto, using(crate::proofs::Constrained::kept_all))]
 fn constraints_of(bytes: &[u8]) -> Option<Constraints>
     ensures { result ≡ constraints_in bytes.now }
@@ -88,7 +88,7 @@ fn constraints_of(bytes: &[u8]) -> Option<Constraints>
 }
 
 impl AgentCore {
-    /// The pair, the comment, and where they are wanted the constraints.
+    /// Reads the key pair, the comment and, if `constrained`, the constraints, and adds the key.
     #[tactic(auto, unfolding(crate::specs::AgentTable::Add::add_turn))]
     pub(super) fn add<'a>(
         &mut self,
@@ -125,7 +125,7 @@ impl AgentCore {
         self.add_pair(pair, constraints)
     }
 
-    /// The pair is held under these constraints, where the listing stays short enough.
+    /// Adds the pair under these constraints, unless the listing would get too long.
     fn add_pair<'a>(
         &mut self,
         pair: PrivateKey,

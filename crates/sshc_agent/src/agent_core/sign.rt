@@ -22,7 +22,7 @@ use sshc_key::{Asker, KeyData, LocalSigner, SignRefused};
 use sshc_wire::{Cursor, HashAlg, NoMemory, Octets, put_bytes};
 use std::alloc::Global;
 
-/// The hash by the flags of a request, where 2 is tested first.
+/// The hash that the flags of a request ask for; flag 2 is tested first.
 fn flagged_hash(flags: u32) -> Option<HashAlg>
     ensures { result ≡ flagged_hash flags }
 {
@@ -35,7 +35,7 @@ fn flagged_hash(flags: u32) -> Option<HashAlg>
     }
 }
 
-/// Only an RSA key has a hash.
+/// The hash to sign with, which only an RSA key has.
 fn hash_of(key: &KeyData, flags: u32) -> Option<HashAlg>
     ensures { result ≡ hash_of (view key.now) flags }
 {
@@ -69,7 +69,7 @@ impl AgentCore {
         }
     }
 
-    /// The key at the place signs, or the user is asked first.
+    /// Lets the key at this place sign, or asks the user first.
     fn held<'a>(&mut self, at: usize, rest: &'a [u8], whole: &'a [u8]) -> Result<Turn<'a>, NoMemory>
         requires { at < length self.old.keys }
         ensures row { Follows (held_turn (slice_get self.old.keys at) rest.now whole.now self.old)
@@ -85,7 +85,7 @@ impl AgentCore {
         }
     }
 
-    /// The key of the frame signs, if it is held still.
+    /// Lets the key of the frame sign, if it is still held.
     #[tactic(auto, unfolding(crate::specs::AgentTable::Sign::confirmed_turn))]
     pub(super) fn confirmed<'a>(&mut self, whole: &'a [u8]) -> Result<Turn<'a>, NoMemory>
         ensures row { Follows (confirmed_turn whole.now self.old) self.old self.new result }
@@ -134,7 +134,7 @@ impl AgentCore {
         self.ask_signer(conn, at, bytes, flags, signer)
     }
 
-    /// Closes the connection on which a request can't be read.
+    /// Closes the connection, because its request can't be read.
     fn unreadable(&mut self, conn: u32) -> AgentOutput
         requires { IsSome (standing_of self.old.conns conn) }
         ensures list { self.new ≡ standing conn Closed self.old }

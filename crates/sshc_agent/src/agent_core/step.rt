@@ -20,8 +20,8 @@ use sshc_key::LocalSigner;
 use sshc_wire::{NoMemory, Octets};
 
 impl AgentCore {
-    /// Takes an input of a connection at a moment in milliseconds. A frame has at most 262144 bytes, and an Oversize names
-    /// a greater length.
+    /// Takes an input of a connection at a moment in milliseconds. A frame has at most 262144 bytes, and an Oversize
+    /// names a greater length.
     #[tactic(auto, using(crate::specs::RefusalLaws::step_keeps, crate::specs::SignerLists::grew_by))]
     pub fn step<G: LocalSigner>(
         &mut self,
@@ -34,13 +34,14 @@ impl AgentCore {
             self.old self.new (since (G.calls signer.old) (G.calls signer.new)) result }
         // The signer's list only grows.
         ensures gained { G.calls signer.new ≡ G.calls signer.old ++ since (G.calls signer.old) (G.calls signer.new) }
-        // Only an acknowledged request changes keys or passphrase, but that time lets keys go.
+        // Only an acknowledged request changes keys or passphrase, except that keys expire.
         ensures refused { KeepsRefused now self.old self.new result }
-        // A locked agent signs nothing and stays as it is, but for an unlock with its passphrase.
+        // A locked agent signs nothing and stays as it is, except for an unlock with its passphrase.
         ensures locked { (p : List ℕ) → self.old.passphrase ≡ Some p
             → KeepsLock p now conn input.now
             self.old self.new (since (G.calls signer.old) (G.calls signer.new)) result }
-        // A signature needs an unlocked agent, a key that is held and not expired, and where the key wants it a confirmation.
+        // A signature needs an unlocked agent, a key that is held and hasn't expired, and the user's confirmation if
+        // the key requires it.
         ensures signed { (call : SignCall) (calls : List SignCall)
             → since (G.calls signer.old) (G.calls signer.new) ≡ call ∷ calls
             → IsPermitted now conn input.now self.old call.by call.key }
@@ -51,7 +52,7 @@ impl AgentCore {
         self.row(now, conn, input, signer)
     }
 
-    /// The row of the input, or no memory was found.
+    /// Does the step of the table's row for this input, or closes the connection because memory ran out.
     #[tactic(auto, using(crate::proofs::Stepped::goes, crate::proofs::Stepped::starves, crate::proofs::Stepped::starves_new, crate::specs::SignerLists::grew_none))]
     fn row<G: LocalSigner>(
         &mut self,
@@ -76,7 +77,7 @@ impl AgentCore {
         }
     }
 
-    /// The moment counts, keys whose deadline has come go, and the connection is seen. Says whether it is new.
+    /// Moves the clock, drops the keys whose deadline has come and records the connection. Returns whether it is new.
     fn begin(&mut self, now: u64, conn: u32) -> Result<bool, NoMemory>
         ensures ok { OnOk result (self.new ≡ seen conn (aged now self.old)) }
         ensures new { IfOk result (λ new. new ≡ is_new self.old.conns conn) }
@@ -88,7 +89,7 @@ impl AgentCore {
         self.conns.see(conn)
     }
 
-    /// An input of a connection that was seen.
+    /// Takes an input of a connection that has been seen.
     #[tactic(auto, unfolding(crate::specs::AgentTable::seen_row), using(crate::proofs::Asked::quiet, crate::proofs::Asked::none_asked, crate::specs::SignerLists::grew_none))]
     fn take<G: LocalSigner>(
         &mut self,
@@ -136,7 +137,7 @@ impl AgentCore {
         }
     }
 
-    /// An input of a connection on which no question is open.
+    /// Takes an input of a connection on which no question is open.
     #[tactic(auto, using(crate::proofs::Asked::quiet, crate::proofs::Asked::none_asked, crate::proofs::Asked::takeable, crate::proofs::Asked::finished, crate::specs::SignerLists::grew_none))]
     fn take_open<G: LocalSigner>(
         &mut self,
@@ -202,7 +203,7 @@ impl AgentCore {
         }
     }
 
-    /// What is left of a row: its connection stands as it says, or the key signs.
+    /// Finishes the step: sets the connection's new state and returns the answer, or lets the key sign.
     #[tactic(auto, using(crate::proofs::Asked::none_since, crate::specs::SignerLists::grew_none))]
     fn finish<G: LocalSigner>(
         &mut self,
@@ -225,7 +226,7 @@ impl AgentCore {
         }
     }
 
-    /// Closes the connection, with this answer.
+    /// Closes the connection and returns this output.
     fn shut(&mut self, conn: u32, output: AgentOutput) -> AgentOutput
         requires { IsSome (standing_of self.old.conns conn) }
         ensures list { self.new ≡ standing conn Closed self.old }
@@ -235,7 +236,7 @@ impl AgentCore {
         output
     }
 
-    /// No memory was found: a connection that was seen before is closed, and a new one is forgotten.
+    /// Memory ran out: closes a connection that was seen before, and forgets a new one.
     fn starve(&mut self, conn: u32, is_new: bool)
         requires { IsSome (standing_of self.old.conns conn) }
         ensures { self.new ≡

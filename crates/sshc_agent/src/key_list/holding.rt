@@ -1,4 +1,4 @@
-//! Lists of held keys: room, places and listings.
+//! Lists of held keys: room, indexes and listings.
 
 ghost use Rattle.std.specs.Prelude.{◌≡◌, ◌≤◌, ◌<◌, ◌+◌, ◌++◌, IfOk, IfSome, MatchOption, None, slice_get, OnOk, OnErr, length, nat_le, position, sum_by};
 ghost use Rattle.sshc_agent.specs.KeyList.{held, identity_text, is_key, is_past, listed, listing, with_key};
@@ -19,7 +19,7 @@ pub(super) fn is_past(deadline: Option<u64>, now: u64) -> bool
     }
 }
 
-/// Whether so many bytes and those of the keys in a listing are at most the bytes of a frame.
+/// Whether `start` bytes and those of the keys in a listing fit in a frame.
 #[tactic(auto, using(crate::proofs::Listings::too_many))]
 pub(super) fn fits(keys: &[HeldKey], start: usize) -> bool
     requires { start ≤ 4294967309 }
@@ -51,7 +51,7 @@ pub(super) fn put_key(keys: &mut Vec<HeldKey>, key: HeldKey) -> Result<(), NoMem
     }
 }
 
-/// The place of the key of this blob.
+/// The index of the key with this blob.
 fn place_of(keys: &[HeldKey], blob: &[u8]) -> Option<usize>
     ensures place { result ≡ position (is_key blob.now) keys.now }
     ensures within { IfSome result (λ at. at < length keys.now) }
@@ -59,7 +59,7 @@ fn place_of(keys: &[HeldKey], blob: &[u8]) -> Option<usize>
     keys.iter().position(|key| key.blob.as_slice() == blob)
 }
 
-/// The place of the key of this blob, with what stands there.
+/// The index of the key with this blob, which is the key that `held` finds.
 #[tactic(auto, using(crate::proofs::Listings::placed, crate::proofs::Listings::nowhere))]
 pub(super) fn found_place(keys: &[HeldKey], blob: &[u8]) -> Option<usize>
     ensures { MatchOption result (held keys.now blob.now ≡ None)
@@ -71,7 +71,7 @@ pub(super) fn found_place(keys: &[HeldKey], blob: &[u8]) -> Option<usize>
     }
 }
 
-/// A key in a listing: its blob and an empty comment.
+/// Appends a key of a listing: its blob and an empty comment.
 fn put_identity(out: &mut Vec<u8>, key: &HeldKey) -> Result<(), NoMemory>
     ensures { OnOk result (out.new.items ≡ out.old.items ++ identity_text key.now) }
 {

@@ -1,7 +1,7 @@
 -- What each call writes (draft-miller-ssh-agent, section 3; OpenSSH's PROTOCOL.agent, section 1).
 -- Each frame is one whole text; the code appends part by part, and puts the length in front at the end.
--- In three places the layout isn't the draft's, but that of the russh crate: the number of constraints of message 26, the length of
--- the contents of an extension, and the length of the details of a constraint extension stand in front of them.
+-- In three places the layout isn't the draft's, but that of the russh crate: a number or a length comes first before
+-- the constraints of message 26, before the contents of an extension, and before the details of a constraint extension.
 use Rattle.std.specs.Prelude.{ℕ, Bool, List, [], ◌∷◌, ◌++◌, Option, Some, None, codes}
 use Rattle.std.specs.List.{flat_map}
 use Rattle.sshc_wire.specs.Wire.{bool_text, counted_text, string_text, u32_text}
@@ -19,7 +19,7 @@ use Rattle.sshc_key.specs.PairCode.{KeyPair}
 use Rattle.sshc_key.specs.PairGrammar.{key_pair_text}
 use Rattle.sshc_agent.specs.declared.msg.TheConstants.{REQUEST_IDENTITIES, SIGN_REQUEST, ADD_IDENTITY, REMOVE_IDENTITY, REMOVE_ALL_IDENTITIES, ADD_SMARTCARD_KEY, REMOVE_SMARTCARD_KEY, LOCK, UNLOCK, ADD_ID_CONSTRAINED, ADD_SMARTCARD_KEY_CONSTRAINED, EXTENSION, CONSTRAIN_LIFETIME, CONSTRAIN_CONFIRM, CONSTRAIN_EXTENSION, SSH_AGENT_RSA_SHA2_256, SSH_AGENT_RSA_SHA2_512}
 
--- what is asked of an agent
+-- the requests to an agent
 pub data Call : Type 0 where
   bind_session : AgentSessionBinding → Bool → Call
   add_identity : KeyPair → List Constraint → Call
@@ -51,7 +51,7 @@ abbrev pub add_number : List Constraint → ℕ
 add_number [] = ADD_IDENTITY
 add_number (c ∷ more) = ADD_ID_CONSTRAINED
 
--- with constraints, their number stands before them
+-- with constraints, their number comes before them
 abbrev pub smartcard_message : List ℕ → List ℕ → List Constraint → List ℕ
 smartcard_message id pin [] = ADD_SMARTCARD_KEY ∷ (string_text id ++ string_text pin)
 smartcard_message id pin (c ∷ more) = ADD_SMARTCARD_KEY_CONSTRAINED ∷ (string_text id ++ (string_text pin ++ counted_text constraint_text (c ∷ more)))

@@ -1,6 +1,7 @@
--- What a call answers to a whole answer of the agent, which is given without its length (draft-miller-ssh-agent, section 3).
--- Each reading is a function on the whole answer, to a value or the first fault in the order of its parts; the code moves a cursor.
--- Bytes behind the parts are let pass.
+-- A call's result for a whole answer of the agent, which comes without its length (draft-miller-ssh-agent, section 3).
+-- Each reading is a function of the whole answer; its result is a value or the first fault in the order of the fields;
+-- the code moves a cursor.
+-- Bytes after the fields are ignored.
 use Rattle.std.specs.Prelude.{ℕ, Bool, true, ◌||◌, List, [], ◌∷◌, ◌++◌, Option, Some, None, Result, Ok, Err, bytes_eq, codes, ◌==◌, if◌then◌else◌}
 use Rattle.base64.specs.Engines.{standard_no_pad}
 use Rattle.base64.specs.GeneralPurpose.{encode_of}
@@ -31,12 +32,12 @@ unfoldable pub success_reading : List ℕ → Result (Unit {0}) Error
 success_reading [] = Err AgentFailure
 success_reading (kind ∷ body) = acknowledged (kind == SUCCESS)
 
--- to an extension EXTENSION_RESPONSE does too
+-- for an extension, EXTENSION_RESPONSE does too
 unfoldable pub extension_reading : List ℕ → Result (Unit {0}) Error
 extension_reading [] = Err AgentFailure
 extension_reading (kind ∷ body) = acknowledged ((kind == SUCCESS) || (kind == EXTENSION_RESPONSE))
 
--- the string behind SUCCESS, if there is one
+-- the string after SUCCESS, if there is one
 abbrev pub string_found : Result (List ℕ × List ℕ) WireError → Option (List ℕ)
 string_found (Err e) = None
 string_found (Ok text) = Some text.0
@@ -55,32 +56,32 @@ identity_of (certificate nonce key says signer signature) comment = identities.C
 unfoldable pub identity_at : Reader Error AgentIdentity
 identity_at bytes = octets_at bytes >>= λ blob. utf8_at blob.1 >>= λ comment. key_or_fault (blob_key blob.0) >>= λ key. Ok (identity_of key comment.0, comment.1)
 
--- a number, and so many keys
+-- a number, and that many keys
 unfoldable pub listed : List ℕ → Result (List AgentIdentity) Error
 listed body = u32_at body >>= λ count. times_at count.0 identity_at count.1 >>= λ found. Ok found.0
 
--- any other answer lists nothing
+-- any other answer lists no keys
 unfoldable pub identities_reading : List ℕ → Result (List AgentIdentity) Error
 identities_reading [] = Ok []
 identities_reading (kind ∷ body) = if kind == IDENTITIES_ANSWER then listed body else Ok []
 
 -- ---- signatures
 
--- whether a signature of this name may answer a request that asked for this hash; where none was asked for, any may
+-- whether a signature of this name may answer a request that asked for this hash; any may if no hash was asked for
 abbrev pub is_asked : Option HashAlg → List ℕ → Bool
 is_asked None name = true
 is_asked (Some Sha256) name = bytes_eq name (codes "rsa-sha2-256")
 is_asked (Some Sha512) name = bytes_eq name (codes "rsa-sha2-512")
 
--- one whole signature; its name is judged before the parts behind it are read
+-- one whole signature; its name is checked before the following fields are read
 unfoldable pub asked_signature : Option HashAlg → List ℕ → Result Signature Error
 asked_signature asked text = utf8_at text >>= λ name. if is_asked asked name.0 then whole_at SshEncoding signature_at text else Err AgentProtocolError
 
--- the string of the answer, where it is such a signature
+-- the string of the answer, if it holds such a signature
 unfoldable pub signature_text_in : Option HashAlg → List ℕ → Result (List ℕ) Error
 signature_text_in asked body = octets_at body >>= λ text. asked_signature asked text.0 >>= λ signature. Ok text.0
 
--- the bytes that were to be signed, and behind them the signature as a string
+-- the bytes that were to be signed, followed by the signature as a string
 unfoldable pub sign_reading : Option HashAlg → List ℕ → List ℕ → Result (List ℕ) Error
 sign_reading asked bytes [] = Err AgentProtocolError
 sign_reading asked bytes (kind ∷ body) =
@@ -92,7 +93,7 @@ unfoldable pub signature_reading : List ℕ → Result Signature Error
 signature_reading [] = Err AgentProtocolError
 signature_reading (kind ∷ body) = if kind == SIGN_RESPONSE then (octets_at body >>= λ text. asked_signature None text.0) else Err AgentProtocolError
 
--- the base64 without padding of what follows the answer's number; of any other answer nothing
+-- the base64 without padding of what follows the answer's number; empty for any other answer
 unfoldable pub base64_reading : List ℕ → List ℕ
 base64_reading [] = []
 base64_reading (kind ∷ body) = if kind == SIGN_RESPONSE then encode_of standard_no_pad body else []

@@ -1,4 +1,5 @@
-//! Extensions (draft-miller-ssh-agent, section 3.8), and the one that binds a session (OpenSSH's PROTOCOL.agent, section 1).
+//! Extensions (draft-miller-ssh-agent, section 3.8), and the one that binds a session (OpenSSH's PROTOCOL.agent,
+//! section 1).
 
 ghost use Rattle.std.specs.Prelude.{◌≡◌, OnErr};
 ghost use Rattle.sshc_key.specs.Gives.{GivesAll};
@@ -13,7 +14,7 @@ use sshc_key::{AgentSessionBinding, Error};
 use sshc_wire::AgentStream;
 
 impl<S: AgentStream> AgentClient<S> {
-    /// Binds a session to this connection; `forwarding` says that the connection is to be forwarded.
+    /// Binds a session to this connection; `forwarding` means that the connection is to be forwarded.
     pub fn bind_session(
         &mut self,
         binding: &AgentSessionBinding,
@@ -26,7 +27,7 @@ impl<S: AgentStream> AgentClient<S> {
         self.succeed(message)
     }
 
-    /// Asks for an extension by its name, with contents whose length is written in front of them.
+    /// Asks for an extension by its name, with contents preceded by their length.
     pub fn extension(&mut self, typ: &[u8], ext: &[u8]) -> Result<(), Error>
         ensures call { Calls (frame (extension typ.now ext.now))
             (λ answer. GivesAll (λ x. x) result (extension_reading answer)) self.old self.new result }
@@ -36,8 +37,8 @@ impl<S: AgentStream> AgentClient<S> {
         extension_in(&answer)
     }
 
-    /// Asks for an extension by its name, and appends the string that the agent gives to `ext`. False where it gives
-    /// none; then, and after an error, `ext` is as it was.
+    /// Asks for an extension by its name, and appends the string in the agent's answer to `ext`. Returns false if the
+    /// answer has none; then, and after an error, `ext` is unchanged.
     pub fn query_extension(&mut self, typ: &[u8], ext: &mut Vec<u8>) -> Result<bool, Error>
         ensures call { Calls (frame (query_extension typ.now))
             (λ answer. Found ext.old.items ext.new.items result (query_reading answer)) self.old self.new result }

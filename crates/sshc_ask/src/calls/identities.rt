@@ -13,8 +13,8 @@ use sshc_key::{AgentIdentity, Error};
 use sshc_wire::AgentStream;
 
 impl<S: AgentStream> AgentClient<S> {
-    /// The keys and certificates that the agent holds, each with its comment, in the agent's order. An agent that
-    /// answers anything but a list, as a locked one may, lists none.
+    /// The keys and certificates that the agent holds, each with its comment, in the agent's order. The result is empty
+    /// if the agent answers with anything but a list, as a locked one may.
     pub fn request_identities(&mut self) -> Result<Vec<AgentIdentity>, Error>
         ensures call { Calls (frame request_identities)
             (λ answer. GivesAll (λ found. found.items) result (identities_reading answer)) self.old self.new result }

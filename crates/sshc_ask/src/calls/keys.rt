@@ -13,8 +13,8 @@ use sshc_key::{Constraint, Error, PrivateKey, PublicKey};
 use sshc_wire::AgentStream;
 
 impl<S: AgentStream> AgentClient<S> {
-    /// Adds a key pair under these constraints, with an empty comment. Of a pair whose two parts are of two algorithms
-    /// the frame has no bytes.
+    /// Adds a key pair under these constraints, with an empty comment. If the public and the private part have
+    /// different algorithms, the frame contains no bytes for the pair.
     pub fn add_identity(
         &mut self,
         key: &PrivateKey,

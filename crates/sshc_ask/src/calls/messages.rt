@@ -1,4 +1,5 @@
-//! The messages of the calls but for sign requests (draft-miller-ssh-agent, section 3; OpenSSH's PROTOCOL.agent, section 1).
+//! The messages of all calls except sign requests (draft-miller-ssh-agent, section 3; OpenSSH's PROTOCOL.agent, section
+//! 1).
 
 ghost use Rattle.std.specs.Prelude.{◌≡◌, ◌∷◌, ◌++◌, IfOk};
 ghost use Rattle.sshc_wire.specs.Wire.{string_text};

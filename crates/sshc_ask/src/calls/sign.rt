@@ -16,8 +16,8 @@ use sshc_key::{AgentIdentity, Error, HashAlg, PublicKey, Signature, Signer};
 use sshc_wire::AgentStream;
 
 impl<S: AgentStream> AgentClient<S> {
-    /// Signs the bytes with a key or certificate, and answers them with the signature as a string behind them. For an
-    /// RSA key the hash names the signature that is wanted; a signature of another name is a protocol error.
+    /// Signs the bytes with a key or certificate, and returns them followed by the signature as a string. For an RSA
+    /// key the hash selects the signature's name; a signature of another name is a protocol error.
     pub fn sign_request(
         &mut self,
         identity: &AgentIdentity,
@@ -34,7 +34,7 @@ impl<S: AgentStream> AgentClient<S> {
         signed_in(self.alloc, identity_hash(identity, hash_alg), body, &answer)
     }
 
-    /// Signs the bytes with a key, and answers the signature whatever its name.
+    /// Signs the bytes with a key, and returns the signature whatever its name.
     pub fn sign_request_signature(
         &mut self,
         public: &PublicKey,
@@ -72,8 +72,8 @@ impl<S: AgentStream> AgentClient<S> {
         self.base64_answer(message)
     }
 
-    /// Signs the bytes with a key, and answers the base64 without padding of the whole answer behind its number; of an
-    /// agent that answers anything but a signature, the empty text. The client is handed back.
+    /// Signs the bytes with a key, and returns the base64 without padding of the whole answer after its message number;
+    /// the empty text if the agent answers with anything but a signature. The client is returned, too.
     pub fn sign_request_base64(
         self,
         public: &PublicKey,
@@ -103,7 +103,7 @@ impl<S: AgentStream> Signer for AgentClient<S> {
 
     ghost refusals = { λ c. c.refusals };
 
-    /// Signs as `sign_request` does, and counts a refusal at each error.
+    /// Signs as `sign_request` does, and counts each error as a refusal.
     fn auth_sign(
         &mut self,
         key: &AgentIdentity,

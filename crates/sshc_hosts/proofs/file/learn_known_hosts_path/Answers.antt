@@ -10,7 +10,7 @@ use Rattle.sshc_hosts.specs.Learning.{Learns}
 use Rattle.sshc_hosts.proofs.FileLaws.{learns_in}
 use Rattle.sshc_hosts.proofs.file.learn_known_hosts_path.Goals as goal
 
--- the law, where the texts and the files are what the calls hand on
+-- the law, where the texts and the files are those that the calls pass on
 handed_on : (result : Result (Unit {0}) Error) (old mid new : Option Told) (path text text' added added' host : List ℕ) (key : Key)
     → mid ≡ old → text' ≡ text → added' ≡ added
     → AnswersBy {X = List ℕ} (λ t. t) (Ok text) old (λ told. text_at told path) → IsUtf8 text → IsUtf8 added → Learns text' added host key

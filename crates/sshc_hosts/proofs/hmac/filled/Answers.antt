@@ -2,7 +2,7 @@ use Rattle.std.proofs.Common.{◌≡◌, ℕ, ◌-◌, List, ◌++◌, length, r
 use Rattle.std.proofs.lemmas.List.{drop-replicate}
 use Rattle.sshc_hosts.proofs.hmac.filled.Goals as goal
 
--- zeros stay behind the bytes that are written over the first ones
+-- zeros remain after the bytes that overwrite the first ones
 written : (now bytes : List ℕ) → now ≡ bytes → now ++ drop (length bytes) (replicate 64 0) ≡ bytes ++ replicate (64 - length bytes) 0
 written now bytes same = ap (λ front. front ++ drop (length bytes) (replicate 64 0)) same ∙ ap (λ rest. bytes ++ rest) (drop-replicate (length bytes) 64 0)
 

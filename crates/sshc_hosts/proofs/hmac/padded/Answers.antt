@@ -6,7 +6,7 @@ use Rattle.std.proofs.lemmas.List.Edits.{map_over_more}
 use Rattle.sshc_hosts.specs.Hmac.{padded_by}
 use Rattle.sshc_hosts.proofs.hmac.padded.Goals as goal
 
--- one byte more is padded
+-- one more byte is padded
 padded_more : (pad i : ℕ) (block now : List ℕ) → length now ≡ length block → i < length block → now ≡ padded_by pad (take i block) ++ drop i block
     → set now i (bit_xor (get_or now i 0) pad) ≡ padded_by pad (take (i + 1) block) ++ drop (i + 1) block
 padded_more pad i block now same within so_far =
