@@ -139,7 +139,7 @@ fn identity_is_copied(identity: &PublicKeyOrCertificate) -> Result<bool, NoMemor
     Ok(copy == *identity)
 }
 
-/// The key as it is given to a method of authentication.
+/// The key in the form in which a method of authentication takes it.
 fn identity_of(key: PublicKey) -> Result<PublicKeyOrCertificate, NoMemory> {
     if let KeyData::Certificate(certificate) = &key.key {
         let certificate = certificate.copy()?;

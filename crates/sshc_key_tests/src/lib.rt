@@ -1,4 +1,5 @@
-//! Tests of sshc_wire and sshc_key: that each call which takes memory can succeed, files of keys, and certificates in one another.
+//! Tests of sshc_wire and sshc_key: that each call which takes memory can succeed, files of keys, and certificates in
+//! one another.
 #![tactic(auto)]
 
 #[cfg(test)]

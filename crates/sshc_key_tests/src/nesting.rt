@@ -8,7 +8,7 @@ use sshc_wire::{NoMemory, put_bytes, put_text, put_u32, put_u64};
 use std::alloc::Global;
 use std::test::Fail;
 
-/// What stands before a signer of so many bytes: the certificate's name, its fields, and the length.
+/// What precedes a signer of so many bytes: the certificate's name, its fields, and the length.
 fn put_front(out: &mut Vec<u8>, signer: u32) -> Result<(), NoMemory> {
     put_text(out, "a-cert-v01@x")?;
     put_bytes(out, &[])?;
@@ -32,7 +32,8 @@ fn put_end(out: &mut Vec<u8>) -> Result<(), NoMemory> {
     put_text(out, "x")
 }
 
-/// So many certificates in one another: all fronts, the innermost key of 11 bytes, and all ends. A certificate adds 92 bytes.
+/// As many certificates in one another as `depth`: all fronts, the innermost key of 11 bytes, and all ends. A
+/// certificate adds 92 bytes.
 fn nested(alloc: Global, depth: u32) -> Result<Vec<u8>, NoMemory> {
     let mut out = Vec::new(alloc);
     for level in 0..depth {

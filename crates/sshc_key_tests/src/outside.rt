@@ -1,4 +1,4 @@
-//! Sources, sinks and files over memory, which fail at the calls that they are told, and judges of signatures.
+//! Sources, sinks and files in memory, which fail at given calls, and verifiers of signatures.
 
 use crate::files::KEY;
 use sshc_key::{Error, KeyData, Signature, Verifier, Verify, parse_public_key_base64};
@@ -78,7 +78,7 @@ fn judged(alloc: Global, bytes: &[u8], blob: &[u8]) -> Result<(bool, bool), Erro
     Ok((client, server))
 }
 
-/// A signature whose bytes are `signed`, and more bytes behind it.
+/// A signature whose bytes are `signed`, followed by more bytes.
 fn signature_and(alloc: Global, more: &[u8]) -> Result<Vec<u8>, NoMemory> {
     let mut blob = Vec::new(alloc);
     put_text(&mut blob, "ssh-ed25519")?;

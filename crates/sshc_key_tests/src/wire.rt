@@ -136,7 +136,7 @@ fn some_outbox(alloc: Global) -> Result<Outbox, NoMemory> {
     Ok(outbox)
 }
 
-/// The texts of an outbox's records, one behind another.
+/// The texts of an outbox's records, one after another.
 fn texts_of(alloc: Global, outbox: &Outbox) -> Result<Vec<u8>, NoMemory> {
     let mut out = Vec::new(alloc);
     for at in 0..outbox.len() {
@@ -165,7 +165,7 @@ fn packets_are_read_by_their_place(rt: HostRuntime) -> Result<(), Fail> {
     Ok(())
 }
 
-/// Whether there is one, which is dropped.
+/// Whether the value is there; it is dropped.
 fn is_there<T: Drop>(found: Option<T>) -> bool {
     found.is_some()
 }

@@ -9,7 +9,7 @@ use sshc_key::{
 use sshc_wire::{Cursor, NoMemory, put_bytes, put_text, put_u32};
 use std::alloc::Global;
 
-/// The line of a blob that was read and written back.
+/// The line that is printed for a blob that was read and written back.
 fn said(alloc: Global, blob: &[u8]) -> anyhow::Result<Option<String>> {
     let text = format!(in alloc;
         "{} bytes are read and written back, and their fronts are refused",
@@ -166,7 +166,7 @@ fn no_front_is_a_signature(alloc: Global, blob: &[u8]) -> bool {
     true
 }
 
-/// Whether the blob is one signature, which is written so.
+/// Whether the blob is one signature and is written back as the same bytes.
 fn is_signature_blob(alloc: Global, blob: &[u8]) -> Result<bool, Error> {
     let mut c = Cursor::new(blob);
     let signature = read_signature(alloc, &mut c)?;
@@ -193,7 +193,7 @@ fn no_front_is_a_pair(alloc: Global, blob: &[u8]) -> bool {
     true
 }
 
-/// Whether the blob is one key pair, which is written so.
+/// Whether the blob is one key pair and is written back as the same bytes.
 fn is_pair_blob(alloc: Global, blob: &[u8]) -> Result<bool, Error> {
     let mut c = Cursor::new(blob);
     let pair = read_key_pair(alloc, &mut c)?;
@@ -211,7 +211,7 @@ pub fn pair_verdict(alloc: Global, vector: &Vector<'_>) -> anyhow::Result<Option
     }
 }
 
-/// A key and a byte more: the key is read from the front, and the whole is no key.
+/// A key and one more byte: the key is read from the front, and the whole blob isn't a key.
 pub fn longer_verdict(alloc: Global, vector: &Vector<'_>) -> anyhow::Result<Option<String>> {
     let blob = blob_of(alloc, vector.base64)?;
     let whole = parse_whole_public_key(alloc, &blob).err();

@@ -28,7 +28,7 @@ const NAMES: [&str; 14] = [
 /// Lengths of strings, those of the grammar and near them.
 const LENGTHS: [usize; 10] = [0, 1, 2, 3, 31, 32, 33, 65, 97, 133];
 
-/// How the judgements of many blobs went.
+/// The results for many blobs.
 #[derive(Debug, Drop)]
 struct Tally {
     alike: u32,
@@ -57,7 +57,7 @@ impl Tally {
     }
 }
 
-/// Whether the reader finds a key of so many bytes at the front, or none.
+/// Whether the reader finds a key of this length at the front, or no key if `length` is `None`.
 fn agrees(alloc: Global, blob: &[u8], length: Option<usize>) -> bool {
     match key_bytes(alloc, blob) {
         Ok(bytes) => length == Some(bytes.len()) && blob.starts_with(&bytes),
@@ -79,7 +79,7 @@ fn random_string(alloc: Global, random: &mut Random) -> Result<Octets, NoMemory>
     Octets::from_vec(bytes)
 }
 
-/// A name, and strings behind it.
+/// A name, followed by strings.
 fn random_blob(alloc: Global, random: &mut Random) -> Result<Vec<u8>, NoMemory> {
     let mut blob = Vec::new(alloc);
     let name = NAMES.get(random.below(NAMES.len())).copied();
@@ -95,7 +95,7 @@ fn random_blob(alloc: Global, random: &mut Random) -> Result<Vec<u8>, NoMemory> 
     Ok(blob)
 }
 
-/// How random blobs are judged, of which one in four is bytes alone.
+/// How random blobs are judged, of which one in four has no name at the front.
 pub fn random_agree(alloc: Global, rounds: u32) -> anyhow::Result<String> {
     let mut random = Random::new(1);
     let mut tally = Tally { alike: 0, keys: 0 };

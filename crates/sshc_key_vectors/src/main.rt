@@ -1,5 +1,6 @@
-//! Reads keys, signatures and key pairs that other tools made, writes them back, and refuses what is outside the grammar.
-//! Then it compares the readers with a plain one, on random bytes and on damaged keys. The first word names the file.
+//! Reads keys, signatures and key pairs that other tools made, writes them back, and refuses what is outside the
+//! grammar. Then it compares the readers with a plain one, on random bytes and on damaged keys. The first argument
+//! names the file.
 #![tactic(auto)]
 
 mod blobs;
@@ -18,7 +19,7 @@ use vector::{Vector, blob_of, vector_of};
 /// How many blobs each comparison judges.
 const ROUNDS: u32 = 1000;
 
-/// The text of the file that the first word names.
+/// The text of the file that the first argument names.
 fn text_of(rt: &HostRuntime) -> Option<Text> {
     let Ok(mut words) = env::args(rt) else {
         return None;
@@ -31,7 +32,7 @@ fn text_of(rt: &HostRuntime) -> Option<Text> {
     }
 }
 
-/// What is said of a vector's blob, and that it holds.
+/// The line that is printed for a vector's blob; `None` if the blob doesn't behave as the vector says.
 fn verdict(alloc: Global, vector: &Vector<'_>) -> anyhow::Result<Option<String>> {
     match vector.kind {
         "key" => blobs::key_verdict(alloc, vector, false),

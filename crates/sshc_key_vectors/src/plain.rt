@@ -1,4 +1,4 @@
-//! A plain reader of keys, for comparison: a table of fields, and no key is made.
+//! A plain reader of keys, for comparison: it follows a table of fields, and builds no key.
 
 use std::alloc::{AllocError, Global};
 
@@ -36,7 +36,7 @@ const SK_ED25519: &[Field] = &[Field::Size(32), Field::Text];
 
 const OPAQUE: &[Field] = &[Field::Any];
 
-/// What stands behind the fields of a certificate's key, up to its signer.
+/// The fields that follow those of a certificate's key, up to its signer.
 const SAID: &[Field] = &[
     Field::U64,
     Field::CertType,
@@ -49,7 +49,7 @@ const SAID: &[Field] = &[
     Field::Any,
 ];
 
-/// What ends a certificate: a key and nothing else, which is judged apart, and a signature.
+/// The end of a certificate: a key and nothing else, which is judged separately, and a signature.
 const SIGNED: &[Field] = &[Field::Any, Field::Signature];
 
 const MARK: &str = "-cert-v01@";
@@ -68,7 +68,7 @@ fn known_fields(name: &str) -> Option<&'static [Field]> {
     }
 }
 
-/// The fields of the key that a certificate of such a name speaks of, where the name stands in the table.
+/// The fields of the key that a certificate of this name certifies, if the name is in the table.
 fn certified_fields(name: &str) -> Option<&'static [Field]> {
     match name.strip_suffix("-cert-v01@openssh.com")? {
         "sk-ecdsa-sha2-nistp256" => Some(SK_ECDSA),
@@ -112,7 +112,7 @@ fn is_opaque_certificate(alloc: Global, name: &str) -> Result<bool, AllocError> 
     Ok(name.len() <= 64 && is_opaque(own.as_str()))
 }
 
-/// The string at the front, and what follows it.
+/// The string at the front, and the bytes after it.
 fn string(bytes: &[u8]) -> Option<(&[u8], &[u8])> {
     if bytes.len() < 4 {
         return None;
@@ -139,11 +139,11 @@ fn is_text(bytes: &[u8]) -> bool {
 fn is_mpint(bytes: &[u8]) -> bool {
     let first = bytes.first().copied().unwrap_or(0);
     let second = bytes.get(1).copied().unwrap_or(0);
-    // Positive: no sign bit, and not zero. Short: a leading zero is needed by the bit behind it.
+    // Positive: no sign bit, and not zero. Minimal: a leading zero is needed by the bit after it.
     first < 128 && (first > 0 || second >= 128)
 }
 
-/// Whether the bytes are strings to their end, of which the even ones are texts, and all where `all` says so.
+/// Whether the bytes are strings to their end, of which the even ones are texts, or all are if `all` is true.
 fn are_strings(bytes: &[u8], all: bool) -> bool {
     let mut rest = bytes;
     let mut even = true;
@@ -190,7 +190,7 @@ fn fits(field: Field, bytes: &[u8]) -> bool {
     }
 }
 
-/// The field at the front, if it is in the grammar, and what follows it.
+/// The field at the front, if it is in the grammar, and the bytes after it.
 fn field_at(field: Field, bytes: &[u8]) -> Option<(&[u8], &[u8])> {
     let (item, rest) = match field {
         Field::U64 => number(bytes, 8)?,
@@ -213,7 +213,7 @@ fn behind<'a>(fields: &[Field], bytes: &'a [u8]) -> Option<&'a [u8]> {
     Some(rest)
 }
 
-/// What stands behind a certificate whose key has such fields, and its signer's blob.
+/// The bytes after a certificate whose key has these fields, and its signer's blob.
 fn certificate_at<'a>(fields: &[Field], bytes: &'a [u8]) -> Option<(&'a [u8], &'a [u8])> {
     let (_nonce, rest) = string(bytes)?;
     let rest = behind(fields, rest)?;
@@ -222,7 +222,7 @@ fn certificate_at<'a>(fields: &[Field], bytes: &'a [u8]) -> Option<(&'a [u8], &'
     Some((behind(SIGNED, rest)?, signer))
 }
 
-/// What a name says of the fields behind it: those of a plain key, or of the key that a certificate speaks of.
+/// The fields that follow a name: those of a plain key, or of the key that a certificate certifies.
 #[derive(Clone, Copy, Debug)]
 enum Sort {
     Plain(&'static [Field]),
@@ -245,7 +245,7 @@ fn sort_of(alloc: Global, name: &str) -> Result<Option<Sort>, AllocError> {
     Ok(None)
 }
 
-/// What stands behind the key, and the blob of a certificate's signer.
+/// The bytes after the key, and the blob of a certificate's signer.
 fn fields_at(sort: Sort, rest: &[u8]) -> Option<(&[u8], Option<&[u8]>)> {
     match sort {
         Sort::Plain(fields) => {
@@ -259,7 +259,7 @@ fn fields_at(sort: Sort, rest: &[u8]) -> Option<(&[u8], Option<&[u8]>)> {
     }
 }
 
-/// The same of the key at the front of a blob.
+/// The same for the key at the front of a blob.
 fn key_at(alloc: Global, bytes: &[u8]) -> Result<Option<(&[u8], Option<&[u8]>)>, AllocError> {
     let Some((name, rest)) = string(bytes) else {
         return Ok(None);
@@ -280,7 +280,7 @@ fn has_few_marks(blob: &[u8]) -> bool {
         <= 8
 }
 
-/// How many bytes the key at the front has, if one of the grammar stands there.
+/// The length of the key at the front, if a key of the grammar is there.
 pub fn key_length(alloc: Global, blob: &[u8]) -> Result<Option<usize>, AllocError> {
     if !has_few_marks(blob) {
         return Ok(None);
@@ -288,7 +288,7 @@ pub fn key_length(alloc: Global, blob: &[u8]) -> Result<Option<usize>, AllocErro
     let Some((rest, mut signer)) = key_at(alloc, blob)? else {
         return Ok(None);
     };
-    // Each certificate in another one has a mark of its own.
+    // Each certificate inside another has a mark of its own.
     for _ in 0..9 {
         let Some(inner) = signer else {
             return Ok(blob.len().checked_sub(rest.len()));

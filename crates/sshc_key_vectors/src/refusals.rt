@@ -1,11 +1,11 @@
-//! What must hold of a blob outside the grammar: it is refused with its error, and a refused cursor is unmoved.
+//! What must hold of a blob outside the grammar: it is refused with its error, and a refused cursor doesn't move.
 
 use crate::vector::{Vector, blob_of};
 use sshc_key::{Error, parse_public_key_base64, read_key_pair, read_signature};
 use sshc_wire::Cursor;
 use std::alloc::Global;
 
-/// The error's name, where it is the one that the vector names.
+/// The error's name, if it is the one that the vector names.
 fn refusal(
     alloc: Global,
     error: Option<Error>,

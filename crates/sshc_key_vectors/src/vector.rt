@@ -12,7 +12,7 @@ pub struct Vector<'a> {
     pub error: &'a str,
 }
 
-/// The vector of a line. Lines that begin with `#` have none.
+/// The vector in a line; `None` if the first word is `#` or a word is missing.
 pub fn vector_of(line: &str) -> Option<Vector<'_>> {
     let mut words = line.split_whitespace();
     let kind = words.next()?;
@@ -30,7 +30,7 @@ pub fn vector_of(line: &str) -> Option<Vector<'_>> {
     })
 }
 
-/// The bytes of which this is the base64; no bytes where it is none.
+/// The bytes of which this is the base64; no bytes if it isn't valid base64.
 pub fn blob_of(alloc: Global, base64: &str) -> anyhow::Result<Vec<u8>> {
     match STANDARD.decode(alloc, base64.as_bytes()) {
         Ok(blob) => Ok(blob),

@@ -1,4 +1,4 @@
--- The channels' packets among what moves say are those of the moves' calls of the channel table.
+-- The channels' packets among the records of moves are those of the moves' calls of the channel table.
 use Rattle.std.proofs.Common.{◌≡◌, ℕ, Bool, true, false, List, [], ◌∷◌, ◌++◌, eqb, if◌then◌else◌, Option, Some, None, refl, ap, sym, subst, ◌∙◌, append_assoc}
 use Rattle.std.proofs.lemmas.List.{append-nil}
 use Rattle.sshc_wire.specs.Outgoing.{listed}
@@ -32,7 +32,7 @@ use Rattle.sshc_moves.specs.Moves.{Deed, Move, after, calls_in, calls_of, deed, 
 use Rattle.sshc_moves.specs.SessionAccount.{Accounted, HasItsAccount, Lives, channel_packet, channel_packets, said_packets}
 use Rattle.sshc_moves.specs.ListLaws.{onto-append, onto-two}
 
--- ---- lists in a row
+-- ---- lists one after another
 
 pub packets-append : (a b : List Record) → channel_packets (a ++ b) ≡ channel_packets a ++ channel_packets b
 packets-append [] b = refl
@@ -140,7 +140,7 @@ plain_begin : (flag : ExchangeFlag) → IsPlain (m.peer_begin_says flag)
 plain_begin Idle = refl
 plain_begin flag = refl
 
--- what a move says besides the packets of its call
+-- a move's records, except the packets of its call
 plain_deed : (move : Move) (s : SessionState) → IsPlain (deed move s).says
 plain_deed (m.Opens asked ticket) s = plain_open asked _ (m.our_side s)
 plain_deed (m.Confirms c) s = plain_open_answer (awaited c.recipient s.table) (ChannelOpened (record { 0 = c.recipient }))
@@ -195,7 +195,7 @@ pub one : (move : Move) (s : SessionState) → One s (after move s) (calls_of mo
 unfolding after
 one move s = one_deed (deed_of move s) s (plain_done (may_go move s) (deed move s) s (plain_deed move s))
 
--- ---- moves in a row
+-- ---- moves one after another
 
 accounted_more : (move : Move) (moves : List Move) (s : SessionState) → One s (after move s) (calls_of move s) → Accounted moves (after move s) → Accounted (move ∷ moves) s
 accounted_more move moves s first rest =

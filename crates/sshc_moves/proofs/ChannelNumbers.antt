@@ -1,4 +1,4 @@
--- Channels by their numbers, where one is changed, taken away or flushed. sshc_mux has the same lemmas for its own proofs.
+-- Channels by their numbers, after one is changed, removed or flushed. sshc_mux has the same lemmas for its own proofs.
 use Rattle.std.proofs.Common.{◌≡◌, ℕ, Bool, true, false, ◌||◌, List, [], ◌∷◌, eqb, if◌then◌else◌, Option, Some, None, refl, ap, sym, ◌∙◌, inl, inr, eq-eqb}
 use Rattle.std.proofs.lemmas.Bool.{ne_eqb}
 use Rattle.std.proofs.lemmas.Bool.Decides.{eqb_tells}

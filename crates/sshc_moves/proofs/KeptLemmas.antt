@@ -21,7 +21,7 @@ use Rattle.sshc_moves.specs.KeptChannels.{ChannelKeeps, GrownSessionsKeepChannel
 use Rattle.sshc_moves.proofs.ChannelNumbers.{number_of, with_other, with_same}
 use Rattle.sshc_moves.specs.KeepLaws.{keeps_move}
 
--- ---- calls of methods, which are told whether an exchange runs
+-- ---- calls of methods, which know whether an exchange runs
 
 abbrev Sending : Bool → Option Call → Type 0
 Sending running None = Unit {0}

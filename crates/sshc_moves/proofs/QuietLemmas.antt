@@ -1,4 +1,4 @@
--- No exchange runs after a move in which bytes may go out.
+-- No exchange runs after a move in which bytes may be sent.
 use Rattle.std.proofs.Common.{◌≡◌, Bool, true, false, not, List, [], ◌∷◌, Option, Some, None, refl}
 use Rattle.sshc_wire.specs.Outgoing.{listed}
 use Rattle.sshc_transport.specs.declared.exchange.ExchangeFlag.TheVariants.{Idle}
@@ -12,7 +12,7 @@ not_true : (b : Bool) → not b ≡ true → b ≡ false
 not_true true h = absurd cc
 not_true false h = refl
 
--- bytes go out where no exchange runs
+-- bytes are sent only if no exchange runs
 abbrev IsQuiet : Deed → Type 0
 IsQuiet d = AllIdle (is_running d.opening.flag) (listed d.call)
 

@@ -12,7 +12,7 @@ use Rattle.sshc_moves.specs.ListLaws.{onto-append}
 abbrev pub Taken : List Awaited → List Awaited → List Awaited → Type 0
 Taken old new asked = (taken : List Awaited) × (taken ++ new ≡ old ++ asked)
 
--- the oldest is taken, if there is one, or none is
+-- the oldest request is removed, if there is one, or no request is
 some_left : (b : Bool) (old : List Awaited) → (taken : List Awaited) × (taken ++ left_of b old ≡ old)
 some_left false old = ([], refl)
 some_left true [] = ([], refl)

@@ -36,14 +36,14 @@ use Rattle.sshc_moves.specs.SessionTable.Timers.{missed_row}
 abbrev ticket : ℕ → Ticket
 ticket n = record { 0 = n }
 
--- a keepalive without an answer takes no place in the queue; a ping takes one
+-- a keepalive that wants no reply takes no place in the queue; a ping takes one
 unanswered : queued (KeepAlive false) ≡ []
 unanswered = refl
 
 pinged : queued (Ping (ticket 3)) ≡ waits_for asked.Ping (ticket 3) ∷ []
 pinged = refl
 
--- at most one keepalive may stay without an answer: the second is one too many
+-- at most one keepalive may stay unanswered: the second is one too many
 abbrev with_count : ℕ → SessionState → SessionState
 with_count n s = record s { settings = record (s.settings) { keepalive_max = 1 }; keepalives = n }
 
@@ -53,45 +53,45 @@ first_keepalive s = refl
 second_keepalive : (s : SessionState) → missed_row (with_count 1 s) ≡ behind_moves (Misses ∷ []) (refused KeepaliveTimeout)
 second_keepalive s = refl
 
--- an open of a type that isn't known is refused with its number
+-- an open of an unknown type is refused with its number
 abbrev stranger : Sender
 stranger = record { channel = 7; window_size = 16; max_packet_size = 16 }
 
 unknown_open : numbered_open_row (record { takes_unknown = false; window_target = 0 }) (Some 1) stranger Unknown ≡ plain_row (Reserves stranger ∷ Rejects 1 UnknownChannelType ∷ [])
 unknown_open = refl
 
--- the port of a forward; a malformed one is a denial, and the session goes on
+-- the port of a forward; a malformed one is a denial, and the session continues
 forwarded : (accepts : Accepts) → success_for accepts [] (waits_for asked.Forward (ticket 3) ∷ []) (0 ∷ 0 ∷ 0x1f ∷ 0x90 ∷ []) ≡ plain_row (Replied (Some (ForwardPort 8080)) ∷ [])
 forwarded accepts = refl
 
 malformed : (accepts : Accepts) → success_for accepts [] (waits_for asked.Forward (ticket 3) ∷ []) (1 ∷ []) ≡ plain_row (Replied (Some Denied) ∷ [])
 malformed accepts = refl
 
--- a byte behind a keepalive's answer is refused
+-- a byte after a keepalive's reply is refused
 too_long : (accepts : Accepts) → success_for accepts [] (waits_for asked.Keepalive (ticket 0) ∷ []) (0 ∷ []) ≡ refused SshEncoding
 too_long accepts = refl
 
--- where none waits nothing is read
+-- if no request waits, the reply isn't read
 none_waits : (accepts : Accepts) → success_for accepts [] [] (0 ∷ []) ≡ passed_over
 none_waits accepts = refl
 
--- a ping that is refused is answered all the same
+-- a ping that is refused still counts as answered
 ping_refused : failure_for (waits_for asked.Ping (ticket 3) ∷ []) ≡ plain_row (Replied (Some Pong) ∷ [])
 ping_refused = refl
 
--- after one good signature of two, nothing: the second part is short
+-- a key remains and no bytes do: the key's part is short
 second_missing : (accepts : Accepts) (session_id : List ℕ) (key : Key) → proof_judged accepts session_id ((key, []) ∷ []) [] ≡ Err faults.SshEncoding
 unfolding string_at number_at
 second_missing accepts session_id key = refl
 
--- a second KEXINIT of the peer's is out of turn, and packets may not come while its exchange runs
+-- a second KEXINIT of the peer's is out of turn, and no packets from 50 on may come while the peer's exchange runs
 second_kexinit : peer_kexinit_row Peer ≡ refused OutOfTurn
 second_kexinit = refl
 
 held : (s : SessionState) → held_row Peer s 1 passed_over ≡ refused Inconsistent
 held s = refl
 
--- the transport's word to begin again acts as the user's
+-- the transport's request for a new exchange acts as the user's
 rekeyed : (accepts : Accepts) (o : Opinions) (s : SessionState) → session_row accepts o s events.RekeyLimit ≡ plain_row (Begins ∷ [])
 unfolding session_row
 rekeyed accepts o s = refl
@@ -126,7 +126,7 @@ confirmed_says : drop 1 confirmed.records ≡ Resolved (ticket 2) (ChannelOpened
 unfolding after next_number
 confirmed_says = refl
 
--- 62 00000005 00000004 "exec" 01 00000002 "ls", and 61 00000005 to the peer's close
+-- 62 00000005 00000004 "exec" 01 00000002 "ls", and 61 00000005 after the peer's close
 abbrev asked_and_closed : SessionState
 asked_and_closed = done (RequestsOn 1 (Exec true (codes "ls")) ∷ PeerCloses 1 ∷ []) confirmed
 
@@ -137,7 +137,7 @@ closed_says : drop 2 asked_and_closed.records ≡
 unfolding after next_number channel_request_text string_text u32_text bool_text
 closed_says = refl
 
--- the channel is gone, and a request on it is no packet
+-- the channel is removed, and a request on it writes no packet
 gone : (after (RequestsOn 1 (Exec true (codes "ls"))) asked_and_closed).records ≡ asked_and_closed.records
 unfolding after next_number
 gone = refl

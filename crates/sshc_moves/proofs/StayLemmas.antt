@@ -1,4 +1,4 @@
--- Where no open of ours waits under a number, none does until one takes it.
+-- If no open of ours waits under a number, none does until an open takes the number.
 use Rattle.std.proofs.Common.{◌≡◌, inl, inr, ℕ, ◌-◌, Bool, true, false, not, ◌&&◌, List, [], ◌∷◌, ◌++◌, length, eqb, if◌then◌else◌, Option, Some, None, is_some, refl, ap, sym, ◌∙◌}
 use Rattle.std.proofs.lemmas.Bool.{ne_eqb}
 use Rattle.std.proofs.lemmas.Bool.Decides.{eqb_tells}
@@ -114,7 +114,7 @@ server_opened None n recipient window packet own t none = ap awaited_by none
 server_opened (Some m) n recipient window packet own t none =
     behind_none n (reserved_by_server m recipient window packet own) t.channels none (λ is. refl)
 
--- a turn of another channel, and of none
+-- a turn of another channel, and of no channel
 turned_none : (o : Option ChannelState) (n m : ℕ) (turn : ChannelState → Turn) (t : TableState) → ((c : ChannelState) → (turn c).channel.head.number ≡ c.head.number)
     → channel_of m t.channels ≡ o → channel_of n t.channels ≡ None → awaited n (turned m o turn t).table ≡ None
 turned_none None n m turn t number there none = ap awaited_by none

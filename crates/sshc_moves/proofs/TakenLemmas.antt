@@ -1,4 +1,4 @@
--- Records that were said before stay before, and change nothing.
+-- Records that were added before stay first, and change nothing.
 use Rattle.std.proofs.Common.{◌≡◌, Bool, true, false, List, [], ◌∷◌, ◌++◌, refl, ap, sym, ◌∙◌}
 use Rattle.sshc_wire.specs.declared.record.Record.{Record}
 use Rattle.sshc_mux.specs.ChannelTable.{records_of}

@@ -1,11 +1,11 @@
--- What whoever is lent a session may do to it: the moves of its methods, one after the other.
+-- What a borrower of a session may do to it: the moves of its methods, one after the other.
 -- A list of moves; the code is whatever a handler does by the methods.
 use Rattle.std.specs.Prelude.{◌≡◌, List, [], ◌∷◌, None}
 use Rattle.std.specs.List.{AllByRecursion}
 use Rattle.sshc_moves.specs.SessionState.{SessionState}
 use Rattle.sshc_moves.specs.Moves.{Move, Sends, EndsBytes, Closes, Opens, RequestsOn, Asks, Disconnects, DeniesTicket, Begins, Leaves, done}
 
--- a method opens without a ticket
+-- a method opens a channel without a ticket
 abbrev pub May : Move → Type 0
 May (Sends id stream bytes) = Unit {0}
 May (EndsBytes id) = Unit {0}
@@ -24,7 +24,7 @@ pub record Grown (old new : SessionState) : Type 0 where
   pub may : AllByRecursion May moves
   pub is : new ≡ done moves old
 
--- a session is grown from itself, and one that is grown from a grown one is grown
+-- `Grown` is reflexive and transitive, and holds for each move of a method
 pub record GrownIsClosed : Type 0 where
   pub same : (s : SessionState) → Grown s s
   pub next : (s t u : SessionState) → Grown s t → Grown t u → Grown s u

@@ -1,4 +1,4 @@
--- A session is grown by doing nothing, by one move of a method, and by one after another.
+-- `Grown` holds for doing nothing, for one move of a method, and for one after another.
 use Rattle.std.proofs.Common.{◌≡◌, List, [], ◌∷◌, ◌++◌, refl, ap, sym, ◌∙◌}
 use Rattle.std.specs.List.{AllByRecursion}
 use Rattle.sshc_moves.specs.SessionState.{SessionState}

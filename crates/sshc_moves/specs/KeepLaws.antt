@@ -72,7 +72,7 @@ keeps_same s = record {
   replies = ([], sym (append-nil s.replies));
 }
 
--- before the session is open a method's move says denials and changes nothing else
+-- before the session is open a method's move adds only denials and changes nothing else
 record Closed (d : Deed) (s : SessionState) : Type 0 where
   opening : d.opening ≡ s.opening
   call : d.call ≡ None

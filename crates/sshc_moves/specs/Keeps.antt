@@ -1,5 +1,5 @@
--- What a session that was lent keeps, as facts on the session before and after.
--- It follows from the moves that its methods may make; nothing of it speaks of moves.
+-- What a session that was lent to a handler keeps, as facts on the session before and after.
+-- It follows from the moves that its methods may make, but is stated without moves.
 use Rattle.std.specs.Prelude.{◌≡◌, ◌⊎◌, false, List, ◌++◌}
 use Rattle.std.specs.List.{AllByRecursion}
 use Rattle.sshc_wire.specs.declared.record.Record.{Record}
@@ -12,7 +12,7 @@ use Rattle.sshc_moves.specs.SessionState.{SessionState, is_open, runs}
 use Rattle.sshc_moves.specs.Moves.{with_flag}
 use Rattle.sshc_moves.specs.Grown.{Grown}
 
--- a packet, the word to begin an exchange, or a denial
+-- a packet, the record that begins an exchange, or a denial
 abbrev pub MayBeAdded : Record → Type 0
 MayBeAdded (Payload packet) = Unit {0}
 MayBeAdded BeginExchange = Unit {0}
@@ -37,9 +37,9 @@ pub record Keeps (old new : SessionState) : Type 0 where
   pub ended : runs old.life ≡ false → new ≡ old
   -- one that isn't open yet keeps its opening, its channels and its requests
   pub closed : is_open old.opening.phase ≡ false → (new.opening ≡ old.opening) × (new.table ≡ old.table) × (new.replies ≡ old.replies)
-  -- records are added behind those that are there; before the session is open they are denials
+  -- records are added after those that are there; before the session is open they are denials
   pub records : (more : List Record) × (new.records ≡ old.records ++ more) × AllByRecursion MayBeAdded more × (is_open old.opening.phase ≡ false → AllByRecursion IsDenial more)
-  -- requests are added behind those that wait
+  -- requests are added after those that wait
   pub replies : (more : List Awaited) × (new.replies ≡ old.replies ++ more)
 
 abbrev pub GrownSessionsKeep : Type 0

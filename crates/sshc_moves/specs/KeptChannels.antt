@@ -1,6 +1,6 @@
--- What a session that was lent keeps of each channel that it had (RFC 4254, section 5), as facts on the channel
--- before and after. Bytes are told with their kind and code. The code is whatever a handler does by the session's
--- methods.
+-- What a session that was lent to a handler keeps of each channel that it had (RFC 4254, section 5), as facts on the
+-- channel before and after. Bytes are taken with their kind and code. The code is whatever a handler does by the
+-- session's methods.
 use Rattle.std.specs.Prelude.{◌≡◌, ℕ, ◌+◌, Bool, true, false, List, [], ◌++◌, length, Some}
 use Rattle.sshc_mux.specs.declared.chunk.Stream.{Stream}
 use Rattle.sshc_mux.specs.ChannelState.{ChannelState, TableState, channel_of}
@@ -9,9 +9,9 @@ use Rattle.sshc_mux.specs.ChannelAccount.{IsLegal, pending}
 use Rattle.sshc_moves.specs.SessionState.{SessionState, exchanging}
 use Rattle.sshc_moves.specs.Grown.{Grown}
 
--- Number, opener, ticket, recipient, packet size, confirmation and our window are the same. What waits is what
--- waited, with some bytes more behind it and some gone from its front; the peer's window has fallen by those, which
--- are none while an exchange runs. An end that was asked for stays asked for.
+-- Number, opener, ticket, recipient, packet size, confirmation and our window are the same. The bytes that wait are
+-- those that waited, with some added at the end and some removed from the front; the peer's window has fallen by the
+-- number of those removed, which is 0 while an exchange runs. An end that was asked for stays asked for.
 pub record ChannelKeeps (running : Bool) (old new : ChannelState) : Type 0 where
   pub head : new.head ≡ old.head
   pub own_window : new.own_window ≡ old.own_window

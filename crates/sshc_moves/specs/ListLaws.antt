@@ -1,4 +1,4 @@
--- Lists that stand behind one another.
+-- Lists appended to one another.
 use Rattle.std.proofs.Common.{◌≡◌, List, [], ◌∷◌, ◌++◌, refl, ap, sym, ◌∙◌, append_assoc}
 use Rattle.std.proofs.lemmas.List.{append-nil}
 use Rattle.sshc_moves.specs.Moves.{onto}
@@ -7,7 +7,7 @@ pub onto-append : {A : Type 0} (xs ys : List A) → onto xs ys ≡ xs ++ ys
 onto-append xs [] = sym (append-nil xs)
 onto-append xs (y ∷ ys) = refl
 
--- what stands before all stays before
+-- what comes first stays first
 pub onto-behind : {A : Type 0} (before xs ys : List A) → onto (before ++ xs) ys ≡ before ++ onto xs ys
 onto-behind before xs [] = refl
 onto-behind before xs (y ∷ ys) = append_assoc before xs (y ∷ ys)

@@ -1,6 +1,5 @@
--- Global requests as a session makes them, each with what its answer is for (RFC 4254, section 4), and the records
--- that carry packets. An answer is wanted of a forward where there is a ticket for it, of a ping and of a proof
--- always.
+-- Global requests as a session makes them, each with what its reply is for (RFC 4254, section 4), and the records that
+-- carry packets. A reply to a forward is wanted if there is a ticket for it, and a reply to a ping or a proof always.
 use Rattle.std.specs.Prelude.{ℕ, Bool, true, false, not, List, [], ◌∷◌, ◌==◌, if◌then◌else◌}
 use Rattle.sshc_wire.specs.declared.disconnect.Disconnect.{Disconnect}
 use Rattle.sshc_wire.specs.declared.record.Record.{Record}
@@ -67,7 +66,7 @@ awaited_of (Ping ticket) = waits_for asked.Ping ticket
 awaited_of (Prove ticket keys) = waits_for (asked.HostKeys keys) ticket
 awaited_of (OwnRequest ticket name body) = waits_for asked.Own ticket
 
--- just the requests that want an answer wait for one
+-- exactly the requests that want a reply wait for one
 abbrev pub queued : Ask → List Awaited
 queued ask = if wants_answer ask then awaited_of ask ∷ [] else []
 

@@ -1,4 +1,4 @@
--- How a move is done, spelled out for the calls that do it.
+-- How a move is done, stated for the calls that do it.
 use Rattle.std.proofs.Common.{◌≡◌, Bool, true, false, List, ◌++◌, refl, ap}
 use Rattle.sshc_wire.specs.declared.record.Record.{Record}
 use Rattle.sshc_mux.specs.ChannelTable.{records_of}
@@ -12,12 +12,12 @@ pub not_done : (m : Move) (s : SessionState) → may_go m s ≡ false → after 
 unfolding after
 not_done m s is = ap (λ (b : Bool). with_deed (done_if b (deed m s) s) s) is
 
--- one that may is its deed
+-- a move that may be done is its deed
 pub is_done : (m : Move) (s : SessionState) → may_go m s ≡ true → after m s ≡ with_deed (deed m s) s
 unfolding after
 is_done m s is = ap (λ (b : Bool). with_deed (done_if b (deed m s) s) s) is
 
--- a call of the channel table alone
+-- only a call of the channel table
 pub called_alone : (call : Call) (s : SessionState) →
     with_deed (calls_table call s) s
     ≡ record s { table = (called call s.table).table; records = s.records ++ records_of (called call s.table).said }
@@ -25,6 +25,6 @@ called_alone call s =
     ap (λ (rs : List Record). record s { table = (called call s.table).table; records = rs })
     (onto-append s.records (records_of (called call s.table).said))
 
--- records alone
+-- only records
 pub said_alone : (said : List Record) (s : SessionState) → with_deed (says_that said s) s ≡ record s { records = s.records ++ said }
 said_alone said s = ap (λ (rs : List Record). record s { records = rs }) (onto-append s.records said)

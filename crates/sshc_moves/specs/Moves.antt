@@ -1,7 +1,7 @@
--- What happens in an open session, as moves in a row. A row of the table of an open session is a list of moves, and
--- so is what a handler does to a session that it is lent. What a move does is plain data (`Deed`): at most one call
--- of the channel table, then records, then what else changes. So the channels' packets are those of the calls by
--- construction, and a law has to look at what a move adds to them alone.
+-- What happens in an open session, as a list of moves. A row of the table of an open session is a list of moves, and so
+-- is what a handler does to a session that it borrows. What a move does is plain data (`Deed`): at most one call of the
+-- channel table, then records, then what else changes. So the channels' packets are those of the calls by construction,
+-- and a law has to look only at what a move adds to them.
 use Rattle.std.specs.Prelude.{◌≡◌, ◌⊎◌, ℕ, ◌+◌, ◌^◌, ◌-◌, min, Bool, true, false, not, ◌&&◌, List, [], ◌∷◌, ◌++◌, drop, Option, Some, None, Result, Ok, Err, if◌then◌else◌, ◌==◌}
 use Rattle.sshc_wire.specs.declared.channel_open_failure.ChannelOpenFailure.{ChannelOpenFailure}
 use Rattle.sshc_wire.specs.declared.disconnect.Disconnect.{Disconnect}
@@ -44,25 +44,25 @@ pub data Move : Type 0 where
   Receives : (id len : ℕ) → Move
   -- opens and their answers
   Opens : (asked : ChannelOpen) → (ticket : Option Ticket) → Move  -- an open of ours, with its packet
-  Confirms : (confirmation : Confirmation) → Move  -- the peer confirms an open of ours, whose ticket is answered
-  Fails : (id : ℕ) → (reason : ChannelOpenFailure) → Move  -- the peer refuses an open of ours, whose ticket is answered
+  Confirms : (confirmation : Confirmation) → Move  -- the peer confirms an open of ours, whose ticket is resolved
+  Fails : (id : ℕ) → (reason : ChannelOpenFailure) → Move  -- the peer refuses an open of ours, whose ticket is resolved
   Accepts : (id : ℕ) → Move  -- an open of the peer's is accepted, with its packet
   Rejects : (id : ℕ) → (reason : ChannelOpenFailure) → Move  -- an open of the peer's is refused, with its packet
   -- messages
   RequestsOn : (id : ℕ) → (request : ChannelRequest) → Move
-  AnswersOn : (id : ℕ) → (done : Bool) → Move  -- an answer to the peer's request on a channel
-  Answers : (done : Bool) → Move  -- an answer to the peer's global request
+  AnswersOn : (id : ℕ) → (done : Bool) → Move  -- a reply to the peer's request on a channel
+  Answers : (done : Bool) → Move  -- a reply to the peer's global request
   Asks : (ask : Ask) → Move  -- a global request, and its entry in the queue
   Disconnects : (reason : Disconnect) → (description language : List ℕ) → Move
-  -- answers to tickets, and what is told
-  Replied : (resolution : Option Resolution) → Move  -- the oldest request has its answer
-  Resolves : (ticket : Ticket) → (resolution : Resolution) → Move  -- an answer that no packet brings
+  -- answers to tickets, and reports
+  Replied : (resolution : Option Resolution) → Move  -- the oldest request is answered
+  Resolves : (ticket : Ticket) → (resolution : Resolution) → Move  -- a resolution that no packet of the peer's brings
   DeniesTicket : (ticket : Ticket) → Move  -- before the session is open
-  Tells : (said : Record) → Move  -- a record that is no packet and no answer
+  Tells : (said : Record) → Move  -- a record that is neither a packet nor an answer to a ticket
   -- exchanges
   Begins : Move  -- an exchange of ours, where none runs
   PeerBegins : Move  -- the peer's KEXINIT, which begins an exchange or answers ours
-  Resumes : Move  -- no exchange runs any more, and what waits goes out
+  Resumes : Move  -- no exchange runs any more, and what waits is sent
   Counts : (len : ℕ) → Move  -- a packet came while an exchange of ours runs
   -- counts
   Hears : Move  -- something came from the peer
@@ -75,15 +75,15 @@ pub data Move : Type 0 where
 -- what a move does
 pub record Deed : Type 0 where
   pub call : Option Call  -- of the channel table
-  pub says : List Record  -- records behind the packets that the call writes
-  pub answers : Bool  -- the oldest request has its answer
-  pub asks : List Awaited  -- requests whose answers are awaited
+  pub says : List Record  -- records after the packets that the call writes
+  pub answers : Bool  -- the oldest request is answered
+  pub asks : List Awaited  -- requests whose replies are awaited
   pub opening : OpeningState
   pub keepalives : ℕ
   pub window_target : ℕ
   pub life : Life
 
--- nothing
+-- nothing changes
 abbrev pub still : SessionState → Deed
 still s = record {
   call = None;
@@ -105,7 +105,7 @@ says_that records s = record (still s) { says = records }
 abbrev pub calls_and_says : Call → List Record → SessionState → Deed
 calls_and_says call records s = record (still s) { call = Some call; says = records }
 
--- ---- what is said
+-- ---- the records of a move
 
 abbrev pub our_side : SessionState → ℕ → Sender
 our_side s number =
@@ -116,7 +116,7 @@ abbrev pub open_packet : ChannelOpen → Option ℕ → (ℕ → Sender) → Lis
 open_packet asked None side = []
 open_packet asked (Some number) side = sent (OpenMessage asked (side number))
 
--- the ticket of an answer; none is 0
+-- the ticket of an answer; 0 if there is none
 abbrev pub or_none : Option Ticket → Ticket
 or_none None = no_ticket
 or_none (Some ticket) = ticket
@@ -142,7 +142,7 @@ addressed (Some recipient) message = sent (message recipient)
 abbrev pub recipient_at : ℕ → TableState → Option ℕ
 recipient_at id t = recipient_in (channel_of id t.channels)
 
--- nobody asks for anything on a channel after our close was sent
+-- nothing is asked on a channel after our close was sent
 abbrev pub askable_at : ℕ → TableState → Option ℕ
 askable_at id t = if close_sent_in (channel_of id t.channels) then None else recipient_at id t
 
@@ -154,7 +154,7 @@ abbrev pub answer_to_all : Bool → Message
 answer_to_all true = Grant81
 answer_to_all false = Deny82
 
--- the oldest request's ticket is answered; no reply answers an open
+-- the oldest request's ticket is resolved, but never as an answer to an open
 abbrev pub reply_answer : List Awaited → Option Resolution → List Record
 reply_answer [] resolution = []
 reply_answer (first ∷ replies) None = []
@@ -162,7 +162,7 @@ reply_answer (first ∷ replies) (Some (ChannelOpened id)) = []
 reply_answer (first ∷ replies) (Some (ChannelOpenFailed reason)) = []
 reply_answer (first ∷ replies) (Some resolution) = resolved first.ticket resolution
 
--- an answer that no packet of the peer's brings
+-- a resolution that no packet of the peer's brings
 abbrev pub direct_answer : Ticket → Resolution → List Record
 direct_answer ticket Dropped = resolved ticket Dropped
 direct_answer ticket ExtInfoSeen = resolved ticket ExtInfoSeen
@@ -170,30 +170,30 @@ direct_answer ticket (SigAlgs known names) = resolved ticket (SigAlgs known name
 direct_answer ticket HostKeysProved = resolved ticket HostKeysProved
 direct_answer ticket resolution = []
 
--- what is told is no packet, and no answer to a ticket
+-- only a record that is neither a packet nor an answer to a ticket is reported
 abbrev pub told : Record → List Record
 told (Payload packet) = []
 told (Resolved ticket resolution) = []
 told said = said ∷ []
 
--- ---- what becomes of an exchange
+-- ---- what a move does to the exchange
 
 abbrev pub with_flag : ExchangeFlag → OpeningState → OpeningState
 with_flag flag o = record o { flag = flag; counted = 0 }
 
--- the peer's KEXINIT where none runs begins one; where ours runs it answers it
+-- the peer's KEXINIT begins an exchange if none runs; if ours runs it answers ours
 abbrev pub peer_begins : ExchangeFlag → OpeningState → OpeningState
 peer_begins Idle o = with_flag Peer o
 peer_begins flag o = record o { flag = Peer }
 
--- the transport is told to begin where none runs
+-- the transport is asked to begin an exchange if none runs
 abbrev pub peer_begin_says : ExchangeFlag → List Record
 peer_begin_says Idle = BeginExchange ∷ []
 peer_begin_says flag = []
 
 -- ---- one move
 
--- what a move does where it may
+-- what a move does if it may be done
 abbrev pub deed : Move → SessionState → Deed
 deed (Reserves sender) s =
     calls_table (ReserveServer sender.channel sender.window_size sender.max_packet_size (own_window s)) s
@@ -232,9 +232,9 @@ deed (Targets window) s = record (still s) { window_target = window }
 deed Leaves s = record (still s) { life = Left }
 deed Stops s = record (still s) { life = Over }
 
--- When a move may be done: in an open session that hasn't ended; an exchange of ours where none runs; a denial before
--- the session is open; the end in every session. What happened is told also where the user disconnected while the
--- handler was told of it.
+-- When a move may be done: in an open session that hasn't ended; an exchange of ours if none runs; a denial before the
+-- session is open; the end in every session. A record is reported also if the user disconnected while the handler was
+-- called.
 abbrev pub may_go : Move → SessionState → Bool
 may_go (DeniesTicket ticket) s = opens_later s
 may_go (Tells said) s = may_tell s
@@ -250,7 +250,7 @@ done_if false d s = still s
 abbrev pub deed_of : Move → SessionState → Deed
 deed_of m s = done_if (may_go m s) (deed m s) s
 
--- the requests that are left
+-- the requests that remain
 abbrev pub left_of : Bool → List Awaited → List Awaited
 left_of true replies = drop 1 replies
 left_of false replies = replies
@@ -260,7 +260,7 @@ abbrev pub did : Option Call → TableState → Effect
 did None t = unmoved t
 did (Some call) t = called call t
 
--- one list behind another; the same as `++`, but that nothing behind a list is the list itself
+-- one list after another; the same as `++`, except that appending the empty list is the list itself
 abbrev pub onto : {A : Type 0} → List A → List A → List A
 onto xs [] = xs
 onto xs (y ∷ ys) = xs ++ y ∷ ys
@@ -286,17 +286,17 @@ abbrev pub done : List Move → SessionState → SessionState
 done [] s = s
 done (m ∷ moves) s = done moves (after m s)
 
--- some of them, from the first on
+-- the first of these moves, as many as were done
 abbrev pub Fronts : List Move → SessionState → SessionState → Type 0
 Fronts [] old new = new ≡ old
 Fronts (m ∷ moves) old new = (new ≡ old) ⊎ Fronts moves (after m old) new
 
--- a call did the move, or found no memory and did nothing
+-- a call did the move, or ran out of memory and did nothing
 abbrev pub Moved : {A : Type 0} → Move → SessionState → SessionState → Result A NoMemory → Type 0
 Moved m old new (Ok x) = new ≡ after m old
 Moved m old new (Err e) = new ≡ old
 
--- a call did the moves; where memory ran out, some of them from the first on
+-- a call did the moves; if memory ran out, only the first of them
 abbrev pub Does : {A : Type 0} → List Move → SessionState → SessionState → Result A NoMemory → Type 0
 Does moves old new (Ok x) = new ≡ done moves old
 Does moves old new (Err e) = Fronts moves old new

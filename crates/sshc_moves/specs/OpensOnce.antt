@@ -1,6 +1,6 @@
--- An open of ours is answered where it waits for its answer, with its own ticket, and waits no more (RFC 4254,
--- section 5.1). Said of each move and the records that it adds; so an open is answered at most once while its channel
--- stands.
+-- An open of ours is answered while it waits for its answer, with its own ticket, and then doesn't wait any more (RFC
+-- 4254, section 5.1). Stated of each move and the records that it adds; so an open is answered at most once while its
+-- channel exists.
 use Rattle.std.specs.Prelude.{◌≡◌, ◌⊎◌, ℕ, Bool, false, List, Option, Some, None, ◌==◌}
 use Rattle.std.specs.List.{AllByRecursion}
 use Rattle.sshc_wire.specs.declared.record.Record.{Record}
@@ -26,7 +26,7 @@ NoOpenAnswer (Resolved ticket (ChannelOpened id)) = ⊥
 NoOpenAnswer (Resolved ticket (ChannelOpenFailed reason)) = ⊥
 NoOpenAnswer said = Unit {0}
 
--- an open under this number waited, its own ticket is answered, and it waits no more
+-- an open under this number waited, its own ticket is resolved, and it doesn't wait any more
 pub record AnswersOne (s new : SessionState) (says : List Record) : Type 0 where
   pub id : ℕ
   pub ticket : Option Ticket
@@ -51,14 +51,14 @@ abbrev pub call_opens : ℕ → Option Call → TableState → Bool
 call_opens n (Some (OpenUser window packet ticket)) t = is_number n (next_number t)
 call_opens n call t = false
 
--- where no open waits under a number, none does after a move that opens none there
+-- if no open waits under a number, none does after a move that opens no channel under it
 abbrev pub AnsweredStays : Type 0
 AnsweredStays =
     (n : ℕ) (m : Move) (s : SessionState) → IsLegal s.table → awaited n s.table ≡ None →
     call_opens n (deed_of m s).call s.table ≡ false → awaited n (after m s).table ≡ None
 
--- An open is answered at most once while its channel stands: each answer is of one that waits, with its own ticket,
--- and leaves none waiting; and none waits again until another open takes the number.
+-- An open is answered at most once while its channel exists: each answer is for one that waits, with its own ticket,
+-- after which none waits; and none waits again until another open takes the number.
 pub record OpensAreAnsweredOnce : Type 0 where
   pub waits : OpensAreAnsweredWhereTheyWait
   pub stays : AnsweredStays

@@ -1,5 +1,5 @@
--- Records that were said before don't count for what comes: so a caller may take them after each step.
--- Said of any list of moves; the code hands its outbox over and begins a new one.
+-- Records that were added before don't affect what comes after: so a caller may take them after each step.
+-- Stated for any list of moves; the code hands its outbox over and begins a new one.
 use Rattle.std.specs.Prelude.{◌≡◌, List, ◌++◌}
 use Rattle.sshc_wire.specs.declared.record.Record.{Record}
 use Rattle.sshc_moves.specs.SessionState.{SessionState}

@@ -1,5 +1,5 @@
--- The channels' packets among all that a session says are those that its calls of the channel table wrote (RFC 4254,
--- sections 5.2 and 5.3). Said of any list of moves, so also of rows one after the other with whatever a handler did
+-- The channels' packets among all records of a session are those that its calls of the channel table wrote (RFC 4254,
+-- sections 5.2 and 5.3). Stated for any list of moves, so also for rows one after the other with whatever a handler did
 -- between them.
 use Rattle.std.specs.Prelude.{◌≡◌, ℕ, Bool, true, false, ◌&&◌, List, [], ◌∷◌, ◌++◌, if◌then◌else◌, nat_le, Some}
 use Rattle.sshc_wire.specs.declared.record.Record.{Record}
@@ -31,7 +31,7 @@ abbrev pub said_packets : List Said → List (List ℕ)
 said_packets [] = []
 said_packets (s ∷ said) = packet_text s.recipient s.packet ∷ said_packets said
 
--- Whatever the moves, the table is where the calls among them lead, and the channels' packets are those that these
+-- Whatever the moves, the table is the table after the calls among them, and the channels' packets are those that these
 -- calls wrote.
 pub record Accounted (moves : List Move) (s : SessionState) : Type 0 where
   pub table : (done moves s).table ≡ (ran (calls_in moves s) s.table).table
@@ -49,7 +49,7 @@ pub record Lives (moves : List Move) (s : SessionState) (n : ℕ) (l : Life n) :
   pub calls : calls_in moves s ≡ l.before ++ opener ∷ l.calls
   pub opens : (called opener (ran l.before (no_channels l.last)).table).table ≡ born n l
 
--- the session has the channel as its life leaves it, and the life has its account
+-- the session has the channel as it is at the end of its life, and the life has its account
 pub record HasItsAccount (moves : List Move) (s : SessionState) (n : ℕ) (l : Life n) : Type 0 where
   pub end : channel_of n (done moves s).table.channels ≡ Some l.end
   pub account : Account n l
@@ -58,7 +58,7 @@ abbrev pub LivesHaveTheirAccounts : Type 0
 LivesHaveTheirAccounts =
     (moves : List Move) (s : SessionState) (n : ℕ) (l : Life n) → Lives moves s n l → HasItsAccount moves s n l
 
--- no exchange runs after a move in which bytes may go out
+-- no exchange runs after a move in which bytes may be sent
 abbrev pub AllIdle : Bool → List Call → Type 0
 AllIdle running [] = Unit {0}
 AllIdle running (call ∷ calls) = (may_send call ≡ true → running ≡ false) × AllIdle running calls

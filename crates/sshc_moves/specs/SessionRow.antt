@@ -1,5 +1,5 @@
--- What one row of the table of an open session is: moves, at most one call of the handler that is lent the session,
--- and moves by what it answered. Plain data; what a call does that follows a row is said by the crate above, which
+-- What one row of the table of an open session is: moves, at most one call of the handler, which borrows the session,
+-- and moves by what the handler returned. Plain data; what a call does that follows a row is defined in the crate that
 -- has the handler.
 use Rattle.std.specs.Prelude.{ℕ, Bool, true, false, List, [], ◌∷◌, ◌++◌, Option, Some, None, Result, Ok, Err}
 use Rattle.sshc_wire.specs.declared.channel_open_failure.ChannelOpenFailure.{ChannelOpenFailure}
@@ -17,15 +17,15 @@ use Rattle.sshc_packets.specs.declared.error.PacketError.{PacketError}
 use Rattle.sshc_moves.specs.declared.open_answer.OpenAnswer.{OpenAnswer}
 use Rattle.sshc_moves.specs.Moves.{Move, Tells}
 
--- a call of the handler that is lent the session, with its values
+-- a call of the handler, which borrows the session, with its arguments
 pub data Callback : Type 0 where
   KexDone : (secret : Option (List ℕ)) → (names : NamesChosen) → Callback
   Happened : (id : ℕ) → (happened : ChannelRecord) → Callback  -- what the peer did on a channel, by its record
   ServerOpened : (id : ℕ) → (opened : ServerOpen) → Callback
   HostKeysAnnounced : (keys : List (Key × List ℕ)) → Callback
 
--- what the handler answers where it isn't lent the session: whether it takes opens of a type that isn't known, and
--- its window target
+-- what the handler returns when it doesn't borrow the session: whether it takes opens of an unknown type, and its
+-- window target
 pub record Opinions : Type 0 where
   pub takes_unknown : Bool
   pub window_target : ℕ
@@ -41,7 +41,7 @@ pub record SessionRow : Type 0 where
   pub back : OpenAnswer → List Move
   pub next : Next
 
--- ---- the table's own words
+-- ---- the table's own vocabulary
 
 -- moves, and no call
 abbrev pub plain_row : List Move → SessionRow
@@ -53,18 +53,18 @@ passed_over = plain_row []
 abbrev pub refused : Error → SessionRow
 refused e = record { front = []; asks = None; back = λ said. []; next = refuses e }
 
--- the session ends behind these moves
+-- the session ends after these moves
 abbrev pub ending : List Move → Ended → SessionRow
 ending moves e = record { front = moves; asks = None; back = λ said. []; next = ends e }
 
--- moves, a call, and moves behind it whatever it answers
+-- moves, a call, and moves after it whatever it returns
 unfoldable pub asking : List Move → Callback → List Move → SessionRow
 asking front callback back = record { front = front; asks = Some callback; back = λ said. back; next = goes }
 
 abbrev pub on_channel : ℕ → ChannelRecord → Record
 on_channel id happened = Channel (record { 0 = id }) happened
 
--- the handler is told what happened on a channel, and then it is said
+-- the handler is called with what happened on a channel, and then the record is reported
 abbrev pub reports : List Move → ℕ → ChannelRecord → List Move → SessionRow
 reports front id happened back = asking front (Happened id happened) (Tells (on_channel id happened) ∷ back)
 
@@ -72,7 +72,7 @@ reports front id happened back = asking front (Happened id happened) (Tells (on_
 abbrev pub behind_moves : List Move → SessionRow → SessionRow
 behind_moves moves row = record row { front = moves ++ row.front }
 
--- it goes on with what was read; a part that can't be read is SshEncoding
+-- continues with what was read; a part that can't be read is SshEncoding
 abbrev pub with_read : {A : Type 0} → Result A WireError → (A → SessionRow) → SessionRow
 with_read (Ok x) row = row x
 with_read (Err e) row = refused SshEncoding
@@ -81,7 +81,7 @@ abbrev pub with_kept : {A : Type 0} → Result A PacketError → (A → SessionR
 with_kept (Ok x) row = row x
 with_kept (Err e) row = refused SshEncoding
 
--- only where the channel is established
+-- only if the channel is established
 abbrev pub established_row : Bool → SessionRow → SessionRow
 established_row true row = row
 established_row false row = passed_over

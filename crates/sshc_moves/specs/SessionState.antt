@@ -1,5 +1,5 @@
--- What a session remembers between two events, as plain data: its opening, its channels, the requests whose answers
--- are awaited, and what was said and not yet taken. The code keeps hashed tables and an outbox besides.
+-- The state of a session between two events, as plain data: its opening, its channels, the requests whose replies are
+-- awaited, and the records that were not yet taken. The code keeps hash tables and an outbox besides.
 use Rattle.std.specs.Prelude.{ℕ, Bool, true, false, not, ◌&&◌, List, ◌++◌}
 use Rattle.sshc_wire.specs.declared.record.Record.{Record}
 use Rattle.sshc_transport.specs.declared.exchange.ExchangeFlag.{ExchangeFlag}
@@ -17,10 +17,10 @@ pub record SessionState : Type 0 where
   pub settings : SessionSettings
   pub opening : OpeningState  -- in an open session its flag says whose exchange runs
   pub table : TableState
-  pub replies : List Awaited  -- the requests that were written with an answer wanted, the oldest first
-  pub keepalives : ℕ  -- how many keepalives in a row nothing was heard after
-  pub window_target : ℕ  -- the window that the handler is asked with
-  pub records : List Record  -- what was said and not yet taken
+  pub replies : List Awaited  -- the requests that were written with a reply wanted, the oldest first
+  pub keepalives : ℕ  -- how many keepalives in a row were sent since the peer was last heard
+  pub window_target : ℕ  -- the window that the handler is passed
+  pub records : List Record  -- the records that were not yet taken
   pub life : Life
 
 -- our window of a new channel
@@ -44,7 +44,7 @@ abbrev pub stands : Life → Bool
 stands Over = false
 stands life = true
 
--- what happened may still be told in an open session
+-- records may still be reported in an open session
 abbrev pub may_tell : SessionState → Bool
 may_tell s = is_open s.opening.phase && stands s.life
 

@@ -1,5 +1,5 @@
 -- The table of an open session: a row for each event (RFC 4254; OpenSSH's PROTOCOL). By cases on plain data, one
--- definition a row. `accepts` is the verifier's relation, `o` what the handler answers without the session.
+-- definition a row. `accepts` is the verifier's relation, `o` what the handler returns without the session.
 pub mod Exchanges
 pub mod Opens
 pub mod Streams
@@ -33,7 +33,8 @@ use Rattle.sshc_moves.specs.SessionTable.Replies.{request_failure_row, request_s
 use Rattle.sshc_moves.specs.SessionTable.Users.{user_row}
 use Rattle.sshc_moves.specs.SessionTable.Timers.{inactivity_timer_row, keepalive_timer_row}
 
--- 1, DISCONNECT (RFC 4253, section 11.1): a reason from 1 to 15, a text and its language; later bytes pass
+-- 1, DISCONNECT (RFC 4253, section 11.1): a reason from 1 to 15, a text and its language; the bytes after them are
+-- ignored
 abbrev pub reason_row : Option Disconnect → List ℕ → SessionRow
 reason_row None rest = refused InvalidDisconnect
 reason_row (Some reason) rest =
@@ -44,7 +45,7 @@ reason_row (Some reason) rest =
 unfoldable pub disconnect_row : List ℕ → SessionRow
 disconnect_row body = with_read (number_at w32 body) (λ code. reason_row (disconnect_of code.0) code.1)
 
--- a packet by its number; one that isn't known is passed over
+-- a packet by its number; an unknown one is ignored
 unfoldable pub numbered_row : Accepts → Opinions → SessionState → ℕ → List ℕ → SessionRow
 numbered_row accepts o s number body =
     if number == GLOBAL_REQUEST then global_request_row body
@@ -70,7 +71,7 @@ held_row Idle s len row = row
 held_row Ours s len row = if is_too_much s.opening len then refused Pending else behind_moves (Counts len ∷ []) row
 held_row Peer s len row = refused Inconsistent
 
--- whatever comes from the peer is heard, but of a global request its row says so
+-- whatever comes from the peer counts as heard; for a global request its row decides
 abbrev pub heard : ℕ → List Move
 heard number = if number == GLOBAL_REQUEST then [] else Hears ∷ []
 
@@ -80,7 +81,7 @@ packet_row accepts o s len number body =
     else if waits_for_exchange number then held_row s.opening.flag s len (numbered_row accepts o s number body)
     else numbered_row accepts o s number body
 
--- an empty packet is passed over, and isn't heard
+-- an empty packet is ignored, and doesn't count as heard
 unfoldable pub payload_row : Accepts → Opinions → SessionState → List ℕ → SessionRow
 payload_row accepts o s [] = passed_over
 payload_row accepts o s (number ∷ body) =

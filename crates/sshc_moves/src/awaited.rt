@@ -1,12 +1,12 @@
-//! Global requests whose answers are awaited (RFC 4254, section 4).
+//! Global requests whose replies are awaited (RFC 4254, section 4).
 
 use sshc_key::PublicKey;
 use sshc_wire::{List, Ticket};
 
-/// What a request asked, as far as its answer depends on it.
+/// What a request asked, as far as the meaning of its reply depends on it.
 #[derive(Debug, PartialEq, Eq, Drop)]
 pub enum Asked {
-    /// To listen on a port, which the answer may name.
+    /// To listen on a port, which the reply may name.
     Forward,
     /// To stop listening, or to listen on a socket.
     Simple,
@@ -19,7 +19,7 @@ pub enum Asked {
     Own,
 }
 
-/// A request that was written with an answer wanted, and whom the answer is for.
+/// A request that was written with a reply wanted, and whom the answer is for.
 #[derive(Debug, PartialEq, Eq, Drop)]
 pub struct Awaited {
     pub asked: Asked,

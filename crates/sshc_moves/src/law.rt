@@ -1,4 +1,4 @@
-//! What holds of every list of moves.
+//! Laws about every list of moves.
 
 ghost use Rattle.sshc_moves.specs.Grown.{GrownIsClosed};
 ghost use Rattle.sshc_moves.specs.Keeps.{GrownSessionsKeep};
@@ -11,12 +11,12 @@ ghost use Rattle.sshc_moves.specs.SessionAccount.{ChannelsAreAccounted, LivesHav
 use sshc_mux::account;
 
 /// The packets 93 to 97 among all that a session writes are those of its calls of the channel table (`accounted`), so
-/// that each life of a channel has its account (`lives`). No bytes go out in a move after which an exchange runs
+/// that each life of a channel has its account (`lives`). No bytes are sent in a move after which an exchange runs
 /// (`quiet`). Requests are answered in the order in which they were written (`replies`). An open of ours is answered
-/// where it waits, with its own ticket, and waits no more until another open takes its number (`opens`). Records are
-/// only added (`records`). A session that was lent is grown: that is kept by doing nothing and by doing one after
-/// another (`grown`), and such a session keeps what its methods can't change (`keeps`), and each of its channels,
-/// with more bytes waiting behind and some gone from the front (`channels`).
+/// while it waits, with its own ticket, and doesn't wait any more until another open takes its number (`opens`).
+/// Records are only added (`records`). What a borrower may do to a session includes doing nothing and doing one thing
+/// after another (`grown`); a session keeps then what its methods can't change (`keeps`), and each of its channels,
+/// with more bytes waiting at the end and some removed from the front (`channels`).
 ///
 /// The call does nothing. It states the laws over the definitions by which each row and each method of a session is
 /// proved.

@@ -1,9 +1,9 @@
-//! How far a session's life has come.
+//! The states of a session's life.
 
-/// How far a session's life has come.
+/// The states of a session's life.
 #[derive(Clone, Copy, Debug, PartialEq, Eq)]
 pub enum Life {
-    /// It goes on.
+    /// The session runs.
     Runs,
     /// The user has disconnected, and no step has reported it yet.
     Left,

@@ -1,8 +1,8 @@
-//! What a handler answers to a channel that the server opens.
+//! A handler's answer to a channel that the server opens.
 
 use sshc_wire::ChannelOpenFailure;
 
-/// What a handler answers to a channel that the server opens.
+/// A handler's answer to a channel that the server opens.
 #[derive(Clone, Copy, Debug, PartialEq, Eq)]
 pub enum OpenAnswer {
     Accept,

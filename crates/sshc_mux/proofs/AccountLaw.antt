@@ -1,4 +1,4 @@
--- The account of each life of a number, over every list of calls.
+-- The account of each life of a channel's number, over every list of calls.
 use Rattle.std.proofs.Common.{◌≡◌, ℕ, ◌+◌, ◌-◌, ◌≤◌, Bool, true, false, not, ◌&&◌, ◌||◌, List, [], ◌∷◌, ◌++◌, length, eqb, if◌then◌else◌, Option, Some, None, is_some, refl, ap, sym, subst, ◌∙◌, arith, length-append, append_assoc, eq-eqb}
 use Rattle.std.proofs.lemmas.List.{append-nil}
 use Rattle.sshc_mux.specs.declared.chunk.Stream.{Stream}
@@ -19,7 +19,7 @@ use Rattle.sshc_mux.proofs.CallLemmas.{packets-append}
 use Rattle.sshc_mux.proofs.LifeLemmas.{step_moves}
 use Rattle.sshc_mux.proofs.LegalLemmas.{Fresh, fresh, next_none, step_apart, ran_apart, ended_bytes}
 
--- what one call more adds to what is taken, and what it grants
+-- what one more call adds to what is taken, and what it grants
 
 nothing : (b : Bool) (more : List (Stream × ℕ)) → (if b then more else []) ≡ (if b && not false then more else [])
 nothing true more = refl
@@ -193,7 +193,7 @@ life n (call ∷ calls) t c c2 before due apart sound here stands there =
       sound = rest.sound;
     }
 
--- ends among the packets were sent, and what was sent is among them
+-- EOF and close count as sent if they are among the packets, and are among them if they are newly sent
 
 eof_stays : (c : Bool) (ps : List Packet) (e2 c2 : Bool) → Orderly true c ps e2 c2 → e2 ≡ true
 eof_stays c [] e2 c2 order = sym order.0

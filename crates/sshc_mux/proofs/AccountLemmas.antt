@@ -48,7 +48,7 @@ pub pieces_bytes : (s : Stream) (size : ℕ) (bytes : List ℕ) → (0 < length 
 unfolding cut
 pieces_bytes s size bytes some = cut_bytes s (length bytes) size bytes some (omega arith)
 
--- what is sent and what is left is what waited
+-- what is sent, followed by what remains, is what waited
 pub sent_left : (size room : ℕ) (ws : List Waiting) → (0 < room → 0 < size) → bytes_in (sent_of size room ws) ++ pending (left_of room ws) ≡ pending ws
 sent_left size room [] some = refl
 sent_left size room (w ∷ ws) some = elim (cases_lt room (length w.bytes)) [
@@ -102,7 +102,7 @@ all_pieces : (size room : ℕ) (ws : List Waiting) → Orderly false false (sent
 all_pieces size room [] = (refl, refl)
 all_pieces size room (w ∷ ws) = orderly_then false false false false false false (pieces_of w.stream (cut size (take room w.bytes))) (sent_of size (room - length w.bytes) ws) (pieces_orderly w.stream (cut size (take room w.bytes))) (all_pieces size (room - length w.bytes) ws)
 
--- bytes go out only where no end was sent, since none wait behind one
+-- bytes are sent only before EOF and close, since none wait after they were sent
 sent_orderly : (e c : Bool) (size room : ℕ) (ws : List Waiting) → (e ≡ true → ws ≡ []) → (c ≡ true → ws ≡ []) → Orderly e c (sent_of size room ws) e c
 sent_orderly true c size room ws eof close = let P : List Waiting → Type 0 = λ l. Orderly true c (sent_of size room l) true c in subst P (sym (eof refl)) (refl, refl)
 sent_orderly false true size room ws eof close = let P : List Waiting → Type 0 = λ l. Orderly false true (sent_of size room l) false true in subst P (sym (close refl)) (refl, refl)
@@ -135,7 +135,7 @@ done_unasked Stages.Unasked = refl
 done_unasked Stages.Asked = refl
 done_unasked Stages.Sent = refl
 
--- nothing empty waits
+-- no empty entry waits
 
 left_filled : (room : ℕ) (ws : List Waiting) → AllFilled ws → AllFilled (left_of room ws)
 left_filled room [] filled = tt
@@ -150,7 +150,7 @@ pub filled_append : (a b : List Waiting) → AllFilled a → AllFilled b → All
 filled_append [] b first second = second
 filled_append (w ∷ a) b first second = (first.0, filled_append a b first.1 second)
 
--- a flow sends, and keeps what its account speaks of
+-- a flow sends, and keeps what its account is about
 pub record Kept (f after : Flow) (packets : List Packet) : Type 0 where
   pub balance : bytes_in packets ++ pending after.pending ≡ pending f.pending
   pub window : length (bytes_in packets) + after.window ≡ f.window
@@ -173,7 +173,7 @@ kept_then f f1 f2 a b first second = record {
   ordered = second.ordered;
 }
 
--- bytes go out
+-- bytes are sent
 pub emptied_kept : (size room : ℕ) (f : Flow) → (0 < room → 0 < size) → room ≤ f.window → IsOrdered f → Kept f (emptied room f) (sent_of size room f.pending)
 emptied_kept size room f some fits ordered = record {
   balance = sent_left size room f.pending some;
@@ -189,7 +189,7 @@ emptied_kept size room f some fits ordered = record {
   };
 }
 
--- ends go out
+-- EOF and close are sent
 pub ended_kept : (may : Bool) (f : Flow) → (may ≡ true → f.pending ≡ []) → IsOrdered f → Kept f (ended_if may f) (if may then due_of f else [])
 ended_kept true f none ordered = record {
   balance = ap (λ (ms : List (Stream × ℕ)). ms ++ pending f.pending) (due_bytes (is_due f.eof) (is_due f.close));

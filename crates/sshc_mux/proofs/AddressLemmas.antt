@@ -18,7 +18,7 @@ addressed_by : (cs : List ChannelState) (c : ChannelState) (ps : List Packet) �
 addressed_by cs c [] is = tt
 addressed_by cs c (p ∷ ps) is = (is, addressed_by cs c ps is)
 
--- what a channel says that says nothing until it is established
+-- the packets of a channel that writes nothing until it is established
 said_addressed : (b : Bool) (cs : List ChannelState) (c : ChannelState) (ps : List Packet) → c.head.established ≡ b → (c.head.established ≡ false → ps ≡ []) → channel_of c.head.number cs ≡ Some c → AllAddressed cs (said_by c ps)
 said_addressed true cs c ps up silent found =
     addressed_by cs c ps (ap (λ (o : Option ChannelState). recipient_in o) found ∙ ap (λ (b : Bool). if b then Some c.head.recipient else None) up)
@@ -43,7 +43,7 @@ opened_addressed : (o : Option ℕ) (channel : ℕ → ChannelState) (t : TableS
 opened_addressed None channel t = tt
 opened_addressed (Some n) channel t = tt
 
--- a channel behind another is found by its number
+-- a channel after another is found by its number
 behind : (x c : ChannelState) (cs : List ChannelState) → Apart (numbers (x ∷ cs)) → channel_of c.head.number cs ≡ Some c → channel_of c.head.number (x ∷ cs) ≡ Some c
 behind x c cs apart found = elim (eqb_tells x.head.number c.head.number) [
   | inl w ↦ let no : None ≡ Some c = sym (none_has x.head.number cs apart.0) ∙ ap (λ (k : ℕ). channel_of k cs) w.1 ∙ found in absurd (cc)

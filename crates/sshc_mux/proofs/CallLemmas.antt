@@ -65,7 +65,7 @@ flush_packets n (x ∷ cs) c apart found = elim (eqb_tells x.head.number n) [
       ∙ flush_packets n cs c apart.1 (ap (λ (b : Bool). if b then Some x else channel_of n cs) (sym w.0) ∙ found)
 ]
 
--- What a call does to the channel that it names, and that it lets the others be.
+-- What a call does to the channel that it names; the call leaves the other channels unchanged.
 pub record Outcome (n id : ℕ) (c c2 after : ChannelState) (packets own : List Packet) : Type 0 where
   pub same : id ≡ n → (c2 ≡ after) × (packets ≡ own)
   pub other : (id ≡ n → ⊥) → (c2 ≡ c) × (packets ≡ [])
@@ -108,7 +108,7 @@ same_outcome n id t c c2 here there = record {
   other = λ ne. (some_same c c2 (channel_of n t.channels) here there, refl);
 }
 
--- a channel that still stands wasn't the one that was taken away
+-- a channel that is still in the table wasn't the one that was removed
 take_if : (b : Bool) (n id : ℕ) (x : ChannelState) (last : List Packet) (t : TableState) (c c2 : ChannelState) → channel_of id t.channels ≡ Some x → Apart (numbers t.channels) → channel_of n t.channels ≡ Some c →
     channel_of n (if b then record { table = removed id t; said = said_by x last } else unmoved t).table.channels ≡ Some c2 →
     Outcome n id c c2 c (packets_by n (if b then record { table = removed id t; said = said_by x last } else unmoved t).said) []

@@ -10,7 +10,7 @@ use Rattle.sshc_mux.proofs.NumbersLemmas.{number_of, without_same}
 use Rattle.sshc_mux.proofs.CallLemmas.{packets-own}
 use Rattle.sshc_mux.proofs.AccountLaw.{made_life, ended_front}
 
--- our close is written where it wasn't yet
+-- our close is written if it wasn't yet
 last_order : (e k : Bool) → Orderly e k (if k then [] else Close ∷ []) e true
 last_order e true = (refl, refl)
 last_order e false = (refl, (refl, refl))

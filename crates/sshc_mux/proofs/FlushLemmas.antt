@@ -26,7 +26,7 @@ flushed_said exchanging is_empty h f room before mid after room_is first empty_i
     ∙ append_assoc before (payloads h.recipient (sent_of h.packet_size (room_of exchanging h f) f.pending)) (payloads h.recipient (ends_of h (emptied (room_of exchanging h f) f)))
     ∙ ap (λ (rs : List Record). before ++ rs) (sym (payloads-append h.recipient (sent_of h.packet_size (room_of exchanging h f) f.pending) (ends_of h (emptied (room_of exchanging h f) f))))
 
--- where nothing is written, no bytes go out, and no ends
+-- if nothing is written, no bytes are sent, and neither EOF nor close
 
 pub no_bytes_go : (exchanging : Bool) (h : Head) (f : Flow) (room : ℕ) → room ≡ room_of exchanging h f → (flushed exchanging h f).packets ≡ [] → sent_of h.packet_size room f.pending ≡ []
 unfolding flushed

@@ -1,4 +1,5 @@
--- Bytes that are taken where nothing waits: to let them wait and then send is to send a front of them at once and let the rest wait.
+-- Bytes that are taken when none wait: to let them wait and then send is to send a front of them at once and let the
+-- rest wait.
 use Rattle.std.proofs.Common.{◌≡◌, ℕ, ◌+◌, ◌-◌, ◌<◌, min, Bool, true, false, List, [], ◌∷◌, ◌++◌, length, take, drop, if◌then◌else◌, refl, ap, sym, ◌∙◌, Ok, arith, inl, inr, length-take, length-drop}
 use Rattle.std.proofs.lemmas.List.{append-nil}
 use Rattle.std.proofs.lemmas.Bool.{cases_lt}
@@ -20,7 +21,7 @@ rest-some : (stream : Stream) (bytes : List ℕ) → 0 < length bytes → record
 rest-some stream [] some = absurd (omega arith)
 rest-some stream (b ∷ bytes) some = refl
 
--- what is left of them
+-- the rest of the bytes
 left-rest : (room count : ℕ) (stream : Stream) (bytes : List ℕ) → count ≡ min (length bytes) room →
     left_of room (record { stream = stream; bytes = bytes } ∷ []) ≡ waiting_of stream (drop count bytes)
 left-rest room count stream bytes is = elim (cases_lt room (length bytes)) [

@@ -15,7 +15,7 @@ use Rattle.sshc_mux.proofs.PlaceLemmas.{found_at, place_at, held_in, or_none, or
 
 -- look-ups
 
--- the look-ups of an index, told by where it was changed
+-- the look-ups of an index, by where it was changed
 
 record Looked (slots : Slots) (n : ℕ) (o : Option ℕ) : Type 0 where
   is : MatchOption o (channel_of n (present slots) ≡ None) (λ at. IsPlace n slots at)
@@ -66,7 +66,7 @@ indexed_set n at index slots new apart place is indexed = record {
   sized = indexed.sized ∙ sym (length-with n new (present slots)) ∙ ap length (place.put new);
 }
 
--- a channel is taken out of its slot
+-- a channel is removed from its slot
 
 pub length-without : (n : ℕ) (cs : List ChannelState) (c : ChannelState) → channel_of n cs ≡ Some c → length (without n cs) + 1 ≡ length cs
 length-without n [] c found = absurd (cc)
@@ -118,7 +118,7 @@ indexed_remove n at index index2 slots slots2 apart place is looked shorter inde
       sized = omega (arith, shorter, indexed.sized, length-without n (present slots) place.channel place.found, ap length place.gone);
     })
 
--- a channel more
+-- one more channel
 
 none_append : (m : ℕ) (cs : List ChannelState) (c : ChannelState) → channel_of m cs ≡ None → (c.head.number ≡ m → ⊥) → channel_of m (cs ++ c ∷ []) ≡ None
 none_append m [] c none ne = ap (λ (b : Bool). let nobody : Option ChannelState = None in if b then Some c else nobody) (ne_eqb c.head.number m ne)
@@ -245,7 +245,7 @@ slot_of slots at k slot c is item here =
     let there : get_or slots at None ≡ Some c = ap (λ (j : ℕ). get_or slots j None) (sym is) ∙ here in
     item ∙ or_none at slots slot c there ∙ there
 
--- an empty slot has nothing to note
+-- an empty slot needs no entry
 pub noted_empty : (index : List (ℕ × ℕ)) (slots : Slots) (at : ℕ) (slot : Option ChannelState) → slot ≡ get_or slots at slot → slot ≡ None → Noted index slots at → Noted index slots (at + 1)
 noted_empty index slots at slot item none noted = record {
   has = noted.has;

@@ -83,7 +83,7 @@ kept_turn turn is n at last waiting waiting2 index slots before after old new re
     let kept = turned_kept turn is before after old new result moves turned (stored.1.sound n before here.found) in
     kept_set n at last waiting waiting2 index slots before after here stored kept.0 (λ s. kept.1) count
 
--- a turn that changes nothing that waits
+-- a turn that doesn't change what waits
 pub same_waits : {A : Type 0} (turn : ChannelState → Turn) (before after : ChannelState) (old new : Outgoing) (result : Result A NoMemory) (waiting : ℕ) → ((x : ChannelState) → (turn x).channel.flow ≡ x.flow) → Turned (turn before) before after old new result →
     waiting + (if waits before then 1 else 0) ≡ waiting + (if waits after then 1 else 0)
 same_waits turn before after old new (Ok x) waiting same (after_is, written, muted) =
@@ -91,7 +91,7 @@ same_waits turn before after old new (Ok x) waiting same (after_is, written, mut
 same_waits turn before after old new (Err e) waiting same (after_is, written, muted) =
     ap (λ (c : ChannelState). waiting + (if waits c then 1 else 0)) (sym after_is)
 
--- a channel taken away
+-- a channel removed
 
 without_sound : (n m : ℕ) (cs : List ChannelState) (c : ChannelState) → Apart (numbers cs) → ((k : ℕ) (d : ChannelState) → channel_of k cs ≡ Some d → IsSound d) → channel_of m (without n cs) ≡ Some c → IsSound c
 without_sound n m cs c apart all found = elim (eqb_tells n m) [
@@ -111,7 +111,7 @@ kept_remove n at last waiting waiting2 index index2 slots slots2 c here stored l
       }),
     )
 
--- a channel more
+-- one more channel
 
 appended_sound : (o : Option ChannelState) (n m : ℕ) (cs : List ChannelState) (new c : ChannelState) → channel_of m cs ≡ o → Fresh n new → ((k : ℕ) (d : ChannelState) → channel_of k cs ≡ Some d → IsSound d) → channel_of m (cs ++ new ∷ []) ≡ Some c → IsSound c
 appended_sound None n m cs new c none fresh all found = let P : ChannelState → Type 0 = λ d. IsSound d in subst P (sym (found_new m cs new c none found)) fresh.sound

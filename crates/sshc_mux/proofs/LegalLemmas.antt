@@ -1,4 +1,4 @@
--- Every call leaves a legal table, and writes no bytes for a channel that it takes away.
+-- Every call leaves a legal table, and writes no bytes for a channel that it removes.
 use Rattle.std.proofs.Common.{OnOk, Result, Ok, Err, ◌≡◌, ℕ, zero, suc, ◌+◌, Bool, true, false, List, [], ◌∷◌, ◌++◌, length, eqb, if◌then◌else◌, Option, Some, None, refl, ap, sym, subst, ◌∙◌, inl, inr}
 use Rattle.std.proofs.lemmas.Bool.Decides.{eqb_tells}
 use Rattle.sshc_wire.specs.declared.error.NoMemory.{NoMemory}
@@ -34,7 +34,7 @@ pub fresh : (n : ℕ) (c : ChannelState) → IsMade n c → Fresh n c
 fresh n c (inl (window, packet, ticket, is)) = let P : ChannelState → Type 0 = λ x. Fresh n x in subst P (sym is) (new_user n window packet ticket)
 fresh n c (inr (recipient, window, packet, own, is)) = let P : ChannelState → Type 0 = λ x. Fresh n x in subst P (sym is) (new_server n recipient window packet own)
 
--- numbers stay apart
+-- numbers stay different
 
 free_by : (o : Option ChannelState) (n m : ℕ) (other : Option ℕ) (cs : List ChannelState) → channel_of n cs ≡ o → (other ≡ Some m → channel_of m cs ≡ None) → free_or o n other ≡ Some m → channel_of m cs ≡ None
 free_by None n m other cs is later found = let same : n ≡ m = cc in ap (λ (k : ℕ). channel_of k cs) (sym same) ∙ is
@@ -90,7 +90,7 @@ some_or_none : (c : ChannelState) (o : Option ChannelState) → o ≡ Some c →
 some_or_none c None some none = absurd (cc)
 some_or_none c (Some x) some none = absurd (cc)
 
--- a channel that stands after a call and not before is new
+-- a channel that is there after a call and not before is new
 
 new_if : (b : Bool) (new c : ChannelState) → (if b then Some new else None) ≡ Some c → c ≡ new
 new_if true new c found = cc
@@ -138,7 +138,7 @@ sound_after (Some x) call t n c here legal there = (step_moves n call t x c lega
 pub legal_stays : (call : Call) (t : TableState) → IsLegal t → IsLegal (called call t).table
 legal_stays call t legal = record { apart = step_apart call t legal.apart; sound = λ n c there. sound_after (channel_of n t.channels) call t n c refl legal there }
 
--- a channel that a call takes away
+-- a channel that a call removes
 
 said_none : (x : ChannelState) (last : List Packet) (n : ℕ) → bytes_in last ≡ [] → bytes_in (packets_by n (said_by x last)) ≡ []
 said_none x last n none = elim (eqb_tells x.head.number n) [
@@ -173,7 +173,7 @@ did_part call before after legal is = record {
   part = λ n c d here there. step_moves n call before c d legal.apart (legal.sound n c here) here (ap (λ (t : TableState). channel_of n t.channels) (sym is) ∙ there);
 }
 
--- the same of a call that may have found no memory
+-- the same for a call that may have run out of memory
 pub did_part_ok : {A : Type 0} (call : Call) (before after : TableState) (old new : Outgoing) (result : Result A NoMemory) → IsLegal before → CameAbout (called call before) before after old new result → OnOk result (DidItsPart call before after)
 did_part_ok call before after old new (Ok x) legal did = did_part call before after legal did.0
 did_part_ok call before after old new (Err e) legal did = tt

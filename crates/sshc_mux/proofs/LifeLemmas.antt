@@ -61,7 +61,7 @@ opened_moves n (Some m) channel t c c2 sound here there =
     let same : Some c2 ≡ Some c = sym there ∙ append_found n t.channels (channel m ∷ []) c here in
     moves_is c c c2 [] [] no_part (cc) refl (still_moves c sound)
 
--- each call does its part to a channel that stands after it
+-- each call does its part to a channel that is there after it
 pub step_moves : (n : ℕ) (call : Call) (t : TableState) (c c2 : ChannelState) → Apart (numbers t.channels) → IsSound c → channel_of n t.channels ≡ Some c → channel_of n (called call t).table.channels ≡ Some c2 →
     Moves c c2 (packets_by n (called call t).said) (part n call c)
 step_moves n (OpenUser window packet ticket) t c c2 apart sound here there = opened_moves n (next_number t) (λ m. opened_by_user m window packet ticket) t c c2 sound here there

@@ -30,7 +30,7 @@ next_full last size tried n at slots sized done so_far place =
     let last_try : size - tried ≡ 0 = omega arith in
     ap (λ (k : ℕ). free_from (k + 1) (above last) (present slots)) (sym sized) ∙ so_far ∙ ap (λ (k : ℕ). free_from (suc k) n (present slots)) last_try ∙ free_later 0 n (present slots) place.channel place.found
 
--- the first free number, counted on
+-- the first free number, counting upward
 
 record First (from n : ℕ) (cs : List ChannelState) : Type 0 where
   steps : ℕ

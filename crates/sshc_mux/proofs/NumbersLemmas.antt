@@ -1,4 +1,4 @@
--- The numbers of a table's channels, which stay apart.
+-- The numbers of a table's channels, which stay different.
 use Rattle.std.proofs.Common.{◌≡◌, ℕ, Bool, true, false, ◌||◌, List, [], ◌∷◌, ◌++◌, eqb, if◌then◌else◌, Option, Some, None, refl, ap, sym, subst, ◌∙◌, inl, inr, eq-eqb}
 use Rattle.std.proofs.lemmas.Bool.{ne_eqb}
 use Rattle.std.proofs.lemmas.Bool.Decides.{eqb_tells}
@@ -10,7 +10,7 @@ pub or_false : (a b : Bool) → (a || b) ≡ false → (a ≡ false) × (b ≡ f
 or_false true b h = absurd (cc)
 or_false false b h = (refl, h)
 
--- a number in no channel is none of the numbers
+-- a number that no channel has is not among the numbers
 
 pub none_has : (n : ℕ) (cs : List ChannelState) → has n (numbers cs) ≡ false → channel_of n cs ≡ None
 none_has n [] h = refl
@@ -66,7 +66,7 @@ numbers-with n new (x ∷ cs) is = elim (eqb_tells x.head.number n) [
   | inr w ↦ ap (λ (b : Bool). numbers (if b then new ∷ cs else x ∷ with_channel n new cs)) w.0 ∙ ap (λ (ks : List ℕ). x.head.number ∷ ks) (numbers-with n new cs is)
 ]
 
--- a channel that is taken away
+-- a channel that is removed
 
 pub without_other : (n m : ℕ) (cs : List ChannelState) → (m ≡ n → ⊥) → channel_of n (without m cs) ≡ channel_of n cs
 without_other n m [] ne = refl
@@ -110,7 +110,7 @@ apart_without n (x ∷ cs) apart =
       | inr w ↦ subst P (sym w.0) (has_without x.head.number n cs apart.0, apart_without n cs apart.1)
     ]
 
--- a channel more
+-- one more channel
 
 pub append_found : (n : ℕ) (cs more : List ChannelState) (c : ChannelState) → channel_of n cs ≡ Some c → channel_of n (cs ++ more) ≡ Some c
 append_found n [] more c found = absurd (cc)

@@ -48,7 +48,7 @@ drop-past zero (b ∷ bytes) h = absurd (omega arith)
 drop-past (suc n) [] h = refl
 drop-past (suc n) (b ∷ bytes) h = drop-past n bytes (omega arith)
 
--- what is at most as long as the bytes is as good as the bound that it was cut from
+-- taking `n` of the bytes is taking the smaller of `n` and their number
 pub take-min : (n count : ℕ) (bytes : List ℕ) → count ≡ min (length bytes) n → take n bytes ≡ take count bytes
 take-min n count bytes is =
     elim (cases_lt n (length bytes)) [
@@ -63,7 +63,7 @@ drop-min n count bytes is =
       | inr h ↦ let fits : length bytes ≤ n = omega arith in let past : length bytes ≤ count = omega arith in drop-past n bytes fits ∙ sym (drop-past count bytes past)
     ]
 
--- a piece more, and the records that were said so far
+-- one more piece, and the records that were written so far
 pub piece_more : (recipient size count : ℕ) (stream : Stream) (bytes piece rest : List ℕ) (before after whole : List Record) →
     0 < length bytes → (0 < length bytes → 0 < size) → count ≡ min (length bytes) size → piece ≡ take count bytes → rest ≡ drop count bytes →
     after ≡ before ++ Payload (packet_text recipient (Piece stream piece)) ∷ [] →
@@ -79,7 +79,7 @@ piece_more recipient size count stream bytes piece rest before after whole more 
     ∙ ap (λ (ps : List (List ℕ)). before ++ payloads recipient (pieces_of stream ps)) (sym next)
     ∙ so_far
 
--- nothing more
+-- no more pieces
 pub pieces_done : (recipient size : ℕ) (stream : Stream) (bytes : List ℕ) (before whole : List Record) → length bytes ≡ 0 →
     before ++ payloads recipient (pieces_of stream (cut size bytes)) ≡ whole → before ≡ whole
 unfolding cut

@@ -45,7 +45,7 @@ gone_at n (suc at) (Some x ∷ slots) c apart here is =
     ap (λ (b : Bool). if b then present slots else x ∷ without n (present slots)) (first_other x n (present slots) c apart.0 (found_at n at slots c apart.1 here is))
     ∙ ap (λ (rest : List ChannelState). x ∷ rest) (gone_at n at slots c apart.1 here is)
 
--- where numbers are apart, the slot with a number's channel is its place
+-- if the numbers are different, the slot with a number's channel is its place
 pub place_at : (n at : ℕ) (slots : Slots) (c : ChannelState) → Apart (numbers (present slots)) → get_or slots at None ≡ Some c → c.head.number ≡ n → IsPlace n slots at
 place_at n at slots c apart here is = record {
   channel = c;

@@ -1,4 +1,4 @@
--- Pieces fit into packets, and nothing waits that may go.
+-- Pieces fit into packets, and nothing waits that may be sent.
 use Rattle.std.proofs.Common.{◌≡◌, ℕ, zero, suc, ◌-◌, ◌<◌, ◌≤◌, min, Bool, true, false, not, ◌&&◌, List, [], ◌∷◌, ◌++◌, length, take, drop, ltb, if◌then◌else◌, refl, ap, sym, subst, ◌∙◌, inl, inr, arith, length-take, length-drop}
 use Rattle.std.proofs.lemmas.Bool.{ltb-true, lt-ltb, cases_lt}
 use Rattle.sshc_mux.specs.declared.chunk.Stream.{Stream}
@@ -10,7 +10,7 @@ use Rattle.sshc_mux.proofs.SendingLemmas.{left-whole, left-part, sent-whole, sen
 use Rattle.sshc_mux.proofs.PieceLemmas.{drop-past}
 use Rattle.sshc_mux.proofs.TestLemmas.{and_right}
 
--- whatever room is left, these packets hold no bytes
+-- whatever room remains, these packets hold no bytes
 abbrev AreEnds : List Packet → Type 0
 AreEnds ps = (size window : ℕ) (waiting : List Waiting) → AreLongest size window waiting ps
 
@@ -21,7 +21,7 @@ longest_then size window waiting (Eof ∷ a) b first ends = longest_then size wi
 longest_then size window waiting (Close ∷ a) b first ends = longest_then size window waiting a b first ends
 longest_then size window waiting (Adjust amount ∷ a) b first ends = longest_then size window waiting a b first ends
 
--- nothing empty waits, so nothing goes without room
+-- no empty entry waits, so nothing is sent without room
 left_nothing : (ws : List Waiting) → AllFilled ws → left_of 0 ws ≡ ws
 left_nothing [] filled = refl
 left_nothing (w ∷ ws) filled = left-part 0 w ws filled.0
@@ -84,7 +84,7 @@ longest_whole s (suc n) size room (b ∷ bytes) ws more positive enough some fit
       ],
     )
 
--- where there is room for a front alone
+-- there is room only for a front
 longest_front : (s : Stream) (n size room : ℕ) (bytes : List ℕ) (ws : List Waiting) → 0 < size → length (take room bytes) ≤ n → room < length bytes →
     AreLongest size room (record { stream = s; bytes = bytes } ∷ ws) (pieces_of s (cut_up_to n size (take room bytes)))
 longest_front s zero size room bytes ws positive enough short = tt
@@ -152,7 +152,7 @@ whole_room h f up some =
     ap (λ (b : Bool). if b && true && ltb 0 h.packet_size then f.window else 0) up
     ∙ ap (λ (b : Bool). if b then f.window else 0) (lt-ltb 0 h.packet_size some)
 
--- where no exchange runs, nothing waits that may go
+-- if no exchange runs, nothing waits that may be sent
 pub flush_empties : (exchanging : Bool) (h : Head) (f : Flow) → exchanging ≡ false → h.established ≡ true → 0 < h.packet_size → 0 < (flushed exchanging h f).flow.window → (flushed exchanging h f).flow.pending ≡ []
 unfolding flushed
 flush_empties true h f quiet up some window = absurd (cc)

@@ -1,4 +1,4 @@
--- Wrong calls that the laws refuse, worked on a channel of ours that the peer confirmed as its number 5.
+-- Wrong calls that the laws exclude, worked on a channel of ours that the peer confirmed as its number 5.
 use Rattle.std.proofs.Common.{◌≡◌, ℕ, ◌+◌, true, false, [], ◌∷◌, None, refl, ap, arith}
 use Rattle.sshc_mux.specs.declared.chunk.Stream.TheVariants as Streams
 use Rattle.sshc_mux.specs.declared.channel.Stage.TheVariants as Stages
@@ -20,7 +20,7 @@ with_head c h = record c { head = h }
 abbrev held_up : ChannelState
 held_up = with_flow (opened 0) (record (opened 0).flow { pending = record { stream = Streams.Data; bytes = 97 ∷ [] } ∷ [] })
 
--- EOF is asked for where nothing waits, and isn't sent
+-- EOF is asked for although no bytes wait, and isn't sent
 never_ends : Moves (opened 4) (with_flow (opened 4) (record (opened 4).flow { eof = Stages.Asked })) [] (eof_part (opened 4)) → ⊥
 never_ends m = let due : true ≡ false = (m.flow.ends refl refl refl).eof in absurd (cc)
 
@@ -35,30 +35,30 @@ counted_alone m = let same : false ≡ true = m.flow.order.0 in absurd (cc)
 forgets : Moves (opened 4) (opened 4) [] (eof_part (opened 4)) → ⊥
 forgets m = let same : true ≡ false = m.flow.eof in absurd (cc)
 
--- our close goes before bytes that wait
+-- our close is sent before bytes that wait
 closes_early : Moves held_up (with_flow held_up (record held_up.flow { close = Stages.Sent })) (Close ∷ []) close_part → ⊥
 closes_early m = let none : held_up.flow.pending ≡ [] = m.sound.flow.close refl in absurd (cc)
 
--- two bytes go in two pieces
+-- two bytes are sent in two pieces
 single_bytes : Moves (opened 4) (with_flow (opened 4) (record (opened 4).flow { window = 2 })) (Piece Streams.Data (97 ∷ []) ∷ Piece Streams.Data (98 ∷ []) ∷ []) (bytes_part Streams.Data (97 ∷ 98 ∷ []) false (opened 4)) → ⊥
 single_bytes m = let same : 1 ≡ 2 = m.flow.longest.1 in absurd (omega (arith, same))
 
--- a grant lets nothing go
+-- a grant after which nothing is sent
 grants_alone : Moves held_up (with_flow held_up (record held_up.flow { window = 3 })) [] (grant_part 3 false held_up) → ⊥
 grants_alone m = let none : held_up.flow.pending ≡ [] = m.flow.prompt refl refl (omega arith) (omega arith) in absurd (cc)
 
--- bytes wait where they may go
+-- bytes wait although they may be sent
 abbrev in_vain : ChannelState
 in_vain = with_flow (opened 4) (record (opened 4).flow { pending = record { stream = Streams.Data; bytes = 97 ∷ [] } ∷ [] })
 
 waits_in_vain : Moves (opened 4) in_vain [] (bytes_part Streams.Data (97 ∷ []) false (opened 4)) → ⊥
 waits_in_vain m = let none : in_vain.flow.pending ≡ [] = m.flow.prompt refl refl (omega arith) (omega arith) in absurd (cc)
 
--- bytes go, and the window stays
+-- bytes are sent, and the window stays
 window_stays : Moves (opened 4) (opened 4) (Piece Streams.Data (97 ∷ []) ∷ []) (bytes_part Streams.Data (97 ∷ []) false (opened 4)) → ⊥
 window_stays m = let same : 1 + 4 ≡ 4 + 0 = m.flow.window in absurd (omega (arith, same))
 
--- a grant is dropped
+-- a grant is ignored
 drops_a_grant : Moves (opened 4) (opened 4) [] (grant_part 3 true (opened 4)) → ⊥
 drops_a_grant m = let same : 0 + 4 ≡ 4 + 3 = m.flow.window in absurd (omega (arith, same))
 

@@ -1,4 +1,4 @@
--- What is sent of what waits, and what is left, one call's bytes after the other.
+-- What is sent of the bytes that wait, and what remains, one call's bytes after the other.
 use Rattle.std.proofs.Common.{◌≡◌, ℕ, ◌+◌, ◌-◌, ◌<◌, ◌≤◌, Bool, false, List, [], ◌∷◌, ◌++◌, length, take, drop, get_or, eqb, if◌then◌else◌, refl, ap, sym, ◌∙◌, arith, append_assoc}
 use Rattle.std.proofs.lemmas.List.{append-nil, drop_more}
 use Rattle.std.proofs.lemmas.Bool.{le-leb, lt-leb}
@@ -37,7 +37,7 @@ sent-part size room w ws short =
     ∙ ap (λ (ps : List Packet). pieces_of w.stream (cut size (take room w.bytes)) ++ ps) (sent-nothing size ws)
     ∙ append-nil (pieces_of w.stream (cut size (take room w.bytes)))
 
--- the bytes of one more call are said whole
+-- all bytes of one more call are written
 pub whole_more : (recipient size room : ℕ) (w : Waiting) (left ws : List Waiting) (before after whole : List Record) →
     left ≡ w ∷ ws → length w.bytes ≤ room →
     after ≡ before ++ payloads recipient (pieces_of w.stream (cut size w.bytes)) →
@@ -51,7 +51,7 @@ whole_more recipient size room w left ws before after whole place fits pushed so
     ∙ ap (λ (ps : List Packet). payloads recipient ps) (sym (sent-whole size room w ws fits) ∙ ap (λ (l : List Waiting). sent_of size room l) (sym place)))
     ∙ so_far
 
--- the front of one call's bytes is the last that is said
+-- the front of one call's bytes is the last piece that is written
 pub part_done : (recipient size room : ℕ) (w : Waiting) (left ws : List Waiting) (before after whole : List Record) →
     left ≡ w ∷ ws → room < length w.bytes →
     after ≡ before ++ payloads recipient (pieces_of w.stream (cut size (take room w.bytes))) →
@@ -61,13 +61,13 @@ part_done recipient size room w left ws before after whole place short pushed so
     ∙ ap (λ (ps : List Packet). before ++ payloads recipient ps) (sym (sent-part size room w ws short) ∙ ap (λ (l : List Waiting). sent_of size room l) (sym place))
     ∙ so_far
 
--- whether something is left
+-- whether some bytes remain
 pub left_some : (room : ℕ) (w : Waiting) (left ws all : List Waiting) → left ≡ w ∷ ws → room < length w.bytes → left_of room left ≡ all → eqb (length all) 0 ≡ false
 left_some room w left ws all place short is =
     ap (λ (l : List Waiting). eqb (length l) 0) (sym is ∙ ap (λ (l : List Waiting). left_of room l) place ∙ left-part room w ws short)
     ∙ eqb-suc-zero (length ws)
 
--- where nothing is sent, no bytes are
+-- if nothing is sent, no bytes are
 
 pub append_none : (a b : List Packet) → a ++ b ≡ [] → (a ≡ []) × (b ≡ [])
 append_none [] b none = (refl, none)
@@ -115,7 +115,7 @@ module _ (recipient size room at : ℕ) (stream : Stream) (bytes : List ℕ) (w 
       let shorter : room < length w.bytes = omega (arith, ap length bytes_is) in
       left_some room w (drop at ws) (drop (at + 1) ws) all next shorter is
 
-  -- where nothing is sent of what waits, no bytes are here, and nothing is sent behind them
+  -- if nothing of what waits is sent, there are no bytes here, and nothing after them is sent
   pub whole_none : length bytes ≤ room → sent_of size room (drop at ws) ≡ [] → (bytes ≡ []) × (sent_of size (room - length bytes) (drop (at + 1) ws) ≡ [])
   whole_none fits none =
       let fit : length w.bytes ≤ room = omega (arith, ap length bytes_is) in

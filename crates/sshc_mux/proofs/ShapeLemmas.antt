@@ -1,4 +1,5 @@
--- What every call does is one of four: it opens a channel, gives one its turn, takes one away, or lets each flush.
+-- What every call does is one of four things: it opens a channel, runs one channel's turn, removes one, or flushes
+-- each.
 use Rattle.std.proofs.Common.{◌≡◌, ℕ, ◌-◌, Bool, true, false, not, ◌&&◌, List, [], ◌∷◌, ◌++◌, length, eqb, ltb, if◌then◌else◌, refl, ap, ◌∙◌, inl, inr}
 use Rattle.std.proofs.lemmas.List.{append-nil}
 use Rattle.sshc_mux.specs.declared.chunk.Stream.{Stream}
@@ -13,12 +14,12 @@ use Rattle.sshc_mux.specs.ChannelAccount.{Call, OpenUser, ReserveServer, SettleS
 use Rattle.sshc_mux.proofs.SendingLemmas.{sent-nothing}
 use Rattle.sshc_mux.proofs.LifeLemmas.{accept_number, confirm_number}
 
--- a turn keeps the number, and says nothing on a channel that isn't established
+-- a turn keeps the number, and writes nothing on a channel that isn't established
 pub record IsTurn (turn : ChannelState → Turn) : Type 0 where
   pub number : (c : ChannelState) → (turn c).channel.head.number ≡ c.head.number
   pub silent : (c : ChannelState) → c.head.established ≡ false → (turn c).packets ≡ []
 
--- the last packets of a channel hold no bytes, and there are none where it isn't established
+-- the last packets of a channel hold no bytes, and there are no last packets if it isn't established
 pub record AreLast (goes : ChannelState → Bool) (last : ChannelState → List Packet) : Type 0 where
   pub bytes : (c : ChannelState) → bytes_in (last c) ≡ []
   pub silent : (c : ChannelState) → goes c ≡ true → c.head.established ≡ false → last c ≡ []
@@ -88,7 +89,7 @@ closing_last = record {
   silent = λ c up down. absurd (both c.head.established up down);
 }
 
--- what holds of the four holds of every call
+-- what holds of the four things holds of every call
 pub by_shape : (P : Effect → Type 0) (t : TableState) → Shapes P t → (call : Call) → P (called call t)
 by_shape P t shapes (OpenUser window packet ticket) = shapes.opens (λ n. opened_by_user n window packet ticket) (λ n. inl (window, packet, ticket, refl))
 by_shape P t shapes (ReserveServer recipient window packet own) = shapes.opens (λ n. reserved_by_server n recipient window packet own) (λ n. inr (recipient, window, packet, own, refl))

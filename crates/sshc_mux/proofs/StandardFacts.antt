@@ -14,7 +14,7 @@ use Rattle.sshc_mux.specs.ChannelTable.Windows.{raised}
 abbrev opened : ℕ → ℕ → ChannelState
 opened window packet = confirmed 5 window packet (opened_by_user 1 100 0 None)
 
--- window 4: of ten bytes four go out, and six wait
+-- window 4: of ten bytes four are sent, and six wait
 ten : (data_turn Streams.Data (0 ∷ 1 ∷ 2 ∷ 3 ∷ 4 ∷ 5 ∷ 6 ∷ 7 ∷ 8 ∷ 9 ∷ []) false (opened 4 32768)).packets ≡ Piece Streams.Data (0 ∷ 1 ∷ 2 ∷ 3 ∷ []) ∷ []
 unfolding flushed cut
 ten = refl
@@ -29,7 +29,7 @@ ten_left : (data_turn Streams.Data (0 ∷ 1 ∷ 2 ∷ 3 ∷ 4 ∷ 5 ∷ 6 ∷ 7 
 unfolding flushed cut
 ten_left = refl
 
--- a grant of 3 lets three out
+-- after a grant of 3 three are sent
 three : (grant_turn 3 false after_ten).packets ≡ Piece Streams.Data (4 ∷ 5 ∷ 6 ∷ []) ∷ []
 unfolding flushed cut
 three = refl
@@ -41,7 +41,7 @@ three_left : (grant_turn 3 false after_ten).channel ≡ after_three
 unfolding flushed cut
 three_left = refl
 
--- while an exchange runs, EOF waits behind the bytes, and a grant sends nothing
+-- while an exchange runs, EOF waits after the bytes, and a grant sends nothing
 eof_waits : eof_turn after_three ≡ record { channel = with_flow after_three (record after_three.flow { eof = Stages.Asked }); packets = [] }
 unfolding flushed cut
 eof_waits = refl
@@ -53,7 +53,7 @@ grant_waits : grant_turn 3 true (with_flow after_three (record after_three.flow 
 unfolding flushed cut
 grant_waits = refl
 
--- then a flush sends the bytes, and EOF behind them
+-- then a flush sends the bytes, and EOF after them
 flush_sends : (flush_turn in_exchange).packets ≡ Piece Streams.Data (7 ∷ 8 ∷ 9 ∷ []) ∷ Eof ∷ []
 unfolding flushed cut
 flush_sends = refl
@@ -68,18 +68,18 @@ no_size : (grant_turn 10 false (data_turn Streams.Data (97 ∷ []) false (opened
 unfolding flushed cut
 no_size = refl
 
--- a grant on the greatest window leaves it
+-- a grant on the greatest window leaves it as it is
 held : (raised 1 (opened 4294967295 100).flow).window ≡ 4294967295
 held = refl
 
--- our window of 100 stays at half, and is brought back below it
+-- our window of 100 stays as it is at half, and is raised below half
 half : (received_turn 50 100 (opened 4 100)).packets ≡ []
 half = refl
 
 below_half : (received_turn 1 100 (received_turn 50 100 (opened 4 100)).channel).packets ≡ Adjust 51 ∷ []
 below_half = refl
 
--- data after EOF is nothing
+-- data after EOF is ignored
 data_after_eof : (data_turn Streams.Data (97 ∷ []) false (eof_turn (opened 4 100)).channel).packets ≡ []
 unfolding flushed cut
 data_after_eof = refl
@@ -95,7 +95,7 @@ close_goes = refl
 abbrev with_closed : TableState
 with_closed = record { channels = (close_turn (opened 4 100)).channel ∷ []; last = 1 }
 
--- our close is sent once, and the peer's frees the number
+-- our close is sent once, and the peer's close frees the number
 close_once : close_peer 1 with_closed ≡ record { table = record { channels = []; last = 1 }; said = [] }
 unfolding flushed cut
 close_once = refl
@@ -103,7 +103,7 @@ close_once = refl
 abbrev reserved : TableState
 reserved = record { channels = reserved_by_server 1 5 4 100 100 ∷ []; last = 1 }
 
--- an open of the peer's is no open of ours
+-- an open of the peer's isn't an open of ours
 not_ours : awaited 1 reserved ≡ None
 not_ours = refl
 
@@ -116,7 +116,7 @@ fail_reserved = refl
 twice : awaited 1 (record { channels = opened 4 100 ∷ []; last = 1 }) ≡ None
 twice = refl
 
--- the number after the last of a u32 is 0, and a number in the table is skipped
+-- the number after the last u32 is 0, and a number in the table is skipped
 wraps : next_number (record { channels = opened 4 100 ∷ []; last = 4294967295 }) ≡ Some 0
 unfolding next_number
 wraps = refl

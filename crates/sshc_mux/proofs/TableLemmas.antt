@@ -14,7 +14,7 @@ use Rattle.sshc_mux.specs.Places.{Slots, present, IsPlace, flushed_slot, waiting
 use Rattle.sshc_mux.proofs.PlaceLemmas.{or_none, present-append}
 use Rattle.sshc_mux.proofs.IndexLemmas.{present-flushed}
 
--- what a channel writes, as records
+-- a channel's packets, as records
 pub records-said : (c : ChannelState) (ps : List Packet) → records_of (said_by c ps) ≡ payloads c.head.recipient ps
 records-said c [] = refl
 records-said c (p ∷ ps) = ap (λ (rs : List Record). Payload (packet_text c.head.recipient p) ∷ rs) (records-said c ps)
@@ -69,7 +69,7 @@ slot_said (Some c) slots =
     let said : List Said = said_by c (flush_turn c).packets in
     ap (λ (s : List Said). records_of s ++ records_of (all_said (present slots))) (append-nil said) ∙ sym (records-append said (all_said (present slots)))
 
--- a slot's turn was said behind the others'
+-- a slot's packets were added after the others'
 pub said_more : (at : ℕ) (slots : Slots) (slot : Option ChannelState) (before after whole : List Record) → at < length slots → slot ≡ get_or slots at slot →
     after ≡ before ++ records_of (all_said (present (slot ∷ []))) →
     before ++ records_of (all_said (present (drop at slots))) ≡ whole → after ++ records_of (all_said (present (drop (at + 1) slots))) ≡ whole
@@ -81,7 +81,7 @@ said_more at slots slot before after whole within item pushed so_far =
     ∙ ap (λ (rs : List Record). before ++ rs) (slot_said slot (drop (at + 1) slots) ∙ ap (λ (s : Slots). records_of (all_said (present s))) (sym next))
     ∙ so_far
 
--- nothing is said
+-- nothing is written
 
 said_none : (c : ChannelState) (ps : List Packet) → said_by c ps ≡ [] → ps ≡ []
 said_none c [] none = refl
@@ -113,7 +113,7 @@ silent_turn n at last turn slots c here none = said_none c (turn c).packets (ap 
 pub slot_alone : (c : ChannelState) → records_of (all_said (present (Some c ∷ []))) ≡ payloads c.head.recipient (flush_turn c).packets
 slot_alone c = ap records_of (append-nil (said_by c (flush_turn c).packets)) ∙ records-said c (flush_turn c).packets
 
--- the slots of which a front was flushed
+-- the slots of which the first ones were flushed
 abbrev pub half_flushed : ℕ → Slots → Slots
 half_flushed at slots = map flushed_slot (take at slots) ++ drop at slots
 
@@ -161,7 +161,7 @@ flushed_more at slots now d after within now_is after_is =
     ∙ ap (λ (l : Slots). set l at (flushed_slot (get_or (half_flushed at slots) at d))) now_is
     ∙ rw add-one (flushed_at at slots d within)
 
--- the channel in the number's slot changed, or was taken away
+-- the channel in the number's slot changed, or was removed
 
 pub did_set : (n at last : ℕ) (turn : ChannelState → Turn) (slots : Slots) (c after : ChannelState) → Held n slots at c → after ≡ (turn c).channel → table_of (set slots at (Some after)) last ≡ (turn_at n turn (table_of slots last)).table
 did_set n at last turn slots c after here after_is =
@@ -175,11 +175,11 @@ did_take n at last goes final slots slots2 c here goes_so left =
     ∙ ap (λ (b : Bool). (if b then record { table = removed n (table_of slots last); said = said_by c (final c) } else unmoved (table_of slots last)).table) (sym goes_so)
     ∙ ap (λ (o : Option ChannelState). (taken_away n o goes final (table_of slots last)).table) (sym here.found)
 
--- a channel that was looked at is in its slot still
+-- a channel that was only looked at is still in its slot
 pub same_slots : (n at : ℕ) (slots : Slots) (c : ChannelState) → Held n slots at c → set slots at (Some c) ≡ slots
 same_slots n at slots c here = set_here at slots (Some c) here.here
 
--- a turn that leaves the channel as it is leaves the table
+-- a turn that doesn't change the channel doesn't change the table
 
 pub turn_nothing : (n at last : ℕ) (turn : ChannelState → Turn) (slots : Slots) (x : ChannelState) → Held n slots at x → (turn x).channel ≡ x →
     table_of slots last ≡ (turn_at n turn (table_of slots last)).table
@@ -200,7 +200,7 @@ pub settle_nothing : (accept : Bool) (n at last : ℕ) (slots : Slots) (x : Chan
 settle_nothing true n at last slots x here stays = turn_nothing n at last accept_turn slots x here (ap (λ (b : Bool). if b then accepted x else x) stays)
 settle_nothing false n at last slots x here stays = take_nothing n at last is_reserved no_packets_of slots x here stays
 
--- a channel was made behind the others
+-- a channel was added after the others
 pub pushed : (n : ℕ) (slots base longer : Slots) (c new : ChannelState) → base ≡ slots → longer ≡ base ++ Some c ∷ [] → c ≡ new → table_of longer n ≡ record { channels = present slots ++ new ∷ []; last = n }
 pushed n slots base longer c new base_is longer_is is =
     ap (λ (s : Slots). table_of s n) (longer_is ∙ ap (λ (s : Slots). s ++ Some c ∷ []) base_is)

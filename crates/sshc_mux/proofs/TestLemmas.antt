@@ -1,4 +1,4 @@
--- Tests that hold.
+-- Tests that are true.
 use Rattle.std.proofs.Common.{◌≡◌, ℕ, suc, ◌<◌, ◌≤◌, Bool, true, false, not, ◌&&◌, List, [], ◌∷◌, length, eqb, if◌then◌else◌, refl, arith}
 use Rattle.std.proofs.Math.Dec.{eqb-suc-zero}
 

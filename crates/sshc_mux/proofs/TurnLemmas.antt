@@ -31,7 +31,7 @@ flush_kept exchanging h f ordered =
     first
     (ended_kept (may_end h empty) empty (λ yes. no_length empty.pending (and_right h.established (eqb (length empty.pending) 0) yes)) first.ordered)
 
--- where nothing waits on an established channel, no end is due behind its flush
+-- if nothing waits on an established channel, neither EOF nor close is due after its flush
 ended_none : (may : Bool) (h : Head) (f : Flow) → may ≡ may_end h f → h.established ≡ true → f.pending ≡ [] → NoneDue (ended_if may f)
 ended_none true h f is up none = record { eof = done_due f.eof; close = done_due f.close }
 ended_none false h f is up none =
@@ -66,7 +66,7 @@ silent_moves h f ready p sends ends r = record {
   ends = λ yes. let no : false ≡ true = sym ends ∙ yes in absurd (cc);
 }
 
--- and then what may go is sent
+-- and then what may be sent is sent
 flush_moves : (exchanging : Bool) (h : Head) (f ready : Flow) (p : Part) → (p.sends ≡ true → exchanging ≡ false) → Readies f ready p → FlowMoves h f (flushed exchanging h ready).flow (flushed exchanging h ready).packets p
 flush_moves exchanging h f ready p sends r =
     let after : Flow = (flushed exchanging h ready).flow in
@@ -107,7 +107,7 @@ as_was f p more eof close last gain ordered =
     let P : ℕ → Type 0 = λ n. Readies f (record f { window = n }) p in
     subst P none (risen f 0 p more eof close last gain ordered)
 
--- what is sent gives nothing back of our window
+-- sending doesn't raise our window
 
 amounts-append : (a b : List Packet) → amounts_in (a ++ b) ≡ amounts_in a ++ amounts_in b
 amounts-append [] b = refl
@@ -392,7 +392,7 @@ confirmed_by false recipient window packet c is sound = still_moves c sound
 pub confirm_moves : (recipient window packet : ℕ) (c : ChannelState) → IsSound c → Moves c (confirm_turn recipient window packet c).channel [] (confirm_part recipient window packet c)
 confirm_moves recipient window packet c sound = confirmed_by (is_some (awaited_by (Some c))) recipient window packet c refl sound
 
--- while an exchange runs no bytes go out
+-- while an exchange runs no bytes are sent
 
 ends_bytes : (may : Bool) (f : Flow) → bytes_in (if may then due_of f else []) ≡ []
 ends_bytes true f = due_bytes (is_due f.eof) (is_due f.close)

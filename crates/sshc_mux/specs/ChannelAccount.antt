@@ -1,5 +1,6 @@
 -- The account of one life of a channel's number: what was taken to send, what was sent, what waits and what the peer
--- granted (RFC 4254, sections 5.2 and 5.3). Lists and sums over the calls; the code keeps queues and windows, and no history.
+-- granted (RFC 4254, sections 5.2 and 5.3). Lists and sums over the calls; the code keeps queues and windows, and no
+-- history.
 use Rattle.std.specs.Prelude.{◌≡◌, ℕ, ◌+◌, ◌-◌, min, sum, ◌≤◌, ◌⊎◌, Bool, true, false, not, ◌&&◌, ◌||◌, List, [], ◌∷◌, ◌++◌, length, Option, Some, None, is_some, Result, if◌then◌else◌, ◌==◌, ◌<◌}
 use Rattle.sshc_wire.specs.declared.error.NoMemory.{NoMemory}
 use Rattle.sshc_wire.specs.declared.ticket.Ticket.{Ticket}
@@ -14,7 +15,7 @@ use Rattle.sshc_mux.specs.ChannelTable.Windows.{held, adjust_of}
 use Rattle.sshc_mux.specs.ChannelTable.Ends.{is_sent, is_unasked, takes}
 use Rattle.sshc_mux.specs.Places.{numbers, Apart}
 
--- a call of the table; a call that finds no memory changes nothing, and counts as none
+-- a call of the table; a call that runs out of memory changes nothing, and isn't counted
 pub data Call : Type 0 where
   OpenUser : (window packet : ℕ) → (ticket : Option Ticket) → Call
   ReserveServer : (recipient window packet own : ℕ) → Call
@@ -29,12 +30,12 @@ pub data Call : Type 0 where
   FlushAll : Call
   Received : (id len target : ℕ) → Call
 
--- a channel under a number; nothing where none is free
+-- a channel with a number; nothing if no number is free
 abbrev pub opened : Option ℕ → (ℕ → ChannelState) → TableState → Effect
 opened None channel t = unmoved t
 opened (Some n) channel t = record { table = made_in (channel n) t; said = [] }
 
--- what a call does: it opens a channel, gives one its turn, takes one away, or lets each flush
+-- what a call does: it opens a channel, runs one channel's turn, removes one, or flushes each
 abbrev pub called : Call → TableState → Effect
 called (OpenUser window packet ticket) t = opened (next_number t) (λ n. opened_by_user n window packet ticket) t
 called (ReserveServer recipient window packet own) t =
@@ -54,7 +55,7 @@ called (Received n len target) t = turn_at n (received_turn len target) t
 abbrev pub WritesNothing : Call → TableState → Type 0
 WritesNothing call t = (called call t).said ≡ []
 
--- a call did what it does, or found no memory and changed nothing
+-- a call did what it does, or ran out of memory and changed nothing
 abbrev pub Did : {A : Type 0} → Call → TableState → TableState → Outgoing → Outgoing → Result A NoMemory → Type 0
 Did call before after old new result = CameAbout (called call before) before after old new result
 
@@ -66,7 +67,7 @@ ran (call ∷ calls) t = record {
   said = (called call t).said ++ (ran calls (called call t).table).said;
 }
 
--- no channels, where this was the last number given
+-- no channels, where this was the last number that was assigned
 abbrev pub no_channels : ℕ → TableState
 no_channels last = record { channels = []; last = last }
 
@@ -101,7 +102,7 @@ abbrev pub pending : List Waiting → List (Stream × ℕ)
 pending [] = []
 pending (w ∷ waiting) = marked w.stream w.bytes ++ pending waiting
 
--- how much of our window is given back
+-- by how much our window is raised
 abbrev pub amounts_in : List Packet → List ℕ
 amounts_in [] = []
 amounts_in (Piece stream bytes ∷ packets) = amounts_in packets
@@ -116,14 +117,15 @@ abbrev pub AllFilled : List Waiting → Type 0
 AllFilled [] = Unit {0}
 AllFilled (w ∷ ws) = (0 < length w.bytes) × AllFilled ws
 
--- No entry that waits is empty, no bytes wait behind an end that was sent, and no EOF behind our close.
+-- No entry that waits is empty, no bytes wait after EOF or close was sent, and no EOF after our close.
 pub record IsOrdered (f : Flow) : Type 0 where
   pub filled : AllFilled f.pending
   pub eof : is_sent f.eof ≡ true → f.pending ≡ []
   pub close : is_sent f.close ≡ true → f.pending ≡ []
   pub last : is_sent f.close ≡ true → is_due f.eof ≡ false
 
--- A channel as the calls leave it: its flow is ordered, and an open of ours that waits for its answer has no window.
+-- A channel in the state in which calls leave it: its flow is ordered, and an open of ours that waits for its answer
+-- has no window.
 pub record IsSound (c : ChannelState) : Type 0 where
   pub flow : IsOrdered c.flow
   pub unopened : is_some (awaited_by (Some c)) ≡ true → c.flow.window ≡ 0
@@ -135,11 +137,11 @@ pub record Part : Type 0 where
   pub eof : Bool  -- it asks for EOF
   pub close : Bool  -- it asks for our close
   pub last : Bool  -- nothing is taken after it
-  pub sends : Bool  -- bytes may go out
-  pub ends : Bool  -- EOF and close may go out
+  pub sends : Bool  -- bytes may be sent
+  pub ends : Bool  -- EOF and close may be sent
   pub answer : Option Head  -- the channel's head, where it answers the channel's open
   pub used : ℕ  -- how many bytes of our window the peer used
-  pub returned : List ℕ  -- what is given back of our window
+  pub returned : List ℕ  -- by how much our window is raised
 
 abbrev pub no_part : Part
 no_part = record {
@@ -161,7 +163,7 @@ bytes_part stream bytes exchanging c =
     then record no_part { more = record { stream = stream; bytes = bytes } ∷ []; sends = not exchanging; ends = true }
     else no_part
 
--- EOF asked for after our close was sent is nothing
+-- EOF asked for after our close was sent is ignored
 abbrev pub eof_part : ChannelState → Part
 eof_part c = record no_part { eof = not (is_sent c.flow.close); last = true; ends = true }
 
@@ -208,7 +210,7 @@ abbrev pub first_of : List Waiting → ℕ
 first_of [] = 0
 first_of (w ∷ ws) = length w.bytes
 
--- Each piece is the longest that the packet size, what is left of the window and the rest of its call's bytes allow, and
+-- Each piece is the longest that the packet size, the rest of the window and the rest of its call's bytes allow, and
 -- isn't empty.
 abbrev pub AreLongest : ℕ → ℕ → List Waiting → List Packet → Type 0
 AreLongest size window waiting [] = Unit {0}
@@ -220,8 +222,8 @@ AreLongest size window waiting (Eof ∷ packets) = AreLongest size window waitin
 AreLongest size window waiting (Close ∷ packets) = AreLongest size window waiting packets
 AreLongest size window waiting (Adjust amount ∷ packets) = AreLongest size window waiting packets
 
--- Bytes only before EOF and close, EOF at most once and before close, close at most once. The first two say whether EOF and
--- close were written before these packets, the last two whether they were after them.
+-- Bytes only before EOF and close, EOF at most once and before close, close at most once. The first two say whether EOF
+-- and close were written before these packets, the last two whether they were after them.
 abbrev pub Orderly : Bool → Bool → List Packet → Bool → Bool → Type 0
 Orderly eof close [] eof_then close_then = (eof ≡ eof_then) × (close ≡ close_then)
 Orderly eof close (Piece stream bytes ∷ packets) eof_then close_then =
@@ -231,13 +233,13 @@ Orderly eof close (Eof ∷ packets) eof_then close_then =
 Orderly eof close (Close ∷ packets) eof_then close_then = (close ≡ false) × Orderly eof true packets eof_then close_then
 Orderly eof close (Adjust amount ∷ packets) eof_then close_then = Orderly eof close packets eof_then close_then
 
--- no end is due
+-- neither EOF nor close is due
 pub record NoneDue (f : Flow) : Type 0 where
   pub eof : is_due f.eof ≡ false
   pub close : is_due f.close ≡ false
 
--- What a call does to the flow of a channel with this head, by its part in the account: the packets that it writes, and the
--- flow after it.
+-- What a call does to the flow of a channel with this head, by its part in the account: the packets that it writes, and
+-- the flow after it.
 pub record FlowMoves (h : Head) (f after : Flow) (packets : List Packet) (p : Part) : Type 0 where
   pub balance : bytes_in packets ++ pending after.pending ≡ pending f.pending ++ pending p.more
   pub window : length (bytes_in packets) + after.window ≡ f.window + p.gain
@@ -254,8 +256,8 @@ abbrev pub answered : Option Head → Head → Head
 answered None h = h
 answered (Some new) h = new
 
--- What a call does to a channel that the table has before and after it: the head stays unless the call answers the channel's
--- open, our window falls by what the peer used and rises by what is given back, and the flow moves.
+-- What a call does to a channel that the table has before and after it: the head stays unless the call answers the
+-- channel's open, our window falls by what the peer used and rises by what is returned, and the flow moves.
 pub record Moves (c after : ChannelState) (packets : List Packet) (p : Part) : Type 0 where
   pub head : after.head ≡ answered p.answer c.head
   pub own : after.own_window ≡ (c.own_window - p.used) + sum p.returned
@@ -275,7 +277,7 @@ abbrev pub gain_in : ℕ → Call → Option ChannelState → ℕ
 gain_in n call None = 0
 gain_in n call (Some c) = gain n call c
 
--- what the calls grant, as a number without bound
+-- what the calls grant in sum, without an upper bound
 abbrev pub granted : ℕ → List Call → TableState → ℕ
 granted n [] t = 0
 granted n (call ∷ calls) t = gain_in n call (channel_of n t.channels) + granted n calls (called call t).table
@@ -284,7 +286,7 @@ abbrev pub part_in : ℕ → Call → Option ChannelState → Part
 part_in n call None = no_part
 part_in n call (Some c) = part n call c
 
--- what the calls add to the window, which each grant leaves at the last of a u32 at most
+-- what the calls add to the window, which saturates at the last u32
 abbrev pub added : ℕ → List Call → TableState → ℕ
 added n [] t = 0
 added n (call ∷ calls) t = (part_in n call (channel_of n t.channels)).gain + added n calls (called call t).table
@@ -301,7 +303,7 @@ asks_close n [] t = false
 asks_close n (call ∷ calls) t =
     (part_in n call (channel_of n t.channels)).close || asks_close n calls (called call t).table
 
--- the last of the calls lets the channel's ends go out, or without calls one before them did
+-- the last of the calls lets the channel's EOF and close be sent, or if there are no calls, one before them did
 abbrev pub lets_end : Bool → ℕ → List Call → TableState → Bool
 lets_end before n [] t = before
 lets_end before n (call ∷ calls) t =
@@ -323,16 +325,17 @@ has_close [] = false
 has_close (Close ∷ packets) = true
 has_close (p ∷ packets) = has_close packets
 
--- a channel as an open of ours or of the peer's makes it
+-- a channel as it is after an open of ours or of the peer's
 abbrev pub IsMade : ℕ → ChannelState → Type 0
 IsMade n c =
     ((window packet : ℕ) × (ticket : Option Ticket) × (c ≡ opened_by_user n window packet ticket))
     ⊎ ((recipient window packet own : ℕ) × (c ≡ reserved_by_server n recipient window packet own))
 
--- A life of the number n: on a table with no channels the calls `before` are made, then an open makes the channel `start`
--- under this number, and the table has the number after each of the calls `calls`, and the channel `end` after the last.
+-- A life of the number n: on a table with no channels the calls `before` are made, then an open makes the channel
+-- `start` under this number, and the table has the number after each of the calls `calls`, and the channel `end` after
+-- the last.
 pub record Life (n : ℕ) : Type 0 where
-  pub last : ℕ  -- the last number given before all
+  pub last : ℕ  -- the last number that was assigned before all
   pub before : List Call
   pub start : ChannelState
   pub calls : List Call
@@ -354,7 +357,7 @@ table_after n l = (ran l.calls (born n l)).table
 abbrev pub sent : (n : ℕ) → Life n → List Packet
 sent n l = packets_by n (ran l.calls (born n l)).said
 
--- the last of the calls lets ends go, and nothing waits before them
+-- the last of the calls lets EOF and close be sent, and nothing waits before them
 pub record MayEnd (n : ℕ) (l : Life n) : Type 0 where
   pub lets : lets_end false n l.calls (born n l) ≡ true
   pub established : l.end.head.established ≡ true
@@ -374,11 +377,11 @@ pub record Account (n : ℕ) (l : Life n) : Type 0 where
 abbrev pub EachLifeHasItsAccount : Type 0
 EachLifeHasItsAccount = (n : ℕ) (l : Life n) → Account n l
 
--- the bytes are a front of those
+-- the first list is a front of the second
 abbrev pub IsFront : List (Stream × ℕ) → List (Stream × ℕ) → Type 0
 IsFront bytes all = (rest : List (Stream × ℕ)) × (bytes ++ rest ≡ all)
 
--- the packets of a life, and of one call more
+-- the packets of a life, and of one more call
 abbrev pub sent_with : (n : ℕ) → Life n → Call → List Packet
 sent_with n l call = sent n l ++ packets_by n (called call (table_after n l)).said
 
@@ -388,18 +391,18 @@ EachEndLeavesAFront =
     (n : ℕ) (l : Life n) (last : Call) →
     channel_of n (called last (table_after n l)).table.channels ≡ None → IsFront (bytes_in (sent_with n l last)) (taken n l.calls)
 
--- The peer's close of the number ends a life: among all that was written our close is there once, and no bytes and no EOF behind
--- it; what was sent is a front of what was taken; and the number is free.
+-- The peer's close of the number ends a life: among all that was written our close occurs once, with no bytes and no
+-- EOF after it; what was sent is a front of what was taken; and the number is free.
 pub record Closing (n : ℕ) (l : Life n) : Type 0 where
   pub once : (eof : Bool) × Orderly false false (sent_with n l (PeerClose n)) eof true
   pub front : IsFront (bytes_in (sent_with n l (PeerClose n))) (taken n l.calls)
   pub free : channel_of n (called (PeerClose n) (table_after n l)).table.channels ≡ None
 
--- where the channel is established when the peer's close comes
+-- if the channel is established when the peer's close comes
 abbrev pub EachCloseEndsALife : Type 0
 EachCloseEndsALife = (n : ℕ) (l : Life n) → l.end.head.established ≡ true → Closing n l
 
--- a call after which bytes may go out: none that is told of a running exchange
+-- a call in which bytes may be sent: data or a grant while no exchange runs, or a flush
 abbrev pub may_send : Call → Bool
 may_send (Bytes id stream bytes exchanging) = not exchanging
 may_send (Grant id amount exchanging) = not exchanging
@@ -410,7 +413,7 @@ abbrev pub packets_in : List Said → List Packet
 packets_in [] = []
 packets_in (s ∷ said) = s.packet ∷ packets_in said
 
--- a call that is told of a running exchange sends no bytes, nor does one that only ends or adjusts
+-- any other call sends no bytes
 abbrev pub ExchangesAreQuiet : Type 0
 ExchangesAreQuiet =
     (call : Call) (t : TableState) → may_send call ≡ false → bytes_in (packets_in (called call t).said) ≡ []
@@ -445,7 +448,7 @@ pub record EachCallKeepsTheRules : Type 0 where
   pub addressed : PacketsAreAddressed
   pub numbers : NumbersGoOn
 
--- no channels are legal, and every call leaves a legal table so
+-- a table without channels is legal, and every call of a legal table leaves it legal
 abbrev pub LegalStays : Type 0
 LegalStays = ((last : ℕ) → IsLegal (no_channels last)) × ((call : Call) (t : TableState) → IsLegal t → IsLegal (called call t).table)
 

@@ -1,4 +1,4 @@
--- The calls of the table, each as the table that it leaves and the packets that it writes (RFC 4254, section 5).
+-- The calls of the table, each as the table after it and the packets that it writes (RFC 4254, section 5).
 -- A call acts on the channel that it names; a flush acts on each. The code looks a channel up by its place.
 pub mod Sending
 pub mod Opens
@@ -43,7 +43,7 @@ pub record Turn : Type 0 where
   pub channel : ChannelState
   pub packets : List Packet
 
--- the channel's flow takes a turn, and all else stays
+-- the channel's flow takes a turn, and all else is unchanged
 abbrev pub in_flow : (Head → Flow → FlowTurn) → ChannelState → Turn
 in_flow turn c = record {
   channel = record c { flow = (turn c.head c.flow).flow };
@@ -99,7 +99,7 @@ all_said (c ∷ cs) = said_by c (flush_turn c).packets ++ all_said cs
 abbrev pub flush : TableState → Effect
 flush t = record { table = record t { channels = all_flushed t.channels }; said = all_said t.channels }
 
--- the channel of this number is taken away with its last packets, where it may go
+-- the channel of this number is removed with its last packets, if it may be
 abbrev pub removed : ℕ → TableState → TableState
 removed n t = record t { channels = without n t.channels }
 
@@ -116,14 +116,14 @@ take_at n goes last t = taken_away n (channel_of n t.channels) goes last t
 abbrev pub no_packets_of : ChannelState → List Packet
 no_packets_of c = []
 
--- an open of the peer's that waits is established or taken away
+-- an open of the peer's that waits is established or removed
 abbrev pub accept_turn : ChannelState → Turn
 accept_turn c = record { channel = if is_reserved c then accepted c else c; packets = [] }
 
 abbrev pub settle : ℕ → Bool → TableState → Effect
 settle n accept t = if accept then turn_at n accept_turn t else take_at n is_reserved no_packets_of t
 
--- an open of ours that waits is established, or taken away
+-- an open of ours that waits is established or removed
 abbrev pub confirm_turn : ℕ → ℕ → ℕ → ChannelState → Turn
 confirm_turn recipient window packet c = record {
   channel = if is_some (awaited_by (Some c)) then confirmed recipient window packet c else c;
@@ -133,7 +133,7 @@ confirm_turn recipient window packet c = record {
 abbrev pub is_awaited : ChannelState → Bool
 is_awaited c = is_some (awaited_by (Some c))
 
--- the peer's close takes an established channel away with what waits on it
+-- the peer's close removes an established channel with what waits on it
 abbrev pub is_up : ChannelState → Bool
 is_up c = c.head.established
 
@@ -182,7 +182,7 @@ takes_in (Some c) = takes c.flow
 abbrev pub takes_at : ℕ → TableState → Bool
 takes_at n t = takes_in (channel_of n t.channels)
 
--- the window that is left after a grant
+-- the window after a grant
 abbrev pub granted_in : Option ChannelState → ℕ → Bool → Option ℕ
 granted_in None amount exchanging = None
 granted_in (Some c) amount exchanging =
@@ -191,7 +191,7 @@ granted_in (Some c) amount exchanging =
 abbrev pub granted_at : ℕ → ℕ → Bool → TableState → Option ℕ
 granted_at n amount exchanging t = granted_in (channel_of n t.channels) amount exchanging
 
--- bytes of the peer's bring an adjust packet
+-- bytes of the peer's cause an adjust packet
 abbrev pub adjusted_in : Option ChannelState → ℕ → ℕ → Bool
 adjusted_in None len target = false
 adjusted_in (Some c) len target = adjusts len target c
@@ -199,7 +199,7 @@ adjusted_in (Some c) len target = adjusts len target c
 abbrev pub adjusted_at : ℕ → ℕ → ℕ → TableState → Bool
 adjusted_at n len target t = adjusted_in (channel_of n t.channels) len target
 
--- this came about, or no memory was found and nothing changed
+-- the effect happened, or memory ran out and nothing changed
 abbrev pub CameAbout : {A : Type 0} → Effect → TableState → TableState → Outgoing → Outgoing → Result A NoMemory → Type 0
 CameAbout effect before after old new (Ok x) =
     (after ≡ effect.table)
@@ -207,7 +207,7 @@ CameAbout effect before after old new (Ok x) =
     × (new.muted ≡ old.muted)
 CameAbout effect before after old new (Err e) = (after ≡ before) × (new.records ≡ old.records) × (new.muted ≡ old.muted)
 
--- the same of one channel
+-- the same for one channel
 abbrev pub Turned : {A : Type 0} → Turn → ChannelState → ChannelState → Outgoing → Outgoing → Result A NoMemory → Type 0
 Turned turn before after old new (Ok x) =
     (after ≡ turn.channel)

@@ -1,5 +1,5 @@
 -- The packets that a channel writes, and their bytes (RFC 4254, sections 5.2 and 5.3).
--- A packet is told by what it carries; its channel adds the recipient.
+-- A packet is described by what it carries; its channel adds the recipient.
 use Rattle.std.specs.Prelude.{ℕ, List, [], ◌∷◌, ◌++◌}
 use Rattle.sshc_wire.specs.Wire.{u32_text, string_text}
 use Rattle.sshc_wire.specs.declared.record.Record.{Record}

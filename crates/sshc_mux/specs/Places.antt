@@ -1,5 +1,6 @@
--- Where the code keeps the channels: each in a slot, in the order of their making, with the slot of each number and a count
--- of those on which bytes wait. The slot of a channel that was taken away is empty until the empty ones are let go.
+-- Where the code keeps the channels: each in a slot, in the order in which they were opened, with the slot of each
+-- number and a count of those on which bytes wait. The slot of a channel that was removed is empty until the empty
+-- slots are removed.
 use Rattle.std.specs.Prelude.{◌≡◌, ℕ, ◌+◌, Bool, false, ◌||◌, ◌==◌, List, [], ◌∷◌, length, Option, Some, None, is_some, MatchOption, slice_index_or, slice_set, nat_eq, if◌then◌else◌}
 use Rattle.std.specs.Map.{lookup}
 use Rattle.sshc_mux.specs.ChannelState.{ChannelState, channel_of, with_channel, without}

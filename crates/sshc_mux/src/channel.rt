@@ -19,13 +19,13 @@ use std::marker::Model;
 /// Who opened a channel.
 #[derive(Clone, Copy, Debug, PartialEq, Eq)]
 pub enum Opener {
-    /// The user, who may be answered under a ticket.
+    /// The user, with the ticket under which the open is answered, if there is one.
     User(Option<Ticket>),
     /// The server.
     Server,
 }
 
-/// How far an end of a channel has come, EOF or our close.
+/// The state of EOF or of our close on a channel.
 #[derive(Clone, Copy, Debug, PartialEq, Eq)]
 pub enum Stage {
     /// Nobody asked for it.
@@ -65,7 +65,7 @@ impl Stage {
         }
     }
 
-    /// What was asked for is sent.
+    /// The state after sending what was asked for.
     pub(crate) fn done(self) -> Stage
         ensures { result ≡ done self }
     {

@@ -1,4 +1,4 @@
-//! What waits of the bytes of one call.
+//! The bytes of one call that wait.
 
 ghost use Rattle.std.specs.Prelude.{◌≡◌, ◌<◌, ◌≤◌, ◌-◌, length, take, drop, IfOk};
 

@@ -5,7 +5,7 @@ use thiserror::Error;
 /// Why the table refuses.
 #[derive(Clone, Copy, Debug, PartialEq, Eq, Error)]
 pub enum MuxError {
-    /// The number names no open of ours that waits for its confirmation.
+    /// No open of ours with this number waits for its confirmation.
     #[error("Inconsistent")]
     Inconsistent,
 }

@@ -9,10 +9,10 @@ use crate::chunk::Stream;
 use sshc_wire::{NoMemory, Octets, Outbox, Record, msg, put_bytes, put_u32};
 use std::alloc::Global;
 
-/// How many bytes of a data packet come before the piece: its number, the recipient and the length.
+/// How many bytes of a data packet precede the piece: its number, the recipient and the length.
 const DATA_HEAD: usize = 9;
 
-/// The same of an extended data packet, which has a code too.
+/// The same for an extended data packet, which has a code too.
 const EXTENDED_HEAD: usize = 13;
 
 /// A piece of a channel's bytes, each of which is written once.
@@ -114,7 +114,7 @@ pub(crate) fn push_pieces(
     Ok(())
 }
 
-/// Adds the records to the outbox, or changes nothing. No records take no memory.
+/// Adds the records to the outbox, or changes nothing. Adding no records takes no memory.
 pub(crate) fn push_said(out: &mut Outbox, said: Vec<Record>) -> Result<(), NoMemory>
     ensures ok { OnOk result (out.new.records ≡ out.old.records ++ shown out.old.muted said.items) }
     ensures err { OnErr result (out.new.records ≡ out.old.records) }

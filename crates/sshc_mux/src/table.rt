@@ -21,10 +21,11 @@ use std::marker::Model;
 #[derive(Clone, Copy, Debug, PartialEq, Eq)]
 pub struct ChannelId(pub u32);
 
-/// The channels of a connection, which contracts see in the order of their making, with the last number given.
+/// The channels of a connection, which contracts see in the order in which they were opened, with the last number
+/// assigned.
 #[derive(Debug, Drop)]
 pub struct ChannelTable {
-    /// In the order of making. The slot of a channel that was taken away is empty.
+    /// In the order in which they were opened. The slot of a channel that was removed is empty.
     slots: Vec<Option<Channel>>,
     /// The slot of each number.
     index: HashMap<u32, usize>,
@@ -56,7 +57,7 @@ impl ChannelTable {
         ChannelTable::numbered_after(alloc, ChannelId(0))
     }
 
-    /// No channels. The first number is the next above this one; after the last of a u32 it is 0.
+    /// No channels. The first number is the next above this one; after the last u32 it is 0.
     pub fn numbered_after(alloc: Global, last: ChannelId) -> ChannelTable
         ensures { result ≡ no_channels last.0 }
     {
@@ -96,7 +97,7 @@ impl ChannelTable {
         self.waiting > 0
     }
 
-    /// What may still be sent to the peer.
+    /// How many bytes may still be sent to the peer.
     pub fn sender_window_size(&self, id: ChannelId) -> usize
         ensures { result ≡ window_in (channel_of id.0 self.now.channels) }
     {
@@ -116,7 +117,7 @@ impl ChannelTable {
         }
     }
 
-    /// The peer's number of a channel that it opened, where nobody has accepted or refused it yet.
+    /// The peer's number of a channel that it opened, if the open hasn't been accepted or refused yet.
     pub fn unsettled(&self, id: ChannelId) -> Option<u32>
         ensures { result ≡ unsettled_at id.0 self.now }
     {
@@ -187,7 +188,7 @@ pub(crate) fn remove(
     compact(slots, index);
 }
 
-/// Lets the empty slots go once they are more than half of all.
+/// Removes the empty slots once they are more than half of all.
 fn compact(slots: &mut Vec<Option<Channel>>, index: &mut HashMap<u32, usize>)
     requires indexed { IsIndexed index.old.entries slots.old.items }
     requires apart { Apart (numbers (present slots.old.items)) }
@@ -201,7 +202,7 @@ fn compact(slots: &mut Vec<Option<Channel>>, index: &mut HashMap<u32, usize>)
     renumber(slots.as_slice(), index);
 }
 
-/// Notes the slot of each channel.
+/// Stores the slot of each channel.
 fn renumber(slots: &[Option<Channel>], index: &mut HashMap<u32, usize>)
     requires apart { Apart (numbers (present slots.now)) }
     requires known { HasNumbers index.old.entries (present slots.now) }

@@ -1,4 +1,4 @@
-//! A channel's waiting bytes: what is sent of them, and what is left (RFC 4254, section 5.2).
+//! A channel's waiting bytes: what is sent of them, and what remains (RFC 4254, section 5.2).
 
 ghost use Rattle.std.specs.Prelude.{◌≡◌, ◌-◌, ◌++◌, ◌<◌, ◌≤◌, ◌==◌, length, slice_index_or, [], IfOk, OnOk, IsOk};
 ghost use Rattle.sshc_mux.specs.ChannelState.{Waiting};
@@ -11,7 +11,7 @@ use sshc_wire::{NoMemory, Record};
 use std::alloc::Global;
 use std::collections::VecDeque;
 
-/// Adds what there is room for. Returns whether nothing is left.
+/// Adds what there is room for. Returns whether no bytes remain.
 pub(crate) fn push_sent(
     alloc: Global,
     recipient: u32,
@@ -49,7 +49,7 @@ pub(crate) fn push_sent(
     Ok(true)
 }
 
-/// Lets whole chunks go that there is room for. Returns the room after them.
+/// Removes the whole chunks that there is room for. Returns the room after them.
 fn drop_whole(pending: &mut VecDeque<Chunk>, room: usize) -> usize
     ensures left { left_of room pending.old.items ≡ left_of result pending.new.items }
     ensures used { room - count_of pending.old.items ≡ result - count_of pending.new.items }
@@ -64,7 +64,7 @@ fn drop_whole(pending: &mut VecDeque<Chunk>, room: usize) -> usize
     left
 }
 
-/// Lets the bytes go that there is room for. Returns the room after them.
+/// Removes the bytes that there is room for. Returns the room after them.
 pub(crate) fn drop_sent(pending: &mut VecDeque<Chunk>, room: usize) -> usize
     ensures left { pending.new.items ≡ left_of room pending.old.items }
     ensures used { result ≡ room - count_of pending.old.items }

@@ -1,5 +1,5 @@
-//! Worked channels: reads rows of calls, of what they return, and of the packets that come of them, and prints whether each
-//! comes out so. The first argument names the file.
+//! Worked channels: reads rows of calls, of their results, and of the packets that they write, and prints whether each
+//! row holds. The first argument names the file.
 #![tactic(auto)]
 
 mod row;
@@ -29,7 +29,7 @@ struct Line<'a> {
     second: &'a str,
 }
 
-/// A line's words. Lines that begin with `#`, and empty ones, have none.
+/// A line's words; `None` for an empty line or one whose first word is `#`.
 fn line_of(line: &str) -> Option<Line<'_>> {
     let mut words = line.split_whitespace();
     let command = words.next()?;
@@ -45,7 +45,7 @@ fn line_of(line: &str) -> Option<Line<'_>> {
     })
 }
 
-/// Prints how a row came out, if there is one.
+/// Prints whether a row held, if there is one.
 fn print_end(rt: &HostRuntime, row: &Option<Row>) -> anyhow::Result<()> {
     if let Some(row) = row {
         let verdict = if row.is_right() { "ok" } else { "WRONG" };

@@ -1,4 +1,4 @@
-//! A row: a table of one channel, the calls on it, and the packets that came of them.
+//! A row: a table of one channel, the calls on it, and the packets that they wrote.
 
 use sshc_mux::{ChannelId, ChannelTable, MuxError};
 use sshc_wire::{NoMemory, Outbox, Ticket};
@@ -24,7 +24,7 @@ fn number(word: &str) -> u32 {
 }
 
 impl Row {
-    /// An open of ours under ticket 3, or one of the peer's as its number 5 with window 4 and packet size 9.
+    /// An open of ours with ticket 3, or one of the peer's as its number 5 with window 4 and packet size 9.
     pub fn new(alloc: Global, name: &str, is_ours: bool) -> Result<Row, NoMemory> {
         let name = format!(in alloc; "{name}")?;
         let mut table = ChannelTable::new(alloc);
@@ -47,7 +47,7 @@ impl Row {
         self.name.as_str()
     }
 
-    /// Whether each line came out so, and no packet is left over.
+    /// Whether each line held, and all packets were compared.
     pub fn is_right(&self) -> bool {
         self.is_right && self.seen == self.out.len()
     }
@@ -94,7 +94,8 @@ impl Row {
         }
     }
 
-    /// Whether an answer to the open is taken so. The peer confirms the channel as its number 5.
+    /// Whether the table returns what the command says for an answer to the open. The peer confirms the channel as its
+    /// number 5.
     fn answers(&mut self, command: &str, window: u32, packet: u32) -> bool {
         match command {
             "confirm" => self.table.confirm(self.id, 5, window, packet) == Ok(Some(Ticket(3))),
@@ -125,7 +126,7 @@ impl Row {
         }
     }
 
-    /// Makes a call that may write packets. Returns whether it returned this; a command that is none returns false.
+    /// Makes a call that may write packets. Returns whether it returned this; false for an unknown command.
     fn calls(&mut self, command: &str, first: &str, second: &str) -> Result<bool, NoMemory> {
         let (table, id, out) = (&mut self.table, self.id, &mut self.out);
         match command {

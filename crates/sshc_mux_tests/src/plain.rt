@@ -1,17 +1,17 @@
-//! The table as a plain program: byte by byte, with nothing looked up.
+//! The table as a plain program: byte by byte, with no index.
 
 use sshc_mux::Stream;
 use sshc_wire::{NoMemory, put_bytes, put_u32};
 use std::alloc::Global;
 
-/// What waits of one call's bytes.
+/// The bytes of one call that wait.
 #[derive(Debug, Drop)]
 pub(crate) struct Part {
     stream: Stream,
     bytes: Vec<u8>,
 }
 
-/// A channel, in the words of the rules.
+/// A channel, with the fields that the rules speak of.
 #[derive(Debug, Drop)]
 pub(crate) struct Plain {
     pub(crate) number: u32,
@@ -28,7 +28,7 @@ pub(crate) struct Plain {
     pub(crate) close_sent: bool,
 }
 
-/// The payloads that were said.
+/// The payloads that were written.
 pub(crate) type Said = Vec<Vec<u8>>;
 
 fn piece(alloc: Global, recipient: u32, stream: Stream, bytes: &[u8]) -> Result<Vec<u8>, NoMemory> {
@@ -58,12 +58,12 @@ fn short(alloc: Global, number: u8, recipient: u32) -> Result<Vec<u8>, NoMemory>
 }
 
 impl Plain {
-    /// Takes a byte for the piece at hand, where one more may go out.
+    /// Whether one more byte may be sent.
     fn may_go(&self, exchanging: bool) -> bool {
         self.established && !exchanging && self.packet_size > 0 && self.window > 0
     }
 
-    /// Sends byte by byte, and then the ends that are due.
+    /// Sends byte by byte, and then EOF and close if they are due.
     pub(crate) fn flush(
         &mut self,
         alloc: Global,
@@ -85,7 +85,7 @@ impl Plain {
         self.send_ends(alloc, said)
     }
 
-    /// Sends what may go of one call's bytes, and answers the rest.
+    /// Sends what may be sent of one call's bytes, and returns the rest.
     fn send_part(
         &mut self,
         alloc: Global,

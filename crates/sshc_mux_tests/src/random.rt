@@ -1,4 +1,4 @@
-//! Random lists of calls on several channels, each answer and payload compared with the plain program's.
+//! Random lists of calls on several channels, with each result and payload compared with the plain program's.
 
 use crate::plain::{Plain, Said};
 use sshc_mux::{ChannelId, ChannelTable, Stream};
@@ -7,7 +7,7 @@ use std::alloc::Global;
 use std::process::Abort;
 use std::test::Fail;
 
-/// A small generator of numbers that are the same in each run (Knuth's linear congruential generator).
+/// A small generator of numbers, the same in each run (Knuth's linear congruential generator).
 #[derive(Clone, Copy, Debug)]
 struct Numbers(u64);
 
@@ -73,7 +73,7 @@ fn length_of(numbers: &mut Numbers, amount: u32) -> u64 {
     }
 }
 
-/// The table and the plain one, with what each said.
+/// The table and the plain one, with what each wrote.
 #[derive(Debug, Drop)]
 struct Both {
     alloc: Global,
@@ -85,7 +85,7 @@ struct Both {
     said: Said,
 }
 
-/// The channel that a call is for: its number, and its place in the plain table, if it stands there.
+/// The channel that a call is for: its number, and its place in the plain table, if it is there.
 #[derive(Clone, Copy, Debug)]
 struct Named {
     id: ChannelId,
@@ -93,7 +93,7 @@ struct Named {
 }
 
 impl Both {
-    /// Tables with no channels, whose numbers go on from this one.
+    /// Tables with no channels, whose numbers continue after this one.
     fn new(alloc: Global, last: u32) -> Both {
         Both {
             alloc,
@@ -108,7 +108,7 @@ impl Both {
         }
     }
 
-    /// One random call on both tables, with equal answers.
+    /// One random call on both tables, with equal results.
     fn step(&mut self, rt: &impl Abort, numbers: &mut Numbers) -> Result<(), NoMemory> {
         let near = numbers.below(6).wrapping_sub(numbers.below(2));
         let number = self.first.wrapping_add(near);
@@ -334,7 +334,7 @@ fn same_payloads(rt: &impl Abort, out: &Outbox, said: &Said, list: u32) {
     }
 }
 
-/// What the accessors tell is what the plain program keeps.
+/// The accessors return what the plain program keeps.
 fn same_channels(rt: &impl Abort, table: &ChannelTable, plain: &PlainTable, list: u32) {
     let mut any = false;
     for channel in plain.channels.as_slice() {
@@ -370,7 +370,7 @@ fn same_channels(rt: &impl Abort, table: &ChannelTable, plain: &PlainTable, list
 fn random_lists_of_calls(rt: HostRuntime) -> Result<(), Fail> {
     let mut numbers = Numbers(2026);
     for list in 0..10_000 {
-        // The numbers of every other list go on at 0 behind the last of a u32.
+        // In every other list the numbers continue at 0 after the last u32.
         let first = if list % 2 == 0 { 0 } else { u32::MAX - 2 };
         let mut both = Both::new(rt.alloc(), first);
         for _ in 0..30 {

@@ -15,7 +15,7 @@ fn is_named(table: &mut ChannelTable, id: ChannelId, out: &mut Outbox) -> Result
     Ok(settled || confirmed || failed || closed || granted || received)
 }
 
-/// Hands in bytes and asks for both ends.
+/// Sends bytes and asks for EOF and close.
 fn ask_all(table: &mut ChannelTable, id: ChannelId, out: &mut Outbox) -> Result<(), NoMemory> {
     table.data(id, b"a", false, out)?;
     table.extended_data(id, 1, b"a", false, out)?;

@@ -1,5 +1,5 @@
-//! Worked packets: writes a packet of each kind and prints it in hexadecimal, and reads packets and prints what they
-//! say.
+//! Worked packets: writes a packet of each kind and prints it in hexadecimal, and reads packets and prints their
+//! fields.
 #![tactic(auto)]
 
 mod reading;

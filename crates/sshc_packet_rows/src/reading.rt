@@ -7,7 +7,7 @@ use sshc_packets::{
 };
 use sshc_wire::{ServerOpen, WireError};
 
-/// A fault of a packet.
+/// Prints the error of a packet.
 fn print_fault(rt: &HostRuntime, name: &str, error: WireError) -> anyhow::Result<()> {
     println!(rt; "{name} {error}")?;
     Ok(())
@@ -214,7 +214,7 @@ fn global(rt: &HostRuntime, body: &[u8]) -> anyhow::Result<()> {
 pub fn globals(rt: &HostRuntime) -> anyhow::Result<()> {
     global(rt, b"\x00\x00\x00\x09keepalive\x01".as_slice())?;
     global(rt, b"\x00\x00\x00\x03foo\x00more".as_slice())?;
-    // The second string is an Ed25519 key, with a byte behind it; the first is none.
+    // The second string is an Ed25519 key followed by a byte; the first isn't a key.
     global(
         rt,
         b"\x00\x00\x00\x17hostkeys-00@openssh.com\x00\x00\x00\x00\x01x\x00\x00\x00\x34\x00\x00\x00\x0bssh-ed25519\x00\x00\x00\x2001234567890123456789012345678901x".as_slice(),

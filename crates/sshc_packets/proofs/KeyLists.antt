@@ -13,7 +13,7 @@ use Rattle.sshc_packets.specs.declared.error.PacketError.TheVariants as errors
 use Rattle.sshc_packets.specs.Parts.{Fails, as_encoding, octets_at}
 use Rattle.sshc_packets.specs.PeerGlobals.{found_key, readable_keys}
 
--- the keys that were kept before, and those of what is still read
+-- the keys that were kept before, and those of the strings still to be read
 abbrev pub with_keys : List (Key × List ℕ) → Result (List (List ℕ)) PacketError → Result (List (Key × List ℕ)) PacketError
 with_keys front read = read >>= λ strings. Ok (front ++ readable_keys strings)
 

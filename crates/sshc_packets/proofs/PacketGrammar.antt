@@ -1,4 +1,4 @@
--- Reading a packet is reading its grammar.
+-- Reading a packet agrees with its grammar.
 use Rattle.std.proofs.Common.{◌≡◌, ℕ, List, [], ◌++◌, Some, Ok, refl, sym, ap, subst, ◌∙◌, append_assoc}
 use Rattle.std.proofs.lemmas.List.{append-nil}
 use Rattle.sshc_wire.specs.Format.{bind_ok, ok_is}
@@ -49,7 +49,7 @@ pub a_flag : IsGrammar IsFlag flag_at
 unfolding flag_at
 a_flag = faults_seen as_encoding flags
 
--- a value at the front, whose later bytes are let pass
+-- a value at the front; the bytes after it are ignored
 pub let_pass : {E A : Type 0} {S : A → List ℕ → Type 0} {f : Reader E A} → IsGrammar S f → IsWholeGrammar (Leads S) (leading_at f)
 let_pass {E} {A} {S} {f} p = record {
   takes = λ bytes x fits e.

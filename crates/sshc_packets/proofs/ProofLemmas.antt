@@ -1,4 +1,4 @@
--- A reply is judged to be a proof of host keys just where it is one.
+-- A reply is judged to be a proof of host keys exactly if it is one.
 use Rattle.std.proofs.Common.{◌≡◌, ℕ, Bool, true, false, cond, List, [], ◌∷◌, ◌++◌, Option, Some, None, Result, Ok, Err, length, refl, ap, subst, ◌∙◌}
 use Rattle.sshc_wire.specs.Format.{behind_are_bytes}
 use Rattle.sshc_wire.specs.Parts.{strings}

@@ -18,12 +18,12 @@ use Rattle.sshc_packets.specs.PeerOpens.{server_open_at, server_open_of}
 use Rattle.sshc_packets.specs.PeerRequests.{exit_status_of, peer_request_of, xon_xoff_of}
 use Rattle.sshc_packets.specs.Replies.{forward_port}
 
--- a keepalive with an answer: 50 00000015 "keepalive@openssh.com" 01
+-- a keepalive that wants a reply: 50 00000015 "keepalive@openssh.com" 01
 keepalive_written : global_request_text true Keepalive ≡ (0x50 ∷ 0 ∷ 0 ∷ 0 ∷ 0x15 ∷ []) ++ codes "keepalive@openssh.com" ++ (1 ∷ [])
 unfolding global_request_text string_text u32_text bool_text
 keepalive_written = refl
 
--- a forward of port 22 without an answer
+-- a forward of port 22 that wants no reply
 forward_written : global_request_text false (TcpIpForward (codes "h") 22) ≡
     (0x50 ∷ 0 ∷ 0 ∷ 0 ∷ 13 ∷ []) ++ codes "tcpip-forward" ++ (0 ∷ 0 ∷ 0 ∷ 0 ∷ 1 ∷ []) ++ codes "h" ++ (0 ∷ 0 ∷ 0 ∷ 22 ∷ [])
 unfolding global_request_text string_text u32_text bool_text
@@ -41,34 +41,34 @@ refusal_written : open_failure_text 7 UnknownChannelType ≡
 unfolding open_failure_text string_text u32_text
 refusal_written = refl
 
--- the command `ls` on the peer's channel 5, with an answer: 62 00000005 00000004 "exec" 01 00000002 "ls"
+-- the command `ls` on the peer's channel 5, with a reply wanted: 62 00000005 00000004 "exec" 01 00000002 "ls"
 exec_written : channel_request_text 5 (Exec true (codes "ls")) ≡
     (0x62 ∷ 0 ∷ 0 ∷ 0 ∷ 5 ∷ 0 ∷ 0 ∷ 0 ∷ 4 ∷ []) ++ codes "exec" ++ (1 ∷ 0 ∷ 0 ∷ 0 ∷ 2 ∷ []) ++ codes "ls"
 unfolding channel_request_text string_text u32_text bool_text
 exec_written = refl
 
--- the modes end with one 0, also where an entry of number 0 stands among them
+-- the modes end with one 0, also if an entry of number 0 is among them
 modes_written : modes_text ((record { 0 = 53 }, 1) ∷ (record { 0 = 0 }, 9) ∷ []) ≡ 53 ∷ 0 ∷ 0 ∷ 0 ∷ 1 ∷ 0 ∷ []
 unfolding u32_text
 modes_written = refl
 
--- 91 behind its number: 00000001 00000005 00000064 00008000
+-- 91 after its number: 00000001 00000005 00000064 00008000
 confirmation_read : confirmation_of (0 ∷ 0 ∷ 0 ∷ 1 ∷ 0 ∷ 0 ∷ 0 ∷ 5 ∷ 0 ∷ 0 ∷ 0 ∷ 100 ∷ 0 ∷ 0 ∷ 0x80 ∷ 0 ∷ []) ≡
     Ok (record { recipient = 1; sender = record { channel = 5; window_size = 100; max_packet_size = 32768 } })
 unfolding confirmation_of sender_at number_at
 confirmation_read = refl
 
--- 98 `exit-status` behind its name: 00 00000000
+-- 98 `exit-status` after its name: 00 00000000
 exit_status_read : peer_request_of (codes "exit-status") (0 ∷ 0 ∷ 0 ∷ 0 ∷ 0 ∷ []) ≡ Ok (ExitStatus 0)
 unfolding peer_request_of exit_status_of u8_at u32_at byte_at number_at
 exit_status_read = refl
 
--- a byte left over is refused
+-- a byte after the last field is refused
 xon_xoff_too_long : peer_request_of (codes "xon-xoff") (0 ∷ 1 ∷ 7 ∷ []) ≡ Err SshEncoding
 unfolding peer_request_of xon_xoff_of u8_at flag_at byte_at boolean_at
 xon_xoff_too_long = refl
 
--- 90: types by their names; later bytes are let pass
+-- 90: types by their names; the bytes after their fields are ignored
 type_unknown : server_open_of (codes "foo") (1 ∷ 2 ∷ []) ≡ Ok Unknown
 unfolding server_open_of server_open_at
 type_unknown = refl
@@ -77,7 +77,7 @@ type_agent : server_open_of (codes "auth-agent@openssh.com") [] ≡ Ok AgentForw
 unfolding server_open_of server_open_at
 type_agent = refl
 
--- 80: any name that begins `keepalive`, with nothing behind it; another name with anything behind it
+-- 80: any name that begins with `keepalive`, with no bytes after it; another name with any bytes after it
 any_keepalive : named_global_of (codes "keepalive@example.org") true [] ≡ Ok (globals.Keepalive true)
 unfolding named_global_of
 any_keepalive = refl
@@ -90,7 +90,7 @@ name_unknown : named_global_of (codes "foo") false (1 ∷ 2 ∷ []) ≡ Ok (glob
 unfolding named_global_of
 name_unknown = refl
 
--- 81 after a forward: nothing, a port, and bytes that are no port
+-- 81 after a forward: no bytes, a port, and bytes that aren't a port
 port_asked : forward_port [] ≡ Some 0
 port_asked = refl
 
@@ -100,6 +100,6 @@ port_given = refl
 port_broken : forward_port (0 ∷ 22 ∷ []) ≡ None
 port_broken = refl
 
--- 92: a reason that isn't known counts as the first
+-- 92: an unknown reason counts as the first
 reason_unknown : reason_of 9 ≡ AdministrativelyProhibited
 reason_unknown = refl

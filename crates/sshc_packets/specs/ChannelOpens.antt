@@ -17,7 +17,7 @@ pub data ChannelOpen : Type 0 where
   DirectTcpIp : (host : List ℕ) → (port : ℕ) → (originator : List ℕ) → (originator_port : ℕ) → ChannelOpen
   DirectStreamLocal : (path : List ℕ) → ChannelOpen
 
--- the open that is lent to a call
+-- the open that a call borrows
 abbrev pub channel_open : Lent → ChannelOpen
 channel_open lent.Session = Session
 channel_open (lent.X11 originator port) = X11 originator.now port

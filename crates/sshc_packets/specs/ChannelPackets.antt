@@ -1,5 +1,5 @@
 -- The peer's packets on a channel, read from left to right (RFC 4254, sections 5.1 to 5.4): 91 to 97, 99 and 100, and
--- the head of 98. Functions of the whole bytes behind the packet's number; the code moves a cursor.
+-- the head of 98. Functions of the whole bytes after the packet's number; the code moves a cursor.
 use Rattle.std.specs.Prelude.{ℕ, List, Option, Some, None, Ok}
 use Rattle.std.specs.Int.{w32}
 use Rattle.sshc_wire.specs.Format.{both_at, made_at}
@@ -47,7 +47,7 @@ pub record Refusal : Type 0 where
 abbrev pub lent_refusal : LentRefusal → Refusal
 lent_refusal r = record { id = r.id; reason = r.reason; description = r.description.now; language = r.language.now }
 
--- a reason that isn't known counts as 1
+-- an unknown reason counts as 1
 abbrev pub known_reason : Option ChannelOpenFailure → ChannelOpenFailure
 known_reason None = AdministrativelyProhibited
 known_reason (Some reason) = reason
@@ -62,7 +62,7 @@ refusal_of bytes =
     (made_at (λ x. record { id = x.0; reason = reason_of x.1.0; description = x.1.1.0; language = x.1.1.1 })
     (both_at channel_at (both_at (number_at w32) (both_at text_at text_at)))) bytes
 
--- 93: our number, how many bytes more the peer takes, end
+-- 93: our number, how many more bytes the peer takes, end
 unfoldable pub window_adjust_of : WholeReader WireError WindowAdjust
 window_adjust_of bytes =
     finished_at Trailing (made_at (λ x. record { id = x.0; bytes_to_add = x.1 }) (both_at channel_at (number_at w32))) bytes

@@ -1,5 +1,5 @@
 -- Requests of ours on a channel (RFC 4254, sections 5.4 and 6; OpenSSH's PROTOCOL.agent).
--- A name, whether an answer is wanted, and fields, by cases; the code writes them part by part.
+-- A name, whether a reply is wanted, and fields, by cases; the code writes them part by part.
 use Rattle.std.specs.Prelude.{ℕ, Bool, false, List, [], ◌∷◌, ◌++◌, codes, if◌then◌else◌, ◌==◌}
 use Rattle.std.specs.List.{flat_map}
 use Rattle.sshc_wire.specs.Signals.{signal_name}
@@ -22,7 +22,7 @@ pub data ChannelRequest : Type 0 where
   Subsystem : (want_reply : Bool) → (name : List ℕ) → ChannelRequest
   AgentForward : (want_reply : Bool) → ChannelRequest
 
--- the request that is lent to a call
+-- the request that a call borrows
 abbrev pub channel_request : Lent → ChannelRequest
 channel_request (lent.PtyReq want_reply term size modes) = PtyReq want_reply term.now size modes.now
 channel_request (lent.WindowChange size) = WindowChange size
@@ -46,7 +46,7 @@ request_name (Signal signal) = codes "signal"
 request_name (Subsystem want_reply name) = codes "subsystem"
 request_name (AgentForward want_reply) = codes "auth-agent-req@openssh.com"
 
--- a new size and a signal are never answered
+-- a new size and a signal never get a reply
 abbrev pub wants_reply : ChannelRequest → Bool
 wants_reply (PtyReq want_reply term size modes) = want_reply
 wants_reply (WindowChange size) = false
@@ -84,7 +84,7 @@ request_fields (Signal signal) = string_text (signal_name signal)
 request_fields (Subsystem want_reply name) = string_text name
 request_fields (AgentForward want_reply) = []
 
--- 98, CHANNEL_REQUEST: the recipient's number, the name, whether an answer is wanted, the fields
+-- 98, CHANNEL_REQUEST: the recipient's number, the name, whether a reply is wanted, the fields
 unfoldable pub channel_request_text : ℕ → ChannelRequest → List ℕ
 channel_request_text recipient request =
     CHANNEL_REQUEST ∷ u32_text recipient ++ string_text (request_name request) ++ bool_text (wants_reply request) ++ request_fields request

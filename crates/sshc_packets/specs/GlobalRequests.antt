@@ -8,7 +8,7 @@ use Rattle.sshc_key.specs.KeyGrammar.{Key, key_text}
 use Rattle.sshc_packets.specs.declared.global_request.GlobalRequest.{GlobalRequest as Lent}
 use Rattle.sshc_packets.specs.declared.global_request.GlobalRequest.TheVariants as lent
 
--- a key with its comment is as contracts see a public key
+-- a key with its comment is what contracts see of a public key
 pub data GlobalRequest : Type 0 where
   TcpIpForward : (address : List ℕ) → (port : ℕ) → GlobalRequest
   CancelTcpIpForward : (address : List ℕ) → (port : ℕ) → GlobalRequest
@@ -19,7 +19,7 @@ pub data GlobalRequest : Type 0 where
   HostKeysProve : (keys : List (Key × List ℕ)) → GlobalRequest
   Own : (name body : List ℕ) → GlobalRequest
 
--- the request that is lent to a call
+-- the request that a call borrows
 abbrev pub global_request : Lent → GlobalRequest
 global_request (lent.TcpIpForward address port) = TcpIpForward address.now port
 global_request (lent.CancelTcpIpForward address port) = CancelTcpIpForward address.now port
@@ -54,7 +54,7 @@ global_fields NoMoreSessions = []
 global_fields (HostKeysProve keys) = flat_map blob_text keys
 global_fields (Own name body) = body
 
--- 80, GLOBAL_REQUEST: the name, whether an answer is wanted, the fields
+-- 80, GLOBAL_REQUEST: the name, whether a reply is wanted, the fields
 unfoldable pub global_request_text : Bool → GlobalRequest → List ℕ
 global_request_text want_reply request =
     GLOBAL_REQUEST ∷ string_text (global_name request) ++ bool_text want_reply ++ global_fields request

@@ -1,6 +1,6 @@
--- Proof of host keys (OpenSSH's PROTOCOL, section 2.5): the reply to `hostkeys-prove-00@openssh.com` has one
--- signature for each key, in order, over the session id and the key's blob, and nothing more. A relation on the whole
--- reply, and what a reply is judged to be: the first part that fails decides. The code reads and verifies key by key.
+-- Proof of host keys (OpenSSH's PROTOCOL, section 2.5): the reply to `hostkeys-prove-00@openssh.com` has one signature
+-- for each key, in order, over the session id and the key's blob, and no bytes after them. A relation on the whole
+-- reply, and the judgement of a reply: the first part that fails decides. The code reads and verifies key by key.
 use Rattle.std.specs.Prelude.{◌≡◌, ◌↔◌, ℕ, Bool, true, List, [], ◌∷◌, ◌++◌, codes, Option, Some, None, Result, Ok, Err, if◌then◌else◌}
 use Rattle.sshc_wire.specs.Reads.{string_at}
 use Rattle.sshc_wire.specs.Wire.{IsShort, string_text}
@@ -30,7 +30,7 @@ pub record Proves (accepts : Accepts) (session_id : List ℕ) (key : Key) (part 
   pub text : part ≡ string_text (signature_text signature)
   pub accepted : accepts key (proof_bytes session_id key) signature ≡ true
 
--- one such part for each key, in order, and nothing more
+-- one such part for each key, in order, and no bytes after them
 abbrev pub IsProof : Accepts → List ℕ → List (Key × List ℕ) → List ℕ → Type 0
 IsProof accepts session_id [] reply = reply ≡ []
 IsProof accepts session_id (key ∷ keys) reply =
@@ -38,7 +38,7 @@ IsProof accepts session_id (key ∷ keys) reply =
 
 -- ---- what a reply is judged to be
 
--- a signature that isn't the key's is WrongServerSig; bytes that are no signature are SshEncoding
+-- a signature that isn't the key's is WrongServerSig; bytes that aren't a signature are SshEncoding
 abbrev pub signature_judged : (Signature → Bool) → Option Signature → Result (Unit {0}) HostKeysFault
 signature_judged accepts None = Err SshEncoding
 signature_judged accepts (Some signature) = if accepts signature then Ok tt else Err WrongServerSig
@@ -64,7 +64,7 @@ proof_judged accepts session_id (key ∷ keys) reply =
     (λ part. signature_judged (accepts key.0 (proof_bytes session_id key.0)) (whole_signature part))
     (λ rest. proof_judged accepts session_id keys rest)
 
--- a reply is judged to be a proof just where it is one
+-- a reply is judged to be a proof exactly if it is one
 abbrev pub JudgedIsProof : Accepts → List ℕ → List (Key × List ℕ) → List ℕ → Type 0
 JudgedIsProof accepts session_id keys reply =
     (proof_judged accepts session_id keys reply ≡ Ok tt) ↔ IsProof accepts session_id keys reply

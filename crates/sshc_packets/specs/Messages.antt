@@ -1,4 +1,4 @@
--- The messages of the connection protocol that a session writes besides those of a channel's own account, which are
+-- The messages of the connection protocol that a session writes, except those of a channel's own account, which are
 -- windows, data, EOF and close (RFC 4254, sections 4, 5.1 and 5.4). One value for each, and its one text.
 use Rattle.std.specs.Prelude.{ℕ, Bool, List, [], ◌∷◌}
 use Rattle.sshc_wire.specs.Wire.{u32_text}
@@ -10,7 +10,7 @@ use Rattle.sshc_packets.specs.GlobalRequests.{GlobalRequest, global_request_text
 use Rattle.sshc_packets.specs.ChannelOpens.{ChannelOpen, channel_open_text, confirmation_text, open_failure_text}
 use Rattle.sshc_packets.specs.ChannelRequests.{ChannelRequest, channel_request_text}
 
--- 81 and 82, REQUEST_SUCCESS and REQUEST_FAILURE: nothing follows
+-- 81 and 82, REQUEST_SUCCESS and REQUEST_FAILURE: no fields
 abbrev pub request_success_text : List ℕ
 request_success_text = REQUEST_SUCCESS ∷ []
 
@@ -26,8 +26,8 @@ channel_failure_text recipient = CHANNEL_FAILURE ∷ u32_text recipient
 
 pub data Message : Type 0 where
   Requests : (want_reply : Bool) → (request : GlobalRequest) → Message
-  Grants : Message  -- the server's request is done
-  Denies : Message  -- the server's request isn't done
+  Grants : Message  -- the server's request succeeded
+  Denies : Message  -- the server's request failed
   Opens : (asked : ChannelOpen) → (sender : Sender) → Message
   Confirms : (confirmation : Confirmation) → Message
   Refuses : (recipient : ℕ) → (reason : ChannelOpenFailure) → Message

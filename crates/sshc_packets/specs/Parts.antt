@@ -30,7 +30,7 @@ octets_at bytes = part_at as_encoding string_at bytes
 unfoldable pub words_at : Reader PacketError (List ℕ)
 words_at bytes = part_at as_encoding text_at bytes
 
--- a value at the front, whose later bytes are let pass
+-- a value at the front; the bytes after it are ignored
 abbrev pub leading_at : {E A : Type 0} → Reader E A → WholeReader E A
 leading_at f bytes = f bytes >>= λ x. Ok x.0
 
@@ -48,11 +48,11 @@ IsString s bytes = SpelledAs string_text IsShort s bytes
 abbrev pub IsText : List ℕ → List ℕ → Type 0
 IsText t bytes = SpelledAs string_text (λ s. IsShort s × (is_utf8 s ≡ true)) t bytes
 
--- the value's spelling is a front of the bytes
+-- the bytes begin with the value's spelling
 abbrev pub Leads : {A : Type 0} → (A → List ℕ → Type 0) → A → List ℕ → Type 0
 Leads S x bytes = (front rest : List ℕ) × (bytes ≡ front ++ rest) × S x front
 
--- ---- what a call returns, seen by view, is what reading the whole bytes gives
+-- ---- what a call returns, in terms of reading the whole bytes
 
 abbrev pub ReadsAll : {X A E : Type 0} → (X → A) → Result X E → Result A E → Type 0
 ReadsAll view (Ok x) read = read ≡ Ok (view x)
@@ -62,7 +62,7 @@ abbrev pub ReadsFront : {X A E : Type 0} → (X → A) → Result X E → List �
 ReadsFront view (Ok x) new read = read ≡ Ok (view x, new)
 ReadsFront view (Err e) new read = read ≡ Err e
 
--- the same fault, unless memory ran out
+-- the same error, unless memory ran out
 abbrev pub Fails : {A : Type 0} → PacketError → Result A PacketError → Type 0
 Fails errors.NoMemory read = Unit {0}
 Fails errors.SshEncoding read = read ≡ Err errors.SshEncoding
@@ -71,7 +71,7 @@ abbrev pub GivesAll : {X A : Type 0} → (X → A) → Result X PacketError → 
 GivesAll view (Ok x) read = read ≡ Ok (view x)
 GivesAll view (Err e) read = Fails e read
 
--- the part at the front, and what is left behind it
+-- the part at the front, mapped by `view`, and the bytes after it
 abbrev pub Gives : {X A : Type 0} → (X → A) → Result X PacketError → List ℕ → Result (A × List ℕ) PacketError → Type 0
 Gives view (Ok x) new read = read ≡ Ok (view x, new)
 Gives view (Err e) new read = Fails e read

@@ -1,5 +1,5 @@
 -- 80: a global request of the peer's (RFC 4254, section 4; OpenSSH's PROTOCOL, section 2.5).
--- By the name; under a name that isn't known later bytes are let pass. The code moves a cursor.
+-- By the name; for an unknown name the bytes after the flag are ignored. The code moves a cursor.
 use Rattle.std.specs.Prelude.{ℕ, Bool, List, [], ◌∷◌, map, Option, Some, None, Ok, codes, bytes_eq, nat_eq, if◌then◌else◌}
 use Rattle.std.specs.List.{flat_map, starts_with}
 use Rattle.sshc_wire.specs.Format.{both_at}
@@ -31,7 +31,7 @@ blobs_of keys = map (λ k. key_text k.0) keys
 unfoldable pub host_keys_of : WholeReader PacketError (List (Key × List ℕ))
 host_keys_of bytes = all_at octets_at bytes >>= λ strings. Ok (readable_keys strings)
 
--- behind the name and the flag
+-- after the name and the flag
 unfoldable pub named_global_of : List ℕ → Bool → WholeReader PacketError PeerGlobal
 named_global_of name want_reply bytes =
     if starts_with nat_eq name (codes "keepalive") then finished SshEncoding (globals.Keepalive want_reply, bytes)

@@ -1,6 +1,6 @@
--- 90: a channel that the peer opens (RFC 4254, sections 5.1, 6.1, 6.3.2, 7.1 and 7.2; OpenSSH's PROTOCOL, section
--- 2.4, and PROTOCOL.agent). The head first, and then by the type's name; later bytes are let pass. The code moves a
--- cursor.
+-- 90: a channel that the peer opens (RFC 4254, sections 5.1, 6.1, 6.3.2, 7.1 and 7.2; OpenSSH's PROTOCOL, section 2.4,
+-- and PROTOCOL.agent). The head first, and then by the type's name; the bytes after the fields are ignored. The code
+-- moves a cursor.
 use Rattle.std.specs.Prelude.{ℕ, List, Ok, codes, bytes_eq, if◌then◌else◌}
 use Rattle.sshc_wire.specs.Format.{both_at, made_at, no_bytes_at}
 use Rattle.sshc_wire.specs.Reads.{Reader, ◌>>=◌, text_at}
@@ -49,7 +49,7 @@ forwarded_streamlocal_at bytes = made_at (λ x. opens.ForwardedStreamLocal x) wo
 unfoldable pub x11_at : Reader PacketError ServerOpen
 x11_at bytes = made_at (λ x. opens.X11 x.0 x.1) address_at bytes
 
--- the fields of a type; of a type that isn't known nothing is read
+-- the fields of a type; of an unknown type nothing is read
 unfoldable pub server_open_at : List ℕ → Reader PacketError ServerOpen
 server_open_at kind bytes =
     if bytes_eq kind (codes "session") then no_bytes_at opens.Session bytes

@@ -1,5 +1,5 @@
--- 98: a request of the peer's on a channel, behind its number and name (RFC 4254, sections 6.8 and 6.10).
--- By the name; under a name that isn't known later bytes are let pass. The code moves a cursor.
+-- 98: a request of the peer's on a channel, after its number and name (RFC 4254, sections 6.8 and 6.10).
+-- By the name; for an unknown name the bytes after the flag are ignored. The code moves a cursor.
 use Rattle.std.specs.Prelude.{ℕ, List, codes, bytes_eq, if◌then◌else◌}
 use Rattle.sshc_wire.specs.Format.{both_at, made_at}
 use Rattle.sshc_wire.specs.Grammar.{finished_at}
@@ -11,7 +11,7 @@ use Rattle.sshc_packets.specs.declared.peer_request.PeerRequest.{PeerRequest}
 use Rattle.sshc_packets.specs.declared.peer_request.PeerRequest.TheVariants as requests
 use Rattle.sshc_packets.specs.Parts.{flag_at, leading_at, u32_at, u8_at, words_at}
 
--- the first byte asks for no answer, whatever it is
+-- the first byte says whether a reply is wanted, and is ignored
 unfoldable pub xon_xoff_of : WholeReader PacketError PeerRequest
 xon_xoff_of bytes = finished_at SshEncoding (made_at (λ x. requests.XonXoff x.1) (both_at u8_at flag_at)) bytes
 

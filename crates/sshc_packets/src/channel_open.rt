@@ -60,7 +60,7 @@ impl<'a> ChannelOpen<'a> {
     }
 }
 
-/// A path, and behind it an empty string and the number 0, which are reserved.
+/// A path, followed by an empty string and the number 0, which are reserved.
 #[tactic(auto, using(std::proofs::lemmas::List::append_assoc))]
 fn put_path(out: &mut Vec<u8>, socket_path: &str) -> Result<(), NoMemory>
     ensures { OnOk result

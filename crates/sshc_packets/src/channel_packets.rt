@@ -16,7 +16,7 @@ pub struct OpenRefusal<'a> {
     pub language: &'a str,
 }
 
-/// How many bytes more the peer takes.
+/// How many more bytes the peer takes.
 #[derive(Clone, Copy, Debug, PartialEq, Eq)]
 pub struct WindowAdjust {
     pub id: ChannelId,
@@ -53,7 +53,7 @@ fn channel(packet: &mut Cursor<'_>) -> Result<ChannelId, WireError>
     Ok(ChannelId(packet.u32()?))
 }
 
-/// 96, 97, 99 and 100, which have a channel's number alone.
+/// 96, 97, 99 and 100, which have only a channel's number.
 #[tactic(auto, unfolding(crate::specs::ChannelPackets::channel_of))]
 pub fn read_channel(body: &[u8]) -> Result<ChannelId, WireError>
     ensures { ReadsAll (λ id. id) result (channel_of body.now) }
@@ -100,7 +100,7 @@ fn reason_of(code: u32) -> ChannelOpenFailure
     }
 }
 
-/// CHANNEL_OPEN_FAILURE (RFC 4254, section 5.1). A reason that isn't known counts as 1.
+/// CHANNEL_OPEN_FAILURE (RFC 4254, section 5.1). An unknown reason counts as 1.
 #[tactic(auto, unfolding(crate::specs::ChannelPackets::refusal_of))]
 pub fn read_open_failure(body: &[u8]) -> Result<OpenRefusal<'_>, WireError>
     ensures { ReadsAll lent_refusal result (refusal_of body.now) }

@@ -1,4 +1,4 @@
-//! Requests on a channel, and answers to the server's own (RFC 4254, sections 5.4 and 6).
+//! Requests on a channel, and replies to the server's own (RFC 4254, sections 5.4 and 6).
 
 ghost use Rattle.std.specs.Prelude.{◌≡◌, ◌++◌, IfOk, OnOk};
 ghost use Rattle.std.specs.List.{flat_map};
@@ -29,7 +29,7 @@ pub enum ChannelRequest<'a> {
         size: TerminalSize,
         modes: &'a [(Pty, u32)],
     },
-    /// The terminal's new size (RFC 4254, section 6.7), which is never answered.
+    /// The terminal's new size (RFC 4254, section 6.7), which never gets a reply.
     WindowChange {
         size: TerminalSize,
     },
@@ -56,7 +56,7 @@ pub enum ChannelRequest<'a> {
         want_reply: bool,
         command: &'a [u8],
     },
-    /// A signal for the remote process (RFC 4254, section 6.9), which is never answered.
+    /// A signal for the remote process (RFC 4254, section 6.9), which never gets a reply.
     Signal {
         signal: &'a Sig,
     },
@@ -89,7 +89,7 @@ impl<'a> ChannelRequest<'a> {
         }
     }
 
-    /// Whether the server is to answer.
+    /// Whether a reply of the server is wanted.
     pub fn wants_reply(&self) -> bool
         ensures { result ≡ wants_reply (channel_request self.now) }
     {
@@ -130,7 +130,7 @@ fn put_entry(out: &mut Vec<u8>, entry: &(Pty, u32)) -> Result<(), NoMemory>
     put_u32(out, value)
 }
 
-/// The modes but for those of number 0.
+/// The modes except those of number 0.
 #[tactic(auto, using(std::proofs::lemmas::List::append_assoc))]
 fn put_each_mode(out: &mut Vec<u8>, modes: &[(Pty, u32)]) -> Result<(), NoMemory>
     ensures { OnOk result (out.new.items ≡ out.old.items ++ flat_map entry_text modes.now) }

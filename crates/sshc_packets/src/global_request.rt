@@ -1,4 +1,4 @@
-//! Requests to the server as a whole, and answers to its own (RFC 4254, sections 4 and 7.1).
+//! Requests to the server as a whole, and replies to its own (RFC 4254, sections 4 and 7.1).
 
 ghost use Rattle.std.specs.Prelude.{◌≡◌, ◌++◌, IfOk, OnOk};
 ghost use Rattle.std.specs.List.{flat_map};
@@ -19,13 +19,13 @@ pub enum GlobalRequest<'a> {
     /// Listen on a socket (OpenSSH's PROTOCOL, section 2.4).
     StreamLocalForward { socket_path: &'a str },
     CancelStreamLocalForward { socket_path: &'a str },
-    /// Only the answer counts, whichever it is.
+    /// A keepalive: any reply will do.
     Keepalive,
     /// No session will be opened any more (OpenSSH's PROTOCOL, section 2.2).
     NoMoreSessions,
     /// Prove that these host keys are held (OpenSSH's PROTOCOL, section 2.5).
     HostKeysProve { keys: &'a [PublicKey] },
-    /// A request by its name and the bytes behind the flag.
+    /// A request by its name and the bytes after the flag.
     Own { name: &'a str, body: &'a [u8] },
 }
 
@@ -101,7 +101,7 @@ pub fn global_request_packet(
     Octets::from_vec(packet)
 }
 
-/// REQUEST_SUCCESS with nothing behind it (RFC 4254, section 4).
+/// REQUEST_SUCCESS with no fields (RFC 4254, section 4).
 pub fn request_success_packet(alloc: Global) -> Result<Octets, NoMemory>
     ensures { IfOk result (λ packet. packet ≡ request_success_text) }
 {

@@ -22,7 +22,7 @@ fn proof_bytes(alloc: Global, session_id: &[u8], key: &PublicKey) -> Result<Vec<
     Ok(bytes)
 }
 
-/// The signature that the whole bytes are, if they are one.
+/// The signature that the whole bytes encode, if they encode one.
 #[tactic(auto, unfolding(sshc_key::specs::Algorithms::whole_signature))]
 fn signature_in(alloc: Global, bytes: &[u8]) -> Result<Option<Signature>, NoMemory>
     ensures { IfOk result (λ o. o ≡ whole_signature bytes.now) }
@@ -46,7 +46,7 @@ fn signature_in(alloc: Global, bytes: &[u8]) -> Result<Option<Signature>, NoMemo
     }
 }
 
-/// Judges the string of one key: none where it is one whole signature of the key's.
+/// Judges the string of one key: no fault if it is one whole signature of the key's.
 fn part_fault<V: Verifier>(
     alloc: Global,
     verifier: &V,
@@ -104,7 +104,7 @@ pub fn judge_host_key_proof<V: Verifier>(
     reply: &[u8],
 ) -> Result<Result<(), HostKeysFault>, NoMemory>
     ensures judged { IfOk result (λ r. r ≡ proof_judged (V.accepts verifier.now) session_id.now keys.now reply.now) }
-    // It is a proof just where the reply is one signature of each key, in order, and nothing more.
+    // The reply is a proof exactly if it is one signature of each key, in order, with no bytes after them.
     ensures proof { JudgedIsProof (V.accepts verifier.now) session_id.now keys.now reply.now }
 {
     judge_from(alloc, verifier, session_id, keys, reply)

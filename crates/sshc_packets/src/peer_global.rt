@@ -16,9 +16,9 @@ use std::alloc::Global;
 /// What the peer asks of us as a whole.
 #[derive(Debug, PartialEq, Eq, Drop)]
 pub enum PeerGlobal {
-    /// Only an answer is asked for.
+    /// Only a reply is asked for.
     Keepalive { want_reply: bool },
-    /// The server's host keys, as far as they can be read (OpenSSH's PROTOCOL, section 2.5). Nothing proves them yet.
+    /// The server's host keys, as far as they can be read (OpenSSH's PROTOCOL, section 2.5). They aren't proved yet.
     HostKeys { keys: List<PublicKey> },
     /// A request of another name.
     Unknown { want_reply: bool },
@@ -61,7 +61,7 @@ fn octets_of<'a>(c: &mut Cursor<'a>) -> Result<&'a [u8], PacketError>
     Ok(c.bytes()?)
 }
 
-/// The keys that can be read of strings to the end.
+/// The keys that can be read from the strings up to the end.
 #[tactic(auto, unfolding(crate::specs::PeerGlobals::host_keys_of))]
 fn host_keys(alloc: Global, bytes: &[u8]) -> Result<List<PublicKey>, PacketError>
     ensures { GivesAll (λ l. l) result (host_keys_of bytes.now) }
@@ -83,7 +83,7 @@ fn keepalive(want_reply: bool, fields: &[u8]) -> Result<PeerGlobal, PacketError>
     Ok(PeerGlobal::Keepalive { want_reply })
 }
 
-/// By the name; under a name that isn't known later bytes are let pass.
+/// By the name; for an unknown name the bytes after the flag are ignored.
 #[tactic(auto, unfolding(crate::specs::PeerGlobals::named_global_of))]
 fn named_global(
     alloc: Global,

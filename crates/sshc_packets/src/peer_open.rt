@@ -116,7 +116,7 @@ fn server_open(alloc: Global, kind: &str, c: &mut Cursor<'_>) -> Result<ServerOp
     }
 }
 
-/// The fields of an open of this type; later bytes are let pass. Of a type that isn't known nothing is read.
+/// The fields of an open of this type; the bytes after them are ignored. Of an unknown type nothing is read.
 #[tactic(auto, unfolding(crate::specs::PeerOpens::server_open_of))]
 pub fn read_server_open(alloc: Global, kind: &str, fields: &[u8]) -> Result<ServerOpen, PacketError>
     ensures { GivesAll (λ o. o) result (server_open_of kind.now fields.now) }

@@ -27,7 +27,7 @@ pub enum PeerRequest {
         error_message: Text,
         lang_tag: Text,
     },
-    /// Only an answer is asked for.
+    /// Only a reply is asked for.
     Keepalive {
         want_reply: bool,
     },
@@ -96,7 +96,7 @@ fn unknown(fields: &[u8]) -> Result<PeerRequest, PacketError>
     Ok(PeerRequest::Unknown { want_reply })
 }
 
-/// A request of this name, by what follows the name.
+/// Reads a request of this name from the bytes after the name.
 #[tactic(auto, unfolding(crate::specs::PeerRequests::peer_request_of))]
 pub fn read_channel_request(
     alloc: Global,

@@ -1,4 +1,4 @@
-//! Parts of packets that are written. More than 2^32 - 1 bytes of a string count as out of memory.
+//! Writes parts of packets. A string of more than 2^32 - 1 bytes counts as out of memory.
 
 ghost use Rattle.std.specs.Prelude.{◌≡◌, ◌∷◌, ◌++◌, OnOk};
 ghost use Rattle.sshc_wire.specs.Wire.{string_text, u32_text};

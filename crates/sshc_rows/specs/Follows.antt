@@ -1,6 +1,6 @@
--- What a call does that follows a row of an open session, where the handler keeps its default answers: it accepts what
--- the server opens, but for types that aren't known, keeps its window target and does nothing to the session that it
--- is lent. Moves in a row and what comes after; the code does one move after the other.
+-- What a call does that follows a row of an open session, if the handler has its default answers: it accepts what the
+-- server opens, except opens of unknown types, keeps its window target and does nothing to the session that it borrows.
+-- Moves one after another and their result; the code does one move after the other.
 use Rattle.std.specs.Prelude.{◌≡◌, ◌⊎◌, ℕ, nat_lt, if◌then◌else◌, Bool, false, not, ◌&&◌, ◌||◌, List, [], ◌∷◌, Option, Result, Ok, Err}
 use Rattle.sshc_wire.specs.declared.resolution.Resolution.{Resolution}
 use Rattle.sshc_opening.specs.declared.error.Error.{Error}
@@ -24,19 +24,19 @@ default_opinions s = record { takes_unknown = false; window_target = s.window_ta
 abbrev pub all_moves : SessionRow → List Move
 all_moves row = onto row.front (row.back Accept)
 
--- the row was followed to its end, or memory ran out behind some of its moves
+-- the row was followed to its end, or memory ran out after some of its moves
 abbrev pub Follows : SessionRow → SessionState → SessionState → Result Flow Error → Type 0
 Follows row old new (Ok flows.Went) = (row.next ≡ goes) × (new ≡ done (all_moves row) old)
 Follows row old new (Ok (flows.Ended e)) = (row.next ≡ ends e) × (new ≡ done (all_moves row) old)
 Follows row old new (Err e) =
     ((e ≡ NoMemory) × Fronts (all_moves row) old new) ⊎ ((row.next ≡ refuses e) × (new ≡ done (all_moves row) old))
 
--- the refusal for a packet that can't be read
+-- the error for a packet that can't be read
 abbrev pub refusal_of : PacketError → Error
 refusal_of packets.NoMemory = NoMemory
 refusal_of packets.SshEncoding = SshEncoding
 
--- a row that answers the oldest request: by its answer, or its refusal, or memory ran out
+-- a row that answers the oldest request: with its answer, or a refusal, or out of memory
 abbrev pub Succeeds : SessionRow → Result (Option Resolution) Error → Type 0
 Succeeds row (Ok answer) = row ≡ replied_row answer
 Succeeds row (Err e) = (e ≡ NoMemory) ⊎ (row ≡ refused e)

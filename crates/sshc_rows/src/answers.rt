@@ -1,4 +1,4 @@
-//! Our answers to the peer's requests (RFC 4254, sections 4 and 5.4).
+//! Our replies to the peer's requests (RFC 4254, sections 4 and 5.4).
 
 ghost use Rattle.std.specs.Prelude.{◌≡◌};
 ghost use Rattle.sshc_moves.specs.Moves.{Answers, AnswersOn};
@@ -11,7 +11,7 @@ use sshc_opening::Error;
 use sshc_session::Connection;
 use sshc_wire::ChannelId;
 
-/// The answer to a request on a channel, where one is wanted.
+/// The reply to a request on a channel, if one is wanted.
 pub fn answered_on(
     session: &mut Connection,
     id: ChannelId,
@@ -26,7 +26,7 @@ pub fn answered_on(
     Ok(Flow::Went)
 }
 
-/// The answer to a global request, where one is wanted.
+/// The reply to a global request, if one is wanted.
 pub fn answered(session: &mut Connection, want_reply: bool, done: bool) -> Result<Flow, Error>
     ensures row { Follows (plain_row (if_wanted want_reply (Answers done))) session.old session.new result }
 {

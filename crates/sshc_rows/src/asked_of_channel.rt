@@ -43,7 +43,7 @@ fn request(
     session.request_on(id, request)
 }
 
-/// Bytes and ends; else a request.
+/// Bytes and ends; otherwise a request.
 #[tactic(auto, unfolding(sshc_moves::specs::SessionTable::Users::channel_moves))]
 pub(crate) fn channel_moves(
     session: &mut Connection,
@@ -63,7 +63,7 @@ pub(crate) fn channel_moves(
     }
 }
 
-/// A terminal's size and modes, and a display; else what a program is asked for.
+/// A terminal's size and modes; otherwise something to forward, or something for a program.
 #[tactic(auto, unfolding(sshc_moves::specs::SessionTable::Users::terminal_moves))]
 fn terminal_moves(session: &mut Connection, id: ChannelId, msg: &ChannelMsg) -> Result<(), NoMemory>
     ensures { Does (terminal_moves id.0 msg.now) session.old session.new result }
@@ -126,7 +126,7 @@ fn request_pty(
     )
 }
 
-/// A display or the user's agent is forwarded; else a program is asked for something.
+/// Forwards a display or the user's agent; otherwise something for a program.
 #[tactic(auto, unfolding(sshc_moves::specs::SessionTable::Users::forwarded_moves))]
 fn forwarded_moves(
     session: &mut Connection,
@@ -161,7 +161,7 @@ fn forwarded_moves(
     }
 }
 
-/// What a program is asked for and told.
+/// What a program is asked or sent.
 #[tactic(auto, unfolding(sshc_moves::specs::SessionTable::Users::program_moves))]
 fn program_moves(session: &mut Connection, id: ChannelId, msg: &ChannelMsg) -> Result<(), NoMemory>
     ensures { Does (program_moves id.0 msg.now) session.old session.new result }

@@ -1,4 +1,4 @@
-//! How a row goes on.
+//! The result of a row.
 
 ghost use Rattle.std.specs.Prelude.{◌≡◌};
 ghost use Rattle.sshc_rows.specs.Follows.{refusal_of};
@@ -6,14 +6,14 @@ ghost use Rattle.sshc_rows.specs.Follows.{refusal_of};
 use sshc_opening::{Ended, Error};
 use sshc_packets::PacketError;
 
-/// How a row goes on unless it is refused.
+/// The result of a row that isn't refused.
 #[derive(Debug, Drop)]
 pub enum Flow {
     Went,
     Ended(Ended),
 }
 
-/// Why a packet that can't be read refuses the session.
+/// The session's error for a packet that can't be read.
 pub fn refusal_of(e: PacketError) -> Error
     ensures { result ≡ refusal_of e }
 {

@@ -1,5 +1,5 @@
-//! The rows of an open session that call no handler: what the user asks, timers, the answers to our requests, and ours
-//! to the peer's.
+//! The rows of an open session that call no handler: what the user asks, timers, the replies to our requests, and our
+//! replies to the peer's.
 #![tactic(auto)]
 
 mod answers;

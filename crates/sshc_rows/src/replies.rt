@@ -1,4 +1,4 @@
-//! Rows of the answers to global requests of ours, each the oldest request's (RFC 4254, section 4).
+//! Rows of the replies to global requests of ours, each for the oldest request (RFC 4254, section 4).
 
 ghost use Rattle.std.specs.Prelude.{◌≡◌, IfOk, option_copied};
 ghost use Rattle.sshc_packets.specs.HostKeyProof.{proof_judged};
@@ -24,7 +24,7 @@ fn port_answer(port: Option<u32>) -> Resolution
     }
 }
 
-/// The answer to what is left unanswered by the server.
+/// The answer to a request that the server refused.
 fn failure_of(asked: &Asked) -> Option<Resolution>
     ensures { result ≡ failure_of asked.now }
 {
@@ -68,7 +68,7 @@ pub fn request_failure(session: &mut Connection, body: &[u8]) -> Result<Flow, Er
     failed(session)
 }
 
-/// The oldest request has no success.
+/// The oldest request failed.
 fn failed(session: &mut Connection) -> Result<Flow, Error>
     ensures row { Follows (failure_for session.old.replies) session.old session.new result }
 {
@@ -79,7 +79,7 @@ fn failed(session: &mut Connection) -> Result<Flow, Error>
     replied(session, answer)
 }
 
-/// REQUEST_SUCCESS (RFC 4254, section 4), by what the oldest request asked. Where none waits nothing is read.
+/// REQUEST_SUCCESS (RFC 4254, section 4), by what the oldest request asked. If no request waits, the reply isn't read.
 #[tactic(auto, unfolding(sshc_moves::specs::SessionTable::Replies::request_success_row))]
 pub fn request_success<V: Verifier>(
     session: &mut Connection,
@@ -105,7 +105,7 @@ pub fn request_success<V: Verifier>(
     }
 }
 
-/// What a success answers.
+/// The answer to a request that the server granted.
 fn success_of<V: Verifier>(
     alloc: Global,
     verifier: &V,
@@ -130,7 +130,7 @@ fn success_of<V: Verifier>(
     }
 }
 
-/// The answer, where nothing follows.
+/// Returns the answer, if no bytes follow.
 fn bare_answer(body: &[u8], answer: Option<Resolution>) -> Result<Option<Resolution>, Error>
     ensures { Succeeds (bare_row body.now answer) result }
 {

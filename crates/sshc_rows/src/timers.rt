@@ -8,7 +8,7 @@ use crate::flow::Flow;
 use sshc_opening::Error;
 use sshc_session::{Ask, Connection};
 
-/// A keepalive is due, where the settings ask for them.
+/// A keepalive is due, if the settings ask for keepalives.
 #[tactic(auto, unfolding(sshc_moves::specs::SessionTable::Timers::keepalive_timer_row))]
 pub fn keepalive_timer(session: &mut Connection) -> Result<Flow, Error>
     ensures row { Follows (keepalive_timer_row session.old) session.old session.new result }

@@ -18,7 +18,7 @@ use sshc_packets::ChannelOpen;
 use sshc_session::{Ask, Connection};
 use sshc_wire::{ChannelId, ChannelOpenFailure, Disconnect, NoMemory, Resolution, Text, Ticket};
 
-/// Ticket 0 is none.
+/// Ticket 0 means no ticket.
 fn asked_ticket(ticket: Ticket) -> Option<Ticket>
     ensures { result ≡ asked_ticket ticket }
 {
@@ -99,7 +99,7 @@ fn prove(session: &mut Connection, ticket: Ticket, keys: &[PublicKey]) -> Result
     }
 }
 
-/// Nobody waits for an extension in an open session.
+/// An extension isn't waited for in an open session.
 fn await_extension(session: &mut Connection, ticket: Ticket, name: &str) -> Result<(), NoMemory>
     ensures { Does (extension_moves (is_seen session.old.opening.seen name.now) ticket) session.old session.new result }
 {
@@ -118,7 +118,7 @@ fn tell_sig_algs(session: &mut Connection, ticket: Ticket) -> Result<(), NoMemor
     session.resolve(ticket, answer)
 }
 
-/// The moves of what goes on.
+/// The moves of what the user asks without ending the session.
 #[tactic(auto, unfolding(sshc_moves::specs::SessionTable::Users::user_moves))]
 fn user_moves(session: &mut Connection, event: &Event) -> Result<(), NoMemory>
     requires { is_live session.old ≡ true }
@@ -140,7 +140,7 @@ fn user_moves(session: &mut Connection, event: &Event) -> Result<(), NoMemory>
     }
 }
 
-/// Opens of ours; else a forward.
+/// Opens of ours; otherwise a forward.
 #[tactic(auto, unfolding(sshc_moves::specs::SessionTable::Users::open_moves))]
 fn open_moves(session: &mut Connection, event: &Event) -> Result<(), NoMemory>
     requires { is_live session.old ≡ true }
@@ -197,7 +197,7 @@ fn open_socket(session: &mut Connection, path: &Text, ticket: Ticket) -> Result<
     )
 }
 
-/// Forwards; else another global request.
+/// Forwards; otherwise another global request.
 #[tactic(auto, unfolding(sshc_moves::specs::SessionTable::Users::forward_moves))]
 fn forward_moves(session: &mut Connection, event: &Event) -> Result<(), NoMemory>
     ensures { Does (forward_moves event.now) session.old session.new result }

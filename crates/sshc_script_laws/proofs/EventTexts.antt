@@ -1,4 +1,4 @@
--- An event's text is read as its head, and a head that is read stands there as its text.
+-- An event's text is read as its head, and the bytes of a head that is read are its text.
 use Rattle.std.proofs.Common.{◌≡◌, ℕ, ◌+◌, ◌<◌, ◌≤◌, ◌^◌, Bool, true, false, cond, ltb, List, [], ◌∷◌, ◌++◌, length, take, drop, Option, Some, None, Result, Ok, Err, refl, sym, ap, subst, ◌∙◌, arith, append_assoc, length-append}
 use Rattle.std.specs.Prelude.{◌||◌}
 use Rattle.std.specs.Int.{w32, w64, from_be_bytes}
@@ -47,7 +47,7 @@ head_of_is last moment (Some kind) fields head e =
     let h = in_order (ltb moment last) (moment, (kind, fields)) head e in
     (kind, refl, ltb-false _ _ h.0, sym h.1)
 
--- what stands in a head that was read
+-- the parts of a head that was read
 record IsHead (last : ℕ) (body : List ℕ) (head : Head) : Type 0 where
   pub later : last ≤ head.0
   pub small : head.0 < 2 ^ 64
@@ -152,7 +152,7 @@ pub record IsFound (last : ℕ) (bytes : List ℕ) (head : Head) (rest : List �
   pub short : 9 + length head.1.1 ≤ 262144
   pub text : bytes ≡ event_text head.0 head.1.0 head.1.1 ++ rest
 
--- an event that is found stands there as its text
+-- the bytes of an event that is found are its text
 pub event_there : (last : ℕ) (bytes : List ℕ) (head : Head) (rest : List ℕ) → IsBytes bytes → front last bytes ≡ Whole head rest → IsFound last bytes head rest
 unfolding event_text
 event_there last bytes head rest fits e =

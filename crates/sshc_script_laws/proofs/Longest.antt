@@ -1,4 +1,5 @@
--- The events that are taken of a script are its longest front, and a session's event that is spelled at the front is read.
+-- The events that are taken of a script are its longest front, and a session's event that the grammar has at the front
+-- is read.
 use Rattle.std.proofs.Common.{◌≡◌, Bool, true, false, cond, ℕ, zero, suc, ◌+◌, ◌<◌, ◌≤◌, List, [], ◌∷◌, ◌++◌, length, Result, Ok, Err, refl, sym, ap, subst, ◌∙◌, arith, append_assoc, length-append}
 use Rattle.sshc_wire.specs.Wire.{IsBytes}
 use Rattle.sshc_wire.specs.Format.{behind_are_bytes}
@@ -26,14 +27,14 @@ record Longest (most place last : ℕ) (text : List ℕ) (frames : List Frame) (
 abbrev head_of_frame : Frame → Head
 head_of_frame f = (f.moment, (f.kind, f.fields))
 
--- an event that stands at the front is found there
+-- an event at the front is found there
 found_first : (place last : ℕ) (f : Frame) (rest : List ℕ) → IsNext place last f → front last (frame_text f ++ rest) ≡ Whole (head_of_frame f) rest
 found_first place last f rest next = event_again last f.moment f.kind f.fields rest next.later next.moment next.size
 
 same_front : (a b : Head) (left rest : List ℕ) → Whole a left ≡ Whole b rest → (a ≡ b) × (left ≡ rest)
 same_front a b left rest e = (cc, cc)
 
--- where no event stands, the longest front has none
+-- if no event is at the front, the longest front has no events
 none_longer : (most place last : ℕ) (text : List ℕ) (f : Front) → front last text ≡ f → ((head : Head) (rest : List ℕ) → f ≡ Whole head rest → ⊥)
     → (others : List Frame) (behind : List ℕ) → Begins place last text others behind → length others ≤ most → (beyond : List Frame) × ([] ≡ others ++ beyond)
 none_longer most place last text f is none [] behind begins few = ([], refl)
@@ -41,7 +42,7 @@ none_longer most place last text f is none (g ∷ others) behind begins few =
     let parts : text ≡ frame_text g ++ (script_text others ++ behind) = begins.text_is ∙ append_assoc (frame_text g) (script_text others) behind in
     absurd (none (head_of_frame g) (script_text others ++ behind) (sym is ∙ ap (front last) parts ∙ found_first place last g (script_text others ++ behind) begins.row.0))
 
--- an event and the longest front behind it
+-- an event and the longest front after it
 one_longer : (most place last : ℕ) (text : List ℕ) (head : Head) (rest : List ℕ) (frames : List Frame) → front last text ≡ Whole head rest
     → ((others : List Frame) (behind : List ℕ) → Begins (place + length (frame_text (frame_at place head))) head.0 rest others behind → length others ≤ most → (beyond : List Frame) × (frames ≡ others ++ beyond))
     → (others : List Frame) (behind : List ℕ) → Begins place last text others behind → length others ≤ suc most → (beyond : List Frame) × (frame_at place head ∷ frames ≡ others ++ beyond)
@@ -61,7 +62,7 @@ one_longer most place last text head rest frames is longest (g ∷ others) behin
     same_frame : (g : Frame) (place : ℕ) (head : Head) → g.place ≡ place → head_of_frame g ≡ head → g ≡ frame_at place head
     same_frame g place head at is = ap (λ (p : ℕ). frame_at p (head_of_frame g)) at ∙ ap (frame_at place) is
 
--- ---- what stands at the front decides
+-- ---- the first bytes decide
 
 sized_is_no_end : (b : Bool) (r : Result Head EventError) (left : List ℕ) → cond b Bad (whole_front r left) ≡ End → ⊥
 sized_is_no_end true r left e = cc
@@ -176,7 +177,7 @@ taken_are_longest most script fits =
     let h = shown most 0 0 script fits in
     record { rest = h.rest; begins = h.begins; few = h.few; longest = h.longest; stops = from_start most (taken most script) h.rest (stop_of most script) h.stops }
 
--- a session's event that is spelled at the front is read there
+-- a session's event that the grammar has at the front is read there
 pub spelled_are_read : SpelledAreRead
 spelled_are_read e last moment spelled rest (fields, spells, is) later small short =
     let size : 13 + length fields ≤ 262148 = omega (arith, short, ap length is, length_of_event moment (kind_of e) fields) in

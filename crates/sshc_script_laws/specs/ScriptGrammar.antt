@@ -1,5 +1,7 @@
--- The script grammar on the whole text: a script's text is its events' texts, one after another (docs/FORMATS.md, "Events").
--- Nothing here reads. How a script is read from its front (sshc_script, specs/Script) is defined apart from it; a law joins the two.
+-- The script grammar on the whole text: a script's text is its events' texts, one after another (docs/FORMATS.md,
+-- "Events").
+-- No definition here reads. How a script is read from its front (sshc_script, specs/Script) is defined apart from it; a
+-- law joins the two.
 use Rattle.std.specs.Prelude.{◌≡◌, ℕ, ◌+◌, ◌<◌, ◌≤◌, ◌^◌, List, [], ◌∷◌, ◌++◌, length, Ok}
 use Rattle.sshc_wire.specs.Wire.{u32_text, u64_text}
 use Rattle.sshc_event.specs.declared.event.Event.{Event}
@@ -36,20 +38,20 @@ pub record IsNext (place last : ℕ) (f : Frame) : Type 0 where
   pub moment : f.moment < 2 ^ 64
   pub size : 9 + length f.fields ≤ 262144
 
--- events in a row, from a place and a moment on
+-- events one after another, from a place and a moment on
 abbrev pub AreInRow : ℕ → ℕ → List Frame → Type 0
 AreInRow place last [] = Unit {0}
 AreInRow place last (f ∷ frames) = IsNext place last f × AreInRow (place + length (frame_text f)) f.moment frames
 
 -- ---- the longest front
 
--- the text begins with these events, from a place and a moment on, and goes on with the rest
+-- the text begins with these events, from a place and a moment on, and continues with the rest
 pub record Begins (place last : ℕ) (text : List ℕ) (frames : List Frame) (rest : List ℕ) : Type 0 where
   pub row : AreInRow place last frames
   pub text_is : text ≡ script_text frames ++ rest
 
--- how reading stops behind so many events: where nothing follows; at the place where no event stands; or where one event more
--- than were to be taken, or anything, follows
+-- how reading stops after these events: no bytes remain; fewer events than `most` were taken, and the bytes that remain
+-- are at this place; or `most` events were taken, and bytes remain
 abbrev pub StopsWith : ℕ → List Frame → List ℕ → ScriptStop → Type 0
 StopsWith most frames rest whole = rest ≡ []
 StopsWith most frames rest (bad place) = (place ≡ length (script_text frames)) × (length frames < most) × (0 < length rest)
@@ -71,7 +73,7 @@ pub record IsReadFrom (last : ℕ) (text : List ℕ) (moment : ℕ) (e : Event) 
   pub found : front last text ≡ Whole (moment, (kind_of e, fields)) rest
   pub is_read : event_of (kind_of e) fields ≡ Ok e
 
--- a session's event that is spelled at the front is read, whatever follows
+-- a session's event that the grammar has at the front is read, whatever follows
 abbrev pub SpelledAreRead : Type 0
 SpelledAreRead =
     (e : Event) (last moment : ℕ) (spelled rest : List ℕ) → IsEventText moment e spelled → last ≤ moment → moment < 2 ^ 64 → length spelled ≤ 262148

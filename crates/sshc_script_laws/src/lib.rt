@@ -1,4 +1,4 @@
-//! What the events of a script are, by the grammar of the whole text.
+//! The events of a script, by the grammar of the whole text.
 #![tactic(auto)]
 
 mod laws;

@@ -1,4 +1,4 @@
--- A session that is live drops no packet, and what is no packet is never dropped.
+-- The outbox of a live session drops no packet, and a record that isn't a packet is never dropped.
 use Rattle.std.proofs.Common.{◌≡◌, Bool, true, false, not, ◌&&◌, List, [], ◌∷◌, ◌++◌, refl, ap, ◌∙◌}
 use Rattle.std.proofs.lemmas.List.{append-nil}
 use Rattle.sshc_wire.specs.declared.record.Record.{Record}

@@ -1,4 +1,4 @@
--- What each move leaves of a live session, in the words of the calls that do it.
+-- The state after each move of a live session, in the form in which the calls that do it need it.
 use Rattle.std.proofs.Common.{◌≡◌, ℕ, ◌+◌, ◌≤◌, Bool, true, false, List, [], ◌++◌, length, drop, Option, Some, None, refl, ap, ◌∙◌, arith, length-append, if◌then◌else◌}
 use Rattle.sshc_wire.specs.Reasons.{open_failure_code}
 use Rattle.sshc_wire.specs.Records.{record_text, resolution_text}
@@ -29,7 +29,7 @@ use Rattle.sshc_moves.specs.SessionState.{SessionState, exchanging, is_live, may
 
 -- ---- calls that write packets
 
--- the session after a call of the table alone
+-- the session after only a call of the table
 abbrev after_call : Call → SessionState → SessionState
 after_call call s =
     record s { table = (called call s.table).table; records = s.records ++ records_of (called call s.table).said }
@@ -150,7 +150,7 @@ after_rejects id reason s live =
 
 -- ---- numbers and room
 
--- a number that two calls name is one
+-- two numbers that are the same optional number are equal
 pub same_number : (next : Option ℕ) (m n : ℕ) → next ≡ Some m → next ≡ Some n → m ≡ n
 same_number next m n first second = cc
 

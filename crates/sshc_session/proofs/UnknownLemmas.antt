@@ -1,4 +1,4 @@
--- Where no open of ours waits under a number, an answer of the peer's changes nothing.
+-- If no open of ours waits under a number, an answer of the peer's to it changes nothing.
 use Rattle.std.proofs.Common.{◌≡◌, ℕ, Bool, true, false, List, [], ◌∷◌, Option, Some, None, is_some, if◌then◌else◌, refl, ap, sym, ◌∙◌, inl, inr}
 use Rattle.std.proofs.lemmas.Bool.Decides.{eqb_tells}
 use Rattle.sshc_wire.specs.declared.ticket.Ticket.{Ticket}

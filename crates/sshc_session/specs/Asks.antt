@@ -1,4 +1,4 @@
--- A global request as a call is lent it, as plain data (RFC 4254, section 4).
+-- A global request as it is passed to a call, as plain data (RFC 4254, section 4).
 use Rattle.sshc_moves.specs.Messages.{Ask, CancelForward, CancelForwardSocket, Forward, ForwardSocket, KeepAlive, NoMore, OwnRequest, Ping, Prove}
 use Rattle.sshc_session.specs.declared.ask.Ask.{Ask as Lent}
 use Rattle.sshc_session.specs.declared.ask.Ask.TheVariants as lent

@@ -1,5 +1,5 @@
--- A step of the opening before the session is open: over the session's own records, and nothing else of the session
--- changes but its life.
+-- A step of the opening before the session is open: it works on the session's own records, and changes nothing else of
+-- the session except its life.
 use Rattle.std.specs.Prelude.{◌≡◌, ℕ, Bool, true, false, not, List}
 use Rattle.sshc_wire.specs.Outgoing.{Outgoing}
 use Rattle.sshc_event.specs.declared.event.Event.{Event}
@@ -13,7 +13,7 @@ use Rattle.sshc_moves.specs.declared.life.Life.{Life}
 use Rattle.sshc_moves.specs.declared.life.Life.TheVariants.{Over, Runs}
 use Rattle.sshc_moves.specs.SessionState.{SessionState, runs}
 
--- what a step is lent besides its session, as it is at one moment: the signer's calls and refusals, and the gate's
+-- what a step borrows besides its session, as it is at one moment: the signer's calls and refusals, and the gate's
 -- refusals with what it judges by
 pub record Lent : Type 0 where
   pub session : SessionState
@@ -26,7 +26,7 @@ abbrev pub lent_session : SessionState → List SignCall → ℕ → ℕ → Lis
 lent_session session calls signer_refusals gate_refusals setting =
     record { session = session; calls = calls; signer_refusals = signer_refusals; gate_refusals = gate_refusals; setting = setting }
 
--- the session goes on behind the opening's step
+-- the session continues after the opening's step
 abbrev pub goes_on : {E : Type 0} → Step E → Bool
 goes_on steps.Went = true
 goes_on steps.Opened = true
@@ -36,7 +36,7 @@ abbrev pub life_if : Bool → Life
 life_if true = Runs
 life_if false = Over
 
--- where it goes on its life is as it was, else it is over
+-- if the session continues its life is as it was, else it is over
 abbrev pub life_behind : Bool → Life → Life
 life_behind true life = life
 life_behind false life = Over
@@ -45,7 +45,7 @@ life_behind false life = Over
 abbrev pub outbox_of : SessionState → ℕ → Outgoing
 outbox_of s room = record { records = s.records; room = room; muted = not (runs s.life) }
 
--- the opening's step over the session's records, and nothing else of the session changes but its life
+-- the opening's step on the session's records, where nothing else of the session changes except its life
 pub record StepsLent {E : Type 0} (gate : GateAnswers E) (event : Event) (was is : Lent) (result : Step E) : Type 0 where
   pub opening : OpeningState
   pub said : Outgoing
@@ -55,11 +55,11 @@ pub record StepsLent {E : Type 0} (gate : GateAnswers E) (event : Event) (was is
       (with_gate (lent opening said is.calls is.signer_refusals) is.gate_refusals is.setting) result
   pub rest : is.session ≡ record (was.session) { opening = opening; records = said.records; life = life_behind (goes_on result) was.session.life }
 
--- the records of a session that drops none
+-- the records of a session that drops no packets
 abbrev pub outgoing : SessionState → ℕ → Outgoing
 outgoing s room = record { records = s.records; room = room; muted = false }
 
--- the opening's step over the session's records, and nothing else of the session changes
+-- the opening's step on the session's records, where nothing else of the session changes
 pub record StepsOpening {E : Type 0} (gate : GateAnswers E) (event : Event) (was is : Lent) (result : Step E) : Type 0 where
   pub opening : OpeningState
   pub said : Outgoing

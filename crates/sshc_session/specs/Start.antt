@@ -12,7 +12,7 @@ abbrev pub first_of : {A : Type 0} → List A → Option A
 first_of [] = None
 first_of (x ∷ xs) = Some x
 
--- the handler is first asked with our window of a new channel
+-- the handler is first passed our window of a new channel
 abbrev pub new_session : SessionSettings → Settings → SessionState
 new_session settings opening = record {
   settings = settings;

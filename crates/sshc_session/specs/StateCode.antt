@@ -1,4 +1,4 @@
--- The code by which proofs tell states of a session apart; nothing else depends on it.
+-- The code by which proofs distinguish states of a session; nothing else depends on it.
 use Rattle.std.specs.Coded.{Coded, codes}
 use Rattle.sshc_key.specs.KeyCode.{key_code}
 use Rattle.sshc_key.specs.PairCode.{key_pair_code}

@@ -1,4 +1,4 @@
-//! Global requests of ours, with what their answers are for (RFC 4254, section 4).
+//! Global requests of ours, with what their replies are for (RFC 4254, section 4).
 
 ghost use Rattle.std.specs.Prelude.{◌≡◌, IfOk};
 ghost use Rattle.sshc_wire.specs.Outgoing.{listed};
@@ -12,7 +12,7 @@ use sshc_packets::GlobalRequest;
 use sshc_wire::{List, NoMemory, Ticket};
 use std::alloc::Global;
 
-/// A global request, with whom its answer is for. Ticket 0 asks for no answer.
+/// A global request, with whom its answer is for. Ticket 0 means that no answer is wanted.
 #[derive(Clone, Copy, Debug)]
 pub enum Ask<'a> {
     /// To listen on a port; port 0 lets the server choose one (RFC 4254, section 7.1).
@@ -42,7 +42,7 @@ pub enum Ask<'a> {
     NoMore {
         want_reply: bool,
     },
-    /// A keepalive that is always answered.
+    /// A keepalive that always wants a reply.
     Ping {
         ticket: Ticket,
     },
@@ -51,7 +51,7 @@ pub enum Ask<'a> {
         ticket: Ticket,
         keys: &'a [PublicKey],
     },
-    /// A request by its name and the bytes behind the flag.
+    /// A request by its name and the bytes after the flag.
     OwnRequest {
         ticket: Ticket,
         name: &'a str,
@@ -82,7 +82,7 @@ impl<'a> Ask<'a> {
         }
     }
 
-    /// Whether it is written with an answer wanted.
+    /// Whether it is written with a reply wanted.
     pub fn wants_answer(&self) -> bool
         ensures { result ≡ wants_answer (ask_of self.now) }
     {
@@ -113,7 +113,7 @@ impl<'a> Ask<'a> {
         }
     }
 
-    /// What the answer depends on.
+    /// What the meaning of the reply depends on.
     fn asked(&self, alloc: Global) -> Result<Asked, NoMemory>
         ensures { IfOk result (λ asked. asked ≡ (awaited_of (ask_of self.now)).asked) }
     {
@@ -132,7 +132,7 @@ impl<'a> Ask<'a> {
         }
     }
 
-    /// Its place in the queue of requests, where it wants an answer.
+    /// Its entry in the queue of requests, if it wants a reply.
     pub(crate) fn queued(&self, alloc: Global) -> Result<Option<Awaited>, NoMemory>
         ensures { IfOk result (λ entry. listed entry ≡ queued (ask_of self.now)) }
     {

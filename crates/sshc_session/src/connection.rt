@@ -1,4 +1,4 @@
-//! What a session keeps between two events.
+//! The state of a session between two events.
 
 ghost use Rattle.std.specs.Prelude.{◌≡◌, [], option_copied};
 ghost use Rattle.sshc_moves.specs.SessionState.{exchanging, is_live, may_tell, opens_later};
@@ -21,9 +21,9 @@ mod opening;
 mod opens;
 mod telling;
 
-/// What a session keeps between two events: its opening, its channels, the requests that wait for their answers, and
-/// what was said and not yet taken. Contracts see it as plain data. Each move is one call, which is done whole, or finds
-/// no memory and changes nothing.
+/// The state of a session between two events: its opening, its channels, the requests that wait for their replies, and
+/// the records that were not yet taken. Contracts see it as plain data. Each move is one call, which either does all of
+/// it, or runs out of memory and changes nothing.
 #[derive(Debug, Drop)]
 pub struct Connection {
     alloc: Global,
@@ -33,7 +33,7 @@ pub struct Connection {
     replies: VecDeque<Awaited>,
     keepalives: u64,
     window_target: u32,
-    /// Muted once the session doesn't run any more, so that no packet is added then.
+    /// Muted once the session doesn't run any more: no packet is added from then on.
     outbox: Outbox,
     life: Life,
 }
@@ -84,7 +84,7 @@ impl Connection {
         }
     }
 
-    /// What was said since the records were last taken.
+    /// Returns the records that were added since they were last taken.
     pub fn take_records(&mut self) -> Outbox
         ensures taken { result.records ≡ self.old.records }
         ensures rest { self.new ≡ record self.old { records = [] } }
@@ -96,7 +96,7 @@ impl Connection {
         std::mem::replace(&mut self.outbox, fresh)
     }
 
-    /// Where it takes memory from.
+    /// The allocator that it uses.
     pub fn alloc(&self) -> Global {
         self.alloc
     }
@@ -108,7 +108,7 @@ impl Connection {
         self.settings
     }
 
-    /// Its opening, which holds the exchange that runs in an open session too.
+    /// Its opening, which stores whose exchange runs also when the session is open.
     pub fn opening(&self) -> &Opening
         ensures { result.now ≡ self.now.opening }
     {
@@ -122,28 +122,28 @@ impl Connection {
         &self.table
     }
 
-    /// The oldest of the requests that wait for their answers.
+    /// The oldest of the requests that wait for their replies.
     pub fn first_reply(&self) -> Option<&Awaited>
         ensures { option_copied result ≡ first_of self.now.replies }
     {
         self.replies.front()
     }
 
-    /// How many keepalives in a row nothing was heard after.
+    /// How many keepalives in a row were sent since the peer was last heard.
     pub fn keepalives(&self) -> u64
         ensures { result ≡ self.now.keepalives }
     {
         self.keepalives
     }
 
-    /// The window that the handler is asked with, in bytes.
+    /// The window that the handler is passed, in bytes.
     pub fn window_target(&self) -> u32
         ensures { result ≡ self.now.window_target }
     {
         self.window_target
     }
 
-    /// How far its life has come.
+    /// The state of its life.
     pub fn life(&self) -> Life
         ensures { result ≡ self.now.life }
     {
@@ -157,7 +157,7 @@ impl Connection {
         self.opening.phase() == Phase::Open && self.life == Life::Runs
     }
 
-    /// Whether what happened may still be told in an open session.
+    /// Whether records may still be reported in an open session.
     pub fn may_tell(&self) -> bool
         ensures { result ≡ may_tell self.now }
     {

@@ -1,4 +1,4 @@
-//! What a session keeps between two events, and each of its moves as one call.
+//! The state of a session between two events, and each of its moves as one call.
 #![tactic(auto)]
 
 mod ask;

@@ -1,5 +1,5 @@
--- What the moves of a row keep: the session runs on, open as it was, and what was said before stands in front of what is said then. What
--- they say is the session's, and nothing of an agent.
+-- What the moves of a row keep: the session still runs, as open as it was, and the records before stay first. The
+-- records that moves add are the session's, and none is an agent's.
 use Rattle.std.proofs.Common.{◌≡◌, inl, inr, Bool, true, false, ℕ, List, [], ◌∷◌, ◌++◌, length, drop, Option, Some, None, refl, ap, sym, subst, ◌∙◌, append_assoc}
 use Rattle.std.proofs.lemmas.List.{append-nil, drop_at}
 use Rattle.std.specs.List.{AllByRecursion}
@@ -23,14 +23,14 @@ use Rattle.sshc_moves.specs.Moves.{Accepts, Answers, AnswersOn, Asks, Begins, Co
 use Rattle.sshc_moves.specs.SessionState.{SessionState}
 use Rattle.sshc_session_laws.specs.SessionRecords.{AreSessions, resolved_session, sessions_on}
 
--- a move by which the session isn't left and doesn't stop, and which tells nothing of an agent
+-- a move by which the session isn't left and doesn't stop, and which reports no record of an agent
 abbrev pub KeepsSession : Move → Type 0
 KeepsSession Leaves = ⊥
 KeepsSession Stops = ⊥
 KeepsSession (Tells (Agent conn answer)) = ⊥
 KeepsSession m = Unit {0}
 
--- ---- the session runs on
+-- ---- the session still runs
 
 -- life, phase and whether the opening is closed are as they were
 pub record IsAsBefore (old new : SessionState) : Type 0 where
@@ -62,7 +62,7 @@ after_keeps : (m : Move) (s : SessionState) → KeepsSession m → IsAsBefore s 
 unfolding after
 after_keeps m s keeps = let d = gated_keeps (may_go m s) m s keeps in record { life = d.life; phase = d.phase; closed = d.closed }
 
--- moves by which the session isn't left leave it as it was in this
+-- moves by which the session isn't left keep this
 pub moves_keep : (moves : List Move) (s : SessionState) → AllByRecursion KeepsSession moves → IsAsBefore s (done moves s)
 moves_keep [] s all = record { life = refl; phase = refl; closed = refl }
 moves_keep (m ∷ moves) s (keeps, all) =
@@ -70,9 +70,9 @@ moves_keep (m ∷ moves) s (keeps, all) =
     let later = moves_keep moves (after m s) all in
     record { life = later.life ∙ first.life; phase = later.phase ∙ first.phase; closed = later.closed ∙ first.closed }
 
--- ---- what is said
+-- ---- the records
 
--- these were said first
+-- these records come first
 abbrev pub SaidFirst : List Record → List Record → Type 0
 SaidFirst first all = (more : List Record) × (all ≡ first ++ more)
 
@@ -85,23 +85,23 @@ move_says m s =
 said_before : (a b c : List Record) → SaidFirst a b → SaidFirst b c → SaidFirst a c
 said_before a b c (more, is) (others, same) = (more ++ others, same ∙ ap (λ (rs : List Record). rs ++ others) is ∙ append_assoc a more others)
 
--- moves only add to what was said
+-- moves only add to the records
 pub moves_say : (moves : List Move) (s : SessionState) → SaidFirst s.records (done moves s).records
 moves_say [] s = ([], sym (append-nil s.records))
 moves_say (m ∷ moves) s = said_before s.records (after m s).records (done moves (after m s)).records (move_says m s) (moves_say moves (after m s))
 
--- what some of the moves say, from the first on, is said first by all of them
+-- the records after the first of the moves come first in the records after all of them
 pub front_says : (moves : List Move) (old new : SessionState) → Fronts moves old new → SaidFirst new.records (done moves old).records
 front_says [] old new is = ([], ap (λ (s : SessionState). s.records) (sym is) ∙ sym (append-nil new.records))
 front_says (m ∷ moves) old new (inl is) = let said = moves_say (m ∷ moves) old in (said.0, said.1 ∙ ap (λ (s : SessionState). s.records ++ said.0) (sym is))
 front_says (m ∷ moves) old new (inr fronts) = front_says moves (after m old) new fronts
 
--- the end of a session says nothing
+-- the end of a session adds no record
 pub stop_says : (s : SessionState) → (after Stops s).records ≡ s.records
 unfolding after
 stop_says s = refl
 
--- ---- what is said is the session's
+-- ---- the records are the session's
 
 packets_session : (said : List Said) → AreSessions (records_of said)
 packets_session [] = tt
@@ -174,7 +174,7 @@ gated_session : (b : Bool) (m : Move) (s : SessionState) → KeepsSession m → 
 gated_session true m s keeps = deed_session m s keeps
 gated_session false m s keeps = tt
 
--- behind what was said first there is nothing of an agent
+-- no record after the first ones is an agent's
 abbrev pub SaidSessions : List Record → List Record → Type 0
 SaidSessions first all = (more : List Record) × (all ≡ first ++ more) × AreSessions more
 
@@ -192,7 +192,7 @@ moves_session (m ∷ moves) s (keeps, all) =
     let later = moves_session moves (after m s) all in
     (one.0 ++ later.0, later.1 ∙ ap (λ (rs : List Record). rs ++ later.0) one.1 ∙ append_assoc s.records one.0 later.0, sessions_on one.0 later.0 one.2 later.2)
 
--- what such moves say, behind what was said before, is the session's
+-- the records that such moves add after those before are the session's
 pub said_session : (moves : List Move) (s : SessionState) → AllByRecursion KeepsSession moves → AreSessions (drop (length s.records) (done moves s).records)
 said_session moves s all =
     let said = moves_session moves s all in

@@ -1,5 +1,5 @@
--- An open session writes no request to authenticate (RFC 4252, section 5.1: 50, USERAUTH_REQUEST), and keeps what is stored of the last one: what its
--- moves write are packets of the connection protocol (RFC 4254), and disconnections.
+-- An open session writes no request to authenticate (RFC 4252, section 5.1: 50, USERAUTH_REQUEST), and keeps what is
+-- stored of the last one: what its moves write are packets of the connection protocol (RFC 4254), and disconnections.
 use Rattle.std.proofs.Common.{◌≡◌, ℕ, ◌+◌, Bool, true, false, List, [], ◌∷◌, ◌++◌, length, drop, Option, Some, None, refl, ap, sym, subst, ◌∙◌, append_assoc, arith}
 use Rattle.std.proofs.lemmas.List.{append-nil, drop_at}
 use Rattle.std.specs.Prelude.{◌==◌, if◌then◌else◌}
@@ -150,7 +150,7 @@ gated_none : (b : Bool) (m : Move) (s : SessionState) → WritesNone (done_if b 
 gated_none true m s = deed_none m s
 gated_none false m s = λ rest. refl
 
--- behind what was said first there is no such request
+-- after the first records there is no such request
 abbrev pub AddsNone : List Record → List Record → Type 0
 AddsNone first all = (more : List Record) × (all ≡ first ++ more) × WritesNone more
 
@@ -168,7 +168,7 @@ moves_none (m ∷ moves) s =
     let later = moves_none moves (after m s) in
     (one.0 ++ later.0, later.1 ∙ ap (λ (rs : List Record). rs ++ later.0) one.1 ∙ append_assoc s.records one.0 later.0, none_two one.0 later.0 one.2 later.2)
 
--- what moves say, behind what was said before, is no such request
+-- the records that moves add after those before contain no such request
 pub said_none : (moves : List Move) (s : SessionState) → WritesNone (drop (length s.records) (done moves s).records)
 said_none moves s =
     let said = moves_none moves s in
@@ -176,7 +176,7 @@ said_none moves s =
 
 -- ---- what is stored of the last request
 
--- its user, its method, the bytes that were handed out to be signed, and what they stand beside, are as they were
+-- its user, its method, the bytes that were handed out to be signed, the phase and the session id are as they were
 pub record IsSameRequest (old new : OpeningState) : Type 0 where
   pub phase : new.phase ≡ old.phase
   pub session_id : new.session_id ≡ old.session_id

@@ -1,5 +1,5 @@
--- Each row of an open session that refuses or ends has its cause, and no row leaves or stops the session by a move, or tells anything of an
--- agent: a law above the table, for whoever runs it.
+-- Each row of an open session that refuses or ends has its cause, and no row leaves or stops the session by a move, or
+-- reports a record of an agent: a law about the table, independent of the code that runs it.
 use Rattle.std.proofs.Common.{◌≡◌, ◌≢◌, ◌<◌, ◌≤◌, ◌+◌, ◌-◌, ◌*◌, ◌^◌, inl, inr, ℕ, zero, suc, Bool, true, false, List, [], ◌∷◌, ◌++◌, length, Option, Some, None, Result, Ok, Err, refl, ap, sym, ◌∙◌, subst, arith}
 use Rattle.std.specs.Prelude.{min, not, ◌==◌, ◌&&◌, nat_lt, is_some, if◌then◌else◌}
 use Rattle.std.specs.Int.{w32}
@@ -68,7 +68,7 @@ use Rattle.sshc_moves.specs.SessionTable.Users.{asked_row, channel_moves, extens
 use Rattle.sshc_session_laws.specs.KeptByMoves.{KeepsSession}
 use Rattle.sshc_session_laws.specs.OpenCauses.{Fails, FirstIsBare, IsBare, IsBroken, IsOpenCause, OpenFails, RequestFails, adjustment, bytes, confirmation, disconnection, extended_bytes, failure, global, number_alone, opening, refusal, request, success}
 
--- ---- what is said
+-- ---- what the law says
 
 -- why an open session refuses an event, and why it ends
 abbrev pub open_why : SessionState → Event → Why
@@ -82,7 +82,8 @@ NextCaused P (refuses e) = P.refusal e
 abbrev pub AllKeep : List Move → Type 0
 AllKeep moves = AllByRecursion KeepsSession moves
 
--- it goes on, or has its cause, and none of its moves leaves or stops the session or tells anything of an agent, whatever a handler answers
+-- the row continues, or has its cause, and none of its moves leaves or stops the session or reports a record of an
+-- agent, whatever a handler returns
 pub record RowHolds (P : Why) (row : SessionRow) : Type 0 where
   pub caused : NextCaused P row.next
   pub front : AllKeep row.front
@@ -131,7 +132,7 @@ reports_holds : (P : Why) (front : List Move) (id : ℕ) (said : ChannelRecord) 
 unfolding asking
 reports_holds P front id said back all others = record { caused = tt; front = all; back = λ answer. (tt, others) }
 
--- a part that can't be read breaks the packet; else what follows it may
+-- a part that can't be read breaks the packet; else what follows it may break it
 part_holds : {A : Type 0} (P : Why) (parts : List Part) (r : Result (A × List ℕ) WireError) (on : A × List ℕ → SessionRow) → (BreaksBehind (λ rest. Breaks parts rest) (rest_of r) → P.refusal errors.SshEncoding) →
     ((x : A × List ℕ) → r ≡ Ok x → (Breaks parts x.1 → P.refusal errors.SshEncoding) → RowHolds P (on x)) → RowHolds P (with_read r on)
 part_holds P parts (Ok x) on breaks each = each x refl breaks
@@ -487,7 +488,7 @@ user_holds s event is early =
 
 -- ---- any event
 
--- each row of an open session holds so
+-- this holds of each row of an open session
 pub session_holds : (accepts : Accepts) (o : Opinions) (s : SessionState) (event : Event) → is_open s.opening.phase ≡ true → RowHolds (open_why s event) (session_row accepts o s event)
 unfolding session_row keepalive_timer_row
 session_holds accepts o s events.PeerKexinit is = kexinit_holds s s.opening.flag refl
@@ -499,7 +500,7 @@ session_holds accepts o s events.KeepaliveTimer is = keepalive_holds s s.setting
 session_holds accepts o s events.InactivityTimer is = inactivity_holds s
 session_holds accepts o s event is = user_holds s event is (λ running. running)
 
--- none of all the moves of a row, with those by one answer of a handler, leaves or stops the session
+-- none of all the moves of a row, with those after one answer of a handler, leaves or stops the session
 pub all_keep : (P : Why) (row : SessionRow) (answer : OpenAnswer) → RowHolds P row → AllKeep (onto row.front (row.back answer))
 all_keep P row answer holds =
     subst (λ (moves : List Move). AllKeep moves) (sym (onto-append row.front (row.back answer))) (two_keep row.front (row.back answer) holds.front (holds.back answer))

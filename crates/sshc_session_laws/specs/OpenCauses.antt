@@ -1,5 +1,6 @@
--- Why an open session refuses an event, and why it ends, by its state and the event alone (RFC 4253, sections 7 and 11; RFC 4254; OpenSSH's
--- PROTOCOL). Stated apart from the table of rows, so that an error made in both shows; what can't be read is said by the packets' grammar.
+-- Why an open session refuses an event, and why it ends, by its state and the event alone (RFC 4253, sections 7 and 11;
+-- RFC 4254; OpenSSH's PROTOCOL). Stated apart from the table of rows, so that an error made in both shows; which
+-- packets can't be read follows from the packets' grammar.
 use Rattle.std.specs.Prelude.{◌≡◌, ◌≢◌, ◌⊎◌, ℕ, ◌+◌, ◌-◌, ◌^◌, ◌<◌, ◌≤◌, min, Bool, true, false, List, [], ◌∷◌, None, is_some, Result, Ok, Err}
 use Rattle.sshc_wire.specs.declared.msg.TheConstants.{DISCONNECT, GLOBAL_REQUEST, REQUEST_SUCCESS, REQUEST_FAILURE, CHANNEL_OPEN, CHANNEL_OPEN_CONFIRMATION, CHANNEL_OPEN_FAILURE, CHANNEL_WINDOW_ADJUST, CHANNEL_DATA, CHANNEL_EXTENDED_DATA, CHANNEL_EOF, CHANNEL_CLOSE, CHANNEL_REQUEST, CHANNEL_SUCCESS, CHANNEL_FAILURE}
 use Rattle.sshc_wire.specs.declared.error.WireError.{WireError}
@@ -24,12 +25,12 @@ use Rattle.sshc_moves.specs.SessionState.{SessionState, is_open}
 
 -- ---- packets that can't be read
 
--- a part is short or isn't text, or bytes are left behind the last
+-- a part is short or isn't text, or bytes remain after the last part
 abbrev pub Fails : {A : Type 0} {E : Type 0} → Result A E → Type 0
 Fails (Ok x) = ⊥
 Fails (Err e) = Unit {0}
 
--- the reply to the oldest request may hold nothing
+-- the reply to the oldest request must be empty
 abbrev pub IsBare : Asked → Type 0
 IsBare asked.Simple = Unit {0}
 IsBare asked.Ping = Unit {0}
@@ -41,12 +42,12 @@ abbrev pub FirstIsBare : List Awaited → Type 0
 FirstIsBare [] = ⊥
 FirstIsBare (first ∷ replies) = IsBare first.asked
 
--- behind the head of a request on a channel
+-- after the head of a request on a channel
 abbrev pub RequestFails : Result RequestHead WireError → Type 0
 RequestFails (Ok head) = Fails (peer_request_of head.name head.rest)
 RequestFails (Err e) = Unit {0}
 
--- behind the head of an open
+-- after the head of an open
 abbrev pub OpenFails : Result PeerOpen WireError → Type 0
 OpenFails (Ok head) = Fails (server_open_of head.kind head.rest)
 OpenFails (Err e) = Unit {0}
@@ -76,7 +77,7 @@ abbrev pub WaitsNot : SessionState → Result Confirmation WireError → Type 0
 WaitsNot s (Ok c) = awaited c.recipient s.table ≡ None
 WaitsNot s (Err e) = ⊥
 
--- a packet from 50 on while the peer's exchange runs, or a confirmation of no open of ours that waits
+-- a packet from 50 on while the peer's exchange runs, or a confirmation although no open of ours with its number waits
 abbrev pub IsUnexpected : SessionState → Event → Type 0
 IsUnexpected s (events.Payload (n ∷ body)) =
     ((s.opening.flag ≡ flags.Peer) × (50 ≤ n)) ⊎ ((n ≡ CHANNEL_OPEN_CONFIRMATION) × WaitsNot s (confirmation_of body))
@@ -84,7 +85,7 @@ IsUnexpected s event = ⊥
 
 -- ---- timers
 
--- more keepalives in a row than may stay without an answer
+-- more keepalives in a row than may stay unanswered
 pub record AreTooMany (s : SessionState) : Type 0 where
   pub set : is_some s.settings.keepalive_interval ≡ true
   pub bound : s.settings.keepalive_max ≢ 0
@@ -92,7 +93,7 @@ pub record AreTooMany (s : SessionState) : Type 0 where
 
 -- ---- why
 
--- why an open session refuses an event with an error; the others never come from one
+-- why an open session refuses an event with an error; any other error never comes from an open session
 abbrev pub IsOpenCause : SessionState → Event → Error → Type 0
 IsOpenCause s event errors.NoMemory = Unit {0}
 IsOpenCause s event errors.OutOfTurn = IsEarly s.opening.flag event
@@ -105,7 +106,7 @@ IsOpenCause s event errors.KeepaliveTimeout = (event ≡ events.KeepaliveTimer) 
 IsOpenCause s event errors.InactivityTimeout = (event ≡ events.InactivityTimer) × (s.opening.settings.inactivity ≡ true)
 IsOpenCause s event e = ⊥
 
--- before the session is open the opening's causes count
+-- before the session is open the opening's causes apply
 abbrev pub IsCauseIn : Bool → (ExchangeResult → Type 0) → SessionState → Event → Error → Type 0
 IsCauseIn false SaysNo s event e = IsCause SaysNo s.opening event e
 IsCauseIn true SaysNo s event e = IsOpenCause s event e

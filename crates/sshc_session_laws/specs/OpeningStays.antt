@@ -1,5 +1,6 @@
--- A row of the opening that goes on leaves the session unopened, and as little closed as it was; a row that opens the session leaves it in
--- phase Open; no row reports a record of an agent: laws above the table, for whoever goes on behind it.
+-- A row of the opening after which the session continues leaves the session unopened, and closed or not as it was; a
+-- row that opens the session leaves it in phase Open; no row reports a record of an agent: laws about the table, for
+-- whoever continues after it.
 use Rattle.std.proofs.Common.{◌≡◌, ℕ, ◌+◌, Bool, true, false, List, [], ◌∷◌, ◌++◌, length, Option, Some, None, Result, Ok, Err, refl}
 use Rattle.std.specs.Prelude.{not, ◌==◌, if◌then◌else◌, bytes_eq, codes}
 use Rattle.std.specs.Int.{w32}
@@ -52,9 +53,9 @@ use Rattle.sshc_opening.specs.Row.{Row, Next, stays, opens, ends, refuses, ends_
 use Rattle.sshc_moves.specs.SessionState.{is_open}
 use Rattle.sshc_session_laws.specs.SessionRecords.{AreSessions, resolved_session, sessions_on}
 
--- ---- what is said
+-- ---- what the law says
 
--- it goes on unopened and as little closed, or it is open
+-- the session continues unopened and closed or not as before, or it is open
 abbrev pub StaysNext : Bool → Next → Type 0
 StaysNext closed (stays t) = (t.closed ≡ closed) × (is_open t.phase ≡ false)
 StaysNext closed (opens t) = is_open t.phase ≡ true
@@ -71,7 +72,7 @@ cond_stays : {A : Type 0} (P : A → Type 0) (b : Bool) (x y : A) → P x → P 
 cond_stays P true x y one other = one
 cond_stays P false x y one other = other
 
--- who waited for an extension is answered
+-- the records that resolve the tickets of those who waited for an extension
 seen_session : (name : List ℕ) (waiters : List Waiter) → AreSessions (answers_seen name waiters)
 seen_session name [] = tt
 seen_session name (waiter ∷ waiters) =
@@ -349,7 +350,8 @@ turn_stays : (s : OpeningState) (event : Event) (told : Told) (awaits : Bool) �
 turn_stays s event told true is = awaiting_stays s event is
 turn_stays s event told false is = event_stays s event told is
 
--- a row that goes on leaves the session unopened and as little closed; one that opens it leaves it open
+-- a row after which the session continues leaves it unopened, and closed or not as it was; one that opens the session
+-- leaves it open
 pub open_stays : (s : OpeningState) (event : Event) (told : Told) → is_open s.phase ≡ false → Always (Stays s.closed) (open_row s event told)
 unfolding open_row
 open_stays s event told is = cond_stays (λ (asking : Asking Row). Always (Stays s.closed) asking) (is_out_of_turn s event) _ _ (tt, tt) (turn_stays s event told (is_awaiting s.phase) is)

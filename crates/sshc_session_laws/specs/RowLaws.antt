@@ -1,4 +1,4 @@
--- What holds of each row of a session's two tables.
+-- Laws about each row of a session's two tables.
 use Rattle.std.specs.Prelude.{◌≡◌, true, false}
 use Rattle.sshc_key.specs.Asking.{Always}
 use Rattle.sshc_event.specs.declared.event.Event.{Event}

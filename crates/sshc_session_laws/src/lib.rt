@@ -1,4 +1,4 @@
-//! Laws of a session's rows, before it is open and then.
+//! Laws about a session's rows, before and after it is open.
 #![tactic(auto)]
 
 mod rows;

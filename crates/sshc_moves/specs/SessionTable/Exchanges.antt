@@ -14,7 +14,7 @@ peer_kexinit_row Idle = plain_row (PeerBegins ∷ [])
 peer_kexinit_row Ours = plain_row (PeerBegins ∷ [])
 peer_kexinit_row Peer = refused OutOfTurn
 
--- an exchange is done: nobody judges its key, the handler is told, and what waits on the channels goes out
+-- an exchange is done: its key isn't judged, the handler is called, and what waits on the channels is sent
 abbrev pub exchange_done_row : ExchangeFlag → ExchangeResult → SessionRow
 exchange_done_row Idle x = refused OutOfTurn
 exchange_done_row Ours x = refused OutOfTurn

@@ -18,7 +18,7 @@ use Rattle.sshc_moves.specs.SessionState.{SessionState}
 use Rattle.sshc_moves.specs.Moves.{Accepts, Confirms, Fails, Grants, Move, Rejects, Reserves, Tells}
 use Rattle.sshc_moves.specs.SessionRow.{Opinions, ServerOpened, SessionRow, goes, passed_over, plain_row, refused, reports, with_kept, with_read}
 
--- 91: an open of ours that waits is confirmed, its ticket is answered, and then what waits on the channel goes out
+-- 91: an open of ours that waits is confirmed, its ticket is resolved, and then what waits on the channel is sent
 abbrev pub confirmed_row : Option (Option Ticket) → Confirmation → SessionRow
 confirmed_row None c = refused Inconsistent
 confirmed_row (Some ticket) c =
@@ -27,7 +27,7 @@ confirmed_row (Some ticket) c =
 unfoldable pub open_confirmation_row : SessionState → List ℕ → SessionRow
 open_confirmation_row s body = with_read (confirmation_of body) (λ c. confirmed_row (awaited c.recipient s.table) c)
 
--- 92: an open of ours that waits is refused, and its ticket is answered; a number that names none is passed over
+-- 92: an open of ours that waits is refused, and its ticket is resolved; for any other number nothing happens
 abbrev pub failed_row : Option (Option Ticket) → Refusal → SessionRow
 failed_row None r = passed_over
 failed_row (Some ticket) r =
@@ -42,7 +42,7 @@ settled id Accept = Accepts id ∷ Grants id 0 ∷ []
 settled id (Reject reason) = Rejects id reason ∷ []
 settled id Later = []
 
--- the handler is asked, and what it answered is done
+-- the handler is asked, and its answer is carried out
 abbrev pub serving_row : Sender → ℕ → ServerOpen → SessionRow
 serving_row sender id opened = record {
   front = Reserves sender ∷ [];
@@ -51,12 +51,12 @@ serving_row sender id opened = record {
   next = goes;
 }
 
--- an open of a type that isn't known is refused, unless the handler takes such
+-- an open of an unknown type is refused, unless the handler takes such opens
 abbrev pub served_row : Bool → Sender → ℕ → ServerOpen → SessionRow
 served_row false sender id Unknown = plain_row (Reserves sender ∷ Rejects id UnknownChannelType ∷ [])
 served_row takes_unknown sender id opened = serving_row sender id opened
 
--- 90: an open of the peer's takes the next number; where none is free there is no memory for it
+-- 90: an open of the peer's takes the next number; if no number is free it counts as out of memory
 abbrev pub numbered_open_row : Opinions → Option ℕ → Sender → ServerOpen → SessionRow
 numbered_open_row o None sender opened = refused NoMemory
 numbered_open_row o (Some id) sender opened = served_row o.takes_unknown sender id opened

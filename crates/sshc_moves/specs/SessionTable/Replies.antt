@@ -1,5 +1,5 @@
--- Rows of the answers to our global requests (RFC 4254, sections 4 and 7.1; OpenSSH's PROTOCOL, section 2.5). Each is
--- the oldest request's.
+-- Rows of the replies to our global requests (RFC 4254, sections 4 and 7.1; OpenSSH's PROTOCOL, section 2.5). Each is
+-- for the oldest request.
 use Rattle.std.specs.Prelude.{ℕ, List, [], ◌∷◌, Option, Some, None, Result, Ok, Err}
 use Rattle.sshc_wire.specs.declared.resolution.HostKeysFault.{HostKeysFault}
 use Rattle.sshc_wire.specs.declared.resolution.Resolution.{Resolution}
@@ -16,7 +16,7 @@ use Rattle.sshc_moves.specs.SessionRow.{SessionRow, passed_over, plain_row, with
 abbrev pub replied_row : Option Resolution → SessionRow
 replied_row resolution = plain_row (Replied resolution ∷ [])
 
--- nothing may follow
+-- no bytes may follow
 abbrev pub bare_row : List ℕ → Option Resolution → SessionRow
 bare_row body resolution = with_read (nothing_of body) (λ u. replied_row resolution)
 
@@ -40,7 +40,7 @@ success_of accepts session_id (asked.HostKeys keys) body =
     replied_row (Some (proof_answer (proof_judged accepts session_id keys body)))
 success_of accepts session_id asked.Own body = replied_row (Some (GlobalReply body))
 
--- where none waits nothing is read
+-- if no request waits, the reply isn't read
 abbrev pub success_for : Accepts → List ℕ → List Awaited → List ℕ → SessionRow
 success_for accepts session_id [] body = passed_over
 success_for accepts session_id (first ∷ replies) body = success_of accepts session_id first.asked body
@@ -48,7 +48,7 @@ success_for accepts session_id (first ∷ replies) body = success_of accepts ses
 unfoldable pub request_success_row : Accepts → SessionState → List ℕ → SessionRow
 request_success_row accepts s body = success_for accepts s.opening.session_id s.replies body
 
--- 82: a ping has its answer too, and a keepalive asks for none
+-- 82: it answers a ping too, and a keepalive has no ticket to resolve
 abbrev pub failure_of : Asked → Option Resolution
 failure_of asked.Ping = Some Pong
 failure_of asked.Keepalive = None

@@ -15,12 +15,12 @@ use Rattle.sshc_moves.specs.SessionState.{SessionState}
 use Rattle.sshc_moves.specs.Moves.{Answers, AnswersOn, Hears, Move, Tells}
 use Rattle.sshc_moves.specs.SessionRow.{HostKeysAnnounced, SessionRow, asking, established_row, plain_row, reports, with_kept, with_read}
 
--- an answer, where one is wanted
+-- a reply, if one is wanted
 abbrev pub if_wanted : Bool → Move → List Move
 if_wanted true move = move ∷ []
 if_wanted false move = []
 
--- a keepalive is done, and a request that isn't known isn't; the others are never answered
+-- a keepalive succeeds, and an unknown request fails; the others never get a reply
 abbrev pub requested_row : ℕ → PeerRequest → SessionRow
 requested_row id (requests.XonXoff can_do) = reports [] id (happened.XonXoff can_do) []
 requested_row id (requests.ExitStatus status) = reports [] id (happened.ExitStatus status) []
@@ -29,14 +29,14 @@ requested_row id (requests.ExitSignal signal dumped message language) =
 requested_row id (requests.Keepalive want_reply) = plain_row (if_wanted want_reply (AnswersOn id true))
 requested_row id (requests.Unknown want_reply) = plain_row (if_wanted want_reply (AnswersOn id false))
 
--- 98: number and name are read first; on a channel that isn't established the rest isn't
+-- 98: number and name are read first; on a channel that isn't established the rest isn't read
 unfoldable pub channel_request_row : SessionState → List ℕ → SessionRow
 channel_request_row s body =
     with_read (request_head_of body) (λ head.
     established_row (is_established head.id.0 s.table)
     (with_kept (peer_request_of head.name head.rest) (λ request. requested_row head.id.0 request)))
 
--- 80: announced host keys are told, and heard; they are never answered
+-- 80: announced host keys are reported, and count as heard; they never get a reply
 abbrev pub asked_row : PeerGlobal → SessionRow
 asked_row (globals.Keepalive want_reply) = plain_row (if_wanted want_reply (Answers true))
 asked_row (globals.HostKeys keys) =

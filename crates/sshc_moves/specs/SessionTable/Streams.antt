@@ -1,5 +1,5 @@
 -- Rows of windows, bytes and ends (RFC 4254, sections 5.2 and 5.3). On a channel that isn't established they are
--- passed over.
+-- ignored.
 use Rattle.std.specs.Prelude.{ℕ, Bool, List, [], ◌∷◌, length, Option, Some, None, ◌&&◌, nat_lt, if◌then◌else◌}
 use Rattle.sshc_wire.specs.declared.channel_record.ChannelRecord.{ChannelRecord}
 use Rattle.sshc_wire.specs.declared.channel_record.ChannelRecord.TheVariants as happened
@@ -9,12 +9,12 @@ use Rattle.sshc_moves.specs.SessionState.{SessionState, exchanging, own_window}
 use Rattle.sshc_moves.specs.Moves.{Grants, Move, PeerCloses, Receives, Targets}
 use Rattle.sshc_moves.specs.SessionRow.{Opinions, SessionRow, established_row, reports, with_read}
 
--- the window that is left after a grant
+-- the window after a grant
 abbrev pub left_after : Option ℕ → ℕ
 left_after None = 0
 left_after (Some left) = left
 
--- 93: a grant, what it lets out, and the window that is left then
+-- 93: a grant, what is sent after it, and the window after that
 unfoldable pub window_adjust_row : SessionState → List ℕ → SessionRow
 window_adjust_row s body =
     with_read (window_adjust_of body) (λ a.
@@ -22,8 +22,8 @@ window_adjust_row s body =
     (reports (Grants a.id.0 a.bytes_to_add ∷ []) a.id.0
     (happened.WindowAdjusted (left_after (granted_at a.id.0 a.bytes_to_add (exchanging s) s.table))) []))
 
--- The handler is asked for its window target where our window is brought back; an answer above 0 is the target of the
--- next question.
+-- The handler is asked for its window target when our window is raised; an answer above 0 is what the handler is passed
+-- the next time.
 abbrev pub retargets : Opinions → SessionState → ℕ → ℕ → List Move
 retargets o s id len =
     if adjusted_at id len (own_window s) s.table && nat_lt 0 o.window_target then Targets o.window_target ∷ [] else []
@@ -41,12 +41,12 @@ unfoldable pub channel_extended_data_row : Opinions → SessionState → List �
 channel_extended_data_row o s body =
     with_read (extended_data_of body) (λ d. received_row o s d.id.0 (length d.body) (happened.ExtendedData d.ext d.body))
 
--- 96, 99 and 100: the handler is told
+-- 96, 99 and 100: the handler is called
 unfoldable pub channel_report_row : SessionState → ChannelRecord → List ℕ → SessionRow
 channel_report_row s said body =
     with_read (channel_of body) (λ id. established_row (is_established id.0 s.table) (reports [] id.0 said []))
 
--- 97: the channel is taken away
+-- 97: the channel is removed
 unfoldable pub channel_close_row : SessionState → List ℕ → SessionRow
 channel_close_row s body =
     with_read (channel_of body) (λ id.

@@ -6,7 +6,7 @@ use Rattle.sshc_moves.specs.SessionState.{SessionState}
 use Rattle.sshc_moves.specs.Moves.{Asks, Misses}
 use Rattle.sshc_moves.specs.SessionRow.{SessionRow, behind_moves, passed_over, plain_row, refused}
 
--- more keepalives in a row than may stay without an answer; 0 is no bound
+-- more keepalives in a row than may stay unanswered; 0 means that there is no bound
 abbrev pub are_too_many : ℕ → ℕ → Bool
 are_too_many most count = not (most == 0) && nat_lt most count
 

@@ -23,7 +23,7 @@ use Rattle.sshc_moves.specs.SessionState.{SessionState, exchanging}
 use Rattle.sshc_moves.specs.Moves.{Accepts, Asks, Begins, Closes, Disconnects, EndsBytes, Grants, Move, Opens, Rejects, RequestsOn, Resolves, Sends}
 use Rattle.sshc_moves.specs.SessionRow.{SessionRow, ending, passed_over, plain_row, refused}
 
--- ticket 0 is none
+-- ticket 0 means no ticket
 abbrev pub asked_ticket : Ticket → Option Ticket
 asked_ticket ticket = if ticket.0 == 0 then None else Some ticket
 
@@ -37,7 +37,7 @@ abbrev pub size_of : ℕ → ℕ → ℕ → ℕ → TerminalSize
 size_of columns rows width height =
     record { col_width = columns; row_height = rows; pix_width = width; pix_height = height }
 
--- what a program is asked for and told (RFC 4254, sections 6.4 to 6.9); what is only reported can't be asked
+-- what a program is asked or sent (RFC 4254, sections 6.4 to 6.9); what is only reported can't be asked
 unfoldable pub program_moves : ℕ → ChannelMsg → List Move
 program_moves id (msgs.SetEnv want_reply name value) = RequestsOn id (Env want_reply name value) ∷ []
 program_moves id (msgs.RequestShell want_reply) = RequestsOn id (Shell want_reply) ∷ []
@@ -77,12 +77,12 @@ settled_by id (Err reason) = Rejects id reason ∷ []
 abbrev pub reply_moves : SessionState → ℕ → Result (Unit {0}) ChannelOpenFailure → List Move
 reply_moves s id result = if is_some (unsettled_at id s.table) then settled_by id result else []
 
--- host keys are proved by an answer of the server's; without keys there is nothing to prove
+-- host keys are proved by a reply of the server's; without keys there is nothing to prove
 abbrev pub prove_moves : Ticket → List (Key × List ℕ) → List Move
 prove_moves ticket [] = Resolves ticket HostKeysProved ∷ []
 prove_moves ticket (key ∷ keys) = Asks (Prove ticket (key ∷ keys)) ∷ []
 
--- nobody waits for an extension in an open session
+-- an extension isn't waited for in an open session
 abbrev pub extension_moves : Bool → Ticket → List Move
 extension_moves true ticket = Resolves ticket ExtInfoSeen ∷ []
 extension_moves false ticket = Resolves ticket Dropped ∷ []
@@ -112,7 +112,7 @@ open_moves (events.ChannelOpenDirectTcpIp ticket host port originator originator
 open_moves (events.ChannelOpenDirectStreamLocal ticket path) = opens (DirectStreamLocal path) ticket
 open_moves event = forward_moves event
 
--- what the user asks and goes on
+-- what the user asks without ending the session
 unfoldable pub user_moves : SessionState → Event → List Move
 user_moves s (events.Authenticate ticket user method) = Resolves ticket Dropped ∷ []
 user_moves s (events.Close id) = Closes id.0 ∷ []
@@ -124,7 +124,7 @@ user_moves s (events.GetServerSigAlgs ticket) = Resolves ticket (sig_algs_answer
 user_moves s (events.HostKeysProve ticket keys) = prove_moves ticket keys
 user_moves s event = open_moves event
 
--- the user disconnects, or no user is left; all else goes on
+-- the user disconnects, or no user is left; for everything else the session continues
 unfoldable pub asked_row : SessionState → Event → SessionRow
 asked_row s (events.Disconnect reason description language) =
     ending (Disconnects reason description language ∷ []) ended.Disconnected

@@ -23,41 +23,41 @@ asked Stages.Unasked = Stages.Asked
 asked Stages.Asked = Stages.Asked
 asked Stages.Sent = Stages.Sent
 
--- bytes are taken where neither EOF nor our close was asked for
+-- bytes are taken if neither EOF nor our close was asked for
 abbrev pub takes : Flow → Bool
 takes f = is_unasked f.eof && is_unasked f.close
 
 abbrev pub with_pending : Stream → List ℕ → Flow → Flow
 with_pending stream bytes f = record f { pending = f.pending ++ record { stream = stream; bytes = bytes } ∷ [] }
 
--- the bytes of a call as what waits of them; none are nothing
+-- the bytes of a call as an entry that waits; no entry for no bytes
 abbrev pub waiting_of : Stream → List ℕ → List Waiting
 waiting_of stream [] = []
 waiting_of stream (b ∷ bytes) = record { stream = stream; bytes = b ∷ bytes } ∷ []
 
--- bytes wait, and what may go is sent
+-- bytes wait, and what may be sent is sent
 abbrev pub flush_with : Stream → List ℕ → Bool → Head → Flow → FlowTurn
 flush_with stream bytes exchanging h f = flushed exchanging h (with_pending stream bytes f)
 
--- bytes of ours; no bytes are nothing
+-- bytes of ours; no bytes have no effect
 abbrev pub data_flow : Stream → List ℕ → Bool → Head → Flow → FlowTurn
 data_flow stream bytes exchanging h f =
     if takes f && not (length bytes == 0) then flush_with stream bytes exchanging h f else still f
 
--- EOF asked for after our close was sent is nothing
+-- EOF asked for after our close was sent is ignored
 abbrev pub with_eof : Flow → Flow
 with_eof f = record f { eof = if is_sent f.close then f.eof else asked f.eof }
 
 abbrev pub with_close : Flow → Flow
 with_close f = record f { close = asked f.close }
 
--- an end sends no bytes, and itself where none wait
+-- asking for EOF or close sends no bytes; the end itself is sent if no bytes wait
 abbrev pub eof_flow : Head → Flow → FlowTurn
 eof_flow h f = flushed true h (with_eof f)
 
 abbrev pub close_flow : Head → Flow → FlowTurn
 close_flow h f = flushed true h (with_close f)
 
--- the peer's close is answered by ours, unless that was sent
+-- the peer's close is answered by ours, unless ours was sent
 abbrev pub answer_of : Flow → List Packet
 answer_of f = if is_sent f.close then [] else Close ∷ []

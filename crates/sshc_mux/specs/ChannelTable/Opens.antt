@@ -1,5 +1,5 @@
 -- Numbers, opens, confirmations and failures (RFC 4254, section 5.1).
--- A number is the first that no channel has; the code tries one after the other.
+-- The next number is the first that no channel has; the code tries one after the other.
 use Rattle.std.specs.Prelude.{ℕ, zero, suc, ◌+◌, ◌^◌, ◌%◌, Bool, true, false, not, ◌&&◌, List, [], ◌∷◌, ◌++◌, length, Option, Some, None, ◌≡◌, ◌<◌, is_some, if◌then◌else◌}
 use Rattle.sshc_wire.specs.declared.ticket.Ticket.{Ticket}
 use Rattle.sshc_mux.specs.declared.channel.Opener.{Opener}
@@ -7,25 +7,25 @@ use Rattle.sshc_mux.specs.declared.channel.Opener.TheVariants.{User, Server}
 use Rattle.sshc_mux.specs.declared.channel.Stage.TheVariants.{Unasked}
 use Rattle.sshc_mux.specs.ChannelState.{Head, Flow, ChannelState, TableState, channel_of}
 
--- the next number; after the last of a u32 it goes on at 0
+-- the next number; 0 after the last u32
 abbrev pub above : ℕ → ℕ
 above n = (n + 1) % 2 ^ 32
 
--- the number where no channel has it, else the other
+-- this number if no channel has it, else the other
 abbrev pub free_or : Option ChannelState → ℕ → Option ℕ → Option ℕ
 free_or None n other = Some n
 free_or (Some c) n other = other
 
--- the first of so many numbers from this one on that no channel has
+-- the first that no channel has of so many numbers, beginning with this one
 abbrev pub free_from : ℕ → ℕ → List ChannelState → Option ℕ
 free_from zero n cs = None
 free_from (suc tries) n cs = free_or (channel_of n cs) n (free_from tries (above n) cs)
 
--- One number more than there are channels is enough to find a free one, unless every number is taken.
+-- Trying one number more than there are channels is enough to find a free one, unless every number is taken.
 unfoldable pub next_number : TableState → Option ℕ
 next_number t = free_from (length t.channels + 1) (above t.last) t.channels
 
--- The number is the first that no channel has, counted on from the last given, and from 0 behind the last of a u32.
+-- The number is the first that no channel has, counting from the last one assigned, and from 0 after the last u32.
 pub record IsNext (t : TableState) (n : ℕ) : Type 0 where
   pub steps : ℕ
   pub counted : n ≡ (t.last + 1 + steps) % 2 ^ 32
@@ -37,7 +37,7 @@ pub record IsNew (t : TableState) (n : ℕ) : Type 0 where
   pub next : next_number t ≡ Some n
   pub free : channel_of n t.channels ≡ None
 
--- the table with one channel more
+-- the table with one more channel
 abbrev pub made_in : ChannelState → TableState → TableState
 made_in c t = record { channels = t.channels ++ c ∷ []; last = c.head.number }
 

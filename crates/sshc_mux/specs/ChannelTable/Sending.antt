@@ -1,6 +1,6 @@
--- Sending: what a channel writes of the bytes that wait, and its EOF and close behind them (RFC 4254, sections 5.2 and
+-- Sending: what a channel writes of the bytes that wait, and its EOF and close after them (RFC 4254, sections 5.2 and
 -- 5.3).
--- By the front that the window leaves room for, cut call by call; the code takes pieces from a queue.
+-- By the front that the window has room for, cut call by call; the code takes pieces from a queue.
 use Rattle.std.specs.Prelude.{ℕ, zero, suc, ◌+◌, ◌-◌, min, Bool, true, false, not, ◌&&◌, List, [], ◌∷◌, ◌++◌, length, take, drop, if◌then◌else◌, ◌==◌, nat_lt, nat_le}
 use Rattle.sshc_mux.specs.declared.chunk.Stream.{Stream}
 use Rattle.sshc_mux.specs.declared.channel.Stage.{Stage}
@@ -13,11 +13,11 @@ pub record FlowTurn : Type 0 where
   pub flow : Flow
   pub packets : List Packet
 
--- nothing happens
+-- nothing changes and nothing is written
 abbrev pub still : Flow → FlowTurn
 still f = record { flow = f; packets = [] }
 
--- at most so many pieces of one call's bytes, each as long as the packet size lets it be
+-- at most so many pieces of one call's bytes, each as long as the packet size allows
 abbrev pub cut_up_to : ℕ → ℕ → List ℕ → List (List ℕ)
 cut_up_to zero size bytes = []
 cut_up_to (suc count) size [] = []
@@ -36,20 +36,20 @@ abbrev pub count_of : List Waiting → ℕ
 count_of [] = 0
 count_of (w ∷ ws) = length w.bytes + count_of ws
 
--- what is sent of what waits where there is room for so many bytes
+-- what is sent of what waits if there is room for so many bytes
 abbrev pub sent_of : ℕ → ℕ → List Waiting → List Packet
 sent_of size room [] = []
 sent_of size room (w ∷ ws) =
     pieces_of w.stream (cut size (take room w.bytes)) ++ sent_of size (room - length w.bytes) ws
 
--- what still waits then
+-- what still waits afterwards
 abbrev pub left_of : ℕ → List Waiting → List Waiting
 left_of room [] = []
 left_of room (w ∷ ws) =
     if nat_le (length w.bytes) room then left_of (room - length w.bytes) ws
     else record { stream = w.stream; bytes = drop room w.bytes } ∷ ws
 
--- bytes go out on an established channel while no exchange runs and pieces may hold something
+-- bytes are sent on an established channel while no exchange runs and the packet size isn't 0
 abbrev pub room_of : Bool → Head → Flow → ℕ
 room_of exchanging h f = if h.established && not exchanging && nat_lt 0 h.packet_size then f.window else 0
 
@@ -84,7 +84,7 @@ ended_if may f = record f { eof = if may then done f.eof else f.eof; close = if 
 abbrev pub ended : Head → Flow → Flow
 ended h f = ended_if (may_end h f) f
 
--- bytes, then what is due behind them
+-- bytes, then EOF and close if they are due
 unfoldable pub flushed : Bool → Head → Flow → FlowTurn
 flushed exchanging h f = record {
   flow = ended h (emptied (room_of exchanging h f) f);

@@ -4,7 +4,7 @@ use Rattle.sshc_mux.specs.ChannelState.{Head, Flow, ChannelState}
 use Rattle.sshc_mux.specs.Packets.{Packet, Adjust}
 use Rattle.sshc_mux.specs.ChannelTable.Sending.{FlowTurn, still, flushed}
 
--- what a grant adds to a window, which is held at the last of a u32
+-- how much a grant adds to a window, which saturates at the last u32
 abbrev pub held : ℕ → ℕ → ℕ
 held amount window = min amount (2 ^ 32 - 1 - window)
 
@@ -12,7 +12,7 @@ held amount window = min amount (2 ^ 32 - 1 - window)
 abbrev pub raised : ℕ → Flow → Flow
 raised amount f = record f { window = f.window + held amount f.window }
 
--- a grant, and then what it lets out
+-- a grant, and then what may be sent
 abbrev pub grant_flow : ℕ → Bool → Head → Flow → FlowTurn
 grant_flow amount exchanging h f = if h.established then flushed exchanging h (raised amount f) else still f
 
@@ -20,11 +20,11 @@ grant_flow amount exchanging h f = if h.established then flushed exchanging h (r
 abbrev pub is_low : ℕ → ℕ → Bool
 is_low target left = nat_lt left (target / 2)
 
--- a low window is brought back to the target
+-- a low window is raised to the target
 abbrev pub refilled : ℕ → ℕ → ℕ
 refilled target left = if is_low target left then target else left
 
--- by so much, if at all
+-- the amount by which it is raised, if it is
 abbrev pub adjust_of : ℕ → ℕ → List ℕ
 adjust_of target left = if is_low target left then (target - left) ∷ [] else []
 
@@ -32,7 +32,7 @@ adjust_of target left = if is_low target left then (target - left) ∷ [] else [
 abbrev pub used : ℕ → ℕ → ChannelState → ℕ
 used len target c = if c.head.established then refilled target (c.own_window - len) else c.own_window
 
--- what bytes of the peer's bring back of our window
+-- the amount by which our window is raised after bytes of the peer's, if it is
 abbrev pub returned : ℕ → ℕ → ChannelState → List ℕ
 returned len target c = if c.head.established then adjust_of target (c.own_window - len) else []
 
@@ -40,6 +40,6 @@ abbrev pub adjust_packets : List ℕ → List Packet
 adjust_packets [] = []
 adjust_packets (amount ∷ amounts) = Adjust amount ∷ adjust_packets amounts
 
--- bytes of the peer's bring an adjust packet
+-- bytes of the peer's cause an adjust packet
 abbrev pub adjusts : ℕ → ℕ → ChannelState → Bool
 adjusts len target c = c.head.established && is_low target (c.own_window - len)

@@ -44,7 +44,7 @@ impl Channel {
         }
     }
 
-    /// Takes bytes where none wait: what there is room for is sent from where it is, and only the rest is copied.
+    /// Takes bytes when none wait: what there is room for is sent directly, and only the rest is copied.
     fn send_front(
         &mut self,
         alloc: Global,
@@ -77,7 +77,7 @@ impl Channel {
         Ok(())
     }
 
-    /// Takes bytes behind those that wait, and sends what may be sent.
+    /// Takes bytes that wait after the others, and sends what may be sent.
     fn send_behind(
         &mut self,
         alloc: Global,
@@ -133,7 +133,7 @@ impl Channel {
         }
     }
 
-    /// Answers the peer's close by ours, unless that was sent.
+    /// Answers the peer's close by ours, unless ours was sent.
     pub(crate) fn push_last(&self, alloc: Global, out: &mut Outbox) -> Result<(), NoMemory>
         ensures ok { OnOk result (out.new.records ≡ out.old.records
             ++ shown out.old.muted (payloads self.now.head.recipient (last_packets self.now))) }
@@ -148,7 +148,7 @@ impl Channel {
     }
 }
 
-/// The bytes as what waits of them. No bytes are nothing.
+/// The bytes as an entry that waits; `None` for no bytes.
 fn waiting_of(alloc: Global, stream: Stream, rest: &[u8]) -> Result<Option<Chunk>, NoMemory>
     ensures { IfOk result (λ w. listed w ≡ waiting_of stream rest.now) }
 {
@@ -158,7 +158,7 @@ fn waiting_of(alloc: Global, stream: Stream, rest: &[u8]) -> Result<Option<Chunk
     Ok(Some(Chunk::new(alloc, stream, rest)?))
 }
 
-/// Lets bytes wait, if there are any, for which there is room.
+/// Adds the bytes, if there are any, to those that wait, where there is room for them.
 fn keep(pending: &mut VecDeque<Chunk>, waiting: Option<Chunk>)
     requires { deque_len pending.old < deque_capacity pending.old }
     ensures { pending.new.items ≡ pending.old.items ++ listed waiting }

@@ -1,4 +1,4 @@
-//! What a channel sends: its waiting bytes, and then what is due behind them (RFC 4254, sections 5.2 and 5.3).
+//! What a channel sends: its waiting bytes, and then EOF and close if they are due (RFC 4254, sections 5.2 and 5.3).
 
 ghost use Rattle.std.specs.Prelude.{◌≡◌, ◌<◌, ◌≤◌, ◌++◌, [], ◌&&◌, if◌then◌else◌, OnOk, IsOk};
 ghost use Rattle.sshc_mux.specs.Packets.{payloads, Eof, Close};
@@ -25,7 +25,7 @@ impl Channel {
         }
     }
 
-    /// Adds the ends that are due, unless bytes wait.
+    /// Adds EOF and close if they are due, unless bytes wait.
     fn push_ends(
         &self,
         alloc: Global,
@@ -73,7 +73,7 @@ impl Channel {
         Ok(())
     }
 
-    /// Lets the bytes go that there is room for.
+    /// Removes the bytes that there is room for.
     fn empty(&mut self, room: u32)
         requires { room ≤ self.old.flow.window }
         ensures { self.new ≡ record self.old { flow = emptied room self.old.flow } }
@@ -82,7 +82,7 @@ impl Channel {
         self.window -= room - left as u32;
     }
 
-    /// Counts the ends as sent that are due, unless bytes wait.
+    /// Marks EOF and close as sent if they are due, unless bytes wait.
     fn end(&mut self)
         ensures { self.new ≡ record self.old { flow = ended self.old.head self.old.flow } }
     {
@@ -92,7 +92,7 @@ impl Channel {
         }
     }
 
-    /// Counts as sent what the channel may send now.
+    /// Marks as sent what the channel may send now.
     #[tactic(auto, unfolding(crate::specs::ChannelTable::Sending::flushed))]
     pub(crate) fn count_flushed(&mut self, exchanging: bool)
         ensures { self.new ≡ (in_flow (flushed exchanging) self.old).channel }

@@ -10,7 +10,7 @@ use sshc_wire::{NoMemory, Outbox};
 use std::alloc::Global;
 
 impl Channel {
-    /// Takes a grant of the peer's, and sends what may be sent then. Returns the window that is then left, or none where the
+    /// Takes a grant of the peer's, and sends what may then be sent. Returns the window after that, or `None` if the
     /// channel isn't established.
     pub(crate) fn grant(
         &mut self,
@@ -37,7 +37,7 @@ impl Channel {
         }
     }
 
-    /// Counts bytes of the peer's, and brings a low window back to the target. Returns whether it wrote an adjust packet.
+    /// Counts bytes of the peer's, and raises a low window to the target. Returns whether it wrote an adjust packet.
     pub(crate) fn receive(
         &mut self,
         alloc: Global,

@@ -9,7 +9,7 @@ use crate::table::{ChannelId, ChannelTable, place, recounted, remove};
 use sshc_wire::{NoMemory, Outbox};
 
 impl ChannelTable {
-    /// Asks for EOF, which is sent once, behind all bytes that were taken.
+    /// Asks for EOF, which is sent once, after all bytes that were taken.
     #[tactic(auto, using(crate::proofs::LegalLemmas::did_part))]
     pub fn eof(&mut self, id: ChannelId, out: &mut Outbox) -> Result<(), NoMemory>
         ensures did { Did (AskEof id.0) self.old self.new out.old out.new result }
@@ -29,7 +29,7 @@ impl ChannelTable {
         result
     }
 
-    /// Asks for our close, which is sent once, behind all bytes that were taken and EOF.
+    /// Asks for our close, which is sent once, after all bytes that were taken and EOF.
     #[tactic(auto, using(crate::proofs::LegalLemmas::did_part))]
     pub fn close_own(&mut self, id: ChannelId, out: &mut Outbox) -> Result<(), NoMemory>
         ensures did { Did (AskClose id.0) self.old self.new out.old out.new result }
@@ -49,7 +49,8 @@ impl ChannelTable {
         result
     }
 
-    /// The peer's close, which is answered by ours and takes the channel away. False where it isn't established.
+    /// The peer's close, which is answered by ours and removes the channel. Returns false if the channel isn't
+    /// established.
     #[tactic(auto, using(crate::proofs::LegalLemmas::did_part))]
     pub fn close_peer(&mut self, id: ChannelId, out: &mut Outbox) -> Result<bool, NoMemory>
         ensures closed { Did (PeerClose id.0) self.old self.new out.old out.new result }

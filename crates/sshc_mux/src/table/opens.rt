@@ -13,7 +13,7 @@ use sshc_wire::{NoMemory, Ticket};
 use std::collections::HashMap;
 
 impl ChannelTable {
-    /// The number that the next channel will have, or none where every number is taken.
+    /// The number that the next channel will have; `None` if every number is taken.
     pub fn next_id(&self) -> Option<ChannelId>
         ensures next { MatchOption result (next_number self.now ≡ None) (λ id. next_number self.now ≡ Some id.0) }
     {
@@ -23,7 +23,7 @@ impl ChannelTable {
         }
     }
 
-    /// A channel for an open of ours, with our window at first and the answer's ticket. Returns `NoMemory` too where
+    /// Adds a channel for an open of ours, with our initial window and the answer's ticket. Returns `NoMemory` also if
     /// every number is taken.
     #[tactic(auto, using(crate::proofs::LegalLemmas::did_part))]
     pub fn open_user(
@@ -48,8 +48,8 @@ impl ChannelTable {
         Ok(ChannelId(number))
     }
 
-    /// A channel for an open of the peer's, with the peer's number, window and packet size and our window at first.
-    /// Returns `NoMemory` too where every number is taken.
+    /// Adds a channel for an open of the peer's, with the peer's number, window and packet size and our initial window.
+    /// Returns `NoMemory` also if every number is taken.
     #[tactic(auto, using(crate::proofs::LegalLemmas::did_part))]
     pub fn reserve_server(
         &mut self,
@@ -77,7 +77,7 @@ impl ChannelTable {
         Ok(ChannelId(number))
     }
 
-    /// Accepts an open of the peer's, or takes it away. False where the number names none that waits.
+    /// Accepts an open of the peer's, or removes it. Returns false if no open of the peer's with this number waits.
     #[tactic(auto, using(crate::proofs::LegalLemmas::did_part))]
     pub fn settle_server(&mut self, id: ChannelId, accept: bool) -> bool
         ensures answer { result ≡ reserved_by (channel_of id.0 self.old.channels) }
@@ -129,8 +129,8 @@ impl ChannelTable {
         Ok(ticket)
     }
 
-    /// The peer's refusal of an open of ours, which is taken away. Returns the open's ticket, or none where the number names
-    /// no open of ours that waits.
+    /// The peer's refusal of an open of ours, which is removed. Returns the open's ticket, or `None` if no open of ours
+    /// with this number waits.
     #[tactic(auto, using(crate::proofs::LegalLemmas::did_part))]
     pub fn fail(&mut self, id: ChannelId) -> Option<Option<Ticket>>
         ensures answer { result ≡ awaited id.0 self.old }

@@ -13,7 +13,7 @@ use sshc_wire::{NoMemory, Outbox, Record};
 use std::alloc::Global;
 
 impl ChannelTable {
-    /// Takes bytes to send. They are nothing where EOF or our close was asked for.
+    /// Takes bytes to send. They are ignored if EOF or our close was asked for.
     pub fn data(
         &mut self,
         id: ChannelId,
@@ -112,7 +112,7 @@ fn push_slot(alloc: Global, slot: &Option<Channel>, said: &mut Vec<Record>) -> R
     }
 }
 
-/// Counts as sent what each channel may send now. Returns on how many channels bytes wait then.
+/// Marks as sent what each channel may send now. Returns on how many channels bytes wait afterwards.
 fn count_all_flushed(slots: &mut Vec<Option<Channel>>) -> usize
     ensures flushed { slots.new.items ≡ map flushed_slot slots.old.items }
     ensures waiting { result ≡ waiting_of (present slots.new.items) }

@@ -8,7 +8,7 @@ use crate::table::{ChannelId, ChannelTable, place, recounted};
 use sshc_wire::{NoMemory, Outbox};
 
 impl ChannelTable {
-    /// A grant of the peer's. Returns the window that is then left, or none where the channel isn't established.
+    /// A grant of the peer's. Returns the window after it, or `None` if the channel isn't established.
     #[tactic(auto, using(crate::proofs::LegalLemmas::did_part))]
     pub fn grant(
         &mut self,

@@ -1,4 +1,4 @@
--- The peer's packets on a channel behind their numbers: 91 to 97, 99 and 100 (RFC 4254, sections 5.1 to 5.4).
+-- The peer's packets on a channel after their numbers: 91 to 97, 99 and 100 (RFC 4254, sections 5.1 to 5.4).
 use Rattle.std.specs.Prelude.{◌≡◌, ℕ, List}
 use Rattle.sshc_wire.specs.Grammar.{InRow, IsWholeGrammar}
 use Rattle.sshc_wire.specs.declared.channel_id.ChannelId.{ChannelId}

@@ -1,5 +1,5 @@
--- The peer's opens by their types, behind the head; later bytes are let pass (RFC 4254, sections 6.3.2, 7.1 and 7.2;
--- OpenSSH's PROTOCOL, section 2.4). And of what we write: what the peer would read of it.
+-- The peer's opens by their types, after the head; the bytes after the fields are ignored (RFC 4254, sections 6.3.2,
+-- 7.1 and 7.2; OpenSSH's PROTOCOL, section 2.4). And for what we write: what the peer would read of it.
 use Rattle.std.specs.Prelude.{◌≡◌, ℕ, ◌<◌, ◌^◌, true, List, Ok, Some, codes}
 use Rattle.std.specs.Str.{is_utf8}
 use Rattle.sshc_wire.specs.Grammar.{InRow, IsWholeGrammar}
@@ -62,7 +62,7 @@ OpenFits (DirectTcpIp host port originator originator_port) =
     (IsWords host × IsU32 port) × (IsWords originator × IsU32 originator_port)
 OpenFits (DirectStreamLocal path) = IsWords path
 
--- an open that we write is read as what it asks
+-- an open that we write is read as the open that was asked for
 abbrev pub WrittenOpensAreRead : Type 0
 WrittenOpensAreRead =
     (asked : ChannelOpen) → OpenFits asked → server_open_of (open_type asked) (open_fields asked) ≡ Ok (opened asked)

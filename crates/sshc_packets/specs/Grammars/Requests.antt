@@ -1,4 +1,4 @@
--- The peer's requests on a channel behind number and name (RFC 4254, sections 6.8 and 6.10).
+-- The peer's requests on a channel after number and name (RFC 4254, sections 6.8 and 6.10).
 use Rattle.std.specs.Prelude.{◌≡◌, ℕ, Bool, List, codes}
 use Rattle.sshc_wire.specs.Grammar.{InRow, IsFlag, IsWholeGrammar}
 use Rattle.sshc_wire.specs.Signals.{signal_of}

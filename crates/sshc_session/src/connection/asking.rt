@@ -1,4 +1,4 @@
-//! Global requests of ours, which wait for their answers in the order in which they were written (RFC 4254, section 4).
+//! Global requests of ours, which wait for their replies in the order in which they were written (RFC 4254, section 4).
 
 ghost use Rattle.std.specs.Prelude.{◌≡◌, ◌<◌, ◌++◌, ◌∷◌, [], OnErr, OnOk, Some, drop, true};
 ghost use Rattle.std.specs.VecDeque.{deque_capacity, deque_len};
@@ -16,7 +16,7 @@ use sshc_packets::global_request_packet;
 use sshc_wire::{NoMemory, Octets, Record, Resolution};
 use std::collections::VecDeque;
 
-/// Adds one entry or none, for which there is room.
+/// Adds the entry, if there is one; there is room for it.
 fn queue<T: Drop>(queue: &mut VecDeque<T>, entry: Option<T>)
     requires { deque_len queue.old < deque_capacity queue.old }
     ensures { queue.new.items ≡ queue.old.items ++ listed entry }
@@ -26,7 +26,7 @@ fn queue<T: Drop>(queue: &mut VecDeque<T>, entry: Option<T>)
     }
 }
 
-/// Lets the first entry go.
+/// Removes the first entry.
 fn drop_first<T: Drop>(queue: &mut VecDeque<T>)
     ensures { queue.new.items ≡ drop 1 queue.old.items }
 {
@@ -34,7 +34,7 @@ fn drop_first<T: Drop>(queue: &mut VecDeque<T>)
 }
 
 impl Connection {
-    /// A global request. Where its answer is wanted it waits behind the others.
+    /// A global request. If it wants a reply it waits after the others.
     #[tactic(auto, using(crate::proofs::MoveLemmas::after_asks, sshc_moves::specs::MoveLaws::not_done))]
     pub fn ask(&mut self, ask: &Ask<'_>) -> Result<(), NoMemory>
         ensures { Moved (Asks (ask_of ask.now)) self.old self.new result }
@@ -63,8 +63,8 @@ impl Connection {
         Ok(())
     }
 
-    /// The oldest request has its answer: its ticket is resolved, where the answer is for the user. No reply answers
-    /// an open.
+    /// The oldest request is answered: its ticket is resolved, if the answer is for the user. No reply answers an open
+    /// of a channel.
     #[tactic(auto, using(crate::proofs::LiveLemmas::live_runs, crate::proofs::MoveLemmas::after_replied, sshc_moves::specs::MoveLaws::not_done))]
     pub fn reply(&mut self, resolution: Option<Resolution>) -> Result<(), NoMemory>
         ensures { Moved (Replied resolution) self.old self.new result }

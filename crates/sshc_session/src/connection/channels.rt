@@ -31,7 +31,7 @@ impl Connection {
         }
     }
 
-    /// EOF of ours, behind all bytes that were taken.
+    /// EOF of ours, after all bytes that were taken.
     #[tactic(auto, using(crate::proofs::LiveLemmas::live_unmuted, crate::proofs::LiveLemmas::shown_open, crate::proofs::MoveLemmas::after_ends_bytes, sshc_moves::specs::MoveLaws::not_done))]
     pub fn end_bytes(&mut self, id: ChannelId) -> Result<(), NoMemory>
         ensures { Moved (EndsBytes id.0) self.old self.new result }
@@ -42,7 +42,7 @@ impl Connection {
         self.table.eof(Number(id.0), &mut self.outbox)
     }
 
-    /// Our close, behind all bytes that were taken and EOF.
+    /// Our close, after all bytes that were taken and EOF.
     #[tactic(auto, using(crate::proofs::LiveLemmas::live_unmuted, crate::proofs::LiveLemmas::shown_open, crate::proofs::MoveLemmas::after_closes, sshc_moves::specs::MoveLaws::not_done))]
     pub fn close(&mut self, id: ChannelId) -> Result<(), NoMemory>
         ensures { Moved (Closes id.0) self.old self.new result }
@@ -53,7 +53,7 @@ impl Connection {
         self.table.close_own(Number(id.0), &mut self.outbox)
     }
 
-    /// The peer's close, which takes the channel away.
+    /// The peer's close, which removes the channel.
     #[tactic(auto, using(crate::proofs::LiveLemmas::live_unmuted, crate::proofs::LiveLemmas::shown_open, crate::proofs::MoveLemmas::after_peer_closes, sshc_moves::specs::MoveLaws::not_done))]
     pub fn close_by_peer(&mut self, id: ChannelId) -> Result<(), NoMemory>
         ensures { Moved (PeerCloses id.0) self.old self.new result }
@@ -65,8 +65,8 @@ impl Connection {
         Ok(())
     }
 
-    /// A grant of the peer's, in bytes. Returns the window that is left then where the channel is established and the
-    /// session is live.
+    /// A grant of the peer's, in bytes. Returns the window after it, if the channel is established and the session is
+    /// live.
     #[tactic(auto, using(crate::proofs::LiveLemmas::live_unmuted, crate::proofs::LiveLemmas::shown_open, crate::proofs::MoveLemmas::after_grants, sshc_moves::specs::MoveLaws::not_done))]
     pub fn grant(&mut self, id: ChannelId, amount: u32) -> Result<Option<u32>, NoMemory>
         ensures moved { Moved (Grants id.0 amount) self.old self.new result }
@@ -81,7 +81,7 @@ impl Connection {
             .grant(Number(id.0), amount, exchanging, &mut self.outbox)
     }
 
-    /// So many bytes of the peer's, which use up our window. Returns whether it was brought back in a live session.
+    /// `len` bytes of the peer's, which use up our window. Returns whether our window was raised in a live session.
     #[tactic(auto, using(crate::proofs::LiveLemmas::live_unmuted, crate::proofs::LiveLemmas::shown_open, crate::proofs::MoveLemmas::after_receives, sshc_moves::specs::MoveLaws::not_done))]
     pub fn receive(&mut self, id: ChannelId, len: u64) -> Result<bool, NoMemory>
         ensures moved { Moved (Receives id.0 len) self.old self.new result }
@@ -96,7 +96,7 @@ impl Connection {
             .received(Number(id.0), len, target, &mut self.outbox)
     }
 
-    /// An open of the peer's takes the next number. Returns `NoMemory` too where every number is taken.
+    /// An open of the peer's takes the next number. Returns `NoMemory` also if every number is taken.
     #[tactic(auto, using(crate::proofs::MoveLemmas::after_reserves))]
     pub fn reserve(&mut self, sender: Sender) -> Result<ChannelId, NoMemory>
         requires { is_live self.old ≡ true }

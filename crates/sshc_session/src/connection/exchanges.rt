@@ -8,7 +8,7 @@ use sshc_opening::ExchangeFlag;
 use sshc_wire::{NoMemory, Record};
 
 impl Connection {
-    /// Begins an exchange of ours where the session is live and none runs.
+    /// Begins an exchange of ours, if the session is live and no exchange runs.
     #[tactic(auto, using(crate::proofs::LiveLemmas::live_unmuted, crate::proofs::LiveLemmas::shown_open, sshc_moves::specs::MoveLaws::is_done, sshc_moves::specs::MoveLaws::not_done))]
     pub fn begin_exchange(&mut self) -> Result<(), NoMemory>
         ensures { Moved Begins self.old self.new result }
@@ -38,7 +38,7 @@ impl Connection {
         Ok(())
     }
 
-    /// No exchange runs any more, and what waits on the channels goes out.
+    /// No exchange runs any more, and what waits on the channels is sent.
     #[tactic(auto, using(crate::proofs::LiveLemmas::live_unmuted, crate::proofs::LiveLemmas::shown_open, crate::proofs::MoveLemmas::after_resumes, sshc_moves::specs::MoveLaws::not_done))]
     pub fn resume(&mut self) -> Result<(), NoMemory>
         ensures { Moved Resumes self.old self.new result }
@@ -51,7 +51,7 @@ impl Connection {
         Ok(())
     }
 
-    /// A packet of so many bytes came while an exchange of ours runs.
+    /// A packet of `len` bytes came while an exchange of ours runs.
     #[tactic(auto, using(sshc_moves::specs::MoveLaws::is_done, sshc_moves::specs::MoveLaws::not_done))]
     pub fn count(&mut self, len: u64)
         ensures { self.new ≡ after (Counts len) self.old }

@@ -1,5 +1,5 @@
-//! Messages that change nothing of a session: requests on channels, answers to the peer's, and the disconnection
-//! (RFC 4254, sections 4 and 5.4; RFC 4253, section 11.1).
+//! Messages that don't change the state of a session: requests on channels, replies to the peer's, and the
+//! disconnection (RFC 4254, sections 4 and 5.4; RFC 4253, section 11.1).
 
 ghost use Rattle.std.specs.Prelude.{◌≡◌, ◌++◌, ◌∷◌, [], OnErr, OnOk, true};
 ghost use Rattle.sshc_wire.specs.declared.record.Record.TheVariants.{Payload};
@@ -17,7 +17,7 @@ use sshc_request::disconnect_packet;
 use sshc_wire::{ChannelId, Disconnect, NoMemory, Octets, Record, Text};
 
 impl Connection {
-    /// Adds a packet to what a live session says.
+    /// Adds a packet to the records of a live session.
     #[tactic(auto, using(crate::proofs::LiveLemmas::live_unmuted, crate::proofs::LiveLemmas::shown_open))]
     fn push_packet(&mut self, packet: Octets) -> Result<(), NoMemory>
         requires { is_live self.old ≡ true }
@@ -57,7 +57,7 @@ impl Connection {
         self.push_packet(packet)
     }
 
-    /// The answer to the peer's request on a channel: it is done, or it isn't.
+    /// The reply to the peer's request on a channel: success or failure.
     #[tactic(auto, using(sshc_moves::specs::MoveLaws::is_done, sshc_moves::specs::MoveLaws::not_done))]
     pub fn answer_on(&mut self, id: ChannelId, done: bool) -> Result<(), NoMemory>
         ensures { Moved (AnswersOn id.0 done) self.old self.new result }
@@ -76,7 +76,7 @@ impl Connection {
         self.push_packet(packet)
     }
 
-    /// The answer to the peer's global request: it is done, or it isn't.
+    /// The reply to the peer's global request: success or failure.
     #[tactic(auto, using(sshc_moves::specs::MoveLaws::is_done, sshc_moves::specs::MoveLaws::not_done))]
     pub fn answer(&mut self, done: bool) -> Result<(), NoMemory>
         ensures { Moved (Answers done) self.old self.new result }

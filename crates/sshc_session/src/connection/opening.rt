@@ -11,7 +11,7 @@ use sshc_key::LocalSigner;
 use sshc_moves::Life;
 use sshc_opening::{Event, Gate, Step};
 
-/// Whether the session goes on behind the opening's step.
+/// Whether the session continues after the opening's step.
 fn goes_on<E>(step: &Step<E>) -> bool
     ensures { result ≡ goes_on step.now }
 {
@@ -19,7 +19,7 @@ fn goes_on<E>(step: &Step<E>) -> bool
 }
 
 impl Connection {
-    /// What an event does before the session is open, with the gate's answers. Where the opening doesn't go on, the
+    /// What an event does before the session is open, with the gate's answers. If the opening doesn't continue, the
     /// session is over. Once the user has left the session no packet is added.
     #[tactic(auto, using(crate::proofs::OpeningLemmas::keeps_muted))]
     pub fn step_opening<G: Gate, S: LocalSigner>(

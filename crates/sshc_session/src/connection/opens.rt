@@ -22,7 +22,7 @@ use sshc_wire::{ChannelId, ChannelOpenFailure, NoMemory, Outbox, Record, Resolut
 /// More than the bytes of a record that answers an open.
 const ANSWER_ROOM: usize = 16;
 
-/// Answers an open of ours, for which there is room. One without a ticket has no answer.
+/// Resolves the ticket of an open of ours; there is room for the record. An open without a ticket has no answer.
 #[tactic(auto, using(crate::proofs::LiveLemmas::shown_resolved, crate::proofs::LiveLemmas::nothing_more))]
 fn answer_open(out: &mut Outbox, ticket: Option<Ticket>, resolution: Resolution)
     requires { length (record_text (Resolved (or_none ticket) resolution)) ≤ out.old.room }
@@ -37,7 +37,7 @@ fn answer_open(out: &mut Outbox, ticket: Option<Ticket>, resolution: Resolution)
     }
 }
 
-/// Answers an open of ours that the peer confirmed.
+/// Resolves the ticket of an open of ours that the peer confirmed.
 #[tactic(auto, using(crate::proofs::MoveLemmas::opened_fits))]
 fn answer_opened(out: &mut Outbox, ticket: Option<Ticket>, id: ChannelId)
     requires { 16 ≤ out.old.room }
@@ -47,7 +47,7 @@ fn answer_opened(out: &mut Outbox, ticket: Option<Ticket>, id: ChannelId)
     answer_open(out, ticket, Resolution::ChannelOpened { id });
 }
 
-/// Answers an open of ours that the peer refused.
+/// Resolves the ticket of an open of ours that the peer refused.
 #[tactic(auto, using(crate::proofs::MoveLemmas::failed_fits))]
 fn answer_failed(out: &mut Outbox, ticket: Option<Ticket>, reason: ChannelOpenFailure)
     requires { 16 ≤ out.old.room }
@@ -69,7 +69,7 @@ impl Connection {
         }
     }
 
-    /// An open of ours, with its packet. Returns its number. Returns `NoMemory` too where every number is taken.
+    /// An open of ours, with its packet. Returns its number, or `NoMemory` also if every number is taken.
     #[tactic(auto, using(crate::proofs::LiveLemmas::live_unmuted, crate::proofs::LiveLemmas::shown_open, crate::proofs::MoveLemmas::after_opens, crate::proofs::MoveLemmas::same_number))]
     pub fn open(
         &mut self,
@@ -93,8 +93,8 @@ impl Connection {
         Ok(ChannelId(next.0))
     }
 
-    /// The peer confirms an open of ours that waits, whose ticket is answered. Returns false where none waits under the
-    /// number, and nothing changes then.
+    /// The peer confirms an open of ours that waits, whose ticket is resolved. Returns false if none waits under the
+    /// number, and changes nothing then.
     #[tactic(auto, using(crate::proofs::LiveLemmas::live_unmuted, crate::proofs::LiveLemmas::shown_open, crate::proofs::LiveLemmas::nothing_more, crate::proofs::MoveLemmas::after_confirms, crate::proofs::UnknownLemmas::none_confirmed))]
     pub fn confirm(&mut self, c: Confirmation) -> Result<bool, NoMemory>
         requires { is_live self.old ≡ true }
@@ -119,8 +119,8 @@ impl Connection {
         }
     }
 
-    /// The peer refuses an open of ours that waits, whose ticket is answered. Returns false where none waits under the
-    /// number, and nothing changes then.
+    /// The peer refuses an open of ours that waits, whose ticket is resolved. Returns false if none waits under the
+    /// number, and changes nothing then.
     #[tactic(auto, using(crate::proofs::LiveLemmas::live_unmuted, crate::proofs::LiveLemmas::shown_open, crate::proofs::LiveLemmas::nothing_more, crate::proofs::MoveLemmas::after_fails, crate::proofs::UnknownLemmas::none_failed))]
     pub fn fail(&mut self, id: ChannelId, reason: ChannelOpenFailure) -> Result<bool, NoMemory>
         requires { is_live self.old ≡ true }
@@ -138,7 +138,7 @@ impl Connection {
         }
     }
 
-    /// Accepts an open of the peer's that waits, with the packet. Another number is passed over.
+    /// Accepts an open of the peer's that waits, with the packet. Any other number is ignored.
     #[tactic(auto, using(crate::proofs::LiveLemmas::live_unmuted, crate::proofs::LiveLemmas::shown_open, crate::proofs::MoveLemmas::after_accepts, sshc_moves::specs::MoveLaws::not_done))]
     pub fn accept(&mut self, id: ChannelId) -> Result<(), NoMemory>
         ensures { Moved (Accepts id.0) self.old self.new result }
@@ -165,7 +165,7 @@ impl Connection {
         self.outbox.push(Record::Payload(packet))
     }
 
-    /// Refuses an open of the peer's that waits, with the packet, and takes it away. Another number is passed over.
+    /// Refuses an open of the peer's that waits, with the packet, and removes it. Any other number is ignored.
     #[tactic(auto, using(crate::proofs::LiveLemmas::live_unmuted, crate::proofs::LiveLemmas::shown_open, crate::proofs::MoveLemmas::after_rejects, sshc_moves::specs::MoveLaws::not_done))]
     pub fn reject(&mut self, id: ChannelId, reason: ChannelOpenFailure) -> Result<(), NoMemory>
         ensures { Moved (Rejects id.0 reason) self.old self.new result }

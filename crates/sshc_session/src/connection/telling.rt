@@ -1,4 +1,4 @@
-//! What is told, and answers that no packet of the peer's brings.
+//! Reports, and resolutions that no packet of the peer's brings.
 
 ghost use Rattle.std.specs.Prelude.{◌≡◌, ◌++◌, OnErr, OnOk, true};
 ghost use Rattle.sshc_wire.specs.Outgoing.{listed};
@@ -9,7 +9,7 @@ use super::Connection;
 use sshc_opening::resolved;
 use sshc_wire::{NoMemory, Record, Resolution, Ticket};
 
-/// The record of an answer that no packet brings; others are none.
+/// The record of a resolution that no packet of the peer's brings; `None` for any other resolution.
 fn direct_record(ticket: Ticket, resolution: Resolution) -> Option<Record>
     ensures { listed result ≡ direct_answer ticket resolution }
 {
@@ -22,7 +22,7 @@ fn direct_record(ticket: Ticket, resolution: Resolution) -> Option<Record>
     }
 }
 
-/// What may be told: no packet, and no answer to a ticket.
+/// A record that may be reported: neither a packet nor an answer to a ticket.
 fn told_record(said: Record) -> Option<Record>
     ensures { listed result ≡ told said }
 {
@@ -33,7 +33,7 @@ fn told_record(said: Record) -> Option<Record>
 }
 
 impl Connection {
-    /// Adds one record or none, where the session runs.
+    /// Adds the record, if there is one; the session runs.
     #[tactic(auto, using(crate::proofs::LiveLemmas::shown_open, crate::proofs::LiveLemmas::nothing_more))]
     pub(super) fn push_if(&mut self, said: Option<Record>) -> Result<(), NoMemory>
         requires { runs self.old.life ≡ true }
@@ -46,7 +46,7 @@ impl Connection {
         }
     }
 
-    /// Tells what is no packet and no answer to a ticket; those are passed over.
+    /// Reports a record. A packet or an answer to a ticket is ignored.
     #[tactic(auto, using(crate::proofs::LiveLemmas::shown_told, crate::proofs::MoveLemmas::after_tells, sshc_moves::specs::MoveLaws::not_done))]
     pub fn tell(&mut self, said: Record) -> Result<(), NoMemory>
         ensures { Moved (Tells said) self.old self.new result }
@@ -68,7 +68,7 @@ impl Connection {
         }
     }
 
-    /// Resolves a ticket as Dropped, ExtInfoSeen, SigAlgs or HostKeysProved; others are passed over.
+    /// Resolves a ticket as Dropped, ExtInfoSeen, SigAlgs or HostKeysProved; any other resolution is ignored.
     #[tactic(auto, using(crate::proofs::LiveLemmas::live_runs, crate::proofs::MoveLemmas::after_resolves, sshc_moves::specs::MoveLaws::not_done))]
     pub fn resolve(&mut self, ticket: Ticket, resolution: Resolution) -> Result<(), NoMemory>
         ensures { Moved (Resolves ticket resolution) self.old self.new result }
