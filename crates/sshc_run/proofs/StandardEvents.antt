@@ -1,19 +1,13 @@
 -- The five events of the password login: the fields of each can be read. Its texts are ASCII, and its host key's blob
 -- is the key's text.
-use Rattle.std.proofs.Common.{◌≡◌, ℕ, zero, suc, ◌<◌, ◌^◌, true, false, List, [], ◌∷◌, ◌++◌, length, Option, Some, None, Result, Ok, Err, ltb, lit<, refl, ap, sym, ◌∙◌}
+use Rattle.std.proofs.Common.{◌≡◌, ℕ, zero, suc, ◌<◌, ◌^◌, false, List, [], ◌∷◌, ◌++◌, length, Option, Some, None, Result, Ok, Err, lit<, refl, ap, sym, ◌∙◌}
 use Rattle.std.specs.Prelude.{codes, if◌then◌else◌}
-use Rattle.std.specs.List.{list_all}
 use Rattle.std.specs.Option.{is_some}
-use Rattle.std.specs.Str.{is_utf8}
-use Rattle.std.proofs.lemmas.Bool.{ltb-true}
 use Rattle.std.proofs.lemmas.List.{append-nil}
-use Rattle.std.proofs.lemmas.List.Sums.{AllPass-from_list_all}
-use Rattle.std.proofs.lemmas.Str.{IsUtf8-from_ascii, is_utf8-from_IsUtf8}
-use Rattle.std.proofs.lemmas.Str.Ascii.{IsAscii-from_all}
 use Rattle.sshc_wire.specs.Format.{faults_as, known as known_or, both_at, made_at}
 use Rattle.sshc_wire.specs.Grammar.{converted_at, finished_at}
-use Rattle.sshc_wire.specs.Parts.{number32, strings, texts}
-use Rattle.sshc_wire.specs.Reads.{Reader, ◌>>=◌, byte_at, number_at, boolean_at, string_at, text_at}
+use Rattle.sshc_wire.specs.Parts.{texts}
+use Rattle.sshc_wire.specs.Reads.{Reader, ◌>>=◌, number_at, string_at}
 use Rattle.sshc_wire.specs.Wire.{u32_text, string_text}
 use Rattle.sshc_wire.specs.declared.error.WireError.{WireError}
 use Rattle.sshc_key.specs.AlgorithmNames.{tag_named, known_named}
@@ -38,39 +32,10 @@ use Rattle.sshc_event.specs.declared.method.Method.TheVariants.{Password}
 use Rattle.sshc_script.specs.declared.error.EventError.{EventError}
 use Rattle.sshc_script.specs.declared.error.EventError.TheVariants as reads
 use Rattle.sshc_script.specs.declared.event_kind.EventKind.TheVariants as kinds
-use Rattle.sshc_script.specs.EventParts.{as_bad, u8_at, u32_at, flag_at, octets_at, words_at, ticket_at, method_sort_at}
+use Rattle.sshc_script.specs.EventParts.{u8_at, u32_at, flag_at, octets_at, words_at, ticket_at, method_sort_at}
 use Rattle.sshc_script.specs.EventReading.{readable, key_of_sort, exchange_key_at, secret_of, secret_at, names_at, exchange_at, exchange_done_of, payload_of, method_at, authenticate_at, authenticate_of, event_of}
+use Rattle.sshc_script.proofs.StandardFacts.{text_is, words_is, octets_is, u32_is, u8_is, unset_is}
 use Rattle.sshc_run.proofs.StandardFacts.{key_bytes, key, exchange, asked, accepted}
-
--- ---- parts at the start
-
-utf8_is : (text : List ℕ) → list_all (λ b. ltb b 128) text ≡ true → is_utf8 text ≡ true
-utf8_is text low =
-    is_utf8-from_IsUtf8 text (IsUtf8-from_ascii text (IsAscii-from_all text (λ k d within. ltb-true _ _ (AllPass-from_list_all (λ b. ltb b 128) text low k d within))))
-
--- a text of ASCII is read
-text_is : (text rest : List ℕ) → length text < 2 ^ 32 → list_all (λ b. ltb b 128) text ≡ true → text_at (string_text text ++ rest) ≡ Ok (text, rest)
-text_is text rest short low = texts.again text rest (short, utf8_is text low)
-
-words_is : (text rest : List ℕ) → length text < 2 ^ 32 → list_all (λ b. ltb b 128) text ≡ true → words_at (string_text text ++ rest) ≡ Ok (text, rest)
-unfolding words_at
-words_is text rest short low = ap (faults_as as_bad) (text_is text rest short low)
-
-octets_is : (text rest : List ℕ) → length text < 2 ^ 32 → octets_at (string_text text ++ rest) ≡ Ok (text, rest)
-unfolding octets_at
-octets_is text rest short = ap (faults_as as_bad) (strings.again text rest short)
-
-u32_is : (n : ℕ) (rest : List ℕ) → n < 2 ^ 32 → u32_at (u32_text n ++ rest) ≡ Ok (n, rest)
-unfolding u32_at
-u32_is n rest small = ap (faults_as as_bad) (number32.again n rest small)
-
-u8_is : (b : ℕ) (rest : List ℕ) → u8_at (b ∷ rest) ≡ Ok (b, rest)
-unfolding u8_at byte_at
-u8_is b rest = refl
-
-unset_is : (rest : List ℕ) → flag_at (0 ∷ rest) ≡ Ok (false, rest)
-unfolding flag_at boolean_at byte_at
-unset_is rest = refl
 
 -- ---- the host key
 

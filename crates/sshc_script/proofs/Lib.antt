@@ -4,3 +4,4 @@ pub mod Lists
 pub mod EventGrammar
 pub mod KindGrammar
 pub mod MsgGrammar
+pub mod StandardFacts
