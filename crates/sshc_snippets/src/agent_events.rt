@@ -1,0 +1,22 @@
+//! An agent in a script.
+
+use sshc_agent_turns::{ServedAgent, read_agent_event};
+use sshc_key::LocalSigner;
+use sshc_script::EventKind;
+use sshc_wire::Outbox;
+use std::alloc::Global;
+
+/// The records of an agent's event at a moment in milliseconds; `None` if its fields can't be read, or out of memory.
+pub fn agent_records<G: LocalSigner>(
+    alloc: Global,
+    agent: &mut ServedAgent,
+    now: u64,
+    kind: EventKind,
+    fields: &[u8],
+    signer: &mut G,
+) -> Option<Outbox> {
+    match read_agent_event(alloc, kind, fields) {
+        Ok(event) => agent.take(now, &event, signer).ok(),
+        Err(_) => None,
+    }
+}
