@@ -3,3 +3,17 @@
 
 #[cfg(test)]
 mod calls;
+#[cfg(test)]
+mod connecting;
+#[cfg(test)]
+mod logins;
+#[cfg(test)]
+mod maker;
+#[cfg(test)]
+mod payloads;
+#[cfg(test)]
+mod rules;
+#[cfg(test)]
+mod runs;
+#[cfg(test)]
+mod turns;

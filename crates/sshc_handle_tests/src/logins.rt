@@ -1,0 +1,352 @@
+//! Logins of each kind, with signers and authenticators of the caller's: two that are open at once, of which the
+//! first is replaced.
+
+use sshc_client::Config;
+use sshc_fakes::{
+    FakeRunner, Host, Keeper, at_once, fake_certificate, fake_key, fake_pair, hosted, run_beside,
+};
+use sshc_handle::{AuthResult, Handle, KeyboardInteractiveAuthResponse, WithError};
+use sshc_key::{AgentIdentity, HashAlg, PrivateKeyWithHashAlg, Signer};
+use sshc_opening::{Error, GssapiAuthenticator, GssapiError, GssapiStep};
+use sshc_wire::{Disconnect, NoMemory, Octets, Text};
+use std::alloc::Global;
+use std::sync::Wait;
+use std::test::*;
+use std::thread::Threads;
+use std::time::Clock;
+
+/// Why a stand-in refuses.
+#[derive(Clone, Copy, Debug, PartialEq, Eq)]
+struct Refused;
+
+/// Signs with four bytes, or refuses; what isn't a login's it refuses too.
+#[derive(Clone, Copy, Debug, PartialEq, Eq)]
+struct Seal {
+    refuses: bool,
+    refusals: u64,
+}
+
+/// How the bytes begin that a key is to sign (RFC 4252, section 7).
+const SIGNED: &[u8] =
+    b"\0\0\0\x0asession-id\x32\0\0\0\x05alice\0\0\0\x0essh-connection\0\0\0\x09publickey\x01";
+
+/// What a MIC is over (RFC 4462, section 3.5).
+const MIC_DATA: &[u8] =
+    b"\0\0\0\x0asession-id\x32\0\0\0\x05alice\0\0\0\x0essh-connection\0\0\0\x0fgssapi-with-mic";
+
+/// The mechanism Kerberos 5 (RFC 1964, section 1).
+const KERBEROS: &[u8] = b"\x06\x09\x2a\x86\x48\x86\xf7\x12\x01\x02\x02";
+
+fn is_kerberos(mechanism: &Option<Octets>) -> bool {
+    match mechanism {
+        Some(oid) => oid.as_slice() == KERBEROS,
+        None => false,
+    }
+}
+
+impl Signer for Seal {
+    type Error = Refused;
+
+    ghost refusals = { λ s. s.refusals };
+
+    fn auth_sign(
+        &mut self,
+        _key: &AgentIdentity,
+        _hash: Option<HashAlg>,
+        bytes: Vec<u8>,
+    ) -> Result<Vec<u8>, Refused> {
+        let mut signed = bytes;
+        if self.refuses
+            || !signed.starts_with(SIGNED)
+            || signed.extend_from_slice(b"\0\0\0\x04seal").is_err()
+        {
+            self.refusals = self.refusals.saturating_add(1);
+            return Err(Refused);
+        }
+        Ok(signed)
+    }
+}
+
+impl GssapiAuthenticator for Seal {
+    type Error = Refused;
+
+    ghost refusals = { λ s. s.refusals };
+
+    fn gssapi_step(
+        &mut self,
+        selected_mechanism: Option<Octets>,
+        _token: Option<Octets>,
+        mic_data: Octets,
+    ) -> Result<GssapiStep, Refused> {
+        if self.refuses || !is_kerberos(&selected_mechanism) || mic_data.as_slice() != MIC_DATA {
+            self.refusals = self.refusals.saturating_add(1);
+            return Err(Refused);
+        }
+        Ok(GssapiStep::Complete {
+            token: None,
+            mic: Some(mic_data),
+        })
+    }
+
+    fn gssapi_error(&mut self, _error: GssapiError) {}
+}
+
+/// How a user logs in.
+#[derive(Clone, Copy, Debug, PartialEq, Eq)]
+enum Way {
+    None,
+    Password(&'static str),
+    Pair,
+    PairWithCertificate,
+    Prompts,
+    Key { refuses: bool },
+    Certificate { refuses: bool },
+    Gssapi { refuses: bool },
+}
+
+/// What it came to.
+#[derive(Clone, Copy, Debug, PartialEq, Eq)]
+enum Came {
+    In,
+    Out,
+    Refused,
+    Failed(Error),
+}
+
+fn came_to(answer: Result<AuthResult, WithError<Refused>>) -> Came {
+    match answer {
+        Ok(AuthResult::Success) => Came::In,
+        Ok(AuthResult::Failure { .. }) => Came::Out,
+        Err(WithError::Signer(Refused)) => Came::Refused,
+        Err(WithError::Session(e)) => Came::Failed(e),
+    }
+}
+
+/// What beginning a login by prompts came to: `In` where prompts came.
+fn asked(answer: Result<KeyboardInteractiveAuthResponse, Error>) -> Came {
+    match answer {
+        Ok(KeyboardInteractiveAuthResponse::InfoRequest { .. }) => Came::In,
+        Ok(_) => Came::Out,
+        Err(e) => Came::Failed(e),
+    }
+}
+
+fn responded(answer: Result<KeyboardInteractiveAuthResponse, Error>) -> Came {
+    match answer {
+        Ok(KeyboardInteractiveAuthResponse::Success) => Came::In,
+        Ok(_) => Came::Out,
+        Err(e) => Came::Failed(e),
+    }
+}
+
+fn one_response(alloc: Global) -> Result<Vec<Text>, NoMemory> {
+    let mut responses = Vec::new(alloc);
+    responses.push(Text::from_str(alloc, "yes")?)?;
+    Ok(responses)
+}
+
+fn respond<R: Wait>(rt: &R, alloc: Global, handle: &Handle<Keeper>) -> Came {
+    match one_response(alloc) {
+        Ok(responses) => responded(handle.authenticate_keyboard_interactive_respond(rt, responses)),
+        Err(NoMemory) => Came::Failed(Error::NoMemory),
+    }
+}
+
+/// By prompts: one is asked, and answered.
+fn by_prompts<R: Wait>(rt: &R, alloc: Global, handle: &Handle<Keeper>) -> Came {
+    let begun = asked(handle.authenticate_keyboard_interactive_start(rt, "alice", None));
+    if begun == Came::In {
+        respond(rt, alloc, handle)
+    } else {
+        begun
+    }
+}
+
+fn by_pair<R: Wait>(rt: &R, alloc: Global, handle: &Handle<Keeper>) -> Result<AuthResult, Error> {
+    let pair = PrivateKeyWithHashAlg::new(fake_pair(alloc)?, None);
+    handle.authenticate_publickey(rt, "alice", pair)
+}
+
+fn by_both<R: Wait>(rt: &R, alloc: Global, handle: &Handle<Keeper>) -> Result<AuthResult, Error> {
+    let cert = fake_certificate(alloc)?;
+    let pair = fake_pair(alloc)?;
+    handle.authenticate_openssh_cert(rt, "alice", pair, cert)
+}
+
+fn by_key<R: Wait>(
+    rt: &R,
+    alloc: Global,
+    handle: &Handle<Keeper>,
+    seal: &mut Seal,
+) -> Result<AuthResult, WithError<Refused>> {
+    match fake_key(alloc) {
+        Ok(key) => handle.authenticate_publickey_with(rt, "alice", key, None, seal),
+        Err(e) => Err(WithError::Session(Error::from(e))),
+    }
+}
+
+fn by_certificate<R: Wait>(
+    rt: &R,
+    alloc: Global,
+    handle: &Handle<Keeper>,
+    seal: &mut Seal,
+) -> Result<AuthResult, WithError<Refused>> {
+    match fake_certificate(alloc) {
+        Ok(cert) => handle.authenticate_certificate_with(rt, "alice", cert, None, seal),
+        Err(e) => Err(WithError::Session(Error::from(e))),
+    }
+}
+
+fn mechanisms(alloc: Global) -> Result<Vec<Octets>, Error> {
+    let mut oids = Vec::new(alloc);
+    oids.push(Octets::from_slice(alloc, KERBEROS)?)?;
+    Ok(oids)
+}
+
+fn by_gssapi<R: Wait>(
+    rt: &R,
+    alloc: Global,
+    handle: &Handle<Keeper>,
+    seal: &mut Seal,
+) -> Result<AuthResult, WithError<Refused>> {
+    let oids = mechanisms(alloc)?;
+    handle.authenticate_gssapi_with_mic(rt, "alice", oids, seal)
+}
+
+fn plain(answer: Result<AuthResult, Error>) -> Came {
+    match answer {
+        Ok(AuthResult::Success) => Came::In,
+        Ok(AuthResult::Failure { .. }) => Came::Out,
+        Err(e) => Came::Failed(e),
+    }
+}
+
+fn sealing(refuses: bool) -> Seal {
+    Seal {
+        refuses,
+        refusals: 0,
+    }
+}
+
+fn logged_in<R: Wait>(rt: &R, alloc: Global, handle: &Handle<Keeper>, way: Way) -> Came {
+    match way {
+        Way::None => plain(handle.authenticate_none(rt, "alice")),
+        Way::Password(user) => plain(handle.authenticate_password(rt, user, "pw")),
+        Way::Pair => plain(by_pair(rt, alloc, handle)),
+        Way::PairWithCertificate => plain(by_both(rt, alloc, handle)),
+        Way::Prompts => by_prompts(rt, alloc, handle),
+        Way::Key { refuses } => came_to(by_key(rt, alloc, handle, &mut sealing(refuses))),
+        Way::Certificate { refuses } => came_to(by_certificate(
+            rt,
+            alloc,
+            handle,
+            &mut sealing(refuses),
+        )),
+        Way::Gssapi { refuses } => came_to(by_gssapi(rt, alloc, handle, &mut sealing(refuses))),
+    }
+}
+
+/// Logs in by one way and then by another, and leaves.
+fn in_turn<R: Wait>(
+    rt: &R,
+    alloc: Global,
+    handle: &Handle<Keeper>,
+    first: Way,
+    second: Way,
+) -> (Came, Came) {
+    let one = logged_in(rt, alloc, handle, first);
+    let two = logged_in(rt, alloc, handle, second);
+    let _ = handle.disconnect(rt, Disconnect::ByApplication, "", "");
+    (one, two)
+}
+
+/// Logs in twice at once by one way, and leaves.
+fn both_at_once<R: Threads + Wait + Sync>(
+    rt: &R,
+    alloc: Global,
+    handle: &Handle<Keeper>,
+    way: Way,
+) -> (Came, Came) {
+    let both = at_once(
+        rt,
+        handle,
+        |handle| logged_in(rt, alloc, handle, way),
+        |handle| logged_in(rt, alloc, handle, way),
+    );
+    let _ = handle.disconnect(rt, Disconnect::ByApplication, "", "");
+    both
+}
+
+/// A session over this host, with the default settings.
+fn greeted(alloc: Global, host: Host) -> Result<(Handle<Keeper>, FakeRunner<Host>), Error> {
+    let coming = host.greeting()?;
+    hosted(alloc, Config::default_in(alloc)?, host, coming, 1000, 0)
+}
+
+/// Of two logins at once the host answers the one that replaced the other.
+#[test]
+fn replaces_a_login(rt: HostRuntime) -> Result<(), Fail> {
+    let alloc = rt.alloc();
+    for way in [
+        Way::None,
+        Way::Password("alice"),
+        Way::Pair,
+        Way::PairWithCertificate,
+        Way::Prompts,
+        Way::Key { refuses: false },
+        Way::Certificate { refuses: false },
+        Way::Gssapi { refuses: false },
+    ] {
+        let (handle, runner) = greeted(alloc, Host::new(alloc, 2))?;
+        let (came, _left) = run_beside(
+            &rt,
+            &handle,
+            runner,
+            |handle| both_at_once(&rt, alloc, handle, way),
+        );
+        let replaced = Came::Failed(Error::Disconnect);
+        assert!(&rt;
+            came == (replaced, Came::In) || came == (Came::In, replaced),
+            "{way:?}"
+        );
+    }
+    Ok(())
+}
+
+/// A login that is refused, by the server or by the caller's signer, and then one that isn't.
+fn comes_in<R: Threads + Wait + Sync + Clock>(
+    rt: &R,
+    alloc: Global,
+    first: Way,
+    second: Way,
+) -> Result<(Came, Came), Error> {
+    let (handle, runner) = greeted(alloc, Host::new(alloc, 1))?;
+    let (came, _left) = run_beside(
+        rt,
+        &handle,
+        runner,
+        |handle| in_turn(rt, alloc, handle, first, second),
+    );
+    Ok(came)
+}
+
+#[test]
+fn logs_in_behind_a_refusal(rt: HostRuntime) -> Result<(), Fail> {
+    let alloc = rt.alloc();
+    let out = Way::Password("refused");
+    let password = Way::Password("alice");
+    assert_eq!(&rt; comes_in(&rt, alloc, out, password)?, (Came::Out, Came::In));
+    let key = Way::Key { refuses: true };
+    assert_eq!(&rt;
+        comes_in(&rt, alloc, key, password)?,
+        (Came::Refused, Came::In)
+    );
+    let certificate = Way::Certificate { refuses: true };
+    assert_eq!(&rt;
+        comes_in(&rt, alloc, certificate, password)?,
+        (Came::Refused, Came::In)
+    );
+    let gssapi = Way::Gssapi { refuses: true };
+    assert_eq!(&rt; comes_in(&rt, alloc, gssapi, password)?.0, Came::Refused);
+    Ok(())
+}
