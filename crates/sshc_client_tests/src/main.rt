@@ -3,8 +3,6 @@
 #![tactic(auto)]
 
 mod acting;
-#[cfg(test)]
-mod defaults;
 mod gave;
 mod listening;
 mod methods;

@@ -1,9 +1,10 @@
 //! Calls of one kind from two threads, which are open at once and answered differently.
 
+use crate::answers::leave;
 use sshc_fakes::{Host, Keeper, at_once, fake_key, opened, run_beside};
 use sshc_handle::{Channel, Handle};
 use sshc_opening::Error;
-use sshc_wire::{ChannelOpenFailure, Disconnect};
+use sshc_wire::ChannelOpenFailure;
 use std::alloc::Global;
 use std::sync::Wait;
 use std::test::*;
@@ -118,7 +119,7 @@ fn make_both<R: Threads + Wait + Sync>(
         |handle| first.make(rt, alloc, handle),
         |handle| second.make(rt, alloc, handle),
     );
-    let _ = handle.disconnect(rt, Disconnect::ByApplication, "", "");
+    let _ = leave(rt, handle);
     Both { first, second }
 }
 
@@ -230,7 +231,7 @@ fn ping_and_leave<R: Threads + Wait + Sync>(
         rt,
         handle,
         |handle| make_both(rt, alloc, handle, Call::Ping, Call::Ping),
-        |handle| handle.disconnect(rt, Disconnect::ByApplication, "", ""),
+        |handle| leave(rt, handle),
     );
     both
 }

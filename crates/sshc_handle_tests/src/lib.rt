@@ -2,9 +2,13 @@
 #![tactic(auto)]
 
 #[cfg(test)]
+mod answers;
+#[cfg(test)]
 mod calls;
 #[cfg(test)]
 mod connecting;
+#[cfg(test)]
+mod defaults;
 #[cfg(test)]
 mod logins;
 #[cfg(test)]
@@ -15,5 +19,9 @@ mod payloads;
 mod rules;
 #[cfg(test)]
 mod runs;
+#[cfg(test)]
+mod script;
+#[cfg(test)]
+mod sending;
 #[cfg(test)]
 mod turns;

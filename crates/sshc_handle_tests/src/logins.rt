@@ -1,14 +1,15 @@
 //! Logins of each kind, with signers and authenticators of the caller's: two that are open at once, of which the
 //! first is replaced.
 
+use crate::answers::{Came, leave, logged_in, prompted, respond};
 use sshc_client::Config;
 use sshc_fakes::{
     FakeRunner, Host, Keeper, at_once, fake_certificate, fake_key, fake_pair, hosted, run_beside,
 };
-use sshc_handle::{AuthResult, Handle, KeyboardInteractiveAuthResponse, WithError};
+use sshc_handle::{AuthResult, Handle, WithError};
 use sshc_key::{AgentIdentity, HashAlg, PrivateKeyWithHashAlg, Signer};
 use sshc_opening::{Error, GssapiAuthenticator, GssapiError, GssapiStep};
-use sshc_wire::{Disconnect, NoMemory, Octets, Text};
+use sshc_wire::Octets;
 use std::alloc::Global;
 use std::sync::Wait;
 use std::test::*;
@@ -104,15 +105,6 @@ enum Way {
     Gssapi { refuses: bool },
 }
 
-/// What it came to.
-#[derive(Clone, Copy, Debug, PartialEq, Eq)]
-enum Came {
-    In,
-    Out,
-    Refused,
-    Failed(Error),
-}
-
 fn came_to(answer: Result<AuthResult, WithError<Refused>>) -> Came {
     match answer {
         Ok(AuthResult::Success) => Came::In,
@@ -122,40 +114,10 @@ fn came_to(answer: Result<AuthResult, WithError<Refused>>) -> Came {
     }
 }
 
-/// What beginning a login by prompts came to: `In` where prompts came.
-fn asked(answer: Result<KeyboardInteractiveAuthResponse, Error>) -> Came {
-    match answer {
-        Ok(KeyboardInteractiveAuthResponse::InfoRequest { .. }) => Came::In,
-        Ok(_) => Came::Out,
-        Err(e) => Came::Failed(e),
-    }
-}
-
-fn responded(answer: Result<KeyboardInteractiveAuthResponse, Error>) -> Came {
-    match answer {
-        Ok(KeyboardInteractiveAuthResponse::Success) => Came::In,
-        Ok(_) => Came::Out,
-        Err(e) => Came::Failed(e),
-    }
-}
-
-fn one_response(alloc: Global) -> Result<Vec<Text>, NoMemory> {
-    let mut responses = Vec::new(alloc);
-    responses.push(Text::from_str(alloc, "yes")?)?;
-    Ok(responses)
-}
-
-fn respond<R: Wait>(rt: &R, alloc: Global, handle: &Handle<Keeper>) -> Came {
-    match one_response(alloc) {
-        Ok(responses) => responded(handle.authenticate_keyboard_interactive_respond(rt, responses)),
-        Err(NoMemory) => Came::Failed(Error::NoMemory),
-    }
-}
-
 /// By prompts: one is asked, and answered.
 fn by_prompts<R: Wait>(rt: &R, alloc: Global, handle: &Handle<Keeper>) -> Came {
-    let begun = asked(handle.authenticate_keyboard_interactive_start(rt, "alice", None));
-    if begun == Came::In {
+    let begun = prompted(handle.authenticate_keyboard_interactive_start(rt, "alice", None));
+    if begun == Came::Prompted {
         respond(rt, alloc, handle)
     } else {
         begun
@@ -213,14 +175,6 @@ fn by_gssapi<R: Wait>(
     handle.authenticate_gssapi_with_mic(rt, "alice", oids, seal)
 }
 
-fn plain(answer: Result<AuthResult, Error>) -> Came {
-    match answer {
-        Ok(AuthResult::Success) => Came::In,
-        Ok(AuthResult::Failure { .. }) => Came::Out,
-        Err(e) => Came::Failed(e),
-    }
-}
-
 fn sealing(refuses: bool) -> Seal {
     Seal {
         refuses,
@@ -228,12 +182,12 @@ fn sealing(refuses: bool) -> Seal {
     }
 }
 
-fn logged_in<R: Wait>(rt: &R, alloc: Global, handle: &Handle<Keeper>, way: Way) -> Came {
+fn tried<R: Wait>(rt: &R, alloc: Global, handle: &Handle<Keeper>, way: Way) -> Came {
     match way {
-        Way::None => plain(handle.authenticate_none(rt, "alice")),
-        Way::Password(user) => plain(handle.authenticate_password(rt, user, "pw")),
-        Way::Pair => plain(by_pair(rt, alloc, handle)),
-        Way::PairWithCertificate => plain(by_both(rt, alloc, handle)),
+        Way::None => logged_in(handle.authenticate_none(rt, "alice")),
+        Way::Password(user) => logged_in(handle.authenticate_password(rt, user, "pw")),
+        Way::Pair => logged_in(by_pair(rt, alloc, handle)),
+        Way::PairWithCertificate => logged_in(by_both(rt, alloc, handle)),
         Way::Prompts => by_prompts(rt, alloc, handle),
         Way::Key { refuses } => came_to(by_key(rt, alloc, handle, &mut sealing(refuses))),
         Way::Certificate { refuses } => came_to(by_certificate(
@@ -254,9 +208,9 @@ fn in_turn<R: Wait>(
     first: Way,
     second: Way,
 ) -> (Came, Came) {
-    let one = logged_in(rt, alloc, handle, first);
-    let two = logged_in(rt, alloc, handle, second);
-    let _ = handle.disconnect(rt, Disconnect::ByApplication, "", "");
+    let one = tried(rt, alloc, handle, first);
+    let two = tried(rt, alloc, handle, second);
+    let _ = leave(rt, handle);
     (one, two)
 }
 
@@ -270,10 +224,10 @@ fn both_at_once<R: Threads + Wait + Sync>(
     let both = at_once(
         rt,
         handle,
-        |handle| logged_in(rt, alloc, handle, way),
-        |handle| logged_in(rt, alloc, handle, way),
+        |handle| tried(rt, alloc, handle, way),
+        |handle| tried(rt, alloc, handle, way),
     );
-    let _ = handle.disconnect(rt, Disconnect::ByApplication, "", "");
+    let _ = leave(rt, handle);
     both
 }
 

@@ -1,11 +1,12 @@
 //! Runs of a runner behind two pings: how each ends, and what the pings are answered.
 
-use sshc_client::{Config, Ended, Msg};
+use crate::answers::{GONE, done, leave, ping};
+use sshc_client::{Config, Ended};
 use sshc_fakes::{FakeRunner, HOST_KEY, Host, Keeper, hosted, opened};
-use sshc_handle::{Handle, done_answer};
+use sshc_handle::Handle;
 use sshc_key::AgentSessionBinding;
 use sshc_opening::Error;
-use sshc_wire::{Disconnect, NoMemory, Record, Text, Ticket};
+use sshc_wire::NoMemory;
 use std::alloc::Global;
 use std::sync::Wait;
 use std::test::*;
@@ -68,29 +69,6 @@ fn made(
     hosted(alloc, config, host, coming, scene.good, 60)
 }
 
-/// Submits a ping. Without a ticket it is 0.
-fn ping<R: Wait>(rt: &R, handle: &Handle<Keeper>) -> Ticket {
-    let asked = handle.submit(
-        rt,
-        Msg::Ping {
-            ticket: Some(Ticket(0)),
-        },
-    );
-    match asked {
-        Ok(Some(ticket)) => ticket,
-        Ok(None) => Ticket(0),
-        Err(_) => Ticket(0),
-    }
-}
-
-/// What a ping was answered, where it was.
-fn done(said: Option<Record>) -> Option<Result<(), Error>> {
-    match said {
-        Some(record) => done_answer(record),
-        None => None,
-    }
-}
-
 /// Runs behind two pings.
 fn run_of<R: Wait + Clock>(rt: &R, alloc: Global, host: Host, scene: Scene) -> Result<Said, Error> {
     let (handle, runner) = made(alloc, host, scene)?;
@@ -109,8 +87,6 @@ fn ran<R: Wait + Clock>(rt: &R, handle: &Handle<Keeper>, runner: FakeRunner<Host
         run,
     }
 }
-
-const GONE: Result<(), Error> = Err(Error::Disconnect);
 
 /// The server disconnects, sends a disconnect that can't be read, or closes the stream behind its first answer.
 #[test]
@@ -167,10 +143,6 @@ fn ends_by_the_transport(rt: HostRuntime) -> Result<(), Fail> {
         answers(GONE, GONE, Err(Error::TransportFailed))
     );
     Ok(())
-}
-
-fn leave<R: Wait>(rt: &R, handle: &Handle<Keeper>) -> Result<(), Error> {
-    handle.disconnect(rt, Disconnect::ByApplication, "", "")
 }
 
 /// What the first exchange bound the session to (OpenSSH's PROTOCOL.agent, section 1).
