@@ -11,3 +11,5 @@ mod keys;
 mod locking;
 #[cfg(test)]
 mod signer;
+#[cfg(test)]
+mod steps;

@@ -5,7 +5,7 @@ use sshc_hosts::{
     check_known_hosts, check_known_hosts_path, known_host_keys, known_host_keys_path,
     learn_known_hosts, learn_known_hosts_path,
 };
-use sshc_key::{Error, parse_public_key_base64};
+use sshc_key::{Error, PublicKey, parse_public_key_base64};
 use sshc_wire::{MemFiles, Octets, Text};
 use std::alloc::Global;
 use std::test::Fail;
@@ -29,57 +29,83 @@ fn some_files(alloc: Global, failing: Vec<u64>) -> Result<MemFiles, Fail> {
     Ok(MemFiles::new(contents, failing))
 }
 
+/// A judgement of a key by a file.
+struct Judgement {
+    name: &'static str,
+    path: &'static str,
+    key: &'static str,
+    want: Result<bool, Error>,
+}
+
+/// In this order; the fifth call of the files fails.
+const BY_FILES: &[Judgement] = &[
+    Judgement {
+        name: "a key in a file",
+        path: "known",
+        key: K2,
+        want: Ok(true),
+    },
+    Judgement {
+        name: "a changed key",
+        path: "known",
+        key: K2X,
+        want: Err(Error::KeyChanged { line: 3 }),
+    },
+    Judgement {
+        name: "no file",
+        path: "absent",
+        key: K2,
+        want: Ok(false),
+    },
+    Judgement {
+        name: "no text",
+        path: "bytes",
+        key: K2,
+        want: Err(Error::Utf8),
+    },
+    Judgement {
+        name: "a failed read",
+        path: "known",
+        key: K2,
+        want: Err(Error::ReadFault),
+    },
+    Judgement {
+        name: "a read after that",
+        path: "known",
+        key: K2,
+        want: Ok(true),
+    },
+];
+
 #[test]
 fn judges_by_files(rt: HostRuntime) -> Result<(), Fail> {
     let alloc = rt.alloc();
     let mut files = some_files(alloc, vec![in alloc; 4u64]?)?;
-    for (name, path, host, key, want) in [
-        ("a key in a file", "known", "pijul.org", K2, Ok(true)),
-        (
-            "a changed key",
-            "known",
-            "pijul.org",
-            K2X,
-            Err(Error::KeyChanged { line: 3 }),
-        ),
-        ("no file", "absent", "pijul.org", K2, Ok(false)),
-        ("no text", "bytes", "pijul.org", K2, Err(Error::Utf8)),
-        (
-            "a failed read",
-            "known",
-            "pijul.org",
-            K2,
-            Err(Error::ReadFault),
-        ),
-        ("a read after that", "known", "pijul.org", K2, Ok(true)),
-    ] {
-        let key = parse_public_key_base64(alloc, key)?;
-        assert_eq!(rt;
-            check_known_hosts_path(alloc, &mut files, host, 22, &key, path),
-            want,
-            "row {name}"
-        );
+    for row in BY_FILES {
+        let key = parse_public_key_base64(alloc, row.key)?;
+        let judged = check_known_hosts_path(alloc, &mut files, "pijul.org", 22, &key, row.path);
+        assert_eq!(rt; judged, row.want, "row {}", row.name);
     }
     let found = known_host_keys_path(alloc, &mut files, "localhost", 13265, "known")?;
     assert_eq!(rt; found.len(), 1);
     Ok(())
 }
 
+/// Home directories, and the judgement of K1 for `h` by the known hosts file there.
+const BY_HOMES: &[(Option<&str>, Result<bool, Error>)] = &[
+    (Some("/home/a"), Ok(true)),
+    (Some("/home/b"), Ok(false)),
+    (None, Err(Error::NoHomeDir)),
+];
+
 #[test]
 fn judges_by_homes(rt: HostRuntime) -> Result<(), Fail> {
     let alloc = rt.alloc();
     let mut files = some_files(alloc, Vec::new(alloc))?;
     let key = parse_public_key_base64(alloc, K1)?;
-    for (name, home, want) in [
-        ("a home", Some("/home/a"), Ok(true)),
-        ("another home", Some("/home/b"), Ok(false)),
-        ("no home", None, Err(Error::NoHomeDir)),
-    ] {
-        assert_eq!(rt;
-            check_known_hosts(alloc, &mut files, "h", 22, &key, home),
-            want,
-            "row {name}"
-        );
+    for (home, want) in BY_HOMES {
+        let judged = check_known_hosts(alloc, &mut files, "h", 22, &key, *home);
+        assert_eq!(rt; judged, *want, "home {home:?}");
     }
     Ok(())
 }
@@ -114,6 +140,55 @@ fn lists_by_homes(rt: HostRuntime) -> Result<(), Fail> {
     Ok(())
 }
 
+/// Where a key is learned: a file, or the known hosts file of a home directory, with what it holds before.
+struct Place {
+    name: &'static str,
+    path: &'static str,
+    home: Option<&'static str>,
+    before: &'static str,
+}
+
+const PLACES: &[Place] = &[
+    Place {
+        name: "a file",
+        path: "known",
+        home: None,
+        before: FOUR_LINES,
+    },
+    Place {
+        name: "no file",
+        path: "absent",
+        home: None,
+        before: "\n",
+    },
+    Place {
+        name: "a home",
+        path: "/home/a/.ssh/known_hosts",
+        home: Some("/home/a"),
+        before: "h ssh-ed25519 AAAAC3NzaC1lZDI1NTE5AAAAIJdD7y3aLq454yWBdwLWbieU1ebz9/cu7/QEXn9OIeZJ\n",
+    },
+    Place {
+        name: "a new home",
+        path: "/home/b/.ssh/known_hosts",
+        home: Some("/home/b"),
+        before: "\n",
+    },
+];
+
+/// Learns the key for `g` at port 2222.
+fn learn(alloc: Global, files: &mut MemFiles, key: &PublicKey, place: &Place) -> Result<(), Error> {
+    match place.home {
+        Some(_) => learn_known_hosts(alloc, files, "g", 2222, key, place.home),
+        None => learn_known_hosts_path(alloc, files, "g", 2222, key, place.path),
+    }
+}
+
+/// Whether the file holds K1 for `g` on a line of its own after what it held.
+fn is_added(alloc: Global, files: &MemFiles, place: &Place) -> Result<bool, Fail> {
+    let want = format!(in alloc; "{}[g]:2222 ssh-ed25519 {K1}\n", place.before)?;
+    Ok(held(files, place.path) == Some(want.as_bytes()))
+}
+
 /// Learns a key in an existing file, in a new one and in a home directory, each on a line of its own; then the key is
 /// accepted.
 #[test]
@@ -121,40 +196,67 @@ fn learns_in_files(rt: HostRuntime) -> Result<(), Fail> {
     let alloc = rt.alloc();
     let mut files = some_files(alloc, Vec::new(alloc))?;
     let key = parse_public_key_base64(alloc, K1)?;
-    for (name, path, home, before) in [
-        ("a file", "known", None, FOUR_LINES),
-        ("no file", "absent", None, "\n"),
-        (
-            "a home",
-            "/home/a/.ssh/known_hosts",
-            Some("/home/a"),
-            "h ssh-ed25519 AAAAC3NzaC1lZDI1NTE5AAAAIJdD7y3aLq454yWBdwLWbieU1ebz9/cu7/QEXn9OIeZJ\n",
-        ),
-        (
-            "a new home",
-            "/home/b/.ssh/known_hosts",
-            Some("/home/b"),
-            "\n",
-        ),
-    ] {
-        let learned = match home {
-            Some(_) => learn_known_hosts(alloc, &mut files, "g", 2222, &key, home),
-            None => learn_known_hosts_path(alloc, &mut files, "g", 2222, &key, path),
-        };
-        assert_eq!(rt; learned, Ok(()), "row {name}");
-        let want = format!(in alloc; "{before}[g]:2222 ssh-ed25519 {K1}\n")?;
-        assert!(rt; held(&files, path) == Some(want.as_bytes()), "row {name}");
-        assert_eq!(rt;
-            check_known_hosts_path(alloc, &mut files, "g", 2222, &key, path),
-            Ok(true),
-            "row {name}"
-        );
+    for place in PLACES {
+        let learned = learn(alloc, &mut files, &key, place);
+        assert_eq!(rt; learned, Ok(()), "row {}", place.name);
+        assert!(rt; is_added(alloc, &files, place)?, "row {}", place.name);
+        let judged = check_known_hosts_path(alloc, &mut files, "g", 2222, &key, place.path);
+        assert_eq!(rt; judged, Ok(true), "row {}", place.name);
     }
-    assert_eq!(rt;
-        learn_known_hosts(alloc, &mut files, "g", 2222, &key, None),
-        Err(Error::NoHomeDir)
-    );
     Ok(())
+}
+
+#[test]
+fn learns_in_no_home(rt: HostRuntime) -> Result<(), Fail> {
+    let alloc = rt.alloc();
+    let mut files = some_files(alloc, Vec::new(alloc))?;
+    let key = parse_public_key_base64(alloc, K1)?;
+    let learned = learn_known_hosts(alloc, &mut files, "g", 2222, &key, None);
+    assert_eq!(rt; learned, Err(Error::NoHomeDir));
+    Ok(())
+}
+
+/// A learning that fails: the file, the call of the files that fails, and the error.
+struct Fault {
+    name: &'static str,
+    path: &'static str,
+    failing: Option<u64>,
+    want: Error,
+}
+
+const FAULTS: &[Fault] = &[
+    Fault {
+        name: "a failed read",
+        path: "known",
+        failing: Some(0),
+        want: Error::ReadFault,
+    },
+    Fault {
+        name: "a failed append",
+        path: "known",
+        failing: Some(1),
+        want: Error::WriteFault,
+    },
+    Fault {
+        name: "a failed append of a new file",
+        path: "absent",
+        failing: Some(1),
+        want: Error::WriteFault,
+    },
+    Fault {
+        name: "no text",
+        path: "bytes",
+        failing: None,
+        want: Error::Utf8,
+    },
+];
+
+/// The files, of which this call fails.
+fn failing_files(alloc: Global, failing: Option<u64>) -> Result<MemFiles, Fail> {
+    match failing {
+        Some(call) => some_files(alloc, vec![in alloc; call]?),
+        None => some_files(alloc, Vec::new(alloc)),
+    }
 }
 
 /// After a failed read, a failed append, or with a file that isn't UTF-8 text, the files keep their bytes.
@@ -162,43 +264,26 @@ fn learns_in_files(rt: HostRuntime) -> Result<(), Fail> {
 fn keeps_files_at_faults(rt: HostRuntime) -> Result<(), Fail> {
     let alloc = rt.alloc();
     let key = parse_public_key_base64(alloc, K1)?;
-    for (name, path, failing, want) in [
-        ("a failed read", "known", Some(0u64), Error::ReadFault),
-        ("a failed append", "known", Some(1), Error::WriteFault),
-        (
-            "a failed append of a new file",
-            "absent",
-            Some(1),
-            Error::WriteFault,
-        ),
-        ("no text", "bytes", None, Error::Utf8),
-    ] {
-        let failing = match failing {
-            Some(call) => vec![in alloc; call]?,
-            None => Vec::new(alloc),
-        };
-        let mut files = some_files(alloc, failing)?;
-        let before = some_files(alloc, Vec::new(alloc))?;
-        assert_eq!(rt;
-            learn_known_hosts_path(alloc, &mut files, "h", 22, &key, path),
-            Err(want),
-            "row {name}"
-        );
-        assert!(rt; files.contents() == before.contents(), "row {name}");
+    let before = some_files(alloc, Vec::new(alloc))?;
+    for row in FAULTS {
+        let mut files = failing_files(alloc, row.failing)?;
+        let learned = learn_known_hosts_path(alloc, &mut files, "h", 22, &key, row.path);
+        assert_eq!(rt; learned, Err(row.want), "row {}", row.name);
+        assert!(rt; files.contents() == before.contents(), "row {}", row.name);
     }
     Ok(())
 }
+
+/// Files that can't be listed, in this order, and the errors. The first call of the files fails.
+const UNLISTED: &[(&str, Error)] = &[("known", Error::ReadFault), ("bytes", Error::Utf8)];
 
 #[test]
 fn lists_at_faults(rt: HostRuntime) -> Result<(), Fail> {
     let alloc = rt.alloc();
     let mut files = some_files(alloc, vec![in alloc; 0u64]?)?;
-    for (name, path, want) in [
-        ("a failed read", "known", Error::ReadFault),
-        ("no text", "bytes", Error::Utf8),
-    ] {
+    for (path, want) in UNLISTED {
         let found = known_host_keys_path(alloc, &mut files, "h", 22, path);
-        assert!(rt; found.err() == Some(want), "row {name}");
+        assert!(rt; found.err() == Some(*want), "file {path}");
     }
     Ok(())
 }

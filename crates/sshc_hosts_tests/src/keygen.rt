@@ -3,6 +3,7 @@
 use crate::keys::{K1, K2, K3};
 use sshc_hosts::known_host_keys_text;
 use sshc_key::parse_public_key_base64;
+use std::alloc::Global;
 use std::test::Fail;
 
 /// The base64 of an ECDSA key, from `ssh-keygen -q -t ecdsa -b 256 -N '' -C ecdsa@example -f ec`.
@@ -48,149 +49,214 @@ host.example ecdsa-sha2-nistp256 AAAAE2VjZHNhLXNoYTItbmlzdHAyNTYAAAAIbmlzdHAyNTY
 other.example ssh-ed25519 AAAAC3NzaC1lZDI1NTE5AAAAILIG2T/B0l0gaqj3puu510tu9N1OkQ4znY3LYuEm5zCF\r\n\
 ";
 
-/// What `ssh-keygen -F NAME -f FILE` finds, by the lines and their keys.
+/// A look-up in a text, and the lines with their keys that `ssh-keygen -F NAME -f FILE` finds there.
+struct LookUp {
+    name: &'static str,
+    text: &'static str,
+    host: &'static str,
+    port: u16,
+    finds: &'static [(u64, &'static str)],
+}
+
+const LOOK_UPS: &[LookUp] = &[
+    LookUp {
+        name: "plain, first name",
+        text: PLAIN,
+        host: "host.example",
+        port: 22,
+        finds: &[(1, K1), (4, ECDSA)],
+    },
+    LookUp {
+        name: "plain, second name",
+        text: PLAIN,
+        host: "192.0.2.7",
+        port: 22,
+        finds: &[(1, K1)],
+    },
+    LookUp {
+        name: "plain, a port, two algorithms",
+        text: PLAIN,
+        host: "host.example",
+        port: 2222,
+        finds: &[(5, K2), (6, RSA)],
+    },
+    LookUp {
+        name: "plain, another name at a port",
+        text: PLAIN,
+        host: "192.0.2.7",
+        port: 2222,
+        finds: &[(6, RSA)],
+    },
+    LookUp {
+        name: "plain, last line",
+        text: PLAIN,
+        host: "other.example",
+        port: 22,
+        finds: &[(7, K3)],
+    },
+    LookUp {
+        name: "plain, absent",
+        text: PLAIN,
+        host: "absent.example",
+        port: 22,
+        finds: &[],
+    },
+    LookUp {
+        name: "hashed, first name",
+        text: HASHED,
+        host: "host.example",
+        port: 22,
+        finds: &[(1, K1), (5, ECDSA)],
+    },
+    LookUp {
+        name: "hashed, second name",
+        text: HASHED,
+        host: "192.0.2.7",
+        port: 22,
+        finds: &[(2, K1)],
+    },
+    LookUp {
+        name: "hashed, a port, two algorithms",
+        text: HASHED,
+        host: "host.example",
+        port: 2222,
+        finds: &[(6, K2), (8, RSA)],
+    },
+    LookUp {
+        name: "hashed, another name at a port",
+        text: HASHED,
+        host: "192.0.2.7",
+        port: 2222,
+        finds: &[(7, RSA)],
+    },
+    LookUp {
+        name: "hashed, last line",
+        text: HASHED,
+        host: "other.example",
+        port: 22,
+        finds: &[(9, K3)],
+    },
+    LookUp {
+        name: "hashed, absent",
+        text: HASHED,
+        host: "absent.example",
+        port: 22,
+        finds: &[],
+    },
+    LookUp {
+        name: "CR, first name",
+        text: CRLF,
+        host: "host.example",
+        port: 22,
+        finds: &[(1, K1), (4, ECDSA)],
+    },
+    LookUp {
+        name: "CR, second name",
+        text: CRLF,
+        host: "192.0.2.7",
+        port: 22,
+        finds: &[(1, K1)],
+    },
+    LookUp {
+        name: "CR, a port, two algorithms",
+        text: CRLF,
+        host: "host.example",
+        port: 2222,
+        finds: &[(5, K2), (6, RSA)],
+    },
+    LookUp {
+        name: "CR, another name at a port",
+        text: CRLF,
+        host: "192.0.2.7",
+        port: 2222,
+        finds: &[(6, RSA)],
+    },
+    LookUp {
+        name: "CR, last line",
+        text: CRLF,
+        host: "other.example",
+        port: 22,
+        finds: &[(7, K3)],
+    },
+    LookUp {
+        name: "CR, absent",
+        text: CRLF,
+        host: "absent.example",
+        port: 22,
+        finds: &[],
+    },
+];
+
+/// Whether these lines are found with these keys.
+fn finds(alloc: Global, row: &LookUp) -> Result<bool, Fail> {
+    let found = known_host_keys_text(alloc, row.text, row.host, row.port)?;
+    if found.len() != row.finds.len() {
+        return Ok(false);
+    }
+    for ((line, key), (want_line, want_key)) in found.iter().zip(row.finds) {
+        let want_key = parse_public_key_base64(alloc, want_key)?;
+        if *line != *want_line || key.key != want_key.key {
+            return Ok(false);
+        }
+    }
+    Ok(true)
+}
+
 #[test]
 fn finds_what_ssh_keygen_finds(rt: HostRuntime) -> Result<(), Fail> {
-    let none: &[(u64, &str)] = &[];
-    for (name, text, host, port, want) in [
-        (
-            "plain, first name",
-            PLAIN,
-            "host.example",
-            22u16,
-            [(1u64, K1), (4, ECDSA)].as_slice(),
-        ),
-        (
-            "plain, second name",
-            PLAIN,
-            "192.0.2.7",
-            22,
-            [(1u64, K1)].as_slice(),
-        ),
-        (
-            "plain, a port, two algorithms",
-            PLAIN,
-            "host.example",
-            2222,
-            [(5u64, K2), (6, RSA)].as_slice(),
-        ),
-        (
-            "plain, another name at a port",
-            PLAIN,
-            "192.0.2.7",
-            2222,
-            [(6u64, RSA)].as_slice(),
-        ),
-        (
-            "plain, last line",
-            PLAIN,
-            "other.example",
-            22,
-            [(7u64, K3)].as_slice(),
-        ),
-        ("plain, absent", PLAIN, "absent.example", 22, none),
-        (
-            "hashed, first name",
-            HASHED,
-            "host.example",
-            22,
-            [(1u64, K1), (5, ECDSA)].as_slice(),
-        ),
-        (
-            "hashed, second name",
-            HASHED,
-            "192.0.2.7",
-            22,
-            [(2u64, K1)].as_slice(),
-        ),
-        (
-            "hashed, a port, two algorithms",
-            HASHED,
-            "host.example",
-            2222,
-            [(6u64, K2), (8, RSA)].as_slice(),
-        ),
-        (
-            "hashed, another name at a port",
-            HASHED,
-            "192.0.2.7",
-            2222,
-            [(7u64, RSA)].as_slice(),
-        ),
-        (
-            "hashed, last line",
-            HASHED,
-            "other.example",
-            22,
-            [(9u64, K3)].as_slice(),
-        ),
-        ("hashed, absent", HASHED, "absent.example", 22, none),
-        (
-            "CR, first name",
-            CRLF,
-            "host.example",
-            22,
-            [(1u64, K1), (4, ECDSA)].as_slice(),
-        ),
-        (
-            "CR, second name",
-            CRLF,
-            "192.0.2.7",
-            22,
-            [(1u64, K1)].as_slice(),
-        ),
-        (
-            "CR, a port, two algorithms",
-            CRLF,
-            "host.example",
-            2222,
-            [(5u64, K2), (6, RSA)].as_slice(),
-        ),
-        (
-            "CR, another name at a port",
-            CRLF,
-            "192.0.2.7",
-            2222,
-            [(6u64, RSA)].as_slice(),
-        ),
-        (
-            "CR, last line",
-            CRLF,
-            "other.example",
-            22,
-            [(7u64, K3)].as_slice(),
-        ),
-        ("CR, absent", CRLF, "absent.example", 22, none),
-    ] {
-        let found = known_host_keys_text(rt.alloc(), text, host, port)?;
-        assert_eq!(rt; found.len(), want.len(), "row {name}");
-        for ((line, key), (want_line, want_key)) in found.iter().zip(want) {
-            let want_key = parse_public_key_base64(rt.alloc(), want_key)?;
-            assert_eq!(rt; *line, *want_line, "row {name}");
-            assert!(rt; key.key == want_key.key, "row {name}");
-        }
+    for row in LOOK_UPS {
+        assert!(rt; finds(rt.alloc(), row)?, "row {}", row.name);
     }
     Ok(())
 }
 
+/// What precedes a key in a line, and how many keys are found there for `host.example`.
+struct Front {
+    name: &'static str,
+    text: &'static str,
+    finds: usize,
+}
+
+const FRONTS: &[Front] = &[
+    Front {
+        name: "a plain line",
+        text: "host.example ssh-ed25519 ",
+        finds: 1,
+    },
+    Front {
+        name: "a pattern",
+        text: "*.example ssh-ed25519 ",
+        finds: 0,
+    },
+    Front {
+        name: "a negated name",
+        text: "!host.example,host.example ssh-ed25519 ",
+        finds: 1,
+    },
+    Front {
+        name: "a marker",
+        text: "@revoked host.example ssh-ed25519 ",
+        finds: 0,
+    },
+    Front {
+        name: "tabs",
+        text: "host.example\tssh-ed25519\t",
+        finds: 0,
+    },
+    Front {
+        name: "a leading blank",
+        text: " host.example ssh-ed25519 ",
+        finds: 0,
+    },
+];
+
 /// Here ssh-keygen finds more, by rules that this crate doesn't implement: patterns, markers, tabs and leading blanks.
 #[test]
 fn takes_no_patterns_markers_or_tabs(rt: HostRuntime) -> Result<(), Fail> {
-    for (name, text, finds) in [
-        ("a plain line", "host.example ssh-ed25519 ", 1usize),
-        ("a pattern", "*.example ssh-ed25519 ", 0),
-        (
-            "a negated name",
-            "!host.example,host.example ssh-ed25519 ",
-            1,
-        ),
-        ("a marker", "@revoked host.example ssh-ed25519 ", 0),
-        ("tabs", "host.example\tssh-ed25519\t", 0),
-        ("a leading blank", " host.example ssh-ed25519 ", 0),
-    ] {
-        let line = format!(in rt.alloc(); "{text}{K1}\n")?;
+    for row in FRONTS {
+        let line = format!(in rt.alloc(); "{}{K1}\n", row.text)?;
         let found = known_host_keys_text(rt.alloc(), line.as_str(), "host.example", 22)?;
-        assert_eq!(rt; found.len(), finds, "row {name}");
+        assert_eq!(rt; found.len(), row.finds, "row {}", row.name);
     }
     Ok(())
 }

@@ -2,80 +2,142 @@
 
 use crate::keys::K1;
 use sshc_hosts::{judge_text, known_host_keys_text};
-use sshc_key::{Error, parse_public_key_base64};
+use sshc_key::{Error, PublicKey, parse_public_key_base64};
+use sshc_wire::NoMemory;
+use std::alloc::Global;
 use std::test::Fail;
+
+/// 128 bytes.
+const PIECE: &str =
+    "xxxxxxxxxxxxxxxxxxxxxxxxxxxxxxxxxxxxxxxxxxxxxxxxxxxxxxxxxxxxxxxxxxxxxxxxxxxxxxxxxxxxxxxxxxxxxxxxxxxxxxxxxxxxxxxxxxxxxxxxxxxxxxxx";
+
+/// A text as often as that.
+fn repeated(alloc: Global, piece: &str, times: u32) -> Result<String, NoMemory> {
+    let mut text = String::new(alloc);
+    for _ in 0..times {
+        text.push_str(piece)?;
+    }
+    Ok(text)
+}
+
+/// What is around a megabyte in a text, and the judgement of K1 for `h` by that text.
+struct Long {
+    name: &'static str,
+    front: &'static str,
+    behind: &'static str,
+    want: Result<bool, Error>,
+}
+
+const LONG: &[Long] = &[
+    Long {
+        name: "behind a key",
+        front: "h ssh-ed25519 AAAAC3NzaC1lZDI1NTE5AAAAIJdD7y3aLq454yWBdwLWbieU1ebz9/cu7/QEXn9OIeZJ ",
+        behind: "\n",
+        want: Ok(true),
+    },
+    Long {
+        name: "before the host",
+        front: "",
+        behind: ",h ssh-ed25519 AAAAC3NzaC1lZDI1NTE5AAAAIJdD7y3aLq454yWBdwLWbieU1ebz9/cu7/QEXn9OIeZJ",
+        want: Ok(true),
+    },
+    Long {
+        name: "a host that begins so",
+        front: "h",
+        behind: " ssh-ed25519 AAAAC3NzaC1lZDI1NTE5AAAAIJdD7y3aLq454yWBdwLWbieU1ebz9/cu7/QEXn9OIeZJ",
+        want: Ok(false),
+    },
+    Long {
+        name: "in a comment",
+        front: "#",
+        behind: "\nh ssh-ed25519 AAAAC3NzaC1lZDI1NTE5AAAAIA6rWI3G1sz07DnfFlrouTcysQlj2P+jpNSOEWD9OJ3X\n",
+        want: Err(Error::KeyChanged { line: 2 }),
+    },
+    Long {
+        name: "in a field that is no key",
+        front: "h ssh-ed25519 ",
+        behind: "\n",
+        want: Err(Error::SshKey),
+    },
+];
+
+/// The judgement by the text with the megabyte.
+fn judged(alloc: Global, row: &Long, megabyte: &str, key: &PublicKey) -> Result<bool, Error> {
+    let text = format!(in alloc; "{}{megabyte}{}", row.front, row.behind)?;
+    judge_text(alloc, text.as_str(), "h", 22, key)
+}
 
 /// A comment of a megabyte after a key, and a host field of a megabyte.
 #[test]
 fn reads_a_line_of_a_megabyte(rt: HostRuntime) -> Result<(), Fail> {
     let alloc = rt.alloc();
     let key = parse_public_key_base64(alloc, K1)?;
-    let mut megabyte = String::new(alloc);
-    for _ in 0..8192u32 {
-        megabyte.push_str(
-            "xxxxxxxxxxxxxxxxxxxxxxxxxxxxxxxxxxxxxxxxxxxxxxxxxxxxxxxxxxxxxxxxxxxxxxxxxxxxxxxxxxxxxxxxxxxxxxxxxxxxxxxxxxxxxxxxxxxxxxxxxxxxxxxx",
-        )?;
-    }
-    for (name, front, behind, want) in [
-        (
-            "behind a key",
-            "h ssh-ed25519 AAAAC3NzaC1lZDI1NTE5AAAAIJdD7y3aLq454yWBdwLWbieU1ebz9/cu7/QEXn9OIeZJ ",
-            "\n",
-            Ok(true),
-        ),
-        (
-            "before the host",
-            "",
-            ",h ssh-ed25519 AAAAC3NzaC1lZDI1NTE5AAAAIJdD7y3aLq454yWBdwLWbieU1ebz9/cu7/QEXn9OIeZJ",
-            Ok(true),
-        ),
-        (
-            "a host that begins so",
-            "h",
-            " ssh-ed25519 AAAAC3NzaC1lZDI1NTE5AAAAIJdD7y3aLq454yWBdwLWbieU1ebz9/cu7/QEXn9OIeZJ",
-            Ok(false),
-        ),
-        (
-            "in a comment",
-            "#",
-            "\nh ssh-ed25519 AAAAC3NzaC1lZDI1NTE5AAAAIA6rWI3G1sz07DnfFlrouTcysQlj2P+jpNSOEWD9OJ3X\n",
-            Err(Error::KeyChanged { line: 2 }),
-        ),
-        (
-            "in a field that is no key",
-            "h ssh-ed25519 ",
-            "\n",
-            Err(Error::SshKey),
-        ),
-    ] {
-        let text = format!(in alloc; "{front}{megabyte}{behind}")?;
-        assert!(rt; text.len() > 1_048_576, "row {name}");
-        assert_eq!(rt;
-            judge_text(alloc, text.as_str(), "h", 22, &key),
-            want,
-            "row {name}"
-        );
+    let megabyte = repeated(alloc, PIECE, 8192)?;
+    assert_eq!(rt; megabyte.len(), 1_048_576);
+    for row in LONG {
+        let said = judged(alloc, row, megabyte.as_str(), &key);
+        assert_eq!(rt; said, row.want, "row {}", row.name);
     }
     Ok(())
+}
+
+/// What is around a thousand commas in a host field, the host that is looked up, and how many keys are found.
+struct Commas {
+    name: &'static str,
+    front: &'static str,
+    behind: &'static str,
+    host: &'static str,
+    finds: usize,
+}
+
+const COMMAS: &[Commas] = &[
+    Commas {
+        name: "before the host",
+        front: "",
+        behind: "h",
+        host: "h",
+        finds: 1,
+    },
+    Commas {
+        name: "behind the host",
+        front: "h",
+        behind: "",
+        host: "h",
+        finds: 1,
+    },
+    Commas {
+        name: "around another",
+        front: "g,",
+        behind: "g",
+        host: "h",
+        finds: 0,
+    },
+    Commas {
+        name: "an empty host",
+        front: "",
+        behind: "",
+        host: "",
+        finds: 1,
+    },
+];
+
+/// How many keys are found.
+fn found(alloc: Global, row: &Commas, commas: &str) -> Result<usize, Fail> {
+    let text = format!(in alloc; "{}{commas}{} ssh-ed25519 {K1}\n", row.front, row.behind)?;
+    Ok(known_host_keys_text(alloc, text.as_str(), row.host, 22)?.len())
 }
 
 /// A thousand commas in a host field: the entries between them are empty, and one at the end is the host.
 #[test]
 fn reads_a_thousand_commas(rt: HostRuntime) -> Result<(), Fail> {
-    let alloc = rt.alloc();
-    let mut commas = String::new(alloc);
-    for _ in 0..1000u32 {
-        commas.push(',')?;
-    }
-    for (name, front, behind, host, finds) in [
-        ("before the host", "", "h", "h", 1usize),
-        ("behind the host", "h", "", "h", 1),
-        ("around another", "g,", "g", "h", 0),
-        ("an empty host", "", "", "", 1),
-    ] {
-        let text = format!(in alloc; "{front}{commas}{behind} ssh-ed25519 {K1}\n")?;
-        let found = known_host_keys_text(alloc, text.as_str(), host, 22)?;
-        assert_eq!(rt; found.len(), finds, "row {name}");
+    let commas = repeated(rt.alloc(), ",", 1000)?;
+    for row in COMMAS {
+        assert_eq!(rt;
+            found(rt.alloc(), row, commas.as_str())?,
+            row.finds,
+            "row {}",
+            row.name
+        );
     }
     Ok(())
 }

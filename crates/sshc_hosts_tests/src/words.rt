@@ -91,363 +91,455 @@ fn done_well(alloc: Global, known: Option<&str>, words: &str, key: &str) -> Resu
     }
 }
 
+/// A run over a file `known` of this text: its arguments, of which the last is a key where one is given, its status, and
+/// the lines that are written.
+struct Row {
+    name: &'static str,
+    known: &'static str,
+    words: &'static str,
+    key: &'static str,
+    status: u8,
+    lines: &'static str,
+}
+
+/// Whether the run has this status, writes these lines, and leaves the file as it was.
+fn is_answered(alloc: Global, row: &Row) -> Result<bool, Fail> {
+    let done = done_well(alloc, Some(row.known), row.words, row.key)?;
+    Ok(
+        done.status == Some(row.status)
+            && done.written.as_slice() == row.lines.as_bytes()
+            && done.known.as_deref() == Some(row.known.as_bytes()),
+    )
+}
+
+const CHECKS: &[Row] = &[
+    Row {
+        name: "a known key",
+        known: FOUR_LINES,
+        words: "hosts check pijul.org 22 known ",
+        key: K2,
+        status: 0,
+        lines: "known\n",
+    },
+    Row {
+        name: "a known key at a port",
+        known: FOUR_LINES,
+        words: "hosts check localhost 13265 known ",
+        key: K1,
+        status: 0,
+        lines: "known\n",
+    },
+    Row {
+        name: "an absent host",
+        known: FOUR_LINES,
+        words: "hosts check absent 22 known ",
+        key: K1,
+        status: 1,
+        lines: "unknown\n",
+    },
+    Row {
+        name: "another file",
+        known: FOUR_LINES,
+        words: "hosts check localhost 13265 absent ",
+        key: K1,
+        status: 1,
+        lines: "unknown\n",
+    },
+    Row {
+        name: "a changed key",
+        known: FOUR_LINES,
+        words: "hosts check pijul.org 22 known ",
+        key: K2X,
+        status: 29,
+        lines: "error key-changed 3\n",
+    },
+    Row {
+        name: "no base64",
+        known: "h ssh-ed25519 not-base64\n",
+        words: "hosts check h 22 known ",
+        key: K1,
+        status: 30,
+        lines: "error decode\n",
+    },
+    Row {
+        name: "no key",
+        known: "h ssh-ed25519 AAAA\n",
+        words: "hosts check h 22 known ",
+        key: K1,
+        status: 31,
+        lines: "error ssh-key\n",
+    },
+    Row {
+        name: "a word that is no key",
+        known: FOUR_LINES,
+        words: "hosts check pijul.org 22 known ",
+        key: "AAAA",
+        status: 5,
+        lines: "error key\n",
+    },
+    Row {
+        name: "a word that is no base64",
+        known: FOUR_LINES,
+        words: "hosts check pijul.org 22 known ",
+        key: "?",
+        status: 5,
+        lines: "error key\n",
+    },
+    Row {
+        name: "a certificate",
+        known: FOUR_LINES,
+        words: "hosts check pijul.org 22 known ",
+        key: CERTIFICATE,
+        status: 1,
+        lines: "unknown\n",
+    },
+    Row {
+        name: "a certificate beside no key",
+        known: "h ssh-ed25519 AAAA\n",
+        words: "hosts check h 22 known ",
+        key: CERTIFICATE,
+        status: 1,
+        lines: "unknown\n",
+    },
+];
+
 #[test]
 fn checks_keys(rt: HostRuntime) -> Result<(), Fail> {
-    for (name, known, words, key, status, lines) in [
-        (
-            "a known key",
-            FOUR_LINES,
-            "hosts check pijul.org 22 known ",
-            K2,
-            0u8,
-            "known\n",
-        ),
-        (
-            "a known key at a port",
-            FOUR_LINES,
-            "hosts check localhost 13265 known ",
-            K1,
-            0,
-            "known\n",
-        ),
-        (
-            "an absent host",
-            FOUR_LINES,
-            "hosts check absent 22 known ",
-            K1,
-            1,
-            "unknown\n",
-        ),
-        (
-            "another file",
-            FOUR_LINES,
-            "hosts check localhost 13265 absent ",
-            K1,
-            1,
-            "unknown\n",
-        ),
-        (
-            "a changed key",
-            FOUR_LINES,
-            "hosts check pijul.org 22 known ",
-            K2X,
-            29,
-            "error key-changed 3\n",
-        ),
-        (
-            "no base64",
-            "h ssh-ed25519 not-base64\n",
-            "hosts check h 22 known ",
-            K1,
-            30,
-            "error decode\n",
-        ),
-        (
-            "no key",
-            "h ssh-ed25519 AAAA\n",
-            "hosts check h 22 known ",
-            K1,
-            31,
-            "error ssh-key\n",
-        ),
-        (
-            "a word that is no key",
-            FOUR_LINES,
-            "hosts check pijul.org 22 known ",
-            "AAAA",
-            5,
-            "error key\n",
-        ),
-        (
-            "a word that is no base64",
-            FOUR_LINES,
-            "hosts check pijul.org 22 known ",
-            "?",
-            5,
-            "error key\n",
-        ),
-        (
-            "a certificate",
-            FOUR_LINES,
-            "hosts check pijul.org 22 known ",
-            CERTIFICATE,
-            1,
-            "unknown\n",
-        ),
-        (
-            "a certificate beside no key",
-            "h ssh-ed25519 AAAA\n",
-            "hosts check h 22 known ",
-            CERTIFICATE,
-            1,
-            "unknown\n",
-        ),
-    ] {
-        let done = done_well(rt.alloc(), Some(known), words, key)?;
-        assert_eq!(rt; done.status, Some(status), "row {name}");
-        assert_eq!(rt; done.written.as_slice(), lines.as_bytes(), "row {name}");
+    for row in CHECKS {
+        assert!(rt; is_answered(rt.alloc(), row)?, "row {}", row.name);
     }
     Ok(())
 }
 
+/// A comment, a key, another host's key, and a certificate.
+const TWO: &str =
+    "# a comment\nh ssh-ed25519 AAAAC3NzaC1lZDI1NTE5AAAAIJdD7y3aLq454yWBdwLWbieU1ebz9/cu7/QEXn9OIeZJ\nother ssh-ed25519 AAAAC3NzaC1lZDI1NTE5AAAAIA6rWI3G1sz07DnfFlrouTcysQlj2P+jpNSOEWD9OJ3X\nh,g x AAAAIHNzaC1lZDI1NTE5LWNlcnQtdjAxQG9wZW5zc2guY29tAAAAIDO2c3p6eMdqhi8UCe6Yfh/8c/hg0SPATwma1cWE28klAAAAIO86gCcDnr1vwpMh4cM+WR89ag+tUV94EN/k1iUZxFFwAAAAAAAAAAAAAAACAAAAB2hvc3QtaWQAAAANAAAACWguZXhhbXBsZQAAAABpVbkAAAAAAGs27IAAAAAAAAAAAAAAAAAAAAAzAAAAC3NzaC1lZDI1NTE5AAAAILBsDyuzGtdVhAQ+cddnpwvuwlYEO+UInLkG9v8E6XUaAAAAUwAAAAtzc2gtZWQyNTUxOQAAAEDB5mjqZc/AhXyF3yf8A/A9K1mZKZxJ6m1AvEvF/CjnkOClZd5K/I5OzP91mqpt0oPElkPbvmoFMe2c+B0SjR0E a comment\n";
+
+/// The first key of FOUR_LINES.
+const ONE_KEY: &str =
+    "1 ssh-ed25519 AAAAC3NzaC1lZDI1NTE5AAAAIJdD7y3aLq454yWBdwLWbieU1ebz9/cu7/QEXn9OIeZJ\n";
+
+/// What TWO has for `h`.
+const BOTH_KEYS: &str =
+    "2 ssh-ed25519 AAAAC3NzaC1lZDI1NTE5AAAAIJdD7y3aLq454yWBdwLWbieU1ebz9/cu7/QEXn9OIeZJ\n4 ssh-ed25519-cert-v01@openssh.com AAAAIHNzaC1lZDI1NTE5LWNlcnQtdjAxQG9wZW5zc2guY29tAAAAIDO2c3p6eMdqhi8UCe6Yfh/8c/hg0SPATwma1cWE28klAAAAIO86gCcDnr1vwpMh4cM+WR89ag+tUV94EN/k1iUZxFFwAAAAAAAAAAAAAAACAAAAB2hvc3QtaWQAAAANAAAACWguZXhhbXBsZQAAAABpVbkAAAAAAGs27IAAAAAAAAAAAAAAAAAAAAAzAAAAC3NzaC1lZDI1NTE5AAAAILBsDyuzGtdVhAQ+cddnpwvuwlYEO+UInLkG9v8E6XUaAAAAUwAAAAtzc2gtZWQyNTUxOQAAAEDB5mjqZc/AhXyF3yf8A/A9K1mZKZxJ6m1AvEvF/CjnkOClZd5K/I5OzP91mqpt0oPElkPbvmoFMe2c+B0SjR0E\n";
+
+const LISTS: &[Row] = &[
+    Row {
+        name: "one key",
+        known: FOUR_LINES,
+        words: "hosts keys localhost 13265 known",
+        key: "",
+        status: 0,
+        lines: ONE_KEY,
+    },
+    Row {
+        name: "a key and a certificate",
+        known: TWO,
+        words: "hosts keys h 22 known",
+        key: "",
+        status: 0,
+        lines: BOTH_KEYS,
+    },
+    Row {
+        name: "no line",
+        known: TWO,
+        words: "hosts keys h 2222 known",
+        key: "",
+        status: 0,
+        lines: "",
+    },
+    Row {
+        name: "no file",
+        known: TWO,
+        words: "hosts keys h 22 absent",
+        key: "",
+        status: 0,
+        lines: "",
+    },
+    Row {
+        name: "no key",
+        known: "h ssh-ed25519 AAAA\n",
+        words: "hosts keys h 22 known",
+        key: "",
+        status: 31,
+        lines: "error ssh-key\n",
+    },
+];
+
 #[test]
 fn lists_keys(rt: HostRuntime) -> Result<(), Fail> {
-    let two =
-        "# a comment\nh ssh-ed25519 AAAAC3NzaC1lZDI1NTE5AAAAIJdD7y3aLq454yWBdwLWbieU1ebz9/cu7/QEXn9OIeZJ\nother ssh-ed25519 AAAAC3NzaC1lZDI1NTE5AAAAIA6rWI3G1sz07DnfFlrouTcysQlj2P+jpNSOEWD9OJ3X\nh,g x AAAAIHNzaC1lZDI1NTE5LWNlcnQtdjAxQG9wZW5zc2guY29tAAAAIDO2c3p6eMdqhi8UCe6Yfh/8c/hg0SPATwma1cWE28klAAAAIO86gCcDnr1vwpMh4cM+WR89ag+tUV94EN/k1iUZxFFwAAAAAAAAAAAAAAACAAAAB2hvc3QtaWQAAAANAAAACWguZXhhbXBsZQAAAABpVbkAAAAAAGs27IAAAAAAAAAAAAAAAAAAAAAzAAAAC3NzaC1lZDI1NTE5AAAAILBsDyuzGtdVhAQ+cddnpwvuwlYEO+UInLkG9v8E6XUaAAAAUwAAAAtzc2gtZWQyNTUxOQAAAEDB5mjqZc/AhXyF3yf8A/A9K1mZKZxJ6m1AvEvF/CjnkOClZd5K/I5OzP91mqpt0oPElkPbvmoFMe2c+B0SjR0E a comment\n";
-    let both =
-        "2 ssh-ed25519 AAAAC3NzaC1lZDI1NTE5AAAAIJdD7y3aLq454yWBdwLWbieU1ebz9/cu7/QEXn9OIeZJ\n4 ssh-ed25519-cert-v01@openssh.com AAAAIHNzaC1lZDI1NTE5LWNlcnQtdjAxQG9wZW5zc2guY29tAAAAIDO2c3p6eMdqhi8UCe6Yfh/8c/hg0SPATwma1cWE28klAAAAIO86gCcDnr1vwpMh4cM+WR89ag+tUV94EN/k1iUZxFFwAAAAAAAAAAAAAAACAAAAB2hvc3QtaWQAAAANAAAACWguZXhhbXBsZQAAAABpVbkAAAAAAGs27IAAAAAAAAAAAAAAAAAAAAAzAAAAC3NzaC1lZDI1NTE5AAAAILBsDyuzGtdVhAQ+cddnpwvuwlYEO+UInLkG9v8E6XUaAAAAUwAAAAtzc2gtZWQyNTUxOQAAAEDB5mjqZc/AhXyF3yf8A/A9K1mZKZxJ6m1AvEvF/CjnkOClZd5K/I5OzP91mqpt0oPElkPbvmoFMe2c+B0SjR0E\n";
-    let one =
-        "1 ssh-ed25519 AAAAC3NzaC1lZDI1NTE5AAAAIJdD7y3aLq454yWBdwLWbieU1ebz9/cu7/QEXn9OIeZJ\n";
-    for (name, known, words, status, lines) in [
-        (
-            "one key",
-            FOUR_LINES,
-            "hosts keys localhost 13265 known",
-            0u8,
-            one,
-        ),
-        (
-            "a key and a certificate",
-            two,
-            "hosts keys h 22 known",
-            0,
-            both,
-        ),
-        ("no line", two, "hosts keys h 2222 known", 0, ""),
-        ("no file", two, "hosts keys h 22 absent", 0, ""),
-        (
-            "no key",
-            "h ssh-ed25519 AAAA\n",
-            "hosts keys h 22 known",
-            31,
-            "error ssh-key\n",
-        ),
-    ] {
-        let done = done_well(rt.alloc(), Some(known), words, "")?;
-        assert_eq!(rt; done.status, Some(status), "row {name}");
-        assert_eq!(rt; done.written.as_slice(), lines.as_bytes(), "row {name}");
+    for row in LISTS {
+        assert!(rt; is_answered(rt.alloc(), row)?, "row {}", row.name);
     }
     Ok(())
+}
+
+/// A key that is learned: the file before, if there is one, and after.
+struct Learned {
+    name: &'static str,
+    known: Option<&'static str>,
+    key: &'static str,
+    after: &'static str,
+}
+
+const LEARNED: &[Learned] = &[
+    Learned {
+        name: "no file",
+        known: None,
+        key: K1,
+        after: "\nh ssh-ed25519 AAAAC3NzaC1lZDI1NTE5AAAAIJdD7y3aLq454yWBdwLWbieU1ebz9/cu7/QEXn9OIeZJ\n",
+    },
+    Learned {
+        name: "an open line",
+        known: Some("a"),
+        key: K1,
+        after: "a\nh ssh-ed25519 AAAAC3NzaC1lZDI1NTE5AAAAIJdD7y3aLq454yWBdwLWbieU1ebz9/cu7/QEXn9OIeZJ\n",
+    },
+    Learned {
+        name: "a line feed",
+        known: Some("a\n"),
+        key: K1,
+        after: "a\nh ssh-ed25519 AAAAC3NzaC1lZDI1NTE5AAAAIJdD7y3aLq454yWBdwLWbieU1ebz9/cu7/QEXn9OIeZJ\n",
+    },
+    Learned {
+        name: "a certificate",
+        known: Some("a\n"),
+        key: CERTIFICATE,
+        after: "a\nh ssh-ed25519-cert-v01@openssh.com AAAAIHNzaC1lZDI1NTE5LWNlcnQtdjAxQG9wZW5zc2guY29tAAAAIDO2c3p6eMdqhi8UCe6Yfh/8c/hg0SPATwma1cWE28klAAAAIO86gCcDnr1vwpMh4cM+WR89ag+tUV94EN/k1iUZxFFwAAAAAAAAAAAAAAACAAAAB2hvc3QtaWQAAAANAAAACWguZXhhbXBsZQAAAABpVbkAAAAAAGs27IAAAAAAAAAAAAAAAAAAAAAzAAAAC3NzaC1lZDI1NTE5AAAAILBsDyuzGtdVhAQ+cddnpwvuwlYEO+UInLkG9v8E6XUaAAAAUwAAAAtzc2gtZWQyNTUxOQAAAEDB5mjqZc/AhXyF3yf8A/A9K1mZKZxJ6m1AvEvF/CjnkOClZd5K/I5OzP91mqpt0oPElkPbvmoFMe2c+B0SjR0E\n",
+    },
+];
+
+fn is_learned(alloc: Global, row: &Learned) -> Result<bool, Fail> {
+    let done = done_well(alloc, row.known, "hosts learn h 22 known ", row.key)?;
+    Ok(
+        done.status == Some(0)
+            && done.written.as_slice() == "learned\n".as_bytes()
+            && done.known.as_deref() == Some(row.after.as_bytes()),
+    )
 }
 
 /// The line is added after the bytes of the file, and to a new file after a line feed.
 #[test]
 fn learns_keys(rt: HostRuntime) -> Result<(), Fail> {
-    for (name, known, key, want) in [
-        (
-            "no file",
-            None,
-            K1,
-            "\nh ssh-ed25519 AAAAC3NzaC1lZDI1NTE5AAAAIJdD7y3aLq454yWBdwLWbieU1ebz9/cu7/QEXn9OIeZJ\n",
-        ),
-        (
-            "an open line",
-            Some("a"),
-            K1,
-            "a\nh ssh-ed25519 AAAAC3NzaC1lZDI1NTE5AAAAIJdD7y3aLq454yWBdwLWbieU1ebz9/cu7/QEXn9OIeZJ\n",
-        ),
-        (
-            "a line feed",
-            Some("a\n"),
-            K1,
-            "a\nh ssh-ed25519 AAAAC3NzaC1lZDI1NTE5AAAAIJdD7y3aLq454yWBdwLWbieU1ebz9/cu7/QEXn9OIeZJ\n",
-        ),
-        (
-            "a certificate",
-            Some("a\n"),
-            CERTIFICATE,
-            "a\nh ssh-ed25519-cert-v01@openssh.com AAAAIHNzaC1lZDI1NTE5LWNlcnQtdjAxQG9wZW5zc2guY29tAAAAIDO2c3p6eMdqhi8UCe6Yfh/8c/hg0SPATwma1cWE28klAAAAIO86gCcDnr1vwpMh4cM+WR89ag+tUV94EN/k1iUZxFFwAAAAAAAAAAAAAAACAAAAB2hvc3QtaWQAAAANAAAACWguZXhhbXBsZQAAAABpVbkAAAAAAGs27IAAAAAAAAAAAAAAAAAAAAAzAAAAC3NzaC1lZDI1NTE5AAAAILBsDyuzGtdVhAQ+cddnpwvuwlYEO+UInLkG9v8E6XUaAAAAUwAAAAtzc2gtZWQyNTUxOQAAAEDB5mjqZc/AhXyF3yf8A/A9K1mZKZxJ6m1AvEvF/CjnkOClZd5K/I5OzP91mqpt0oPElkPbvmoFMe2c+B0SjR0E\n",
-        ),
-    ] {
-        let done = done_well(rt.alloc(), known, "hosts learn h 22 known ", key)?;
-        assert_eq!(rt; done.status, Some(0u8), "row {name}");
-        assert_eq!(rt;
-            done.written.as_slice(),
-            "learned\n".as_bytes(),
-            "row {name}"
-        );
-        assert!(rt;
-            done.known.as_deref() == Some(want.as_bytes()),
-            "row {name}"
-        );
+    for row in LEARNED {
+        assert!(rt; is_learned(rt.alloc(), row)?, "row {}", row.name);
     }
     Ok(())
+}
+
+/// A run over a file of one byte that isn't UTF-8 text.
+struct NoText {
+    name: &'static str,
+    words: &'static str,
+    key: &'static str,
+    status: u8,
+    lines: &'static str,
+}
+
+const NO_TEXTS: &[NoText] = &[
+    NoText {
+        name: "check",
+        words: "hosts check h 22 known ",
+        key: K1,
+        status: 3,
+        lines: "error known-file\n",
+    },
+    NoText {
+        name: "check a certificate",
+        words: "hosts check h 22 known ",
+        key: CERTIFICATE,
+        status: 3,
+        lines: "error known-file\n",
+    },
+    NoText {
+        name: "keys",
+        words: "hosts keys h 22 known",
+        key: "",
+        status: 3,
+        lines: "error known-file\n",
+    },
+    NoText {
+        name: "learn",
+        words: "hosts learn h 22 known ",
+        key: K1,
+        status: 3,
+        lines: "error known-file\n",
+    },
+    NoText {
+        name: "check no key",
+        words: "hosts check h 22 known ",
+        key: "?",
+        status: 5,
+        lines: "error key\n",
+    },
+    NoText {
+        name: "learn no key",
+        words: "hosts learn h 22 known ",
+        key: "?",
+        status: 5,
+        lines: "error key\n",
+    },
+];
+
+/// Whether the run has this status, writes these lines, and leaves the file as it was.
+fn is_told(alloc: Global, row: &NoText) -> Result<bool, Fail> {
+    let words = format!(in alloc; "{}{}", row.words, row.key)?;
+    let none = Vec::new(alloc);
+    let done = done_by(alloc, Some(b"\xff"), words.as_str(), none, Vec::new(alloc))?;
+    Ok(
+        done.status == Some(row.status)
+            && done.written.as_slice() == row.lines.as_bytes()
+            && done.known.as_deref() == Some(b"\xff".as_slice()),
+    )
 }
 
 /// A file that isn't UTF-8 text, and an argument KEY that can't be read, which is tested first.
 #[test]
 fn tells_what_is_no_text(rt: HostRuntime) -> Result<(), Fail> {
-    let alloc = rt.alloc();
-    let bytes = [0xffu8];
-    for (name, words, key, status, lines) in [
-        (
-            "check",
-            "hosts check h 22 known ",
-            K1,
-            3u8,
-            "error known-file\n",
-        ),
-        (
-            "check a certificate",
-            "hosts check h 22 known ",
-            CERTIFICATE,
-            3,
-            "error known-file\n",
-        ),
-        ("keys", "hosts keys h 22 known", "", 3, "error known-file\n"),
-        (
-            "learn",
-            "hosts learn h 22 known ",
-            K1,
-            3,
-            "error known-file\n",
-        ),
-        (
-            "check no key",
-            "hosts check h 22 known ",
-            "?",
-            5,
-            "error key\n",
-        ),
-        (
-            "learn no key",
-            "hosts learn h 22 known ",
-            "?",
-            5,
-            "error key\n",
-        ),
-    ] {
-        let words = format!(in alloc; "{words}{key}")?;
-        let done = done_by(
-            alloc,
-            Some(&bytes),
-            words.as_str(),
-            Vec::new(alloc),
-            Vec::new(alloc),
-        )?;
-        assert_eq!(rt; done.status, Some(status), "row {name}");
-        assert_eq!(rt; done.written.as_slice(), lines.as_bytes(), "row {name}");
-        assert!(rt;
-            done.known.as_deref() == Some(bytes.as_slice()),
-            "row {name}"
-        );
+    for row in NO_TEXTS {
+        assert!(rt; is_told(rt.alloc(), row)?, "row {}", row.name);
     }
     Ok(())
 }
 
-/// Invalid arguments: `None` is returned and nothing is written.
+const OTHER_WORDS: &[&str] = &[
+    "",
+    "hosts",
+    "host keys h 22 known",
+    "hosts list h 22 known",
+    "hosts keys h 22 known AAAA",
+    "hosts check h 22 known",
+    "hosts learn h 22 known",
+    "hosts check h 22 known AAAA AAAA",
+    "hosts keys h 70000 known",
+    "hosts keys h 000022 known",
+    "hosts keys h  known",
+    "hosts keys h +22 known",
+    "hosts keys h 2x known",
+    "script h 22 known",
+];
+
+/// Whether `None` is returned, nothing is written, and no file is made.
+fn is_unknown(alloc: Global, words: &str) -> Result<bool, Fail> {
+    let done = done_well(alloc, None, words, "")?;
+    Ok(done.status.is_none() && done.written.is_empty() && done.known.is_none())
+}
+
+/// Invalid arguments.
 #[test]
 fn knows_no_other_words(rt: HostRuntime) -> Result<(), Fail> {
-    for words in [
-        "",
-        "hosts",
-        "host keys h 22 known",
-        "hosts list h 22 known",
-        "hosts keys h 22 known AAAA",
-        "hosts check h 22 known",
-        "hosts learn h 22 known",
-        "hosts check h 22 known AAAA AAAA",
-        "hosts keys h 70000 known",
-        "hosts keys h 000022 known",
-        "hosts keys h  known",
-        "hosts keys h +22 known",
-        "hosts keys h 2x known",
-        "script h 22 known",
-    ] {
-        let done = done_well(rt.alloc(), None, words, "")?;
-        assert_eq!(rt; done.status, None, "words {words}");
-        assert!(rt; done.written.is_empty(), "words {words}");
-        assert!(rt; done.known.is_none(), "words {words}");
+    for words in OTHER_WORDS {
+        assert!(rt; is_unknown(rt.alloc(), words)?, "words {words}");
     }
     Ok(())
+}
+
+/// The bytes `a` and a line feed, and the line that is learned.
+const LEARNED_H: &str =
+    "a\nh ssh-ed25519 AAAAC3NzaC1lZDI1NTE5AAAAIJdD7y3aLq454yWBdwLWbieU1ebz9/cu7/QEXn9OIeZJ\n";
+
+/// A run over a file of `a` and a line feed with failing calls: which call of the files, and which of the sink, fails;
+/// its status, the lines that are written, and the file after it.
+struct Fault {
+    name: &'static str,
+    verb: &'static str,
+    files: Option<u64>,
+    sink: Option<u64>,
+    status: u8,
+    lines: &'static str,
+    after: &'static str,
+}
+
+const FAULTS: &[Fault] = &[
+    Fault {
+        name: "check, a failed read",
+        verb: "check",
+        files: Some(0),
+        sink: None,
+        status: 3,
+        lines: "error known-file\n",
+        after: "a\n",
+    },
+    Fault {
+        name: "check, a failed write",
+        verb: "check",
+        files: None,
+        sink: Some(0),
+        status: 22,
+        lines: "",
+        after: "a\n",
+    },
+    Fault {
+        name: "learn, a failed read",
+        verb: "learn",
+        files: Some(0),
+        sink: None,
+        status: 3,
+        lines: "error known-file\n",
+        after: "a\n",
+    },
+    Fault {
+        name: "learn, a failed append",
+        verb: "learn",
+        files: Some(1),
+        sink: None,
+        status: 4,
+        lines: "error known-write\n",
+        after: "a\n",
+    },
+    Fault {
+        name: "learn, a failed write",
+        verb: "learn",
+        files: None,
+        sink: Some(0),
+        status: 22,
+        lines: "",
+        after: LEARNED_H,
+    },
+    Fault {
+        name: "learn, two failed calls",
+        verb: "learn",
+        files: Some(1),
+        sink: Some(0),
+        status: 22,
+        lines: "",
+        after: "a\n",
+    },
+];
+
+fn is_refused(alloc: Global, row: &Fault) -> Result<bool, Fail> {
+    let words = format!(in alloc; "hosts {} h 22 known {K1}", row.verb)?;
+    let files = failing(alloc, row.files)?;
+    let sink = failing(alloc, row.sink)?;
+    let done = done_by(alloc, Some(b"a\n"), words.as_str(), files, sink)?;
+    Ok(
+        done.status == Some(row.status)
+            && done.written.as_slice() == row.lines.as_bytes()
+            && done.known.as_deref() == Some(row.after.as_bytes()),
+    )
 }
 
 /// A failed call of the files or of the sink. Learning first reads, then adds.
 #[test]
 fn tells_faults(rt: HostRuntime) -> Result<(), Fail> {
-    let alloc = rt.alloc();
-    let learned =
-        "a\nh ssh-ed25519 AAAAC3NzaC1lZDI1NTE5AAAAIJdD7y3aLq454yWBdwLWbieU1ebz9/cu7/QEXn9OIeZJ\n";
-    for (name, verb, files, sink, status, lines, want) in [
-        (
-            "check, a failed read",
-            "check",
-            Some(0u64),
-            None,
-            3u8,
-            "error known-file\n",
-            "a\n",
-        ),
-        (
-            "check, a failed write",
-            "check",
-            None,
-            Some(0u64),
-            22,
-            "",
-            "a\n",
-        ),
-        (
-            "learn, a failed read",
-            "learn",
-            Some(0),
-            None,
-            3,
-            "error known-file\n",
-            "a\n",
-        ),
-        (
-            "learn, a failed append",
-            "learn",
-            Some(1),
-            None,
-            4,
-            "error known-write\n",
-            "a\n",
-        ),
-        (
-            "learn, a failed write",
-            "learn",
-            None,
-            Some(0),
-            22,
-            "",
-            learned,
-        ),
-        (
-            "learn, two failed calls",
-            "learn",
-            Some(1),
-            Some(0),
-            22,
-            "",
-            "a\n",
-        ),
-    ] {
-        let words = format!(in alloc; "hosts {verb} h 22 known {K1}")?;
-        let files = failing(alloc, files)?;
-        let sink = failing(alloc, sink)?;
-        let done = done_by(alloc, Some(b"a\n"), words.as_str(), files, sink)?;
-        assert_eq!(rt; done.status, Some(status), "row {name}");
-        assert_eq!(rt; done.written.as_slice(), lines.as_bytes(), "row {name}");
-        assert!(rt;
-            done.known.as_deref() == Some(want.as_bytes()),
-            "row {name}"
-        );
+    for row in FAULTS {
+        assert!(rt; is_refused(rt.alloc(), row)?, "row {}", row.name);
     }
     Ok(())
 }
+
+/// Two keys of `h`.
+const TWO_OF_H: &str =
+    "h ssh-ed25519 AAAAC3NzaC1lZDI1NTE5AAAAIJdD7y3aLq454yWBdwLWbieU1ebz9/cu7/QEXn9OIeZJ\nh ssh-ed25519 AAAAC3NzaC1lZDI1NTE5AAAAIA6rWI3G1sz07DnfFlrouTcysQlj2P+jpNSOEWD9OJ3X\n";
 
 /// Each line is one write: the second of two lines is cut.
 #[test]
 fn cuts_the_second_line(rt: HostRuntime) -> Result<(), Fail> {
     let alloc = rt.alloc();
-    let known =
-        "h ssh-ed25519 AAAAC3NzaC1lZDI1NTE5AAAAIJdD7y3aLq454yWBdwLWbieU1ebz9/cu7/QEXn9OIeZJ\nh ssh-ed25519 AAAAC3NzaC1lZDI1NTE5AAAAIA6rWI3G1sz07DnfFlrouTcysQlj2P+jpNSOEWD9OJ3X\n";
     let sink = failing(alloc, Some(1))?;
     let done = done_by(
         alloc,
-        Some(known.as_bytes()),
+        Some(TWO_OF_H.as_bytes()),
         "hosts keys h 22 known",
         Vec::new(alloc),
         sink,

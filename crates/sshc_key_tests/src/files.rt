@@ -44,89 +44,121 @@ fn certificate_error(alloc: Global, files: &mut MemFiles, path: &str) -> Option<
     load_openssh_certificate(alloc, files, path).err()
 }
 
+/// What precedes and what follows the key in a file, and its comment.
+const AROUND: &[(&str, &str, &str)] = &[
+    ("ssh-ed25519 ", " my comment\n", "my comment"),
+    (
+        "# a comment line\r\n\r\nssh-ed25519\t",
+        "  tabs and crlf \r\n",
+        "tabs and crlf",
+    ),
+    ("", "", ""),
+    ("\n  \u{a0}", "\u{2003}\n", ""),
+    (
+        "  # no key\nanother-name\u{2003}",
+        "\u{a0}a # sign\nb",
+        "a # sign",
+    ),
+];
+
 #[test]
 fn public_key_files(rt: HostRuntime) -> Result<(), Fail> {
     let alloc = rt.alloc();
-    for (before, behind, comment) in [
-        ("ssh-ed25519 ", " my comment\n", "my comment"),
-        (
-            "# a comment line\r\n\r\nssh-ed25519\t",
-            "  tabs and crlf \r\n",
-            "tabs and crlf",
-        ),
-        ("", "", ""),
-        ("\n  \u{a0}", "\u{2003}\n", ""),
-        (
-            "  # no key\nanother-name\u{2003}",
-            "\u{a0}a # sign\nb",
-            "a # sign",
-        ),
-    ] {
+    for (before, behind, comment) in AROUND {
         let text = format!(in alloc; "{before}{KEY}{behind}")?;
         let (base64, found) = loaded(alloc, text.as_str())?;
         assert_eq!(rt; base64.as_str(), KEY, "{text}");
-        assert_eq!(rt; found.as_str(), comment, "{text}");
+        assert_eq!(rt; found.as_str(), *comment, "{text}");
     }
-    let line = format!(in alloc; "ssh-ed25519 {KEY} my comment")?;
-    assert_eq!(rt; loaded_line(alloc, line.as_str())?.as_str(), line.as_str());
     Ok(())
 }
 
 #[test]
+fn a_public_key_line(rt: HostRuntime) -> Result<(), Fail> {
+    let line = format!(in rt.alloc(); "ssh-ed25519 {KEY} my comment")?;
+    assert_eq!(rt;
+        loaded_line(rt.alloc(), line.as_str())?.as_str(),
+        line.as_str()
+    );
+    Ok(())
+}
+
+const WITHOUT_KEY: &[(&[u8], Error)] = &[
+    (b"", Error::CouldNotReadKey),
+    (b"# a comment\n\n \t\n  # another", Error::CouldNotReadKey),
+    (b"ssh-ed25519 AAAA", Error::SshKey),
+    (b"ssh-ed25519 AAA comment", Error::Decode),
+    (b"ssh-ed25519", Error::Decode),
+    (b"\xff", Error::Utf8),
+];
+
+/// The errors of four loads from a file of these bytes: of the file, of one that isn't there, of the file by a call that
+/// fails, and of the file again.
+fn four_errors(alloc: Global, bytes: &[u8]) -> Result<[Option<Error>; 4], Fail> {
+    let mut files = file(alloc, bytes, vec![in alloc; 2u64]?)?;
+    Ok([
+        key_error(alloc, &mut files, "key"),
+        key_error(alloc, &mut files, "absent"),
+        key_error(alloc, &mut files, "key"),
+        key_error(alloc, &mut files, "key"),
+    ])
+}
+
+#[test]
 fn files_without_a_public_key(rt: HostRuntime) -> Result<(), Fail> {
-    let alloc = rt.alloc();
-    for (bytes, want) in [
-        (b"".as_slice(), Error::CouldNotReadKey),
-        (
-            b"# a comment\n\n \t\n  # another".as_slice(),
-            Error::CouldNotReadKey,
-        ),
-        (b"ssh-ed25519 AAAA".as_slice(), Error::SshKey),
-        (b"ssh-ed25519 AAA comment".as_slice(), Error::Decode),
-        (b"ssh-ed25519".as_slice(), Error::Decode),
-        (b"\xff".as_slice(), Error::Utf8),
-    ] {
-        let mut files = file(alloc, bytes, vec![in alloc; 2u64]?)?;
-        assert_eq!(rt; key_error(alloc, &mut files, "key"), Some(want));
+    for (bytes, want) in WITHOUT_KEY {
+        let errors = four_errors(rt.alloc(), *bytes)?;
         assert_eq!(rt;
-            key_error(alloc, &mut files, "absent"),
-            Some(Error::CouldNotReadKey)
+            errors,
+            [
+                Some(*want),
+                Some(Error::CouldNotReadKey),
+                Some(Error::ReadFault),
+                Some(*want),
+            ]
         );
-        assert_eq!(rt; key_error(alloc, &mut files, "key"), Some(Error::ReadFault));
-        assert_eq!(rt; key_error(alloc, &mut files, "key"), Some(want));
     }
     Ok(())
+}
+
+/// What precedes and what follows the certificate in a file, and the error, if it isn't loaded.
+const CERTIFICATES: &[(&str, &str, Option<Error>)] = &[
+    ("ssh-ed25519-cert-v01@openssh.com ", " user@host\n", None),
+    ("ssh-ed25519-cert-v01@openssh.com ", " \r\n\u{2003}", None),
+    ("ssh-rsa-cert-v01@openssh.com ", "", Some(Error::SshKey)),
+    (
+        "ssh-ed25519-cert-v01@openssh.com  ",
+        "",
+        Some(Error::SshKey),
+    ),
+    (
+        "ssh-ed25519-cert-v01@openssh.com A",
+        "",
+        Some(Error::Decode),
+    ),
+    ("", "", Some(Error::CouldNotReadKey)),
+];
+
+/// The errors of three loads: of the file, of the file by a call that fails, and of one that isn't there.
+fn three_errors(alloc: Global, text: &str) -> Result<[Option<Error>; 3], Fail> {
+    let mut files = file(alloc, text.as_bytes(), vec![in alloc; 1u64]?)?;
+    Ok([
+        certificate_error(alloc, &mut files, "key"),
+        certificate_error(alloc, &mut files, "key"),
+        certificate_error(alloc, &mut files, "absent"),
+    ])
 }
 
 #[test]
 fn certificate_files(rt: HostRuntime) -> Result<(), Fail> {
     let alloc = rt.alloc();
-    for (name, behind, want) in [
-        ("ssh-ed25519-cert-v01@openssh.com ", " user@host\n", None),
-        ("ssh-ed25519-cert-v01@openssh.com ", " \r\n\u{2003}", None),
-        ("ssh-rsa-cert-v01@openssh.com ", "", Some(Error::SshKey)),
-        (
-            "ssh-ed25519-cert-v01@openssh.com  ",
-            "",
-            Some(Error::SshKey),
-        ),
-        (
-            "ssh-ed25519-cert-v01@openssh.com A",
-            "",
-            Some(Error::Decode),
-        ),
-        ("", "", Some(Error::CouldNotReadKey)),
-    ] {
+    for (name, behind, want) in CERTIFICATES {
         let text = format!(in alloc; "{name}{CERTIFICATE}{behind}")?;
-        let mut files = file(alloc, text.as_str().as_bytes(), vec![in alloc; 1u64]?)?;
-        assert_eq!(rt; certificate_error(alloc, &mut files, "key"), want, "{name}");
+        let errors = three_errors(alloc, text.as_str())?;
         assert_eq!(rt;
-            certificate_error(alloc, &mut files, "key"),
-            Some(Error::ReadFault)
-        );
-        assert_eq!(rt;
-            certificate_error(alloc, &mut files, "absent"),
-            Some(Error::CouldNotReadKey)
+            errors,
+            [*want, Some(Error::ReadFault), Some(Error::CouldNotReadKey)],
+            "{name}"
         );
     }
     Ok(())

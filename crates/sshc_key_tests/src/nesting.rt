@@ -54,26 +54,31 @@ fn key_bytes(alloc: Global, blob: &[u8]) -> Result<Vec<u8>, Error> {
     Ok(key.public_key_bytes()?)
 }
 
+/// How many certificates are in one another, the size of the blob, and the error, if there are too many.
+const NESTINGS: &[(u32, usize, Option<Error>)] = &[
+    (0, 11, None),
+    (2, 195, None),
+    (8, 747, None),
+    (9, 839, Some(Error::SshKey)),
+    (2848, 262_027, Some(Error::SshKey)),
+];
+
+/// Whether the key is read and written as the same bytes, or is refused with this error.
+fn is_read(alloc: Global, blob: &[u8], want: Option<Error>) -> bool {
+    match key_bytes(alloc, blob) {
+        Ok(written) => want.is_none() && written.as_slice() == blob,
+        Err(error) => want == Some(error),
+    }
+}
+
 #[test]
 fn eight_certificates_may_stand_in_one_another(rt: HostRuntime) -> Result<(), Fail> {
     let alloc = rt.alloc();
-    for (depth, size, want) in [
-        (0, 11usize, None),
-        (2, 195, None),
-        (8, 747, None),
-        (9, 839, Some(Error::SshKey)),
-        (2848, 262_027, Some(Error::SshKey)),
-    ] {
-        let blob = nested(alloc, depth)?;
-        assert_eq!(rt; blob.len(), size);
-        assert_eq!(rt; check_cert_nesting(&blob).err(), want);
-        match key_bytes(alloc, &blob) {
-            Ok(written) => {
-                assert_eq!(rt; want, None);
-                assert_eq!(rt; written.as_slice(), blob.as_slice());
-            }
-            Err(error) => assert_eq!(rt; Some(error), want),
-        }
+    for (depth, size, want) in NESTINGS {
+        let blob = nested(alloc, *depth)?;
+        assert_eq!(rt; blob.len(), *size);
+        assert_eq!(rt; check_cert_nesting(&blob).err(), *want);
+        assert!(rt; is_read(alloc, &blob, *want), "depth {depth}");
     }
     Ok(())
 }

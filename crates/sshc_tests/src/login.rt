@@ -19,14 +19,17 @@ fn a_password_login_opens_the_session(rt: HostRuntime) -> Result<(), Fail> {
     Ok(())
 }
 
+/// A known hosts text, and how many events are allowed.
+const EMPTY_RUNS: &[(&str, &str, u32)] = &[
+    ("known hosts", KNOWN, 8192),
+    ("no known hosts", "", 8192),
+    ("no event allowed", KNOWN, 0),
+];
+
 #[test]
 fn an_empty_script_ends_at_once(rt: HostRuntime) -> Result<(), Fail> {
-    for (case, known, max_events) in [
-        ("known hosts", KNOWN, 8192u32),
-        ("no known hosts", "", 8192),
-        ("no event allowed", KNOWN, 0),
-    ] {
-        let outcome = run_of(rt.alloc(), known, max_events, Vec::new(rt.alloc()));
+    for (case, known, max_events) in EMPTY_RUNS {
+        let outcome = run_of(rt.alloc(), known, *max_events, Vec::new(rt.alloc()));
         assert_gives(&rt, case, 0, &outcome, &Ok(Ended::ScriptEnd), 0);
     }
     Ok(())
@@ -51,39 +54,42 @@ fn each_event_writes_its_lines(rt: HostRuntime) -> Result<(), Fail> {
     Ok(())
 }
 
+/// Known hosts texts that don't have the host key, and the errors.
+const NOT_KNOWN: &[(&str, &str, RunError)] = &[
+    ("no line", "", RunError::UnknownKey),
+    (
+        "a comment",
+        "#[localhost]:13265 ssh-ed25519 AAAAC3NzaC1lZDI1NTE5AAAAIJdD7y3aLq454yWBdwLWbieU1ebz9/cu7/QEXn9OIeZJ\n",
+        RunError::UnknownKey,
+    ),
+    (
+        "another port",
+        "localhost ssh-ed25519 AAAAC3NzaC1lZDI1NTE5AAAAIJdD7y3aLq454yWBdwLWbieU1ebz9/cu7/QEXn9OIeZJ\n",
+        RunError::UnknownKey,
+    ),
+    (
+        "another key",
+        "\n[localhost]:13265 ssh-ed25519 AAAAC3NzaC1lZDI1NTE5AAAAIA6rWI3G1sz07DnfFlrouTcysQlj2P+jpNSOEWD9OJ3X\n",
+        RunError::KeyChanged { line: 2 },
+    ),
+    (
+        "no base64",
+        "[localhost]:13265 ssh-ed25519 not-base64\n",
+        RunError::Decode,
+    ),
+    (
+        "no key",
+        "[localhost]:13265 ssh-ed25519 AAAA\n",
+        RunError::SshKey,
+    ),
+];
+
 #[test]
 fn a_host_key_that_is_not_known_writes_nothing(rt: HostRuntime) -> Result<(), Fail> {
-    for (case, known, answer) in [
-        ("no line", "", RunError::UnknownKey),
-        (
-            "a comment",
-            "#[localhost]:13265 ssh-ed25519 AAAAC3NzaC1lZDI1NTE5AAAAIJdD7y3aLq454yWBdwLWbieU1ebz9/cu7/QEXn9OIeZJ\n",
-            RunError::UnknownKey,
-        ),
-        (
-            "another port",
-            "localhost ssh-ed25519 AAAAC3NzaC1lZDI1NTE5AAAAIJdD7y3aLq454yWBdwLWbieU1ebz9/cu7/QEXn9OIeZJ\n",
-            RunError::UnknownKey,
-        ),
-        (
-            "another key",
-            "\n[localhost]:13265 ssh-ed25519 AAAAC3NzaC1lZDI1NTE5AAAAIA6rWI3G1sz07DnfFlrouTcysQlj2P+jpNSOEWD9OJ3X\n",
-            RunError::KeyChanged { line: 2 },
-        ),
-        (
-            "no base64",
-            "[localhost]:13265 ssh-ed25519 not-base64\n",
-            RunError::Decode,
-        ),
-        (
-            "no key",
-            "[localhost]:13265 ssh-ed25519 AAAA\n",
-            RunError::SshKey,
-        ),
-    ] {
+    for (case, known, answer) in NOT_KNOWN {
         let script = script_of(rt.alloc(), LOGIN.as_slice())?;
         let outcome = run_of(rt.alloc(), known, 8192, script);
-        assert_gives(&rt, case, 0, &outcome, &Err(answer), 0);
+        assert_gives(&rt, case, 0, &outcome, &Err(*answer), 0);
     }
     Ok(())
 }
@@ -96,55 +102,54 @@ pub(crate) const KEYLESS: &[u8] =
 const CERTIFIED: &[u8] =
     b"\0\0\x02\x17\0\0\0\0\0\0\0\0\x02\x02\0\0\x01\xcc\0\0\0 ssh-ed25519-cert-v01@openssh.com\0\0\0 &\xb8\xb3\xb5\x0a\x8d\x15\x0f|B1D\xab\xbajMS\x85\xe1u\xac\x1d+F\xb9>gg=\xcd_\xa5\0\0\0 \x05\xe4e\xe8\x9d\xb8\x09\xd5\xab\xcf\xc07\x8cc\xa4L\x0a\x82h\x99/I\xa7\xaf.\xb6\xaa8m\x90\x5c\x90\0\0\0\0\0\0\0\x07\0\0\0\x01\0\0\0\x07user id\0\0\0\x10\0\0\0\x05alice\0\0\0\x03bob\0\0\0\0^\x0b\xe1\0\0\0\0\0p\xdb\xd8\x80\0\0\0\x1b\0\0\0\x0dforce-command\0\0\0\x06\0\0\0\x02ls\0\0\0p\0\0\0\x15permit-X11-forwarding\0\0\0\0\0\0\0\x17permit-agent-forwarding\0\0\0\0\0\0\0\x16permit-port-forwarding\0\0\0\0\0\0\0\x0epermit-user-rc\0\0\0\0\0\0\0\0\0\0\03\0\0\0\x0bssh-ed25519\0\0\0 \x1a\xc7A\xf9\xa4O\xdeB\xea\x0dJ\xeb\xede\xb6\x9e\x04\xd0\xec\x18\xc0DI%\xd47d\x9d\x1c\x10\xd0y\0\0\0S\0\0\0\x0bssh-ed25519\0\0\0@\xe3\xcc\x9a[wU\xb5\x92\x15\xdc$\xfe\xdf\x5c\xc49\xa8\xcd\x9d3\xd9\xd2\x9b\x0c\xf0\xd5\xae\xe3\x16\xe4\xb6\xc1\xb3\x12\x89Tt\x5c6\xb6hNz\xc8\xa9x!\xaa\xf3e\x97p\xb5C\xf1\x85\xcf\0\xca$/\xed\x96\x07\0\0\0\x0asession-id\0\0\0\0\0\0\0\0\0\0\0\0\x11curve25519-sha256\0\0\0\0\0\0\0\0\0\0\0\0\0\0\0\0\0";
 
+/// Exchanges without a plain host key, and the sizes of their scripts.
+const NO_PLAIN_KEY: &[(&str, &[u8], usize)] = &[
+    ("no host key", KEYLESS, 169),
+    ("a certificate", CERTIFIED, 629),
+];
+
 #[test]
 fn a_host_key_that_is_missing_or_certified_is_refused(rt: HostRuntime) -> Result<(), Fail> {
-    for (case, exchange, size) in [
-        ("no host key", KEYLESS, 169usize),
-        ("a certificate", CERTIFIED, 629),
-    ] {
-        let events = [KEXINIT, exchange, PASSWORD, ACCEPTED, SUCCESS];
+    for (case, exchange, size) in NO_PLAIN_KEY {
+        let events = [KEXINIT, *exchange, PASSWORD, ACCEPTED, SUCCESS];
         let script = script_of(rt.alloc(), events.as_slice())?;
-        assert_eq!(rt; script.len(), size);
+        assert_eq!(rt; script.len(), *size);
         let outcome = run_of(rt.alloc(), KNOWN, 8192, script);
         assert_gives(&rt, case, 0, &outcome, &Err(RunError::UnknownKey), 0);
     }
     Ok(())
 }
 
+/// Events of which one comes out of turn, its place, and how many bytes of the login's lines are written.
+const OUT_OF_TURN: &[(&str, &[&[u8]], u64, usize)] = &[
+    ("a second KEXINIT", &[KEXINIT, KEXINIT], 13, 0),
+    (
+        "an exchange without KEXINIT",
+        &[EXCHANGE, PASSWORD, ACCEPTED, SUCCESS],
+        0,
+        0,
+    ),
+    (
+        "a request while keys are exchanged",
+        &[KEXINIT, PASSWORD, EXCHANGE],
+        13,
+        0,
+    ),
+    ("a request before any exchange", &[PASSWORD], 0, 0),
+    (
+        "a second exchange without KEXINIT",
+        &[KEXINIT, EXCHANGE, EXCHANGE],
+        143,
+        45,
+    ),
+];
+
 #[test]
 fn events_out_of_turn_are_refused(rt: HostRuntime) -> Result<(), Fail> {
-    let twice: [&[u8]; 2] = [KEXINIT, KEXINIT];
-    let unasked: [&[u8]; 4] = [EXCHANGE, PASSWORD, ACCEPTED, SUCCESS];
-    let early: [&[u8]; 3] = [KEXINIT, PASSWORD, EXCHANGE];
-    let first: [&[u8]; 1] = [PASSWORD];
-    let again: [&[u8]; 3] = [KEXINIT, EXCHANGE, EXCHANGE];
-    for (case, events, at, written) in [
-        ("a second KEXINIT", twice.as_slice(), 13u64, 0usize),
-        ("an exchange without KEXINIT", unasked.as_slice(), 0, 0),
-        (
-            "a request while keys are exchanged",
-            early.as_slice(),
-            13,
-            0,
-        ),
-        ("a request before any exchange", first.as_slice(), 0, 0),
-        (
-            "a second exchange without KEXINIT",
-            again.as_slice(),
-            143,
-            45,
-        ),
-    ] {
-        let script = script_of(rt.alloc(), events)?;
-        let outcome = run_of(rt.alloc(), KNOWN, 8192, script);
-        assert_gives(
-            &rt,
-            case,
-            0,
-            &outcome,
-            &Err(RunError::OutOfTurn { at }),
-            written,
-        );
+    for (case, events, at, written) in OUT_OF_TURN {
+        let outcome = run_of(rt.alloc(), KNOWN, 8192, script_of(rt.alloc(), events)?);
+        let answer = Err(RunError::OutOfTurn { at: *at });
+        assert_gives(&rt, case, 0, &outcome, &answer, *written);
     }
     Ok(())
 }
@@ -152,34 +157,33 @@ fn events_out_of_turn_are_refused(rt: HostRuntime) -> Result<(), Fail> {
 /// The transport failed.
 const FAILED: &[u8] = b"\0\0\0\x09\0\0\0\0\0\0\0\0\x04";
 
+/// Events that the opening refuses, the error, and how many bytes of the login's lines are written.
+const REFUSED: &[(&str, &[&[u8]], RunError, usize)] = &[
+    (
+        "a failed transport in the service",
+        &[KEXINIT, EXCHANGE, PASSWORD, FAILED, SUCCESS],
+        RunError::TransportFailed,
+        82,
+    ),
+    (
+        "a failed transport at first",
+        &[FAILED],
+        RunError::TransportFailed,
+        0,
+    ),
+    (
+        "a packet before any request",
+        &[KEXINIT, EXCHANGE, ACCEPTED],
+        RunError::Inconsistent,
+        45,
+    ),
+];
+
 #[test]
 fn refusals_of_the_opening_are_told(rt: HostRuntime) -> Result<(), Fail> {
-    let in_service: [&[u8]; 5] = [KEXINIT, EXCHANGE, PASSWORD, FAILED, SUCCESS];
-    let at_first: [&[u8]; 1] = [FAILED];
-    let unasked: [&[u8]; 3] = [KEXINIT, EXCHANGE, ACCEPTED];
-    for (case, events, answer, written) in [
-        (
-            "a failed transport in the service",
-            in_service.as_slice(),
-            RunError::TransportFailed,
-            82usize,
-        ),
-        (
-            "a failed transport at first",
-            at_first.as_slice(),
-            RunError::TransportFailed,
-            0,
-        ),
-        (
-            "a packet before any request",
-            unasked.as_slice(),
-            RunError::Inconsistent,
-            45,
-        ),
-    ] {
-        let script = script_of(rt.alloc(), events)?;
-        let outcome = run_of(rt.alloc(), KNOWN, 8192, script);
-        assert_gives(&rt, case, 0, &outcome, &Err(answer), written);
+    for (case, events, answer, written) in REFUSED {
+        let outcome = run_of(rt.alloc(), KNOWN, 8192, script_of(rt.alloc(), events)?);
+        assert_gives(&rt, case, 0, &outcome, &Err(*answer), *written);
     }
     Ok(())
 }

@@ -55,21 +55,27 @@ fn a_packet_answers_for_a_keepalive(rt: HostRuntime) -> Result<(), Fail> {
     Ok(())
 }
 
+/// Packets that come while an exchange of ours runs, and one after the peer has begun it, with the errors.
+const WITHIN_EXCHANGES: &[(&[&[u8]], RunError)] = &[
+    (
+        &[KEXINIT, EXCHANGE, REKEY, EIGHT_BYTES, ONE_BYTE],
+        RunError::Pending,
+    ),
+    (
+        &[KEXINIT, EXCHANGE, REKEY, KEXINIT, EIGHT_BYTES],
+        RunError::Inconsistent,
+    ),
+];
+
 #[test]
 fn packets_while_an_exchange_runs_are_counted_or_refused(rt: HostRuntime) -> Result<(), Fail> {
     let mut config = Config::default_in(rt.alloc())?;
     config.anonymous = true;
     config.window_size = 4;
-    let ours: [&[u8]; 5] = [KEXINIT, EXCHANGE, REKEY, EIGHT_BYTES, ONE_BYTE];
-    let peers: [&[u8]; 5] = [KEXINIT, EXCHANGE, REKEY, KEXINIT, EIGHT_BYTES];
-    for (events, answer) in [
-        (ours.as_slice(), RunError::Pending),
-        (peers.as_slice(), RunError::Inconsistent),
-    ] {
+    let wanted = format!(in rt.alloc(); "{OPENED_LINES}02\n")?;
+    for (events, answer) in WITHIN_EXCHANGES {
         let outcome = run_with(rt.alloc(), &config, KNOWN, script_of(rt.alloc(), events)?);
-        assert_eq!(rt; outcome.answer, Err(answer));
-        let mut wanted = String::from_str(rt.alloc(), OPENED_LINES)?;
-        wanted.push_str("02\n")?;
+        assert_eq!(rt; outcome.answer, Err(*answer));
         assert_eq!(rt; outcome.sink.contents(), wanted.as_bytes());
     }
     Ok(())

@@ -104,99 +104,149 @@ fn login(alloc: Global) -> Result<Vec<u8>, NoMemory> {
     script_of(alloc, LOGIN.as_slice())
 }
 
+/// A run of the login or of other events: the known hosts file, if there is one, the events, the status, how many bytes of
+/// the login's lines are written, and the line after them.
+struct Row {
+    case: &'static str,
+    known: Option<&'static str>,
+    events: &'static [&'static [u8]],
+    status: u8,
+    written: usize,
+    line: &'static str,
+}
+
+const LOGIN_EVENTS: &[&[u8]] = &[KEXINIT, EXCHANGE, PASSWORD, ACCEPTED, SUCCESS];
+
+/// The transport failed.
+const FAILED: &[u8] = b"\0\0\0\x09\0\0\0\0\0\0\0\0\x04";
+
+const BY_FILES: &[Row] = &[
+    Row {
+        case: "a login",
+        known: Some(KNOWN),
+        events: LOGIN_EVENTS,
+        status: 0,
+        written: 195,
+        line: "ended script-end\n",
+    },
+    Row {
+        case: "no file",
+        known: None,
+        events: LOGIN_EVENTS,
+        status: 28,
+        written: 0,
+        line: "error unknown-key\n",
+    },
+    Row {
+        case: "a changed key",
+        known: Some(
+            "\n[localhost]:13265 ssh-ed25519 AAAAC3NzaC1lZDI1NTE5AAAAIA6rWI3G1sz07DnfFlrouTcysQlj2P+jpNSOEWD9OJ3X\n",
+        ),
+        events: LOGIN_EVENTS,
+        status: 29,
+        written: 0,
+        line: "error key-changed 2\n",
+    },
+    Row {
+        case: "no base64",
+        known: Some("[localhost]:13265 ssh-ed25519 not-base64\n"),
+        events: LOGIN_EVENTS,
+        status: 30,
+        written: 0,
+        line: "error decode\n",
+    },
+    Row {
+        case: "no key",
+        known: Some("[localhost]:13265 ssh-ed25519 AAAA\n"),
+        events: LOGIN_EVENTS,
+        status: 31,
+        written: 0,
+        line: "error ssh-key\n",
+    },
+];
+
+const BY_EVENTS: &[Row] = &[
+    Row {
+        case: "an empty script",
+        known: Some(KNOWN),
+        events: &[],
+        status: 0,
+        written: 0,
+        line: "ended script-end\n",
+    },
+    Row {
+        case: "no host key",
+        known: Some(KNOWN),
+        events: &[KEXINIT, KEYLESS, PASSWORD, ACCEPTED, SUCCESS],
+        status: 28,
+        written: 0,
+        line: "error unknown-key\n",
+    },
+    Row {
+        case: "a failed transport",
+        known: Some(KNOWN),
+        events: &[KEXINIT, EXCHANGE, PASSWORD, FAILED, SUCCESS],
+        status: 27,
+        written: 82,
+        line: "error transport-failed\n",
+    },
+    Row {
+        case: "a second KEXINIT",
+        known: Some(KNOWN),
+        events: &[KEXINIT, KEXINIT],
+        status: 25,
+        written: 0,
+        line: "error out-of-turn 13\n",
+    },
+    Row {
+        case: "no KEXINIT",
+        known: Some(KNOWN),
+        events: &[EXCHANGE, PASSWORD, ACCEPTED, SUCCESS],
+        status: 25,
+        written: 0,
+        line: "error out-of-turn 0\n",
+    },
+];
+
+/// The run of a row.
+fn run_row(alloc: Global, row: &Row) -> Result<Ran, NoMemory> {
+    let script = script_of(alloc, row.events)?;
+    match row.known {
+        Some(text) => outcome_of(
+            alloc,
+            SCRIPT.as_slice(),
+            Some(text.as_bytes()),
+            script,
+            NOTHING_FAILS,
+        ),
+        None => outcome_of(alloc, SCRIPT.as_slice(), None, script, NOTHING_FAILS),
+    }
+}
+
 #[test]
 fn the_words_of_a_script_run_it_by_the_known_hosts_file(rt: HostRuntime) -> Result<(), Fail> {
-    let known = KNOWN.as_bytes();
-    let changed =
-        b"\n[localhost]:13265 ssh-ed25519 AAAAC3NzaC1lZDI1NTE5AAAAIA6rWI3G1sz07DnfFlrouTcysQlj2P+jpNSOEWD9OJ3X\n".as_slice();
-    let no_base64 = b"[localhost]:13265 ssh-ed25519 not-base64\n".as_slice();
-    let no_key = b"[localhost]:13265 ssh-ed25519 AAAA\n".as_slice();
-    for (case, file, status, written, line) in [
-        ("a login", Some(known), 0u8, 195usize, "ended script-end\n"),
-        ("no file", None, 28, 0, "error unknown-key\n"),
-        (
-            "a changed key",
-            Some(changed),
-            29,
-            0,
-            "error key-changed 2\n",
-        ),
-        ("no base64", Some(no_base64), 30, 0, "error decode\n"),
-        ("no key", Some(no_key), 31, 0, "error ssh-key\n"),
-        (
-            "no text",
-            Some(b"\xff\n".as_slice()),
-            3,
-            0,
-            "error known-file\n",
-        ),
-    ] {
-        let ran = outcome_of(
-            rt.alloc(),
-            SCRIPT.as_slice(),
-            file,
-            login(rt.alloc())?,
-            NOTHING_FAILS,
-        )?;
-        assert_ran(&rt, case, &ran, status, written, line);
+    for row in BY_FILES {
+        let ran = run_row(rt.alloc(), row)?;
+        assert_ran(&rt, row.case, &ran, row.status, row.written, row.line);
     }
     Ok(())
 }
 
 #[test]
 fn a_script_that_ends_or_is_refused_is_told(rt: HostRuntime) -> Result<(), Fail> {
-    let failed: &[u8] = b"\0\0\0\x09\0\0\0\0\0\0\0\0\x04";
-    let empty: [&[u8]; 0] = [];
-    let keyless: [&[u8]; 5] = [KEXINIT, KEYLESS, PASSWORD, ACCEPTED, SUCCESS];
-    let failed: [&[u8]; 5] = [KEXINIT, EXCHANGE, PASSWORD, failed, SUCCESS];
-    let twice: [&[u8]; 2] = [KEXINIT, KEXINIT];
-    let unasked: [&[u8]; 4] = [EXCHANGE, PASSWORD, ACCEPTED, SUCCESS];
-    for (case, events, status, written, line) in [
-        (
-            "an empty script",
-            empty.as_slice(),
-            0u8,
-            0usize,
-            "ended script-end\n",
-        ),
-        (
-            "no host key",
-            keyless.as_slice(),
-            28,
-            0,
-            "error unknown-key\n",
-        ),
-        (
-            "a failed transport",
-            failed.as_slice(),
-            27,
-            82,
-            "error transport-failed\n",
-        ),
-        (
-            "a second KEXINIT",
-            twice.as_slice(),
-            25,
-            0,
-            "error out-of-turn 13\n",
-        ),
-        (
-            "no KEXINIT",
-            unasked.as_slice(),
-            25,
-            0,
-            "error out-of-turn 0\n",
-        ),
-    ] {
-        let ran = outcome_of(
-            rt.alloc(),
-            SCRIPT.as_slice(),
-            Some(KNOWN.as_bytes()),
-            script_of(rt.alloc(), events)?,
-            NOTHING_FAILS,
-        )?;
-        assert_ran(&rt, case, &ran, status, written, line);
+    for row in BY_EVENTS {
+        let ran = run_row(rt.alloc(), row)?;
+        assert_ran(&rt, row.case, &ran, row.status, row.written, row.line);
     }
+    Ok(())
+}
+
+#[test]
+fn a_known_hosts_file_that_is_no_text_is_told(rt: HostRuntime) -> Result<(), Fail> {
+    let script = login(rt.alloc())?;
+    let known = Some(b"\xff\n".as_slice());
+    let ran = outcome_of(rt.alloc(), SCRIPT.as_slice(), known, script, NOTHING_FAILS)?;
+    assert_ran(&rt, "no text", &ran, 3, 0, "error known-file\n");
     Ok(())
 }
 
@@ -217,22 +267,23 @@ fn a_known_hosts_file_that_cannot_be_read_is_told(rt: HostRuntime) -> Result<(),
     Ok(())
 }
 
+const NO_FORM: &[&[&str]] = &[
+    &[],
+    &["script"],
+    &["script", "h", "22"],
+    &["script", "h", "65536", "known"],
+    &["script", "h", "+22", "known"],
+    &["script", "h", "", "known"],
+    &["script", "h", "000022", "known"],
+    &["script", "h", "22", "known", "more"],
+    &["hosts", "check", "h", "70000", "known", "AAAA"],
+    &["hosts", "forget", "h", "22", "known", "AAAA"],
+    &["agent", "socket"],
+];
+
 #[test]
 fn words_of_no_form_are_refused(rt: HostRuntime) -> Result<(), Fail> {
-    let rows: [&[&str]; 11] = [
-        &[],
-        &["script"],
-        &["script", "h", "22"],
-        &["script", "h", "65536", "known"],
-        &["script", "h", "+22", "known"],
-        &["script", "h", "", "known"],
-        &["script", "h", "000022", "known"],
-        &["script", "h", "22", "known", "more"],
-        &["hosts", "check", "h", "70000", "known", "AAAA"],
-        &["hosts", "forget", "h", "22", "known", "AAAA"],
-        &["agent", "socket"],
-    ];
-    for words in rows {
+    for words in NO_FORM {
         let ran = outcome_of(
             rt.alloc(),
             words,
