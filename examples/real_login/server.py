@@ -6,10 +6,13 @@ import os
 import secrets
 import socket
 import subprocess
+import sys
 import tempfile
 import time
 
 USER = "sshc-example"
+
+SSHD = "/usr/sbin/sshd"
 
 CONFIG = """
 Port {port}
@@ -34,7 +37,20 @@ def free_port():
 
 class Server:
     def __enter__(self):
-        self.folder = tempfile.mkdtemp(prefix="sshc-real-login-")
+        if not os.path.exists(SSHD):
+            sys.exit(f"there is no {SSHD}: apt-get install openssh-server")
+        self.folder, self.process = tempfile.mkdtemp(prefix="sshc-real-login-"), None
+        try:
+            self._start()
+        except BaseException:
+            self._remove()
+            raise
+        return self
+
+    def __exit__(self, *_):
+        self._remove()
+
+    def _start(self):
         os.chmod(self.folder, 0o755)
         self.port, self.password = free_port(), secrets.token_hex(8)
         subprocess.run(["useradd", "--create-home", "--shell", "/bin/sh", USER], check=True)
@@ -47,14 +63,14 @@ class Server:
         self.known_hosts = self._write("known_hosts", f"[localhost]:{self.port} {name} {key}\n")
         os.makedirs("/run/sshd", exist_ok=True)
         log = open(f"{self.folder}/log", "w")
-        self.process = subprocess.Popen(["/usr/sbin/sshd", "-D", "-e", "-f", f"{self.folder}/config"], stderr=log)
+        self.process = subprocess.Popen([SSHD, "-D", "-e", "-f", f"{self.folder}/config"], stderr=log)
         self._wait_until_it_listens()
-        return self
 
-    def __exit__(self, *_):
-        self.process.terminate()
-        self.process.wait()
-        subprocess.run(["pkill", "-u", USER], check=False)
+    def _remove(self):
+        if self.process:
+            self.process.terminate()
+            self.process.wait()
+        subprocess.run(["pkill", "-u", USER], check=False, capture_output=True)
         subprocess.run(["userdel", "--remove", USER], check=False, capture_output=True)
         subprocess.run(["rm", "-r", self.folder], check=True)
 
