@@ -204,6 +204,9 @@ fn serve_by<
 /// Serves each stream that the listener accepts, concurrently: an agent that asks about each request, with a signer and
 /// a clock of its own for each connection. The end of one connection doesn't affect the others. Once the listener has
 /// failed and all connections have ended, returns the history of all calls.
+///
+/// Errors: `NoMemory`, also where the listener ran out of memory, which ends the serving; else what differs between the
+/// connections' calls and the agent's history.
 pub fn serve<
     I: Listener,
     A: Agent,
