@@ -55,7 +55,7 @@ pub use record::{Record, put_record};
 pub use resolution::{HostKeysFault, Resolution, put_resolution};
 pub use signal::Sig;
 pub use sink::{Sink, write_whole};
-pub use source::{Failed, Source, read_up_to};
+pub use source::{Failed, Source, read_into, read_up_to};
 pub use system::{StdFiles, StdSink, StdSource};
 pub use text::Text;
 pub use ticket::Ticket;

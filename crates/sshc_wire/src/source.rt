@@ -1,6 +1,6 @@
 //! Where bytes come from.
 
-ghost use Rattle.std.specs.Prelude.{◌≡◌, ℕ, ◌+◌, ◌<◌, ◌≤◌, List, length, take, Ok, Option, IfOk, OnErr};
+ghost use Rattle.std.specs.Prelude.{◌≡◌, ℕ, ◌+◌, ◌<◌, ◌≤◌, List, length, take, Ok, Option, IfOk, OnErr, OnOk};
 ghost use Rattle.sshc_wire.specs.Beside.{Beside};
 ghost use Rattle.sshc_wire.specs.Contents.{prepend, IsAtEnd};
 ghost use Rattle.sshc_wire.specs.Faults.{CountsOne, CountsEmpty, HasCause};
@@ -83,6 +83,33 @@ fn read_full<S: Source>(source: &mut S, buf: &mut [u8]) -> Result<usize, Failed>
     Ok(filled)
 }
 
+/// Replaces the bytes by the next bytes of the source: as many as are asked for, or all before its end. Their memory is
+/// kept, and grows only if it is too small. After an error they may be any bytes.
+pub fn read_into<S: Source>(bytes: &mut Vec<u8>, source: &mut S, count: usize) -> Result<(), Failed>
+    requires { 0 < count }
+    ensures bytes { OnOk result (S.left source.old ≡ prepend bytes.new.items (S.left source.new)) }
+    ensures bound { OnOk result (length bytes.new.items ≤ count) }
+    ensures end { OnOk result (length bytes.new.items < count → IsAtEnd (S.left source.new)) }
+    ensures none { OnErr result ((given : List ℕ) × (length given < count)
+        × (S.left source.old ≡ prepend given (S.left source.new))
+        × (S.reads source.new ≤ S.reads source.old + length given + 1)) }
+    ensures cause { HasCause (S.faults source.old) (S.faults source.new) result }
+    ensures whole { OnOk result
+        (length bytes.new.items ≡ count → S.reads source.new ≤ S.reads source.old + length bytes.new.items) }
+    ensures short { OnOk result (S.reads source.new ≤ S.reads source.old + length bytes.new.items + 1) }
+    ensures empty { OnOk result
+        (length bytes.new.items ≡ count → S.empty_reads source.new ≡ S.empty_reads source.old) }
+    ensures last { S.empty_reads source.new ≤ S.empty_reads source.old + 1 }
+    ensures apart { S.beside source.new ≡ S.beside source.old }
+{
+    if bytes.resize(count, 0).is_err() {
+        return Err(Failed::NoMemory);
+    }
+    let filled = read_full(source, bytes.as_mut_slice())?;
+    bytes.truncate(filled);
+    Ok(())
+}
+
 /// The next bytes of the source: as many as are asked for, or all before its end.
 pub fn read_up_to<S: Source>(alloc: Global, source: &mut S, count: usize) -> Result<Vec<u8>, Failed>
     requires { 0 < count }
@@ -100,10 +127,7 @@ pub fn read_up_to<S: Source>(alloc: Global, source: &mut S, count: usize) -> Res
     ensures last { S.empty_reads source.new ≤ S.empty_reads source.old + 1 }
     ensures apart { S.beside source.new ≡ S.beside source.old }
 {
-    let Ok(mut bytes) = vec![in alloc; 0u8; count] else {
-        return Err(Failed::NoMemory);
-    };
-    let filled = read_full(source, bytes.as_mut_slice())?;
-    bytes.truncate(filled);
+    let mut bytes = Vec::new(alloc);
+    read_into(&mut bytes, source, count)?;
     Ok(bytes)
 }
