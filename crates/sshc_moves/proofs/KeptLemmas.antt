@@ -18,7 +18,7 @@ use Rattle.sshc_moves.specs.Moves.{Deed, Move, after, deed, deed_of, did, done, 
 use Rattle.sshc_moves.specs.Grown.{Grown, May}
 use Rattle.sshc_moves.specs.Keeps.{SameOrBegun}
 use Rattle.sshc_moves.specs.KeptChannels.{ChannelKeeps, GrownSessionsKeepChannels, IsKept}
-use Rattle.sshc_moves.proofs.ChannelNumbers.{number_of, with_other, with_same}
+use Rattle.sshc_mux.proofs.NumbersLemmas.{number_of, with_other, with_same}
 use Rattle.sshc_moves.specs.KeepLaws.{keeps_move}
 
 -- ---- calls of methods, which know whether an exchange runs

@@ -5,5 +5,4 @@ mod TakenLemmas
 mod OpensLemmas
 mod StandardFacts
 mod StayLemmas
-mod ChannelNumbers
 mod KeptLemmas

@@ -15,7 +15,7 @@ use Rattle.sshc_mux.specs.ChannelTable.{confirm_turn, is_awaited, no_packets_of,
 use Rattle.sshc_mux.specs.ChannelTable.Opens.{awaited, awaited_by, confirmed}
 use Rattle.sshc_mux.specs.ChannelAccount.{IsLegal}
 use Rattle.sshc_mux.specs.Places.{Apart, numbers}
-use Rattle.sshc_moves.proofs.ChannelNumbers.{number_of, with_same, without_same}
+use Rattle.sshc_mux.proofs.NumbersLemmas.{number_of, with_same, without_same}
 use Rattle.sshc_packets.specs.declared.channel_open.Confirmation.{Confirmation}
 use Rattle.sshc_packets.specs.declared.channel_open.Sender.{Sender}
 use Rattle.sshc_packets.specs.ChannelOpens.{ChannelOpen}

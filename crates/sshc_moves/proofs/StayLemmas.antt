@@ -11,7 +11,7 @@ use Rattle.sshc_mux.specs.ChannelTable.Windows.{adjust_of, held}
 use Rattle.sshc_mux.specs.Packets.{Packet}
 use Rattle.sshc_mux.specs.ChannelTable.Opens.{accepted_head, awaited, awaited_by, awaited_in, confirmed_head, is_reserved, next_number, opened_by_user, reserved_by_server}
 use Rattle.sshc_mux.specs.ChannelAccount.{Call, OpenUser, ReserveServer, SettleServer, Confirm, Fail, Bytes, AskEof, AskClose, PeerClose, Grant, FlushAll, Received, EachCallDoesItsPart, IsLegal, Part, accept_part, answered, bytes_part, called, close_part, confirm_part, eof_part, grant_part, no_part, opened, part, received_part}
-use Rattle.sshc_moves.proofs.ChannelNumbers.{has_none, none_has, number_of, numbers-flushed, with_other, without_other}
+use Rattle.sshc_mux.proofs.NumbersLemmas.{has_none, none_has, number_of, numbers-flushed, with_other, without_other}
 use Rattle.sshc_mux.specs.Places.{has, numbers}
 use Rattle.sshc_moves.specs.SessionState.{SessionState}
 use Rattle.sshc_moves.specs.Moves.{Deed, Move, after, deed_of, did, with_deed}

@@ -12,7 +12,7 @@ mod TestLemmas
 mod TurnLemmas
 mod FrontLemmas
 mod PromptLemmas
-mod NumbersLemmas
+pub mod NumbersLemmas
 mod CallLemmas
 mod LifeLemmas
 mod ShapeLemmas
