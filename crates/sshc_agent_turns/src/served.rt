@@ -1,6 +1,6 @@
 //! An agent with the bytes of its connections, and the records of each event.
 
-ghost use Rattle.std.specs.Prelude.{◌≡◌, ◌++◌, [], IfOk, OnErr, OnOk, false};
+ghost use Rattle.std.specs.Prelude.{◌≡◌, ◌++◌, [], OnErr, OnOk, false};
 ghost use Rattle.sshc_key.specs.Asking.{Makes, MakesFirst};
 ghost use Rattle.sshc_key.specs.Signers.{since};
 ghost use Rattle.sshc_wire.specs.Outgoing.{listed};
@@ -91,30 +91,31 @@ fn take_whole<G: LocalSigner>(
     take_one(core, now, conn, &input, signer, out)
 }
 
-/// Takes all inputs that the bytes contain, in order, and returns their records.
+/// Takes all inputs that the bytes contain, in order, and adds their records to `out`.
 fn serve<G: LocalSigner>(
-    alloc: Global,
     core: &mut AgentCore,
     now: u64,
     conn: u32,
     frames: &mut Frames,
     signer: &mut G,
-) -> Result<Outbox, NoMemory>
-    ensures ok { IfOk result
-        (λ said. Makes (each_turn now conn (inputs_of frames.old) core.old)
-        (since (G.calls signer.old) (G.calls signer.new)) (record { records = said.records; list = core.new })) }
+    out: &mut Outbox,
+) -> Result<(), NoMemory>
+    requires empty { out.old.records ≡ [] }
+    requires open { out.old.muted ≡ false }
+    ensures ok { OnOk result
+        (Makes (each_turn now conn (inputs_of frames.old) core.old)
+        (since (G.calls signer.old) (G.calls signer.new)) (record { records = out.new.records; list = core.new })) }
     ensures rest { OnOk result (frames.new ≡ rest_of frames.old) }
     ensures err { OnErr result
         (MakesFirst (each_turn now conn (inputs_of frames.old) core.old)
         (since (G.calls signer.old) (G.calls signer.new))) }
     ensures gained { G.calls signer.new ≡ G.calls signer.old ++ since (G.calls signer.old) (G.calls signer.new) }
 {
-    let mut out = Outbox::new(alloc);
     'inputs: loop {
         let Some(input) = frames.next()? else {
-            return Ok(out);
+            return Ok(());
         };
-        take_whole(core, now, conn, input, signer, &mut out)?;
+        take_whole(core, now, conn, input, signer, out)?;
     }
 }
 
@@ -150,10 +151,13 @@ impl ServedAgent {
         conn: u32,
         piece: &Octets,
         signer: &mut G,
-    ) -> Result<Outbox, NoMemory>
-        ensures ok { IfOk result
-            (λ said. Makes (agent_turn now (AgentEvent.Bytes conn piece.now) self.old)
-            (since (G.calls signer.old) (G.calls signer.new)) (record { records = said.records; state = self.new })) }
+        out: &mut Outbox,
+    ) -> Result<(), NoMemory>
+        requires empty { out.old.records ≡ [] }
+        requires open { out.old.muted ≡ false }
+        ensures ok { OnOk result
+            (Makes (agent_turn now (AgentEvent.Bytes conn piece.now) self.old)
+            (since (G.calls signer.old) (G.calls signer.new)) (record { records = out.new.records; state = self.new })) }
         ensures err { OnErr result
             (MakesFirst (agent_turn now (AgentEvent.Bytes conn piece.now) self.old)
             (since (G.calls signer.old) (G.calls signer.new))) }
@@ -161,9 +165,9 @@ impl ServedAgent {
     {
         let mut frames = self.take_frames(conn);
         frames.push(piece.as_slice())?;
-        let said = serve(self.alloc, &mut self.core, now, conn, &mut frames, signer)?;
+        serve(&mut self.core, now, conn, &mut frames, signer, out)?;
         self.frames.insert(conn, frames)?;
-        Ok(said)
+        Ok(())
     }
 
     /// Takes an event of one input.
@@ -174,41 +178,46 @@ impl ServedAgent {
         conn: u32,
         input: &AgentInput,
         signer: &mut G,
-    ) -> Result<Outbox, NoMemory>
-        ensures ok { IfOk result
-            (λ said. Makes (agent_turn now (AgentEvent.Input conn input.now) self.old)
-            (since (G.calls signer.old) (G.calls signer.new)) (record { records = said.records; state = self.new })) }
+        out: &mut Outbox,
+    ) -> Result<(), NoMemory>
+        requires empty { out.old.records ≡ [] }
+        requires open { out.old.muted ≡ false }
+        ensures ok { OnOk result
+            (Makes (agent_turn now (AgentEvent.Input conn input.now) self.old)
+            (since (G.calls signer.old) (G.calls signer.new)) (record { records = out.new.records; state = self.new })) }
         ensures err { OnErr result
             (MakesFirst (agent_turn now (AgentEvent.Input conn input.now) self.old)
             (since (G.calls signer.old) (G.calls signer.new))) }
         ensures gained { G.calls signer.new ≡ G.calls signer.old ++ since (G.calls signer.old) (G.calls signer.new) }
     {
-        let mut out = Outbox::new(self.alloc);
-        take_one(&mut self.core, now, conn, input, signer, &mut out)?;
-        Ok(out)
+        take_one(&mut self.core, now, conn, input, signer, out)?;
+        Ok(())
     }
 
-    /// Takes an event at a moment in milliseconds, and returns its records in order. Each whole frame of a piece is one
-    /// step of the agent, and so is a length above 262144. Returns no records if memory runs out.
+    /// Takes an event at a moment in milliseconds, and replaces what `out` held by its records, in order. Each whole
+    /// frame of a piece is one step of the agent, and so is a length above 262144. If memory runs out, the records are
+    /// not to be used, and the bytes of the event's connection are lost.
     pub fn take<G: LocalSigner>(
         &mut self,
         now: u64,
         event: &AgentEvent,
         signer: &mut G,
-    ) -> Result<Outbox, NoMemory>
+        out: &mut Outbox,
+    ) -> Result<(), NoMemory>
         // The records and the new state are those of the event's turn, with the calls that were added to the signer's
         // list.
-        ensures turn { IfOk result
-            (λ said. Makes (agent_turn now event.now self.old) (since (G.calls signer.old) (G.calls signer.new))
-            (record { records = said.records; state = self.new })) }
+        ensures turn { OnOk result
+            (Makes (agent_turn now event.now self.old) (since (G.calls signer.old) (G.calls signer.new))
+            (record { records = out.new.records; state = self.new })) }
         // If memory runs out, the calls are a prefix of the turn's.
         ensures memory { OnErr result
             (MakesFirst (agent_turn now event.now self.old) (since (G.calls signer.old) (G.calls signer.new))) }
         ensures gained { G.calls signer.new ≡ G.calls signer.old ++ since (G.calls signer.old) (G.calls signer.new) }
     {
+        out.clear();
         match event {
-            AgentEvent::Bytes { conn, piece } => self.take_bytes(now, *conn, piece, signer),
-            AgentEvent::Input { conn, input } => self.take_input(now, *conn, input, signer),
+            AgentEvent::Bytes { conn, piece } => self.take_bytes(now, *conn, piece, signer, out),
+            AgentEvent::Input { conn, input } => self.take_input(now, *conn, input, signer, out),
         }
     }
 }

@@ -1,8 +1,10 @@
 //! The configuration of a session.
 
-ghost use Rattle.std.specs.Prelude.{IfOk};
-ghost use Rattle.sshc_client.specs.Configured.{IsDefault};
+ghost use Rattle.std.specs.Prelude.{◌≡◌, IfOk};
+ghost use Rattle.sshc_client.specs.Configured.{IsDefault, session_settings_of, settings_of};
 
+use sshc_moves::SessionSettings;
+use sshc_opening::Settings;
 use sshc_wire::{NoMemory, Text};
 use std::alloc::Global;
 
@@ -48,5 +50,27 @@ impl Config {
             max_events: 8192,
             agent_asks: false,
         })
+    }
+
+    /// The settings that an open session keeps.
+    pub fn session_settings(&self) -> SessionSettings
+        ensures { result ≡ session_settings_of self.now }
+    {
+        SessionSettings {
+            max_packet_size: self.maximum_packet_size,
+            keepalive_interval: self.keepalive_interval,
+            keepalive_max: self.keepalive_max,
+        }
+    }
+
+    /// The settings that the opening keeps.
+    pub fn opening_settings(&self) -> Settings
+        ensures { result ≡ settings_of self.now }
+    {
+        Settings {
+            window_size: self.window_size,
+            anonymous: self.anonymous,
+            inactivity: self.inactivity_timeout.is_some(),
+        }
     }
 }

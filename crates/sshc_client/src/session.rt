@@ -55,7 +55,22 @@ impl Session {
         }
     }
 
-    /// The records since they were last taken.
+    /// The records since they were last taken or cleared, in order.
+    pub fn records(&self) -> &Outbox
+        ensures { result.now.records ≡ self.now.records }
+    {
+        self.connection.records()
+    }
+
+    /// Lets the records go, and keeps their memory for the next: with `records` the way to pass them on without taking
+    /// memory for each event.
+    pub fn clear_records(&mut self)
+        ensures { self.new ≡ record self.old { records = [] } }
+    {
+        self.connection.clear_records()
+    }
+
+    /// The records since they were last taken or cleared.
     pub fn take_records(&mut self) -> Outbox
         ensures taken { result.records ≡ self.old.records }
         ensures rest { self.new ≡ record self.old { records = [] } }

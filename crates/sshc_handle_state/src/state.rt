@@ -14,9 +14,9 @@ use crate::end::End;
 use crate::ending::ended_copied;
 use crate::submission::{asks_answer, event_of, let_go};
 use crate::timers::Timers;
-use sshc_client::{Config, Handler, Msg, Session, SessionSettings};
+use sshc_client::{Config, Handler, Msg, Session};
 use sshc_key::AgentSessionBinding;
-use sshc_opening::{Ended, Error, Event, Method, Settings};
+use sshc_opening::{Ended, Error, Event, Method};
 use sshc_tickets::Tickets;
 use sshc_wire::{ChannelId, List, NoMemory, Octets, Record, Text, Ticket};
 use std::alloc::Global;
@@ -101,42 +101,21 @@ impl<H: Handler> HandleState<H> {
     ) -> Result<HandleState<H>, NoMemory>
         ensures { IfOk result (λ s. s ≡ new_handle config remote_sshid) }
     {
-        let Config {
-            client_id: _client_id,
-            window_size,
-            maximum_packet_size,
-            channel_buffer_size: _,
-            inactivity_timeout,
-            keepalive_interval,
-            keepalive_max,
-            anonymous,
-            nodelay: _,
-            max_events: _,
-            agent_asks: _,
-        } = config;
-        let settings = SessionSettings {
-            max_packet_size: maximum_packet_size,
-            keepalive_interval,
-            keepalive_max,
-        };
-        let opening = Settings {
-            window_size,
-            anonymous,
-            inactivity: inactivity_timeout.is_some(),
+        let session = Session::new(alloc, config.session_settings(), config.opening_settings());
+        let timers = Timers {
+            inactivity_timeout: config.inactivity_timeout,
+            keepalive_interval: config.keepalive_interval,
+            heard: None,
+            beat: 0,
         };
         Ok(HandleState {
-            session: Session::new(alloc, settings, opening),
+            session,
             submitted: VecDeque::new(alloc),
             tickets: Tickets::new(alloc),
             prompts: None,
             binding: None,
             remote_sshid,
-            timers: Timers {
-                inactivity_timeout,
-                keepalive_interval,
-                heard: None,
-                beat: 0,
-            },
+            timers,
             failed: false,
             end: None,
             of: PhantomData,

@@ -207,26 +207,32 @@ fn forward_moves(session: &mut Connection, event: &Event) -> Result<(), NoMemory
             ticket,
             address,
             port,
-        } => ask(
-            session,
-            &Ask::Forward {
-                ticket: *ticket,
-                address: address.as_str(),
-                port: *port,
-            },
-        ),
+        } => {
+            let (ticket, address, port) = (*ticket, address.as_str(), *port);
+            ask(
+                session,
+                &Ask::Forward {
+                    ticket,
+                    address,
+                    port,
+                },
+            )
+        }
         Event::CancelTcpIpForward {
             ticket,
             address,
             port,
-        } => ask(
-            session,
-            &Ask::CancelForward {
-                ticket: *ticket,
-                address: address.as_str(),
-                port: *port,
-            },
-        ),
+        } => {
+            let (ticket, address, port) = (*ticket, address.as_str(), *port);
+            ask(
+                session,
+                &Ask::CancelForward {
+                    ticket,
+                    address,
+                    port,
+                },
+            )
+        }
         Event::StreamLocalForward {
             ticket,
             socket_path,

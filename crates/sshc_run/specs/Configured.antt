@@ -1,25 +1,9 @@
--- The default settings of a client, and which of them a session keeps.
-use Rattle.std.specs.Prelude.{◌≡◌, Bool, false, None, is_some, codes}
+-- The settings that a run keeps of its configuration.
+use Rattle.std.specs.Prelude.{Bool}
 use Rattle.sshc_opening.specs.declared.opening.Settings.{Settings}
 use Rattle.sshc_moves.specs.declared.settings.SessionSettings.{SessionSettings}
-use Rattle.sshc_run.specs.declared.config.Config.{Config}
-
-pub record IsDefault (c : Config) : Type 0 where
-  pub client_id : c.client_id ≡ codes "SSH-2.0-russh_0.65.1"
-  pub window_size : c.window_size ≡ 2097152
-  pub maximum_packet_size : c.maximum_packet_size ≡ 32768
-  pub channel_buffer_size : c.channel_buffer_size ≡ 100
-  pub inactivity_timeout : c.inactivity_timeout ≡ None
-  pub keepalive_interval : c.keepalive_interval ≡ None
-  pub keepalive_max : c.keepalive_max ≡ 3
-  pub anonymous : c.anonymous ≡ false
-  pub nodelay : c.nodelay ≡ false
-  pub max_events : c.max_events ≡ 8192
-  pub agent_asks : c.agent_asks ≡ false
-
--- which settings the opening keeps
-abbrev pub settings_of : Config → Settings
-settings_of c = record { window_size = c.window_size; anonymous = c.anonymous; inactivity = is_some c.inactivity_timeout }
+use Rattle.sshc_client.specs.declared.config.Config.{Config}
+use Rattle.sshc_client.specs.Configured.{session_settings_of, settings_of}
 
 -- the settings of a session and an agent: those that the session's opening keeps, those that the session keeps besides,
 -- and whether the agent asks for each request
@@ -29,8 +13,4 @@ pub record RunSettings : Type 0 where
   pub agent_asks : Bool
 
 abbrev pub run_settings_of : Config → RunSettings
-run_settings_of c = record {
-  opening = settings_of c;
-  session = record { max_packet_size = c.maximum_packet_size; keepalive_interval = c.keepalive_interval; keepalive_max = c.keepalive_max };
-  agent_asks = c.agent_asks;
-}
+run_settings_of c = record { opening = settings_of c; session = session_settings_of c; agent_asks = c.agent_asks }

@@ -8,7 +8,7 @@ use Rattle.sshc_key.specs.Signers.{SignCall, since}
 use Rattle.sshc_opening.specs.OpeningState.{OpeningState}
 use Rattle.sshc_opening.specs.declared.ended.Ended.{Ended}
 use Rattle.sshc_packets.specs.HostKeyProof.{Accepts}
-use Rattle.sshc_run.specs.declared.config.Config.{Config}
+use Rattle.sshc_client.specs.declared.config.Config.{Config}
 use Rattle.sshc_run.specs.declared.error.RunError.{RunError}
 use Rattle.sshc_run.specs.AgentRuns.{HasOneHistory}
 use Rattle.sshc_run.specs.Causes.{IsCaused}

@@ -1,7 +1,6 @@
 //! Scripts: bytes in, records out.
 #![tactic(auto)]
 
-mod config;
 mod error;
 mod known_hosts_handler;
 mod point;
@@ -12,8 +11,8 @@ mod stepping;
 mod turn;
 mod unasked;
 
-pub use config::Config;
 pub use error::RunError;
 pub use known_hosts_handler::{HandlerError, KnownHostsHandler};
 pub use run::run_script;
+pub use sshc_client::Config;
 pub use sshc_toy::{RefusingSigner, RefusingVerifier, ToySigner, ToyVerifier};

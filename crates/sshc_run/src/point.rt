@@ -5,16 +5,21 @@ ghost use Rattle.sshc_session.specs.Start.{new_session};
 ghost use Rattle.sshc_agent_turns.specs.AgentTurns.{idle};
 ghost use Rattle.sshc_run.specs.Configured.{run_settings_of};
 
-use crate::config::Config;
 use crate::record_lines::LineBuffer;
 use sshc_agent_turns::ServedAgent;
-use sshc_client::Session;
-use sshc_moves::SessionSettings;
-use sshc_opening::Settings;
+use sshc_client::{Config, Session};
+use sshc_wire::Outbox;
 use std::alloc::Global;
 
+/// Memory that is kept from one event to the next: of an agent's records, and where lines are made.
+#[derive(Debug, Drop)]
+pub struct Buffers {
+    pub said: Outbox,
+    pub lines: LineBuffer,
+}
+
 /// The state of a run: the session, whether it is open, the agent with the bytes of its connections, the place of the
-/// next event, the last moment, and the memory in which lines are made.
+/// next event, the last moment, and the buffers.
 #[derive(Debug, Drop)]
 pub struct Point {
     pub session: Session,
@@ -22,7 +27,7 @@ pub struct Point {
     pub agents: ServedAgent,
     pub place: u64,
     pub last: u64,
-    pub lines: LineBuffer,
+    pub buffers: Buffers,
 }
 
 impl Point {
@@ -35,23 +40,16 @@ impl Point {
         ensures place { result.place ≡ 0 }
         ensures last { result.last ≡ 0 }
     {
-        let settings = SessionSettings {
-            max_packet_size: config.maximum_packet_size,
-            keepalive_interval: config.keepalive_interval,
-            keepalive_max: config.keepalive_max,
-        };
-        let opening = Settings {
-            window_size: config.window_size,
-            anonymous: config.anonymous,
-            inactivity: config.inactivity_timeout.is_some(),
-        };
         Point {
-            session: Session::new(alloc, settings, opening),
+            session: Session::new(alloc, config.session_settings(), config.opening_settings()),
             opened: false,
             agents: ServedAgent::new(alloc, config.agent_asks),
             place: 0,
             last: 0,
-            lines: LineBuffer::new(alloc),
+            buffers: Buffers {
+                said: Outbox::new(alloc),
+                lines: LineBuffer::new(alloc),
+            },
         }
     }
 }

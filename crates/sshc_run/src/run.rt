@@ -10,11 +10,11 @@ ghost use Rattle.sshc_run.specs.RunTurn.{kept, run_machine, run_turn};
 ghost use Rattle.sshc_run.specs.ScriptRun.{script_run, run, spot};
 ghost use Rattle.sshc_run.specs.TurnContracts.{hosts_of};
 
-use crate::config::Config;
 use crate::error::RunError;
 use crate::known_hosts_handler::KnownHostsHandler;
 use crate::point::Point;
 use crate::turn::{at_limit, let_go, one_turn};
+use sshc_client::Config;
 use sshc_key::{LocalSigner, Verifier};
 use sshc_moves::session_laws;
 use sshc_mux::account;
@@ -51,8 +51,10 @@ fn take_turns<S: Source, G: LocalSigner, V: Verifier, K: Sink>(
         (G.calls signer.new))
         result }
 {
+    let mut buffer = Vec::new(alloc);
     for turn in 0..max_events {
-        if let Some(answer) = one_turn(alloc, at, gate, source, signer, verifier, sink) {
+        let answer = one_turn(alloc, &mut buffer, at, gate, source, signer, verifier, sink);
+        if let Some(answer) = answer {
             return answer;
         }
     }

@@ -8,7 +8,8 @@ ghost use Rattle.sshc_run.specs.RunOutside.{sink_state, SinkTaken};
 ghost use Rattle.sshc_run.specs.TurnContracts.{TakeGives};
 
 use crate::error::RunError;
-use crate::record_lines::{LineBuffer, write_lines};
+use crate::point::Buffers;
+use crate::record_lines::write_lines;
 use crate::turn::{event_error_at, write_failed};
 use sshc_agent_turns::{AgentEvent, ServedAgent, read_agent_event};
 use sshc_key::LocalSigner;
@@ -19,7 +20,7 @@ use std::alloc::Global;
 
 /// Serves an event at a moment in milliseconds, and writes the records.
 fn serve_event<G: LocalSigner, K: Sink>(
-    lines: &mut LineBuffer,
+    buffers: &mut Buffers,
     agents: &mut ServedAgent,
     moment: u64,
     event: &AgentEvent,
@@ -35,8 +36,8 @@ fn serve_event<G: LocalSigner, K: Sink>(
         (sink_state (K.contents sink.new) (K.writes sink.new) (K.empty_writes sink.new) (K.faults sink.new)) result }
     ensures no_read { result ≢ Some (Err RunError.ReadFault) }
 {
-    match agents.take(moment, event, signer) {
-        Ok(said) => match write_lines(lines, sink, &said) {
+    match agents.take(moment, event, signer, &mut buffers.said) {
+        Ok(()) => match write_lines(&mut buffers.lines, sink, &buffers.said) {
             Ok(()) => None,
             Err(failed) => Some(Err(write_failed(failed))),
         },
@@ -47,10 +48,10 @@ fn serve_event<G: LocalSigner, K: Sink>(
 /// Takes an event of an agent at its place, and writes its records.
 pub fn take_agent_event<G: LocalSigner, K: Sink>(
     alloc: Global,
-    lines: &mut LineBuffer,
+    buffers: &mut Buffers,
     agents: &mut ServedAgent,
     place: u64,
-    event: &RawEvent,
+    event: &RawEvent<'_>,
     signer: &mut G,
     sink: &mut K,
 ) -> Option<Result<Ended, RunError>>
@@ -64,7 +65,7 @@ pub fn take_agent_event<G: LocalSigner, K: Sink>(
     ensures no_read { result ≢ Some (Err RunError.ReadFault) }
 {
     match read_agent_event(alloc, event.kind(), event.fields()) {
-        Ok(read) => serve_event(lines, agents, event.moment(), &read, signer, sink),
+        Ok(read) => serve_event(buffers, agents, event.moment(), &read, signer, sink),
         Err(e) => Some(Err(event_error_at(place, e))),
     }
 }

@@ -140,8 +140,9 @@ fn step_event<G: LocalSigner, V: Verifier, K: Sink>(
     ensures no_read { result ≢ Some (Err RunError.ReadFault) }
 {
     let step = step_session(at, event, gate, signer, verifier);
-    let said = at.session.take_records();
-    match write_lines(&mut at.lines, sink, &said) {
+    let written = write_lines(&mut at.buffers.lines, sink, at.session.records());
+    at.session.clear_records();
+    match written {
         Ok(()) => stop_at(at.place, step),
         Err(failed) => Some(Err(write_failed(failed))),
     }
@@ -154,7 +155,7 @@ pub(crate) fn let_go<T: Drop>(_value: T) {}
 fn take_session_event<G: LocalSigner, V: Verifier, K: Sink>(
     alloc: Global,
     at: &mut Point,
-    event: &RawEvent,
+    event: &RawEvent<'_>,
     gate: &mut KnownHostsHandler,
     signer: &mut G,
     verifier: &V,
@@ -203,7 +204,7 @@ fn is_session_kind(kind: EventKind) -> bool
 fn take_event<G: LocalSigner, V: Verifier, K: Sink>(
     alloc: Global,
     at: &mut Point,
-    event: &RawEvent,
+    event: &RawEvent<'_>,
     gate: &mut KnownHostsHandler,
     signer: &mut G,
     verifier: &V,
@@ -229,7 +230,7 @@ fn take_event<G: LocalSigner, V: Verifier, K: Sink>(
     } else {
         take_agent_event(
             alloc,
-            &mut at.lines,
+            &mut at.buffers,
             &mut at.agents,
             at.place,
             event,
@@ -239,9 +240,10 @@ fn take_event<G: LocalSigner, V: Verifier, K: Sink>(
     }
 }
 
-/// Reads and takes one event.
+/// Reads one event into the buffer, and takes it.
 pub fn one_turn<S: Source, G: LocalSigner, V: Verifier, K: Sink>(
     alloc: Global,
+    buffer: &mut Vec<u8>,
     at: &mut Point,
     gate: &mut KnownHostsHandler,
     source: &mut S,
@@ -266,7 +268,7 @@ pub fn one_turn<S: Source, G: LocalSigner, V: Verifier, K: Sink>(
         (sink_state (K.contents sink.old) (K.writes sink.old) (K.empty_writes sink.old) (K.faults sink.old))
         (sink_state (K.contents sink.new) (K.writes sink.new) (K.empty_writes sink.new) (K.faults sink.new)) result }
 {
-    let event = match next_event(alloc, source, at.last) {
+    let event = match next_event(buffer, source, at.last) {
         Ok(Some(event)) => event,
         Ok(None) => return Some(Ok(Ended::ScriptEnd)),
         Err(e) => return Some(Err(next_error_at(at.place, e))),

@@ -3,13 +3,14 @@ use Rattle.std.proofs.Common.{◌≡◌, ℕ, false, List, [], Option, Some, Res
 use Rattle.sshc_key.specs.Signers.{SignCall}
 use Rattle.sshc_opening.specs.declared.ended.Ended.{Ended}
 use Rattle.sshc_toy.specs.ToyPair.{toy_accepts}
-use Rattle.sshc_run.specs.Configured.{IsDefault, RunSettings, run_settings_of}
+use Rattle.sshc_client.specs.Configured.{IsDefault}
+use Rattle.sshc_client.specs.declared.config.Config.{Config}
+use Rattle.sshc_run.specs.Configured.{RunSettings, run_settings_of}
 use Rattle.sshc_run.specs.KnownHosts.{Hosts}
 use Rattle.sshc_run.specs.Outcome.{streams, Ends}
 use Rattle.sshc_run.specs.RunTurn.{run_machine}
 use Rattle.sshc_run.specs.ScriptRun.{script_run}
 use Rattle.sshc_run.specs.Words.{default_run}
-use Rattle.sshc_run.specs.declared.config.Config.{Config}
 use Rattle.sshc_run.specs.declared.error.RunError.{RunError}
 use Rattle.sshc_run_words.specs.GenWords.{gen_events, gen_hosts, is_fault, RunGives}
 

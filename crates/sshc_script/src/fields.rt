@@ -14,7 +14,7 @@ ghost use Rattle.sshc_script.specs.Gives.{Gives, GivesAll};
 
 use crate::error::EventError;
 use crate::event_kind::EventKind;
-use crate::parts::{octets_of, text_of, ticket_of, token_field, u32_of};
+use crate::parts::{at_end, octets_of, text_of, ticket_of, token_field, u32_of};
 use sshc_event::Event;
 use sshc_wire::{Cursor, Octets, Text, Ticket};
 use std::alloc::Global;
@@ -59,38 +59,20 @@ fn read_fields(alloc: Global, kind: EventKind, fields: &[u8]) -> Result<Event, E
 {
     let c = &mut Cursor::new(fields);
     match kind {
-        EventKind::PeerKexinit => {
-            c.ensure_end()?;
-            Ok(Event::PeerKexinit)
-        }
+        EventKind::PeerKexinit => at_end(Event::PeerKexinit, c),
         EventKind::ExchangeDone => exchange::exchange_done(alloc, c),
         EventKind::Payload => payload(alloc, fields),
-        EventKind::TransportFailed => {
-            c.ensure_end()?;
-            Ok(Event::TransportFailed)
-        }
-        EventKind::RekeyLimit => {
-            c.ensure_end()?;
-            Ok(Event::RekeyLimit)
-        }
-        EventKind::KeepaliveTimer => {
-            c.ensure_end()?;
-            Ok(Event::KeepaliveTimer)
-        }
-        EventKind::InactivityTimer => {
-            c.ensure_end()?;
-            Ok(Event::InactivityTimer)
-        }
+        EventKind::TransportFailed => at_end(Event::TransportFailed, c),
+        EventKind::RekeyLimit => at_end(Event::RekeyLimit, c),
+        EventKind::KeepaliveTimer => at_end(Event::KeepaliveTimer, c),
+        EventKind::InactivityTimer => at_end(Event::InactivityTimer, c),
         EventKind::Authenticate => authentication::authenticate(alloc, c),
         EventKind::AuthInfoResponse => authentication::info_response(alloc, c),
         EventKind::AuthGssapiToken => authentication::gssapi_token(alloc, c),
         EventKind::AuthGssapiMic => authentication::gssapi_mic(alloc, c),
         EventKind::AuthGssapiExchangeComplete => authentication::gssapi_complete(alloc, c),
         EventKind::Signed => authentication::signed(alloc, c),
-        EventKind::SignFailed => {
-            c.ensure_end()?;
-            Ok(Event::SignFailed)
-        }
+        EventKind::SignFailed => at_end(Event::SignFailed, c),
         EventKind::ChannelOpenSession => requests::open_session(c),
         EventKind::ChannelOpenX11 => requests::open_x11(alloc, c),
         EventKind::ChannelOpenDirectTcpIp => requests::open_direct_tcpip(alloc, c),

@@ -9,8 +9,7 @@ ghost use Rattle.sshc_script.specs.Reading.{NextGives};
 
 use crate::error::{EventError, NextError, not_read, read_failed};
 use crate::event_kind::EventKind;
-use sshc_wire::{Cursor, Source, read_up_to};
-use std::alloc::Global;
+use sshc_wire::{Cursor, Source, read_into};
 use std::marker::Model;
 
 /// The fewest bytes of an event after its length: a moment and a kind.
@@ -21,24 +20,24 @@ pub const LONGEST_EVENT: usize = 262144;
 
 /// An event before its fields are read, which contracts see as its moment, its kind and the fields' bytes.
 #[derive(Debug, Drop)]
-pub struct RawEvent {
+pub struct RawEvent<'a> {
     moment: u64,
     kind: EventKind,
-    body: Vec<u8>,
+    body: &'a [u8],
 }
 
-impl Model for RawEvent {
+impl<'a> Model for RawEvent<'a> {
     ghost use Rattle.std.specs.Prelude.{◌≤◌, drop, length};
     ghost use Rattle.sshc_script.specs.Script.{Head};
 
     ghost Value = { Head };
 
-    ghost view = { λ e. (e.moment, (e.kind, drop 9 e.body.items)) };
+    ghost view = { λ e. (e.moment, (e.kind, drop 9 e.body.now)) };
 
-    ghost invariant = { λ e. (9 ≤ length e.body.items) × (length e.body.items ≤ 262144) };
+    ghost invariant = { λ e. (9 ≤ length e.body.now) × (length e.body.now ≤ 262144) };
 }
 
-impl RawEvent {
+impl<'a> RawEvent<'a> {
     /// Milliseconds.
     pub fn moment(&self) -> u64
         ensures { result ≡ self.now.0 }
@@ -53,7 +52,7 @@ impl RawEvent {
     }
 
     /// The bytes of the fields.
-    pub fn fields(&self) -> &[u8]
+    pub fn fields(&self) -> &'a [u8]
         ensures { result.now ≡ self.now.1.1 }
     {
         &self.body[9..]
@@ -104,22 +103,23 @@ fn moment_and_kind(last: u64, body: &[u8]) -> Result<(u64, EventKind), EventErro
 }
 
 /// The event of these bytes, which follow its length.
-fn raw_event(last: u64, body: Vec<u8>) -> Result<RawEvent, EventError>
-    requires low { 9 ≤ length body.items }
-    requires high { length body.items ≤ 262144 }
-    ensures head { GivesAll (λ e. e) result (head_at last body.items) }
-    ensures size { IfOk result (λ e. size_of e ≡ 4 + length body.items) }
+fn raw_event(last: u64, body: &[u8]) -> Result<RawEvent<'_>, EventError>
+    requires low { 9 ≤ length body.now }
+    requires high { length body.now ≤ 262144 }
+    ensures head { GivesAll (λ e. e) result (head_at last body.now) }
+    ensures size { IfOk result (λ e. size_of e ≡ 4 + length body.now) }
 {
-    let (moment, kind) = moment_and_kind(last, body.as_slice())?;
+    let (moment, kind) = moment_and_kind(last, body)?;
     Ok(RawEvent { moment, kind, body })
 }
 
-/// Returns the next event, or `None` at the script's end. The event's moment must not be below `last`.
-pub fn next_event<S: Source>(
-    alloc: Global,
+/// Returns the next event, or `None` at the script's end. The event's moment must not be below `last`. The event is read
+/// into the buffer, whose memory is kept: it grows only for an event that is longer than all before it.
+pub fn next_event<'a, S: Source>(
+    buffer: &'a mut Vec<u8>,
     source: &mut S,
     last: u64,
-) -> Result<Option<RawEvent>, NextError>
+) -> Result<Option<RawEvent<'a>>, NextError>
     ensures gives { NextGives last (S.left source.old) (S.left source.new) (S.reads source.old)
         (S.reads source.new) result }
     ensures later { S.faults source.old ≤ S.faults source.new }
@@ -129,24 +129,22 @@ pub fn next_event<S: Source>(
     ensures moving { IfOk result (λ taken. IfSome taken (λ _. S.empty_reads source.new ≡ S.empty_reads source.old)) }
     ensures last { S.empty_reads source.new ≤ S.empty_reads source.old + 1 }
 {
-    let head = match read_up_to(alloc, source, 4) {
-        Ok(head) => head,
-        Err(failed) => return Err(read_failed(failed)),
-    };
-    if head.is_empty() {
+    if let Err(failed) = read_into(buffer, source, 4) {
+        return Err(read_failed(failed));
+    }
+    if buffer.is_empty() {
         return Ok(None);
     }
-    let Some(length) = length_of(head.as_slice()) else {
+    let Some(length) = length_of(buffer.as_slice()) else {
         return Err(NextError::Bad);
     };
-    let body = match read_up_to(alloc, source, length) {
-        Ok(body) => body,
-        Err(failed) => return Err(read_failed(failed)),
-    };
-    if body.len() < length {
+    if let Err(failed) = read_into(buffer, source, length) {
+        return Err(read_failed(failed));
+    }
+    if buffer.len() < length {
         return Err(NextError::Bad);
     }
-    match raw_event(last, body) {
+    match raw_event(last, buffer.as_slice()) {
         Ok(event) => Ok(Some(event)),
         Err(e) => Err(not_read(e)),
     }

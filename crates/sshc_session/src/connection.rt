@@ -84,7 +84,24 @@ impl Connection {
         }
     }
 
-    /// Returns the records that were added since they were last taken.
+    /// The records that were added since they were last taken or cleared, in order.
+    pub fn records(&self) -> &Outbox
+        ensures { result.now.records ≡ self.now.records }
+    {
+        &self.outbox
+    }
+
+    /// Lets the records go, and keeps their memory for the next.
+    pub fn clear_records(&mut self)
+        ensures { self.new ≡ record self.old { records = [] } }
+    {
+        self.outbox.clear();
+        if self.life != Life::Runs {
+            self.outbox.mute();
+        }
+    }
+
+    /// Returns the records that were added since they were last taken or cleared.
     pub fn take_records(&mut self) -> Outbox
         ensures taken { result.records ≡ self.old.records }
         ensures rest { self.new ≡ record self.old { records = [] } }

@@ -29,7 +29,7 @@ fn agents_fields(kind: EventKind, size: usize) -> Option<bool> {
 }
 
 /// Whether the event's fields can be read: a session's by the grammar of scripts, an agent's by their size.
-fn has_fields(alloc: Global, event: &RawEvent) -> Result<bool, Stop> {
+fn has_fields(alloc: Global, event: &RawEvent<'_>) -> Result<bool, Stop> {
     if let Some(has_fields) = agents_fields(event.kind(), event.fields().len()) {
         return Ok(has_fields);
     }
@@ -41,7 +41,7 @@ fn has_fields(alloc: Global, event: &RawEvent) -> Result<bool, Stop> {
 }
 
 /// The event's name and fields.
-fn add_fields(line: &mut Line, asked: &mut Asked, event: &RawEvent) -> Result<(), Stop> {
+fn add_fields(line: &mut Line, asked: &mut Asked, event: &RawEvent<'_>) -> Result<(), Stop> {
     let Some(row) = row_of(event.kind()) else {
         line.word("PAYLOAD")?;
         return add_packet(line, asked, event.fields());
@@ -60,7 +60,7 @@ pub fn add_event(
     alloc: Global,
     line: &mut Line,
     asked: &mut Asked,
-    event: &RawEvent,
+    event: &RawEvent<'_>,
 ) -> Result<(), Stop> {
     if !has_fields(alloc, event)? {
         return Err(Stop::Unreadable);

@@ -12,7 +12,11 @@ use std::fs;
 use std::io::Read;
 
 /// The text that is printed for an event; `None` if its fields can't be read.
-fn shown_event(alloc: Global, asked: &mut Asked, event: &RawEvent) -> anyhow::Result<Option<Line>> {
+fn shown_event(
+    alloc: Global,
+    asked: &mut Asked,
+    event: &RawEvent<'_>,
+) -> anyhow::Result<Option<Line>> {
     let mut line = Line::new(alloc);
     match add_event(alloc, &mut line, asked, event) {
         Ok(()) => Ok(Some(line)),
@@ -27,7 +31,7 @@ fn show_event(
     asked: &mut Asked,
     number: u64,
     place: u64,
-    event: &RawEvent,
+    event: &RawEvent<'_>,
 ) -> anyhow::Result<bool> {
     match shown_event(rt.alloc(), asked, event)? {
         Some(shown) => {
@@ -43,12 +47,12 @@ fn show_event(
 }
 
 /// The next event; `None` if no event begins.
-fn event_from<S: Source>(
-    alloc: Global,
+fn event_from<'a, S: Source>(
+    buffer: &'a mut Vec<u8>,
     source: &mut S,
     last: u64,
-) -> anyhow::Result<Option<Option<RawEvent>>> {
-    match next_event(alloc, source, last) {
+) -> anyhow::Result<Option<Option<RawEvent<'a>>>> {
+    match next_event(buffer, source, last) {
         Ok(event) => Ok(Some(event)),
         Err(NextError::Bad) => Ok(None),
         Err(NextError::ReadFault) => bail!("a read failed"),
@@ -59,12 +63,13 @@ fn event_from<S: Source>(
 /// Shows a script up to its end, or to where no event begins, and returns whether each event could be shown.
 pub fn show_script<R: Read + Drop>(rt: &HostRuntime, reader: R) -> anyhow::Result<bool> {
     let mut source = StdSource::new(rt.alloc(), reader)?;
+    let mut buffer = Vec::new(rt.alloc());
     let mut asked = Asked::Other;
     let mut last = 0u64;
     let mut place = 0u64;
     let mut all = true;
     for number in 1..u64::MAX {
-        let Some(next) = event_from(rt.alloc(), &mut source, last)? else {
+        let Some(next) = event_from(&mut buffer, &mut source, last)? else {
             println!(rt; "event {number} at {place}: no event begins here")?;
             return Ok(false);
         };

@@ -6,7 +6,8 @@ use sshc_script::EventKind;
 use sshc_wire::Outbox;
 use std::alloc::Global;
 
-/// The records of an agent's event at a moment in milliseconds; `None` if its fields can't be read, or out of memory.
+/// Leaves in `out` the records of an agent's event at a moment in milliseconds. `false` if its fields can't be read, or
+/// out of memory.
 pub fn agent_records<G: LocalSigner>(
     alloc: Global,
     agent: &mut ServedAgent,
@@ -14,9 +15,10 @@ pub fn agent_records<G: LocalSigner>(
     kind: EventKind,
     fields: &[u8],
     signer: &mut G,
-) -> Option<Outbox> {
+    out: &mut Outbox,
+) -> bool {
     match read_agent_event(alloc, kind, fields) {
-        Ok(event) => agent.take(now, &event, signer).ok(),
-        Err(_) => None,
+        Ok(event) => agent.take(now, &event, signer, out).is_ok(),
+        Err(_) => false,
     }
 }

@@ -31,7 +31,11 @@ pub fn login_lines(
     Ok((sink, ended))
 }
 
-/// The first event of a script, if there is one: its moment, its kind and its fields' bytes.
-pub fn next_of<S: Source>(alloc: Global, source: &mut S) -> Result<Option<RawEvent>, NextError> {
-    next_event(alloc, source, 0)
+/// The next event of a script after the moment 0, if there is one, read into the buffer: its moment, its kind and its
+/// fields' bytes.
+pub fn next_of<'a, S: Source>(
+    buffer: &'a mut Vec<u8>,
+    source: &mut S,
+) -> Result<Option<RawEvent<'a>>, NextError> {
+    next_event(buffer, source, 0)
 }

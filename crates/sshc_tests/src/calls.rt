@@ -105,8 +105,9 @@ fn events_are_taken_and_read(rt: HostRuntime) -> Result<(), Fail> {
     let script = script_of(rt.alloc(), LOGIN.as_slice())?;
     let mut source = MemSource::new(script, Vec::new(rt.alloc()));
     let mut sizes = Vec::new(rt.alloc());
+    let mut buffer = Vec::new(rt.alloc());
     for _ in 0..6 {
-        if let Some(event) = next_event(rt.alloc(), &mut source, 0)? {
+        if let Some(event) = next_event(&mut buffer, &mut source, 0)? {
             sizes.push(event.size())?;
         }
     }
@@ -122,7 +123,7 @@ fn events_are_taken_and_read(rt: HostRuntime) -> Result<(), Fail> {
         Vec::from_slice(rt.alloc(), &KEXINIT[..4])?,
         Vec::new(rt.alloc()),
     );
-    assert!(rt; matches!(next_event(rt.alloc(), &mut short, 0), Err(NextError::Bad)));
+    assert!(rt; matches!(next_event(&mut buffer, &mut short, 0), Err(NextError::Bad)));
     Ok(())
 }
 

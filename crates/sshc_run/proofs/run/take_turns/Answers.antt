@@ -23,11 +23,11 @@ loop-turn-init g c =
       writes = refl;
     }
 
-pub one_turn-requires-clause-room : goal.one_turn-requires-clause-room
-one_turn-requires-clause-room g c = omega (arith, c.loop-turn.invariant.place)
+pub one_turn-answer-requires-clause-room : goal.one_turn-answer-requires-clause-room
+one_turn-answer-requires-clause-room g c = omega (arith, c.loop-turn.invariant.place)
 
-pub one_turn-requires-clause-ready : goal.one_turn-requires-clause-ready
-one_turn-requires-clause-ready g c = c.loop-turn.invariant.ready
+pub one_turn-answer-requires-clause-ready : goal.one_turn-answer-requires-clause-ready
+one_turn-answer-requires-clause-ready g c = c.loop-turn.invariant.ready
 
 pub loop-turn-preserved : goal.loop-turn-preserved
 loop-turn-preserved g c =
@@ -36,7 +36,7 @@ loop-turn-preserved g c =
       along = along_more (run (run_turn (hosts_of c.args.gate.now) (g.V.Verifier.accepts c.args.verifier.now))) (spot c.args.at.now.place c.args.at.now.last (kept c.args.at.now.session c.args.at.now.agents)) c.args.max_events _ _ _ _ _ _ c.loop-turn-test.true c.loop-turn.invariant.along gives;
       turns = omega (arith, c.loop-turn-test.true);
       ready = c.in_default.ensures.ready;
-      same = c.one_turn.ensures.same ∙ c.loop-turn.invariant.same;
+      same = c.one_turn-answer.ensures.same ∙ c.loop-turn.invariant.same;
       place = omega (arith, c.loop-turn.invariant.place, gives.4.within);
       moving = c.in_default.ensures.source.moving ∙ c.loop-turn.invariant.moving;
       moving_writes = c.in_default.ensures.sink.moving ∙ c.loop-turn.invariant.moving_writes;

@@ -3,4 +3,4 @@ use Rattle.sshc_agent_turns.proofs.ServedSteps.{input_event_made}
 use Rattle.sshc_agent_turns.proofs.served.ServedAgent.take_input.Goals as goal
 
 pub returns-clause-ok : goal.returns-clause-ok
-returns-clause-ok g c = rw (sym c.self.view_is) (input_event_made c.args.now c.args.conn c.args.input.now _ _ _ c.new-out.result.records _ c.new-out.ensures.empty c.in_ok-take_one.ensures.ok)
+returns-clause-ok g c = rw (sym c.self.view_is) (input_event_made c.args.now c.args.conn c.args.input.now _ _ _ c.args.out.now.records _ c.requires.empty c.in_ok-take_one.ensures.ok)
