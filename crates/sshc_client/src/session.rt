@@ -62,8 +62,8 @@ impl Session {
         self.connection.records()
     }
 
-    /// Lets the records go, and keeps their memory for the next: with `records` the way to pass them on without taking
-    /// memory for each event.
+    /// Lets the records go: with `records` the way to pass them on without taking memory for each event. Their memory is
+    /// used again for the next records, which no clause says.
     pub fn clear_records(&mut self)
         ensures { self.new ≡ record self.old { records = [] } }
     {

@@ -15,6 +15,12 @@ const DATA_HEAD: usize = 9;
 /// The same for an extended data packet, which has a code too.
 const EXTENDED_HEAD: usize = 13;
 
+/// How many bytes an end or a close has: its number and the recipient.
+const ADDRESSED: usize = 5;
+
+/// How many bytes an adjustment of a window has: those, and the amount.
+const ADJUSTED: usize = 9;
+
 /// A piece of a channel's bytes, each of which is written once.
 fn piece_record(
     alloc: Global,
@@ -63,7 +69,7 @@ fn extended_record(
 pub(crate) fn eof_record(alloc: Global, recipient: u32) -> Result<Record, NoMemory>
     ensures { IfOk result (λ r. r ≡ Record.Payload (packet_text recipient Eof)) }
 {
-    let mut packet = Vec::new(alloc);
+    let mut packet = Vec::with_capacity(alloc, ADDRESSED)?;
     packet.push(msg::CHANNEL_EOF)?;
     put_u32(&mut packet, recipient)?;
     Ok(Record::Payload(Octets::from_vec(packet)?))
@@ -73,7 +79,7 @@ pub(crate) fn eof_record(alloc: Global, recipient: u32) -> Result<Record, NoMemo
 pub(crate) fn close_record(alloc: Global, recipient: u32) -> Result<Record, NoMemory>
     ensures { IfOk result (λ r. r ≡ Record.Payload (packet_text recipient Close)) }
 {
-    let mut packet = Vec::new(alloc);
+    let mut packet = Vec::with_capacity(alloc, ADDRESSED)?;
     packet.push(msg::CHANNEL_CLOSE)?;
     put_u32(&mut packet, recipient)?;
     Ok(Record::Payload(Octets::from_vec(packet)?))
@@ -83,7 +89,7 @@ pub(crate) fn close_record(alloc: Global, recipient: u32) -> Result<Record, NoMe
 pub(crate) fn adjust_record(alloc: Global, recipient: u32, amount: u32) -> Result<Record, NoMemory>
     ensures { IfOk result (λ r. r ≡ Record.Payload (packet_text recipient (Adjust amount))) }
 {
-    let mut packet = Vec::new(alloc);
+    let mut packet = Vec::with_capacity(alloc, ADJUSTED)?;
     packet.push(msg::CHANNEL_WINDOW_ADJUST)?;
     put_u32(&mut packet, recipient)?;
     put_u32(&mut packet, amount)?;

@@ -114,7 +114,7 @@ fn raw_event(last: u64, body: &[u8]) -> Result<RawEvent<'_>, EventError>
 }
 
 /// Returns the next event, or `None` at the script's end. The event's moment must not be below `last`. The event is read
-/// into the buffer, whose memory is kept: it grows only for an event that is longer than all before it.
+/// into the buffer, whose memory is used again if it is large enough; no clause says so.
 pub fn next_event<'a, S: Source>(
     buffer: &'a mut Vec<u8>,
     source: &mut S,

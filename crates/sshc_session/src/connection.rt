@@ -91,7 +91,7 @@ impl Connection {
         &self.outbox
     }
 
-    /// Lets the records go, and keeps their memory for the next.
+    /// Lets the records go. Their memory is used again for the next records, which no clause says.
     pub fn clear_records(&mut self)
         ensures { self.new ≡ record self.old { records = [] } }
     {

@@ -84,7 +84,7 @@ fn read_full<S: Source>(source: &mut S, buf: &mut [u8]) -> Result<usize, Failed>
 }
 
 /// Replaces the bytes by the next bytes of the source: as many as are asked for, or all before its end. Their memory is
-/// kept, and grows only if it is too small. After an error they may be any bytes.
+/// used again if it is large enough, which no clause says. After an error they may be any bytes.
 pub fn read_into<S: Source>(bytes: &mut Vec<u8>, source: &mut S, count: usize) -> Result<(), Failed>
     requires { 0 < count }
     ensures bytes { OnOk result (S.left source.old ≡ prepend bytes.new.items (S.left source.new)) }
