@@ -1,7 +1,8 @@
-//! Worked packets: writes a packet of each kind and prints it in hexadecimal, and reads packets and prints their
-//! fields.
+//! Worked packets: writes a packet of each kind and prints it in hexadecimal, with the memory that it has where that
+//! isn't its size, and reads packets and prints their fields.
 #![tactic(auto)]
 
+mod authenticating;
 mod reading;
 mod writing;
 
@@ -10,6 +11,9 @@ fn main(rt: HostRuntime) -> anyhow::Result<()> {
     writing::opens(&rt)?;
     writing::channel_requests(&rt)?;
     writing::answers(&rt)?;
+    authenticating::requests(&rt)?;
+    authenticating::requests_by_key(&rt)?;
+    authenticating::others(&rt)?;
     reading::channel_packets(&rt)?;
     reading::channel_requests(&rt)?;
     reading::opens(&rt)?;

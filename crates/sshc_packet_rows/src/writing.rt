@@ -8,9 +8,14 @@ use sshc_packets::{
 };
 use sshc_wire::{ChannelOpenFailure, Octets, Pty, Sig};
 
-fn print_packet(rt: &HostRuntime, name: &str, packet: &Octets) -> anyhow::Result<()> {
-    let digits = hex::encode(rt.alloc(), packet.as_slice())?;
+/// Prints the packet, and how much memory it has if that isn't its size.
+pub fn print_packet(rt: &HostRuntime, name: &str, packet: Octets) -> anyhow::Result<()> {
+    let bytes = packet.into_vec();
+    let digits = hex::encode(rt.alloc(), &bytes)?;
     println!(rt; "{name} {digits}")?;
+    if bytes.capacity() != bytes.len() {
+        println!(rt; "{name} has memory for {} bytes", bytes.capacity())?;
+    }
     Ok(())
 }
 
@@ -23,7 +28,7 @@ fn global(
     print_packet(
         rt,
         name,
-        &global_request_packet(rt.alloc(), want_reply, request)?,
+        global_request_packet(rt.alloc(), want_reply, request)?,
     )
 }
 
@@ -68,7 +73,7 @@ fn asked_open(rt: &HostRuntime, name: &str, asked: &ChannelOpen<'_>) -> anyhow::
         window_size: 2097152,
         max_packet_size: 32768,
     };
-    print_packet(rt, name, &channel_open_packet(rt.alloc(), asked, sender)?)
+    print_packet(rt, name, channel_open_packet(rt.alloc(), asked, sender)?)
 }
 
 pub fn opens(rt: &HostRuntime) -> anyhow::Result<()> {
@@ -93,7 +98,7 @@ pub fn opens(rt: &HostRuntime) -> anyhow::Result<()> {
 }
 
 fn asked(rt: &HostRuntime, name: &str, request: &ChannelRequest<'_>) -> anyhow::Result<()> {
-    print_packet(rt, name, &channel_request_packet(rt.alloc(), 5, request)?)
+    print_packet(rt, name, channel_request_packet(rt.alloc(), 5, request)?)
 }
 
 fn terminal_requests(rt: &HostRuntime) -> anyhow::Result<()> {
@@ -150,8 +155,8 @@ pub fn channel_requests(rt: &HostRuntime) -> anyhow::Result<()> {
 
 pub fn answers(rt: &HostRuntime) -> anyhow::Result<()> {
     let alloc = rt.alloc();
-    print_packet(rt, "request-success", &request_success_packet(alloc)?)?;
-    print_packet(rt, "request-failure", &request_failure_packet(alloc)?)?;
+    print_packet(rt, "request-success", request_success_packet(alloc)?)?;
+    print_packet(rt, "request-failure", request_failure_packet(alloc)?)?;
     let confirmation = Confirmation {
         recipient: 7,
         sender: Sender {
@@ -163,10 +168,10 @@ pub fn answers(rt: &HostRuntime) -> anyhow::Result<()> {
     print_packet(
         rt,
         "confirmation",
-        &confirmation_packet(alloc, confirmation)?,
+        confirmation_packet(alloc, confirmation)?,
     )?;
     let reason = ChannelOpenFailure::UnknownChannelType;
-    print_packet(rt, "open-failure", &open_failure_packet(alloc, 7, reason)?)?;
-    print_packet(rt, "channel-success", &channel_success_packet(alloc, 7)?)?;
-    print_packet(rt, "channel-failure", &channel_failure_packet(alloc, 7)?)
+    print_packet(rt, "open-failure", open_failure_packet(alloc, 7, reason)?)?;
+    print_packet(rt, "channel-success", channel_success_packet(alloc, 7)?)?;
+    print_packet(rt, "channel-failure", channel_failure_packet(alloc, 7)?)
 }

@@ -4,7 +4,7 @@ ghost use Rattle.std.specs.Prelude.{◌≡◌, ◌++◌, [], IfOk, OnOk};
 ghost use Rattle.sshc_wire.specs.Wire.{string_text, u32_text};
 ghost use Rattle.sshc_packets.specs.ChannelOpens.{channel_open, channel_open_text, confirmation_text, open_failure_text, open_fields, open_type, sender_text};
 
-use crate::putting::{put_address, put_addressed, put_string, put_words};
+use crate::putting::{ADDRESSED, address_size, put_address, put_addressed, put_string, put_words};
 use sshc_wire::{ChannelOpenFailure, NoMemory, Octets, msg, put_u32};
 use std::alloc::Global;
 
@@ -58,7 +58,35 @@ impl<'a> ChannelOpen<'a> {
             ChannelOpen::DirectStreamLocal { .. } => "direct-streamlocal@openssh.com",
         }
     }
+
+    /// How many bytes the type's fields take.
+    fn size(&self) -> usize {
+        match self {
+            ChannelOpen::Session => 0,
+            ChannelOpen::X11 {
+                originator_address,
+                ..
+            } => address_size(originator_address),
+            ChannelOpen::DirectTcpIp {
+                host_to_connect,
+                originator_address,
+                ..
+            } => address_size(host_to_connect).saturating_add(address_size(originator_address)),
+            ChannelOpen::DirectStreamLocal { socket_path } => address_size(
+                socket_path,
+            ).saturating_add(4),
+        }
+    }
 }
+
+/// How many bytes a sender's side of a channel takes.
+const SENDER: usize = 12;
+
+/// How many bytes an open takes before its type's fields, without the type: its number, a length and the sender's side.
+const OPEN: usize = 17;
+
+/// How many bytes a refused open takes without its description: its head, the reason, two lengths and the language.
+const OPEN_FAILURE: usize = 19;
 
 /// A path, followed by an empty string and the number 0, which are reserved.
 #[tactic(auto, using(std::proofs::lemmas::List::append_assoc))]
@@ -112,7 +140,8 @@ pub fn channel_open_packet(
 ) -> Result<Octets, NoMemory>
     ensures { IfOk result (λ packet. packet ≡ channel_open_text (channel_open asked.now) sender) }
 {
-    let mut packet = Vec::new(alloc);
+    let size = asked.type_name().len().saturating_add(asked.size());
+    let mut packet = Vec::with_capacity(alloc, size.saturating_add(OPEN))?;
     packet.push(msg::CHANNEL_OPEN)?;
     put_words(&mut packet, asked.type_name())?;
     put_sender(&mut packet, sender)?;
@@ -125,7 +154,7 @@ pub fn channel_open_packet(
 pub fn confirmation_packet(alloc: Global, confirmation: Confirmation) -> Result<Octets, NoMemory>
     ensures { IfOk result (λ packet. packet ≡ confirmation_text confirmation) }
 {
-    let mut packet = Vec::new(alloc);
+    let mut packet = Vec::with_capacity(alloc, ADDRESSED + SENDER)?;
     put_addressed(
         &mut packet,
         msg::CHANNEL_OPEN_CONFIRMATION,
@@ -144,10 +173,12 @@ pub fn open_failure_packet(
 ) -> Result<Octets, NoMemory>
     ensures { IfOk result (λ packet. packet ≡ open_failure_text recipient reason) }
 {
-    let mut packet = Vec::new(alloc);
+    let description = reason.description();
+    let size = description.len().saturating_add(OPEN_FAILURE);
+    let mut packet = Vec::with_capacity(alloc, size)?;
     put_addressed(&mut packet, msg::CHANNEL_OPEN_FAILURE, recipient)?;
     put_u32(&mut packet, reason.code())?;
-    put_words(&mut packet, reason.description())?;
+    put_words(&mut packet, description)?;
     put_words(&mut packet, "en")?;
     Octets::from_vec(packet)
 }

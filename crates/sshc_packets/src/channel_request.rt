@@ -6,7 +6,7 @@ ghost use Rattle.sshc_wire.specs.Wire.{bool_text, string_text, u32_text};
 ghost use Rattle.sshc_packets.specs.ChannelRequests.{channel_request, channel_request_text, entry_text, modes_text, request_fields, request_name, size_text, wants_reply};
 ghost use Rattle.sshc_packets.specs.Messages.{channel_failure_text, channel_success_text};
 
-use crate::putting::{put_addressed, put_string, put_words};
+use crate::putting::{ADDRESSED, put_addressed, put_string, put_words, string_size};
 use sshc_wire::{NoMemory, Octets, Pty, Sig, msg, put_bool, put_u32};
 use std::alloc::Global;
 
@@ -105,6 +105,57 @@ impl<'a> ChannelRequest<'a> {
             ChannelRequest::AgentForward { want_reply } => *want_reply,
         }
     }
+
+    /// How many bytes the fields take.
+    fn size(&self) -> usize {
+        match self {
+            ChannelRequest::PtyReq { term, modes, .. } => pty_size(term, modes),
+            ChannelRequest::WindowChange { .. } => TERMINAL_SIZE,
+            ChannelRequest::X11 {
+                protocol,
+                cookie,
+                ..
+            } => both_sizes(protocol, cookie).saturating_add(X11),
+            ChannelRequest::Env { name, value, .. } => both_sizes(name, value),
+            ChannelRequest::Shell { .. } => 0,
+            ChannelRequest::Exec { command, .. } => string_size(command.len()),
+            ChannelRequest::Signal { signal } => string_size(signal.name().len()),
+            ChannelRequest::Subsystem { name, .. } => string_size(name.len()),
+            ChannelRequest::AgentForward { .. } => 0,
+        }
+    }
+}
+
+/// How many bytes a request takes before its fields, without its name: its head, a length and the flag.
+const REQUEST: usize = 10;
+
+/// How many bytes a terminal's size takes.
+const TERMINAL_SIZE: usize = 16;
+
+/// How many bytes X11 forwarding takes beside its two strings: the flag and the screen.
+const X11: usize = 5;
+
+/// How many bytes a mode takes: its number and its value.
+const MODE: usize = 5;
+
+fn both_sizes(one: &str, other: &str) -> usize {
+    string_size(one.len()).saturating_add(string_size(other.len()))
+}
+
+/// How many bytes the modes and their end take, without those of number 0.
+fn modes_size(modes: &[(Pty, u32)]) -> usize {
+    let mut size = 1usize;
+    for entry in modes {
+        if entry.0.0 != 0 {
+            size = size.saturating_add(MODE);
+        }
+    }
+    size
+}
+
+fn pty_size(term: &str, modes: &[(Pty, u32)]) -> usize {
+    let text = string_size(modes_size(modes)).saturating_add(TERMINAL_SIZE);
+    string_size(term.len()).saturating_add(text)
 }
 
 #[tactic(auto, using(std::proofs::lemmas::List::append_assoc))]
@@ -146,7 +197,7 @@ fn put_each_mode(out: &mut Vec<u8>, modes: &[(Pty, u32)]) -> Result<(), NoMemory
 fn put_modes(out: &mut Vec<u8>, modes: &[(Pty, u32)]) -> Result<(), NoMemory>
     ensures { OnOk result (out.new.items ≡ out.old.items ++ string_text (modes_text modes.now)) }
 {
-    let mut text = Vec::new(*out.allocator());
+    let mut text = Vec::with_capacity(*out.allocator(), modes_size(modes))?;
     put_each_mode(&mut text, modes)?;
     text.push(Pty::TTY_OP_END.0)?;
     put_string(out, &text)
@@ -231,7 +282,8 @@ pub fn channel_request_packet(
 ) -> Result<Octets, NoMemory>
     ensures { IfOk result (λ packet. packet ≡ channel_request_text recipient (channel_request request.now)) }
 {
-    let mut packet = Vec::new(alloc);
+    let size = request.name().len().saturating_add(request.size());
+    let mut packet = Vec::with_capacity(alloc, size.saturating_add(REQUEST))?;
     put_addressed(&mut packet, msg::CHANNEL_REQUEST, recipient)?;
     put_words(&mut packet, request.name())?;
     put_bool(&mut packet, request.wants_reply())?;
@@ -243,7 +295,7 @@ pub fn channel_request_packet(
 pub fn channel_success_packet(alloc: Global, recipient: u32) -> Result<Octets, NoMemory>
     ensures { IfOk result (λ packet. packet ≡ channel_success_text recipient) }
 {
-    let mut packet = Vec::new(alloc);
+    let mut packet = Vec::with_capacity(alloc, ADDRESSED)?;
     put_addressed(&mut packet, msg::CHANNEL_SUCCESS, recipient)?;
     Octets::from_vec(packet)
 }
@@ -252,7 +304,7 @@ pub fn channel_success_packet(alloc: Global, recipient: u32) -> Result<Octets, N
 pub fn channel_failure_packet(alloc: Global, recipient: u32) -> Result<Octets, NoMemory>
     ensures { IfOk result (λ packet. packet ≡ channel_failure_text recipient) }
 {
-    let mut packet = Vec::new(alloc);
+    let mut packet = Vec::with_capacity(alloc, ADDRESSED)?;
     put_addressed(&mut packet, msg::CHANNEL_FAILURE, recipient)?;
     Octets::from_vec(packet)
 }

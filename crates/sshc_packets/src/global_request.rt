@@ -5,7 +5,7 @@ ghost use Rattle.std.specs.List.{flat_map};
 ghost use Rattle.sshc_packets.specs.GlobalRequests.{blob_text, global_fields, global_name, global_request, global_request_text};
 ghost use Rattle.sshc_packets.specs.Messages.{request_failure_text, request_success_text};
 
-use crate::putting::{put_address, put_string, put_words};
+use crate::putting::{address_size, put_address, put_string, put_words, string_size};
 use sshc_key::{PublicKey, PublicKeyBase64};
 use sshc_wire::{NoMemory, Octets, msg, put_bool};
 use std::alloc::Global;
@@ -46,10 +46,29 @@ impl<'a> GlobalRequest<'a> {
             GlobalRequest::Own { name, .. } => name,
         }
     }
+
+    /// How many bytes the fields take, without the keys of a proof: how long they are shows when they are encoded.
+    fn size(&self) -> usize {
+        match self {
+            GlobalRequest::TcpIpForward { address, .. } => address_size(address),
+            GlobalRequest::CancelTcpIpForward { address, .. } => address_size(address),
+            GlobalRequest::StreamLocalForward { socket_path } => string_size(socket_path.len()),
+            GlobalRequest::CancelStreamLocalForward { socket_path } => string_size(
+                socket_path.len(),
+            ),
+            GlobalRequest::Keepalive => 0,
+            GlobalRequest::NoMoreSessions => 0,
+            GlobalRequest::HostKeysProve { .. } => 0,
+            GlobalRequest::Own { body, .. } => body.len(),
+        }
+    }
 }
 
+/// How many bytes a request takes before its fields, without its name: its number, a length and the flag.
+const REQUEST: usize = 6;
+
 /// A string of the key's blob.
-pub(crate) fn put_blob(out: &mut Vec<u8>, key: &PublicKey) -> Result<(), NoMemory>
+fn put_blob(out: &mut Vec<u8>, key: &PublicKey) -> Result<(), NoMemory>
     ensures { OnOk result (out.new.items ≡ out.old.items ++ blob_text key.now) }
 {
     let blob = key.public_key_bytes()?;
@@ -93,7 +112,8 @@ pub fn global_request_packet(
 ) -> Result<Octets, NoMemory>
     ensures { IfOk result (λ packet. packet ≡ global_request_text want_reply (global_request request.now)) }
 {
-    let mut packet = Vec::new(alloc);
+    let size = request.name().len().saturating_add(request.size());
+    let mut packet = Vec::with_capacity(alloc, size.saturating_add(REQUEST))?;
     packet.push(msg::GLOBAL_REQUEST)?;
     put_words(&mut packet, request.name())?;
     put_bool(&mut packet, want_reply)?;
@@ -105,7 +125,7 @@ pub fn global_request_packet(
 pub fn request_success_packet(alloc: Global) -> Result<Octets, NoMemory>
     ensures { IfOk result (λ packet. packet ≡ request_success_text) }
 {
-    let mut packet = Vec::new(alloc);
+    let mut packet = Vec::with_capacity(alloc, 1)?;
     packet.push(msg::REQUEST_SUCCESS)?;
     Octets::from_vec(packet)
 }
@@ -114,7 +134,7 @@ pub fn request_success_packet(alloc: Global) -> Result<Octets, NoMemory>
 pub fn request_failure_packet(alloc: Global) -> Result<Octets, NoMemory>
     ensures { IfOk result (λ packet. packet ≡ request_failure_text) }
 {
-    let mut packet = Vec::new(alloc);
+    let mut packet = Vec::with_capacity(alloc, 1)?;
     packet.push(msg::REQUEST_FAILURE)?;
     Octets::from_vec(packet)
 }

@@ -1,24 +1,41 @@
 //! Judges the proof of host keys (OpenSSH's PROTOCOL, section 2.5).
 
-ghost use Rattle.std.specs.Prelude.{◌≡◌, Some, None, IfOk, Ok};
+ghost use Rattle.std.specs.Prelude.{◌≡◌, ◌++◌, Some, None, IfOk, OnOk, Ok, codes};
+ghost use Rattle.sshc_wire.specs.Wire.{string_text};
 ghost use Rattle.sshc_key.specs.Algorithms.{whole_signature};
 ghost use Rattle.sshc_packets.specs.HostKeyProof.{JudgedIsProof, proof_bytes, proof_judged, signature_judged};
 
-use crate::global_request::put_blob;
-use crate::putting::{put_string, put_words};
-use sshc_key::{Error, PublicKey, Signature, Verifier, read_signature};
+use crate::putting::{put_string, put_words, string_size};
+use sshc_key::{Error, PublicKey, PublicKeyBase64, Signature, Verifier, read_signature};
 use sshc_wire::{Cursor, HostKeysFault, NoMemory};
 use std::alloc::Global;
 
+/// How many bytes the request's name takes before the bytes that are signed.
+const REQUEST_NAME: usize = 33;
+
+/// The request's name, the session id and the key's blob, each a string.
+#[tactic(auto, using(std::proofs::lemmas::List::append_assoc))]
+fn put_proof(out: &mut Vec<u8>, session_id: &[u8], blob: &[u8]) -> Result<(), NoMemory>
+    ensures { OnOk result
+        (out.new.items
+        ≡ out.old.items ++ string_text (codes "hostkeys-prove-00@openssh.com") ++ string_text session_id.now
+        ++ string_text blob.now) }
+{
+    put_words(out, "hostkeys-prove-00@openssh.com")?;
+    put_string(out, session_id)?;
+    put_string(out, blob)?;
+    Ok(())
+}
+
 /// The bytes that a host key signs in its proof.
-#[tactic(auto, using(std::proofs::lemmas::List::append_assoc), unfolding(crate::specs::HostKeyProof::proof_bytes))]
+#[tactic(auto, unfolding(crate::specs::HostKeyProof::proof_bytes))]
 fn proof_bytes(alloc: Global, session_id: &[u8], key: &PublicKey) -> Result<Vec<u8>, NoMemory>
     ensures { IfOk result (λ v. v.items ≡ proof_bytes session_id.now key.now.0) }
 {
-    let mut bytes = Vec::new(alloc);
-    put_words(&mut bytes, "hostkeys-prove-00@openssh.com")?;
-    put_string(&mut bytes, session_id)?;
-    put_blob(&mut bytes, key)?;
+    let blob = key.public_key_bytes()?;
+    let size = string_size(session_id.len()).saturating_add(string_size(blob.len()));
+    let mut bytes = Vec::with_capacity(alloc, size.saturating_add(REQUEST_NAME))?;
+    put_proof(&mut bytes, session_id, &blob)?;
     Ok(bytes)
 }
 

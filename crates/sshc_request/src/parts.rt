@@ -11,6 +11,44 @@ use sshc_key::{Algorithm, Certificate, EcdsaCurve, HashAlg, KeyData, PublicKey, 
 use sshc_wire::{List, NoMemory, Octets, Text, msg, put_bytes, put_text, put_u32};
 use std::alloc::Global;
 
+/// How many bytes a request has before its method beside the user's own: a number, two lengths and the service.
+const HEAD: usize = 23;
+
+/// How many bytes a request by key has after the service beside the algorithm's name and the key: the method's name, a
+/// flag and three lengths.
+const BY_KEY: usize = 22;
+
+/// How many bytes the length of a string has, or the number of strings.
+const LENGTH: usize = 4;
+
+/// How many bytes a string of this many bytes takes.
+pub(crate) fn string_size(length: usize) -> usize {
+    length.saturating_add(LENGTH)
+}
+
+/// How many bytes user and service take.
+pub(crate) fn head_size(user: &str) -> usize {
+    user.len().saturating_add(HEAD)
+}
+
+/// How many bytes the strings take with their number.
+pub(crate) fn octets_size(strings: &List<Octets>) -> usize {
+    let mut size = LENGTH;
+    for one in strings.as_slice() {
+        size = size.saturating_add(string_size(one.as_slice().len()));
+    }
+    size
+}
+
+/// How many bytes the texts take with their number.
+pub(crate) fn texts_size(texts: &List<Text>) -> usize {
+    let mut size = LENGTH;
+    for one in texts.as_slice() {
+        size = size.saturating_add(string_size(one.as_str().len()));
+    }
+    size
+}
+
 /// Writes user and service.
 #[tactic(auto, using(std::proofs::lemmas::List::append_assoc))]
 pub fn put_head(out: &mut Vec<u8>, user: &str) -> Result<(), NoMemory>
@@ -116,6 +154,14 @@ fn name_of(alloc: Global, algorithm: Algorithm) -> Result<Text, NoMemory>
 pub struct KeyPart {
     pub algorithm: Text,
     pub blob: Octets,
+}
+
+impl KeyPart {
+    /// How many bytes a request by this key takes after the service, without a signature.
+    pub(crate) fn size(&self) -> usize {
+        let names = self.algorithm.as_str().len().saturating_add(BY_KEY);
+        names.saturating_add(self.blob.as_slice().len())
+    }
 }
 
 /// The name of the algorithm by which a key signs; for RSA it depends on the hash.

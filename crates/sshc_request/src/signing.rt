@@ -1,15 +1,21 @@
 //! The bytes that are signed (RFC 4252, section 7; RFC 4462, section 3.5).
 
-ghost use Rattle.std.specs.Prelude.{◌≡◌, ◌<◌, ◌^◌, length, Option, IfOk};
+ghost use Rattle.std.specs.Prelude.{◌≡◌, ◌<◌, ◌^◌, length, Option, ◌++◌, codes, IfOk, OnOk};
+ghost use Rattle.sshc_wire.specs.Wire.{string_text};
 ghost use Rattle.sshc_key.specs.KeyGrammar.{Key};
 ghost use Rattle.sshc_wire.specs.declared.hash_alg.HashAlg.{HashAlg as Hash};
-ghost use Rattle.sshc_request.specs.RequestTexts.{mic, signed, signed_by, signed_request};
+ghost use Rattle.sshc_request.specs.RequestTexts.{mic, request_head, signed, signed_by, signed_request};
 ghost use Rattle.sshc_request.specs.KeyParts.{IsKeyPart};
 
-use crate::parts::{KeyPart, certificate_part, key_part, put_head, put_key};
+use crate::parts::{
+    KeyPart, certificate_part, head_size, key_part, put_head, put_key, string_size,
+};
 use sshc_key::{HashAlg, PublicKeyOrCertificate};
 use sshc_wire::{NoMemory, Octets, put_bytes, put_text};
 use std::alloc::Global;
+
+/// How many bytes the method's name takes at the end of the bytes of which a MIC is made.
+const MIC_METHOD: usize = 19;
 
 /// The bytes to sign for a key in a request, which begin with the session id as a string.
 #[tactic(auto, using(std::proofs::lemmas::List::append_assoc), unfolding(crate::specs::RequestTexts::signed, crate::specs::RequestTexts::unsigned_request))]
@@ -25,7 +31,9 @@ pub fn part_to_sign(
         (λ v. (key : Key) (hash : Option Hash) → IsKeyPart part.now key hash
         → v.items ≡ signed session_id.now user.now key hash) }
 {
-    let mut bytes = Vec::new(alloc);
+    let request = head_size(user).saturating_add(part.size());
+    let size = string_size(session_id.len()).saturating_add(request);
+    let mut bytes = Vec::with_capacity(alloc, size)?;
     put_bytes(&mut bytes, session_id)?;
     put_head(&mut bytes, user)?;
     put_key(&mut bytes, 1, part)?;
@@ -46,7 +54,9 @@ pub fn signed_packet(
         (λ packet. (key : Key) (hash : Option Hash) → IsKeyPart part.now key hash
         → packet ≡ signed_request user.now key hash signature.now) }
 {
-    let mut packet = Vec::new(alloc);
+    let request = head_size(user).saturating_add(part.size());
+    let size = request.saturating_add(string_size(signature.len()));
+    let mut packet = Vec::with_capacity(alloc, size)?;
     put_head(&mut packet, user)?;
     put_key(&mut packet, 1, part)?;
     put_bytes(&mut packet, signature)?;
@@ -77,16 +87,31 @@ pub fn to_sign(
     }
 }
 
+#[tactic(auto, using(std::proofs::lemmas::List::append_assoc))]
+fn put_mic_data(out: &mut Vec<u8>, session_id: &[u8], user: &str) -> Result<(), NoMemory>
+    requires id { length session_id.now < 2 ^ 32 }
+    requires user { length user.now < 2 ^ 32 }
+    ensures { OnOk result
+        (out.new.items
+        ≡ out.old.items ++ string_text session_id.now ++ request_head user.now
+        ++ string_text (codes "gssapi-with-mic")) }
+{
+    put_bytes(out, session_id)?;
+    put_head(out, user)?;
+    put_text(out, "gssapi-with-mic")?;
+    Ok(())
+}
+
 /// The bytes of which a MIC is made.
-#[tactic(auto, using(std::proofs::lemmas::List::append_assoc), unfolding(crate::specs::RequestTexts::mic))]
+#[tactic(auto, unfolding(crate::specs::RequestTexts::mic))]
 pub fn mic_data(alloc: Global, session_id: &[u8], user: &str) -> Result<Vec<u8>, NoMemory>
     requires id { length session_id.now < 2 ^ 32 }
     requires user { length user.now < 2 ^ 32 }
     ensures { IfOk result (λ v. v.items ≡ mic session_id.now user.now) }
 {
-    let mut bytes = Vec::new(alloc);
-    put_bytes(&mut bytes, session_id)?;
-    put_head(&mut bytes, user)?;
-    put_text(&mut bytes, "gssapi-with-mic")?;
+    let request = head_size(user).saturating_add(MIC_METHOD);
+    let size = string_size(session_id.len()).saturating_add(request);
+    let mut bytes = Vec::with_capacity(alloc, size)?;
+    put_mic_data(&mut bytes, session_id, user)?;
     Ok(bytes)
 }

@@ -2,6 +2,7 @@
 
 ghost use Rattle.std.specs.Prelude.{◌≡◌, [], ◌∷◌, true};
 ghost use Rattle.sshc_moves.specs.Moves.{Asks, Does, Opens, Resolves};
+ghost use Rattle.sshc_moves.specs.Messages.{CancelForward, Forward};
 ghost use Rattle.sshc_moves.specs.SessionState.{is_live};
 ghost use Rattle.sshc_moves.specs.SessionTable.Users.{asked_row, asked_ticket, extension_moves, forward_moves, global_moves, open_moves, opens, prove_moves, reply_moves, user_moves, user_row};
 ghost use Rattle.sshc_opening.specs.OpeningTable.User.{is_seen, sig_algs_answer};
@@ -197,6 +198,46 @@ fn open_socket(session: &mut Connection, path: &Text, ticket: Ticket) -> Result<
     )
 }
 
+/// A forward of a port of the server's.
+fn forward(
+    session: &mut Connection,
+    ticket: Ticket,
+    address: &Text,
+    port: u32,
+) -> Result<(), NoMemory>
+    ensures { Does (Asks (Forward ticket address.now port) ∷ []) session.old session.new result }
+{
+    let address = address.as_str();
+    ask(
+        session,
+        &Ask::Forward {
+            ticket,
+            address,
+            port,
+        },
+    )
+}
+
+/// The end of such a forward.
+fn cancel_forward(
+    session: &mut Connection,
+    ticket: Ticket,
+    address: &Text,
+    port: u32,
+) -> Result<(), NoMemory>
+    ensures { Does (Asks (CancelForward ticket address.now port) ∷ []) session.old session.new result }
+{
+    let address = address.as_str();
+    ask(
+        session,
+        &Ask::CancelForward {
+            ticket,
+            address,
+            port,
+        },
+    )
+}
+
 /// Forwards; otherwise another global request.
 #[tactic(auto, unfolding(sshc_moves::specs::SessionTable::Users::forward_moves))]
 fn forward_moves(session: &mut Connection, event: &Event) -> Result<(), NoMemory>
@@ -207,32 +248,12 @@ fn forward_moves(session: &mut Connection, event: &Event) -> Result<(), NoMemory
             ticket,
             address,
             port,
-        } => {
-            let (ticket, address, port) = (*ticket, address.as_str(), *port);
-            ask(
-                session,
-                &Ask::Forward {
-                    ticket,
-                    address,
-                    port,
-                },
-            )
-        }
+        } => forward(session, *ticket, address, *port),
         Event::CancelTcpIpForward {
             ticket,
             address,
             port,
-        } => {
-            let (ticket, address, port) = (*ticket, address.as_str(), *port);
-            ask(
-                session,
-                &Ask::CancelForward {
-                    ticket,
-                    address,
-                    port,
-                },
-            )
-        }
+        } => cancel_forward(session, *ticket, address, *port),
         Event::StreamLocalForward {
             ticket,
             socket_path,

@@ -1,0 +1,78 @@
+//! Packets of authentication that are written.
+
+use crate::writing::print_packet;
+use sshc_event::Method;
+use sshc_key::parse_public_key_base64;
+use sshc_request::{
+    disconnect_packet, gssapi_complete_packet, gssapi_mic_packet, gssapi_token_packet,
+    info_response_packet, key_part, mic_data, part_to_sign, request_packet, service_request_packet,
+    signed_packet,
+};
+use sshc_wire::{Disconnect, List, Octets, Text};
+
+/// A key of the bytes 0 to 31.
+const KEY: &str = "AAAAC3NzaC1lZDI1NTE5AAAAIAABAgMEBQYHCAkKCwwNDg8QERITFBUWFxgZGhscHR4f";
+
+fn request(rt: &HostRuntime, name: &str, method: &Method) -> anyhow::Result<()> {
+    let user = Text::from_str(rt.alloc(), "alice")?;
+    print_packet(rt, name, request_packet(rt.alloc(), &user, method)?)
+}
+
+fn words(rt: &HostRuntime, texts: &[&str]) -> anyhow::Result<List<Text>> {
+    let mut all = List::new(rt.alloc());
+    for text in texts {
+        all.push(Text::from_str(rt.alloc(), text)?)?;
+    }
+    Ok(all)
+}
+
+/// Requests without a key.
+pub fn requests(rt: &HostRuntime) -> anyhow::Result<()> {
+    let alloc = rt.alloc();
+    request(rt, "none", &Method::None)?;
+    let password = Text::from_str(alloc, "secret")?;
+    request(rt, "password", &Method::Password { password })?;
+    let submethods = Text::from_str(alloc, "pam")?;
+    let interactive = Method::KeyboardInteractive { submethods };
+    request(rt, "keyboard-interactive", &interactive)?;
+    let mut mechanism_oids = List::new(alloc);
+    mechanism_oids.push(Octets::from_slice(alloc, b"\x06\x01a".as_slice())?)?;
+    mechanism_oids.push(Octets::from_slice(alloc, b"".as_slice())?)?;
+    request(rt, "gssapi", &Method::GssapiWithMic { mechanism_oids })
+}
+
+/// A request by key without and with a signature, and the bytes that are signed.
+pub fn requests_by_key(rt: &HostRuntime) -> anyhow::Result<()> {
+    let alloc = rt.alloc();
+    let key = parse_public_key_base64(alloc, KEY)?;
+    let part = key_part(alloc, &key, None)?;
+    let hash_alg = None;
+    request(rt, "key", &Method::FuturePublicKey { key, hash_alg })?;
+    let to_sign = part_to_sign(alloc, b"id".as_slice(), "alice", &part)?;
+    print_packet(rt, "to-sign", Octets::from_vec(to_sign)?)?;
+    let signed = signed_packet(alloc, "alice", &part, b"signature".as_slice())?;
+    print_packet(rt, "signed", signed)
+}
+
+/// The other packets.
+pub fn others(rt: &HostRuntime) -> anyhow::Result<()> {
+    let alloc = rt.alloc();
+    print_packet(rt, "service-request", service_request_packet(alloc)?)?;
+    let answers = words(rt, &["one", ""])?;
+    print_packet(rt, "info-response", info_response_packet(alloc, &answers)?)?;
+    print_packet(
+        rt,
+        "no-answers",
+        info_response_packet(alloc, &List::new(alloc))?,
+    )?;
+    let token = gssapi_token_packet(alloc, b"token".as_slice())?;
+    print_packet(rt, "gssapi-token", token)?;
+    print_packet(rt, "gssapi-complete", gssapi_complete_packet(alloc)?)?;
+    let mic = gssapi_mic_packet(alloc, b"mic".as_slice())?;
+    print_packet(rt, "gssapi-mic", mic)?;
+    let data = mic_data(alloc, b"id".as_slice(), "alice")?;
+    print_packet(rt, "mic-data", Octets::from_vec(data)?)?;
+    let (bye, language) = (Text::from_str(alloc, "bye")?, Text::from_str(alloc, "en")?);
+    let goodbye = disconnect_packet(alloc, Disconnect::ByApplication, &bye, &language)?;
+    print_packet(rt, "disconnect", goodbye)
+}
