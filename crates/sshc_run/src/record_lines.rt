@@ -30,7 +30,6 @@ impl LineBuffer {
 fn put_digits(line: &mut Vec<u8>, bytes: &[u8]) -> Result<(), NoMemory>
     ensures { OnOk result (line.new.items ≡ text_line bytes.now) }
 {
-    line.clear();
     line.resize(2 * bytes.len(), b'0')?;
     match hex::encode_to_slice(bytes, line.as_mut_slice()) {
         Ok(()) => {}
