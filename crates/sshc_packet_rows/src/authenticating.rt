@@ -4,7 +4,7 @@ use crate::writing::print_packet;
 use sshc_event::Method;
 use sshc_key::parse_public_key_base64;
 use sshc_request::{
-    disconnect_packet, gssapi_complete_packet, gssapi_mic_packet, gssapi_token_packet,
+    KeyPart, disconnect_packet, gssapi_complete_packet, gssapi_mic_packet, gssapi_token_packet,
     info_response_packet, key_part, mic_data, part_to_sign, request_packet, service_request_packet,
     signed_packet,
 };
@@ -41,38 +41,56 @@ pub fn requests(rt: &HostRuntime) -> anyhow::Result<()> {
     request(rt, "gssapi", &Method::GssapiWithMic { mechanism_oids })
 }
 
-/// A request by key without and with a signature, and the bytes that are signed.
-pub fn requests_by_key(rt: &HostRuntime) -> anyhow::Result<()> {
-    let alloc = rt.alloc();
-    let key = parse_public_key_base64(alloc, KEY)?;
-    let part = key_part(alloc, &key, None)?;
-    let hash_alg = None;
-    request(rt, "key", &Method::FuturePublicKey { key, hash_alg })?;
-    let to_sign = part_to_sign(alloc, b"id".as_slice(), "alice", &part)?;
-    print_packet(rt, "to-sign", Octets::from_vec(to_sign)?)?;
-    let signed = signed_packet(alloc, "alice", &part, b"signature".as_slice())?;
-    print_packet(rt, "signed", signed)
+fn part(rt: &HostRuntime) -> anyhow::Result<KeyPart> {
+    let key = parse_public_key_base64(rt.alloc(), KEY)?;
+    Ok(key_part(rt.alloc(), &key, None)?)
 }
 
-/// The other packets.
-pub fn others(rt: &HostRuntime) -> anyhow::Result<()> {
+/// The bytes that are signed for a key.
+pub fn to_sign(rt: &HostRuntime) -> anyhow::Result<()> {
+    let part = part(rt)?;
+    let bytes = part_to_sign(rt.alloc(), b"id".as_slice(), "alice", &part)?;
+    print_packet(rt, "to-sign", Octets::from_vec(bytes)?)
+}
+
+/// A request by key with a signature.
+pub fn signed(rt: &HostRuntime) -> anyhow::Result<()> {
+    let part = part(rt)?;
+    let signature = b"signature".as_slice();
+    print_packet(
+        rt,
+        "signed",
+        signed_packet(rt.alloc(), "alice", &part, signature)?,
+    )
+}
+
+/// SERVICE_REQUEST, and answers to prompts.
+pub fn service_and_answers(rt: &HostRuntime) -> anyhow::Result<()> {
     let alloc = rt.alloc();
     print_packet(rt, "service-request", service_request_packet(alloc)?)?;
     let answers = words(rt, &["one", ""])?;
     print_packet(rt, "info-response", info_response_packet(alloc, &answers)?)?;
-    print_packet(
-        rt,
-        "no-answers",
-        info_response_packet(alloc, &List::new(alloc))?,
-    )?;
+    let none = List::new(alloc);
+    print_packet(rt, "no-answers", info_response_packet(alloc, &none)?)
+}
+
+/// Packets of GSSAPI.
+pub fn gssapi(rt: &HostRuntime) -> anyhow::Result<()> {
+    let alloc = rt.alloc();
     let token = gssapi_token_packet(alloc, b"token".as_slice())?;
     print_packet(rt, "gssapi-token", token)?;
     print_packet(rt, "gssapi-complete", gssapi_complete_packet(alloc)?)?;
     let mic = gssapi_mic_packet(alloc, b"mic".as_slice())?;
     print_packet(rt, "gssapi-mic", mic)?;
     let data = mic_data(alloc, b"id".as_slice(), "alice")?;
-    print_packet(rt, "mic-data", Octets::from_vec(data)?)?;
-    let (bye, language) = (Text::from_str(alloc, "bye")?, Text::from_str(alloc, "en")?);
-    let goodbye = disconnect_packet(alloc, Disconnect::ByApplication, &bye, &language)?;
-    print_packet(rt, "disconnect", goodbye)
+    print_packet(rt, "mic-data", Octets::from_vec(data)?)
+}
+
+pub fn disconnection(rt: &HostRuntime) -> anyhow::Result<()> {
+    let alloc = rt.alloc();
+    let description = Text::from_str(alloc, "bye")?;
+    let language = Text::from_str(alloc, "en")?;
+    let reason = Disconnect::ByApplication;
+    let packet = disconnect_packet(alloc, reason, &description, &language)?;
+    print_packet(rt, "disconnect", packet)
 }

@@ -12,8 +12,11 @@ fn main(rt: HostRuntime) -> anyhow::Result<()> {
     writing::channel_requests(&rt)?;
     writing::answers(&rt)?;
     authenticating::requests(&rt)?;
-    authenticating::requests_by_key(&rt)?;
-    authenticating::others(&rt)?;
+    authenticating::to_sign(&rt)?;
+    authenticating::signed(&rt)?;
+    authenticating::service_and_answers(&rt)?;
+    authenticating::gssapi(&rt)?;
+    authenticating::disconnection(&rt)?;
     reading::channel_packets(&rt)?;
     reading::channel_requests(&rt)?;
     reading::opens(&rt)?;
