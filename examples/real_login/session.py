@@ -73,12 +73,12 @@ class Session:
         return self.until(ticket)[0] == AUTH_SUCCESS
 
     def open(self, kind, fields=b""):
-        """Opens a channel, and waits until it is confirmed."""
+        """Opens a channel, and waits until it is confirmed. The line of the answer may come before the channel's own."""
         self.wait(lambda: not self.is_exchanging)
         ticket = self.ticket()
         self.tell(kind, u32(ticket) + fields)
         number = Reader(self.until(ticket)[1:]).u32()
-        return self.channels[number]
+        return self.channels.setdefault(number, Channel(number))
 
     def ask(self, channel, sort, fields=b""):
         self.wait(lambda: not self.is_exchanging)
