@@ -2,8 +2,8 @@
 
 use sshc_wire::{
     ChannelOpenFailure, Cursor, Disconnect, List, MethodKind, MethodSet, Names, NoMemory, Octets,
-    Outbox, Record, Resolution, Sig, Text, Ticket, WireError, put_bytes, put_names, put_resolution,
-    put_text, put_u32, put_u64,
+    Outbox, Record, Resolution, Sig, Text, Ticket, WireError, begin_string, end_string, put_bytes,
+    put_names, put_resolution, put_text, put_u32, put_u64,
 };
 use std::alloc::Global;
 use std::test::Fail;
@@ -120,6 +120,22 @@ fn packet(alloc: Global, bytes: &[u8]) -> Result<Record, NoMemory> {
     Ok(Record::Payload(Octets::from_slice(alloc, bytes)?))
 }
 
+#[test]
+fn a_string_is_measured_once_it_is_written(rt: HostRuntime) -> Result<(), Fail> {
+    let mut out = Vec::new(rt.alloc());
+    out.push(9)?;
+    let whole = begin_string(&mut out)?;
+    put_text(&mut out, "ab")?;
+    let empty = begin_string(&mut out)?;
+    end_string(&mut out, empty)?;
+    end_string(&mut out, whole)?;
+    assert_eq!(rt;
+        out.as_slice(),
+        b"\x09\x00\x00\x00\x0a\x00\x00\x00\x02ab\x00\x00\x00\x00".as_slice()
+    );
+    Ok(())
+}
+
 /// An outbox that is muted before its second packet.
 fn some_outbox(alloc: Global) -> Result<Outbox, NoMemory> {
     let mut outbox = Outbox::new(alloc);
@@ -138,7 +154,7 @@ fn some_outbox(alloc: Global) -> Result<Outbox, NoMemory> {
     })?;
     rest.push(packet(alloc, &[7])?)?;
     rest.push(Record::AuthBanner { banner })?;
-    outbox.push_all(rest)?;
+    outbox.append(&mut rest)?;
     Ok(outbox)
 }
 

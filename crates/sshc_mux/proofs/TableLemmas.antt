@@ -207,11 +207,11 @@ pushed n slots base longer c new base_is longer_is is =
     ∙ ap (λ (all : List ChannelState). let t : TableState = record { channels = all; last = n } in t) (present-append slots c ∙ ap (λ (x : ChannelState). present slots ++ x ∷ []) is)
 
 -- all were flushed
-pub did_flush : {A : Type 0} (x : A) (last : ℕ) (slice slots now : Slots) (said : List Record) (old new : Outgoing) → slice ≡ slots → now ≡ map flushed_slot slots →
-    said ≡ records_of (all_said (present slice)) → new.records ≡ old.records ++ shown old.muted said → new.muted ≡ old.muted → CameAbout (flush (table_of slots last)) (table_of slots last) (table_of now last) old new (Ok x)
-did_flush x last slice slots now said old new same is said_is added muted = (
+pub did_flush : {A : Type 0} (x : A) (last : ℕ) (slice slots now : Slots) (old new : Outgoing) → slice ≡ slots → now ≡ map flushed_slot slots →
+    new.records ≡ old.records ++ shown old.muted (records_of (all_said (present slice))) → new.muted ≡ old.muted → CameAbout (flush (table_of slots last)) (table_of slots last) (table_of now last) old new (Ok x)
+did_flush x last slice slots now old new same is added muted = (
   ap (λ (s : Slots). table_of s last) is ∙ ap (λ (all : List ChannelState). let t : TableState = record { channels = all; last = last } in t) (present-flushed slots),
-  added ∙ ap (λ (rs : List Record). old.records ++ shown old.muted rs) (said_is ∙ ap (λ (s : Slots). records_of (all_said (present s))) same),
+  added ∙ ap (λ (s : Slots). old.records ++ shown old.muted (records_of (all_said (present s)))) same,
   muted,
 )
 

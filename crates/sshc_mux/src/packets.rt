@@ -1,12 +1,11 @@
 //! The packets of a channel as records (RFC 4254, sections 5.2 and 5.3).
 
-ghost use Rattle.std.specs.Prelude.{◌≡◌, ◌++◌, ◌<◌, ◌^◌, [], length, IfOk, OnOk, OnErr, IsOk};
-ghost use Rattle.sshc_wire.specs.Outgoing.{shown};
+ghost use Rattle.std.specs.Prelude.{◌≡◌, ◌++◌, ◌<◌, ◌^◌, [], length, IfOk, OnOk, IsOk};
 ghost use Rattle.sshc_mux.specs.Packets.{packet_text, piece_text, Piece, Eof, Close, Adjust, payloads};
 ghost use Rattle.sshc_mux.specs.ChannelTable.Sending.{cut, pieces_of};
 
 use crate::chunk::Stream;
-use sshc_wire::{NoMemory, Octets, Outbox, Record, msg, put_bytes, put_u32};
+use sshc_wire::{NoMemory, Octets, Record, msg, put_bytes, put_u32};
 use std::alloc::Global;
 
 /// How many bytes of a data packet precede the piece: its number, the recipient and the length.
@@ -118,17 +117,4 @@ pub(crate) fn push_pieces(
         rest = more;
     }
     Ok(())
-}
-
-/// Adds the records to the outbox, or changes nothing. Adding no records takes no memory.
-pub(crate) fn push_said(out: &mut Outbox, said: Vec<Record>) -> Result<(), NoMemory>
-    ensures ok { OnOk result (out.new.records ≡ out.old.records ++ shown out.old.muted said.items) }
-    ensures err { OnErr result (out.new.records ≡ out.old.records) }
-    ensures same { out.new.muted ≡ out.old.muted }
-    ensures succeeds { said.items ≡ [] → IsOk result }
-{
-    if said.len() == 0 {
-        return Ok(());
-    }
-    out.push_all(said)
 }

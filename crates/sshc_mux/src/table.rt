@@ -13,6 +13,7 @@ ghost use Rattle.sshc_mux.specs.ChannelTable.Opens.{unsettled_at};
 ghost use Rattle.sshc_mux.specs.Places.{IsPlace, IsIndexed, HasNumbers, Apart, numbers, present};
 
 use crate::channel::Channel;
+use sshc_wire::Record;
 use std::alloc::Global;
 use std::collections::HashMap;
 use std::marker::Model;
@@ -32,6 +33,8 @@ pub struct ChannelTable {
     /// On how many channels bytes wait.
     waiting: usize,
     last: u32,
+    /// The records of a call before they go out. Its memory is kept from one call to the next.
+    said: Vec<Record>,
     alloc: Global,
 }
 
@@ -66,6 +69,7 @@ impl ChannelTable {
             index: HashMap::new(alloc),
             waiting: 0,
             last: last.0,
+            said: Vec::new(alloc),
             alloc,
         }
     }

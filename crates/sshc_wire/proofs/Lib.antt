@@ -6,4 +6,5 @@ mod NamesLemmas
 mod Doubles
 mod Counts
 mod Extended
+mod Ended
 mod StandardFacts

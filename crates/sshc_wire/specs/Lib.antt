@@ -16,4 +16,5 @@ pub mod Names
 pub mod Methods
 pub mod Signals
 pub mod Extending
+pub mod Nested
 pub mod Counted

@@ -50,7 +50,9 @@ pub use names::{Names, put_names};
 pub use octets::Octets;
 pub use outbox::Outbox;
 pub use pty::Pty;
-pub use put::{put_bool, put_bytes, put_text, put_u32, put_u64};
+pub use put::{
+    begin_string, end_string, put_bool, put_bytes, put_text, put_u32, put_u64, string_size,
+};
 pub use record::{Record, put_record};
 pub use resolution::{HostKeysFault, Resolution, put_resolution};
 pub use signal::Sig;

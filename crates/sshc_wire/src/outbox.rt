@@ -1,6 +1,6 @@
 //! The records that a step says, in order.
 
-ghost use Rattle.std.specs.Prelude.{◌≡◌, ◌+◌, ◌<◌, ◌≤◌, [], ◌∷◌, ◌++◌, length, drop, slice_get, OnOk, OnErr, IfOk, IfSome, option_copied, true, false};
+ghost use Rattle.std.specs.Prelude.{◌≡◌, ◌+◌, ◌<◌, ◌≤◌, [], ◌∷◌, ◌++◌, length, drop, slice_get, OnOk, OnErr, IfOk, IfSome, IsOk, option_copied, true, false};
 ghost use Rattle.std.specs.VecDeque.{deque_len, deque_capacity};
 ghost use Rattle.sshc_wire.specs.Wire.{IsBytes};
 ghost use Rattle.sshc_wire.specs.Records.{record_text};
@@ -126,12 +126,17 @@ impl Outbox {
         Ok(())
     }
 
-    /// Adds the records, or changes nothing.
-    pub fn push_all(&mut self, said: Vec<Record>) -> Result<(), NoMemory>
-        ensures ok { OnOk result (self.new.records ≡ self.old.records ++ shown self.old.muted said.items) }
+    /// Adds the records, which leave their list and its memory behind, or changes nothing. Adding none takes no memory.
+    pub fn append(&mut self, said: &mut Vec<Record>) -> Result<(), NoMemory>
+        ensures ok { OnOk result (self.new.records ≡ self.old.records ++ shown self.old.muted said.old.items) }
+        ensures taken { OnOk result (said.new.items ≡ []) }
         ensures err { OnErr result (self.new.records ≡ self.old.records) }
         ensures same { self.new.muted ≡ self.old.muted }
+        ensures succeeds { said.old.items ≡ [] → IsOk result }
     {
+        if said.len() == 0 {
+            return Ok(());
+        }
         self.records.reserve(said.len())?;
         add_all(&mut self.records, self.is_muted, said);
         Ok(())
@@ -212,11 +217,12 @@ fn add_if_some(records: &mut VecDeque<Record>, is_muted: bool, said: Option<Reco
     }
 }
 
-fn add_all(records: &mut VecDeque<Record>, is_muted: bool, said: Vec<Record>)
-    requires { deque_len records.old + length said.items ≤ deque_capacity records.old }
-    ensures { records.new.items ≡ records.old.items ++ shown is_muted said.items }
+fn add_all(records: &mut VecDeque<Record>, is_muted: bool, said: &mut Vec<Record>)
+    requires { deque_len records.old + length said.old.items ≤ deque_capacity records.old }
+    ensures added { records.new.items ≡ records.old.items ++ shown is_muted said.old.items }
+    ensures taken { said.new.items ≡ [] }
 {
-    for one in said {
+    for one in said.drain(..) {
         add(records, is_muted, one);
     }
 }

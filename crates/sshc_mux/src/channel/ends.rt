@@ -10,7 +10,7 @@ ghost use Rattle.sshc_mux.specs.ChannelTable.Ends.{takes, waiting_of, flush_with
 use crate::channel::Channel;
 use crate::chunk::{Chunk, Stream};
 use crate::packets::{close_record, push_pieces};
-use sshc_wire::{NoMemory, Outbox};
+use sshc_wire::{NoMemory, Outbox, Record};
 use std::alloc::Global;
 use std::collections::VecDeque;
 
@@ -29,6 +29,7 @@ impl Channel {
         stream: Stream,
         body: &[u8],
         exchanging: bool,
+        said: &mut Vec<Record>,
         out: &mut Outbox,
     ) -> Result<(), NoMemory>
         ensures turn { Turned (data_turn stream body.now exchanging self.old) self.old self.new out.old out.new result }
@@ -38,9 +39,9 @@ impl Channel {
             return Ok(());
         }
         if self.pending.len() == 0 {
-            self.send_front(alloc, stream, body, exchanging, out)
+            self.send_front(alloc, stream, body, exchanging, said, out)
         } else {
-            self.send_behind(alloc, stream, body, exchanging, out)
+            self.send_behind(alloc, stream, body, exchanging, said, out)
         }
     }
 
@@ -51,6 +52,7 @@ impl Channel {
         stream: Stream,
         body: &[u8],
         exchanging: bool,
+        said: &mut Vec<Record>,
         out: &mut Outbox,
     ) -> Result<(), NoMemory>
         requires taken { takes self.old.flow ≡ true }
@@ -60,18 +62,11 @@ impl Channel {
     {
         let room = self.room(exchanging);
         let (front, rest) = body.split_at(body.len().min(room as usize));
-        let mut said = Vec::new(alloc);
-        push_pieces(
-            alloc,
-            self.recipient,
-            self.packet_size,
-            stream,
-            front,
-            &mut said,
-        )?;
+        said.clear();
+        push_pieces(alloc, self.recipient, self.packet_size, stream, front, said)?;
         let waiting = waiting_of(alloc, stream, rest)?;
         self.pending.reserve(1)?;
-        out.push_all(said)?;
+        out.append(said)?;
         keep(&mut self.pending, waiting);
         self.window -= front.len() as u32;
         Ok(())
@@ -84,13 +79,14 @@ impl Channel {
         stream: Stream,
         body: &[u8],
         exchanging: bool,
+        said: &mut Vec<Record>,
         out: &mut Outbox,
     ) -> Result<(), NoMemory>
         ensures { Turned (in_flow (flush_with stream body.now exchanging) self.old)
             self.old self.new out.old out.new result }
     {
         self.pending.push_back(Chunk::new(alloc, stream, body)?)?;
-        match self.flush(alloc, exchanging, out) {
+        match self.flush(alloc, exchanging, said, out) {
             Ok(()) => Ok(()),
             Err(error) => {
                 let _ = self.pending.pop_back();
@@ -100,7 +96,12 @@ impl Channel {
     }
 
     /// Asks for EOF, and sends it where no bytes wait.
-    pub(crate) fn ask_eof(&mut self, alloc: Global, out: &mut Outbox) -> Result<(), NoMemory>
+    pub(crate) fn ask_eof(
+        &mut self,
+        alloc: Global,
+        said: &mut Vec<Record>,
+        out: &mut Outbox,
+    ) -> Result<(), NoMemory>
         ensures turn { Turned (eof_turn self.old) self.old self.new out.old out.new result }
         ensures succeeds { (eof_turn self.old).packets ≡ [] → IsOk result }
     {
@@ -108,7 +109,7 @@ impl Channel {
         if !self.close.is_sent() {
             self.eof = before.asked();
         }
-        match self.flush(alloc, true, out) {
+        match self.flush(alloc, true, said, out) {
             Ok(()) => Ok(()),
             Err(error) => {
                 self.eof = before;
@@ -118,13 +119,18 @@ impl Channel {
     }
 
     /// Asks for our close, and sends it where no bytes wait.
-    pub(crate) fn ask_close(&mut self, alloc: Global, out: &mut Outbox) -> Result<(), NoMemory>
+    pub(crate) fn ask_close(
+        &mut self,
+        alloc: Global,
+        said: &mut Vec<Record>,
+        out: &mut Outbox,
+    ) -> Result<(), NoMemory>
         ensures turn { Turned (close_turn self.old) self.old self.new out.old out.new result }
         ensures succeeds { (close_turn self.old).packets ≡ [] → IsOk result }
     {
         let before = self.close;
         self.close = before.asked();
-        match self.flush(alloc, true, out) {
+        match self.flush(alloc, true, said, out) {
             Ok(()) => Ok(()),
             Err(error) => {
                 self.close = before;

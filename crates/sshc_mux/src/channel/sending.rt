@@ -6,7 +6,7 @@ ghost use Rattle.sshc_mux.specs.ChannelTable.{Turned, in_flow};
 ghost use Rattle.sshc_mux.specs.ChannelTable.Sending.{room_of, emptied, ended, flushed, due_of};
 
 use crate::channel::Channel;
-use crate::packets::{close_record, eof_record, push_said};
+use crate::packets::{close_record, eof_record};
 use crate::waiting::{drop_sent, push_sent};
 use sshc_wire::{NoMemory, Outbox, Record};
 use std::alloc::Global;
@@ -102,19 +102,20 @@ impl Channel {
         self.end();
     }
 
-    /// Sends what the channel may send now, or changes nothing.
+    /// Sends what the channel may send now, or changes nothing. `said` lends its memory.
     pub(crate) fn flush(
         &mut self,
         alloc: Global,
         exchanging: bool,
+        said: &mut Vec<Record>,
         out: &mut Outbox,
     ) -> Result<(), NoMemory>
         ensures turn { Turned (in_flow (flushed exchanging) self.old) self.old self.new out.old out.new result }
         ensures succeeds { (flushed exchanging self.old.head self.old.flow).packets ≡ [] → IsOk result }
     {
-        let mut said = Vec::new(alloc);
-        self.push_flushed(alloc, exchanging, &mut said)?;
-        push_said(out, said)?;
+        said.clear();
+        self.push_flushed(alloc, exchanging, said)?;
+        out.append(said)?;
         self.count_flushed(exchanging);
         Ok(())
     }

@@ -6,7 +6,7 @@ ghost use Rattle.sshc_mux.specs.ChannelTable.Windows.{adjusts};
 
 use crate::channel::Channel;
 use crate::packets::adjust_record;
-use sshc_wire::{NoMemory, Outbox};
+use sshc_wire::{NoMemory, Outbox, Record};
 use std::alloc::Global;
 
 impl Channel {
@@ -17,6 +17,7 @@ impl Channel {
         alloc: Global,
         amount: u32,
         exchanging: bool,
+        said: &mut Vec<Record>,
         out: &mut Outbox,
     ) -> Result<Option<u32>, NoMemory>
         ensures turn { Turned (grant_turn amount exchanging self.old) self.old self.new out.old out.new result }
@@ -28,7 +29,7 @@ impl Channel {
         }
         let before = self.window;
         self.window = before.saturating_add(amount);
-        match self.flush(alloc, exchanging, out) {
+        match self.flush(alloc, exchanging, said, out) {
             Ok(()) => Ok(Some(self.window)),
             Err(error) => {
                 self.window = before;

@@ -1,13 +1,13 @@
 //! Data, and the flush of all channels (RFC 4254, section 5.2).
 
-ghost use Rattle.std.specs.Prelude.{◌≡◌, ◌&&◌, ◌==◌, not, length, [], ◌∷◌, ◌++◌, map, OnOk, IsOk, false};
+ghost use Rattle.std.specs.Prelude.{◌≡◌, ◌&&◌, ◌==◌, not, length, [], ◌∷◌, ◌++◌, map, OnOk, OnErr, IsOk, false};
+ghost use Rattle.sshc_wire.specs.Outgoing.{shown};
 ghost use Rattle.sshc_mux.specs.ChannelAccount.{called, Did, DidItsPart, WritesNothing, Bytes, FlushAll};
 ghost use Rattle.sshc_mux.specs.ChannelTable.{all_said, any_waits, records_of, takes_at};
 ghost use Rattle.sshc_mux.specs.Places.{present, flushed_slot, waiting_of};
 
 use crate::channel::Channel;
 use crate::chunk::Stream;
-use crate::packets::push_said;
 use crate::table::{ChannelId, ChannelTable, place, recounted};
 use sshc_wire::{NoMemory, Outbox, Record};
 use std::alloc::Global;
@@ -67,7 +67,7 @@ impl ChannelTable {
             return Ok(());
         };
         let waited = channel.waits();
-        let result = channel.data(alloc, stream, body, exchanging, out);
+        let result = channel.data(alloc, stream, body, exchanging, &mut self.said, out);
         self.waiting = recounted(self.waiting, waited, channel.waits());
         result
     }
@@ -79,12 +79,28 @@ impl ChannelTable {
         ensures part { OnOk result (DidItsPart FlushAll self.old self.new) }
         ensures succeeds { WritesNothing FlushAll self.old → IsOk result }
     {
-        let mut said = Vec::new(self.alloc);
-        push_flushed(self.alloc, self.slots.as_slice(), &mut said)?;
-        push_said(out, said)?;
+        say_flushed(self.alloc, self.slots.as_slice(), &mut self.said, out)?;
         self.waiting = count_all_flushed(&mut self.slots);
         Ok(())
     }
+}
+
+/// Says what each channel may send now, or nothing. `said` lends its memory.
+fn say_flushed(
+    alloc: Global,
+    slots: &[Option<Channel>],
+    said: &mut Vec<Record>,
+    out: &mut Outbox,
+) -> Result<(), NoMemory>
+    ensures ok { OnOk result (out.new.records ≡ out.old.records
+        ++ shown out.old.muted (records_of (all_said (present slots.now)))) }
+    ensures err { OnErr result (out.new.records ≡ out.old.records) }
+    ensures same { out.new.muted ≡ out.old.muted }
+    ensures succeeds { all_said (present slots.now) ≡ [] → IsOk result }
+{
+    said.clear();
+    push_flushed(alloc, slots, said)?;
+    out.append(said)
 }
 
 /// Adds what each channel may send now.

@@ -69,7 +69,8 @@ impl Opening {
         ensures row { Follows (extensions_row self.old extensions) (span self.old self.new out.old out.new) result }
     {
         let announced = self.announced_before()?.with_all(extensions)?;
-        out.push_all(announced.answers.into_vec())?;
+        let mut answers = announced.answers.into_vec();
+        out.append(&mut answers)?;
         self.ext_infos += 1;
         self.sig_algs = announced.sig_algs;
         self.seen = announced.seen;
