@@ -22,4 +22,5 @@ pub mod KeyFiles
 pub mod KeyLines
 pub mod AgentKeys
 pub mod RequestNames
+pub mod LentNames
 pub mod KeyLaws

@@ -1,11 +1,15 @@
 -- The algorithm that a request names for a key (RFC 8332, section 3; OpenSSH's PROTOCOL.certkeys): of RSA by the hash of its
 -- signatures, of every other key and certificate the name with which its blob begins.
 -- A name for each kind of key; the code writes it part by part.
-use Rattle.std.specs.Prelude.{ℕ, List, ◌++◌, Option, Some, None, codes}
+use Rattle.std.specs.Prelude.{ℕ, Bool, true, false, List, ◌++◌, Option, Some, None, codes}
 use Rattle.sshc_wire.specs.declared.hash_alg.HashAlg.{HashAlg}
 use Rattle.sshc_wire.specs.declared.hash_alg.HashAlg.TheVariants.{Sha256, Sha512}
 use Rattle.sshc_key.specs.AlgorithmNames.{certificate_name}
 use Rattle.sshc_key.specs.KeyGrammar.{Key, rsa, plain, certificate, key_name, kind_of}
+
+abbrev pub is_plain_rsa : Key → Bool
+is_plain_rsa (plain (rsa e n)) = true
+is_plain_rsa key = false
 
 abbrev pub rsa_name : Option HashAlg → List ℕ
 rsa_name None = codes "ssh-rsa"

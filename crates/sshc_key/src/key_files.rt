@@ -35,7 +35,7 @@ fn first_field(text: &str) -> &str
 fn certificate_of(alloc: Global, name: &str, key: &PublicKey) -> Result<Certificate, Error>
     ensures { GivesAll (λ c. c) result (named_certificate name.now key.now.0) }
 {
-    let own = key.key.name(alloc)?;
+    let own = key.key.name().to_text(alloc)?;
     match &key.key {
         KeyData::Certificate(certificate) => {
             let _ = certificate.is_certificate();

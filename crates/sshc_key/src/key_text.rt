@@ -110,7 +110,8 @@ impl PublicKey {
             KeyData::Other { name, .. } => Ok(Algorithm::Other(name.copy()?)),
             KeyData::Certificate(certificate) => {
                 let _ = certificate.is_certificate();
-                Ok(Algorithm::Other(self.key.name(self.comment.allocator())?))
+                let name = self.key.name();
+                Ok(Algorithm::Other(name.to_text(self.comment.allocator())?))
             }
         }
     }
@@ -123,7 +124,7 @@ impl PublicKey {
         // Whoever loads a file that holds just the line reads the key again, with its comment.
         ensures again { IfOk result (λ t. IsLineKey self.now → IsLoadedFrom self.now (string_bytes t)) }
     {
-        let name = self.key.name(self.comment.allocator())?;
+        let name = self.key.name().to_text(self.comment.allocator())?;
         let base64 = self.public_key_base64()?;
         let mut line = String::new(self.comment.allocator());
         line.push_str(name.as_str())?;

@@ -3,6 +3,7 @@
 
 mod agent;
 mod algorithm;
+mod algorithm_name;
 mod comparing;
 mod copying;
 mod error;
@@ -24,6 +25,7 @@ mod writing;
 
 pub use agent::{AgentIdentity, AgentSessionBinding, Constraint, KeyRef};
 pub use algorithm::{ALL_KEY_TYPES, Algorithm, EcdsaCurve};
+pub use algorithm_name::AlgorithmName;
 pub use error::Error;
 pub use identity::{PrivateKeyWithHashAlg, PublicKeyOrCertificate};
 pub use key_data::{CertType, Certificate, KeyData};
@@ -38,4 +40,4 @@ pub use signature::{Signature, SkFields};
 pub use signer::{Asker, LocalSigner, SignRefused, Signer};
 pub use sshc_wire::HashAlg;
 pub use verifier::{Verifier, Verify};
-pub use writing::write_key_pair;
+pub use writing::{put_certificate, put_key, write_key_pair};

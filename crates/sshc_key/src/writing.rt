@@ -5,6 +5,8 @@ mod fields;
 mod names;
 mod pair;
 mod signature;
+mod sizes;
 
 pub(crate) use certificate::key_bytes;
+pub use certificate::{put_certificate, put_key};
 pub use pair::write_key_pair;

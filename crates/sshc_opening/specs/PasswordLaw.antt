@@ -35,7 +35,7 @@ use Rattle.sshc_transport.specs.declared.exchange.ExchangeFlag.{ExchangeFlag}
 use Rattle.sshc_transport.specs.declared.exchange.ExchangeFlag.TheVariants as flags
 use Rattle.sshc_transport.specs.declared.exchange.ExchangeResult.{ExchangeResult}
 use Rattle.sshc_request.specs.RequestTexts.{disconnect, gssapi_complete, gssapi_mic, gssapi_token, info_response, key_part, method_text, mic, request, request_head, service_request, signed, signed_request, unsigned_request}
-use Rattle.sshc_request.specs.SigningNames.{signing_name}
+use Rattle.sshc_key.specs.RequestNames.{request_name}
 use Rattle.sshc_opening.specs.declared.error.Error.TheVariants.{OutOfTurn, Inconsistent, Pending, InactivityTimeout}
 use Rattle.sshc_opening.specs.declared.extension.Announced.{Announced}
 use Rattle.sshc_opening.specs.declared.extension.Extension.{Extension}
@@ -89,7 +89,7 @@ key_no_password u user password key hash more short short_too same =
     heads_same u user (key_part 1 key hash ++ more) (method_text (methods.Password password)) short short_too
     (sym (append_assoc (request_head u) (key_part 1 key hash) more) ∙ same) in
     let name : List ℕ = string_text (codes "publickey") in
-    let middle : List ℕ = 1 ∷ string_text (signing_name key hash) in
+    let middle : List ℕ = 1 ∷ string_text (request_name key hash) in
     let last : List ℕ = string_text (key_text key) in
     let parts : name ++ (middle ++ (last ++ more)) ≡ key_part 1 key hash ++ more =
     sym (append_assoc (name ++ middle) last more ∙ append_assoc name middle (last ++ more)) in

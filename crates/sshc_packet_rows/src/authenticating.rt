@@ -4,14 +4,18 @@ use crate::writing::print_packet;
 use sshc_event::Method;
 use sshc_key::parse_public_key_base64;
 use sshc_request::{
-    KeyPart, disconnect_packet, gssapi_complete_packet, gssapi_mic_packet, gssapi_token_packet,
+    disconnect_packet, gssapi_complete_packet, gssapi_mic_packet, gssapi_token_packet,
     info_response_packet, key_part, mic_data, part_to_sign, request_packet, service_request_packet,
     signed_packet,
 };
 use sshc_wire::{Disconnect, List, Octets, Text};
 
 /// A key of the bytes 0 to 31.
-const KEY: &str = "AAAAC3NzaC1lZDI1NTE5AAAAIAABAgMEBQYHCAkKCwwNDg8QERITFBUWFxgZGhscHR4f";
+pub const KEY: &str = "AAAAC3NzaC1lZDI1NTE5AAAAIAABAgMEBQYHCAkKCwwNDg8QERITFBUWFxgZGhscHR4f";
+
+/// A certificate for it, of two principals, an option and an extension.
+pub const CERTIFICATE: &str =
+    "AAAAIHNzaC1lZDI1NTE5LWNlcnQtdjAxQG9wZW5zc2guY29tAAAABW5vbmNlAAAAIAABAgMEBQYHCAkKCwwNDg8QERITFBUWFxgZGhscHR4fAAAAAAAAAAcAAAABAAAAAmlkAAAAEQAAAAVhbGljZQAAAARyb290AAAAAAAAAAD//////////wAAABsAAAANZm9yY2UtY29tbWFuZAAAAAYAAAACbHMAAAASAAAACnBlcm1pdC1wdHkAAAAAAAAAAAAAADMAAAALc3NoLWVkMjU1MTkAAAAgICEiIyQlJicoKSorLC0uLzAxMjM0NTY3ODk6Ozw9Pj8AAABTAAAAC3NzaC1lZDI1NTE5AAAAQEBBQkNERUZHSElKS0xNTk9QUVJTVFVWV1hZWltcXV5fYGFiY2RlZmdoaWprbG1ub3BxcnN0dXZ3eHl6e3x9fn8=";
 
 fn request(rt: &HostRuntime, name: &str, method: &Method) -> anyhow::Result<()> {
     let user = Text::from_str(rt.alloc(), "alice")?;
@@ -41,27 +45,34 @@ pub fn requests(rt: &HostRuntime) -> anyhow::Result<()> {
     request(rt, "gssapi", &Method::GssapiWithMic { mechanism_oids })
 }
 
-fn part(rt: &HostRuntime) -> anyhow::Result<KeyPart> {
-    let key = parse_public_key_base64(rt.alloc(), KEY)?;
-    Ok(key_part(rt.alloc(), &key, None)?)
-}
-
-/// The bytes that are signed for a key.
-pub fn to_sign(rt: &HostRuntime) -> anyhow::Result<()> {
-    let part = part(rt)?;
+fn to_sign_by(rt: &HostRuntime, name: &str, base64: &str) -> anyhow::Result<()> {
+    let key = parse_public_key_base64(rt.alloc(), base64)?;
+    let part = key_part(&key, None);
     let bytes = part_to_sign(rt.alloc(), b"id".as_slice(), "alice", &part)?;
-    print_packet(rt, "to-sign", Octets::from_vec(bytes)?)
+    print_packet(rt, name, Octets::from_vec(bytes)?)
 }
 
-/// A request by key with a signature.
-pub fn signed(rt: &HostRuntime) -> anyhow::Result<()> {
-    let part = part(rt)?;
+/// The bytes that are signed for a key and for a certificate.
+pub fn to_sign(rt: &HostRuntime) -> anyhow::Result<()> {
+    to_sign_by(rt, "to-sign", KEY)?;
+    to_sign_by(rt, "to-sign-certificate", CERTIFICATE)
+}
+
+fn signed_by(rt: &HostRuntime, name: &str, base64: &str) -> anyhow::Result<()> {
+    let key = parse_public_key_base64(rt.alloc(), base64)?;
+    let part = key_part(&key, None);
     let signature = b"signature".as_slice();
     print_packet(
         rt,
-        "signed",
+        name,
         signed_packet(rt.alloc(), "alice", &part, signature)?,
     )
+}
+
+/// A request by key and one by certificate, each with a signature.
+pub fn signed(rt: &HostRuntime) -> anyhow::Result<()> {
+    signed_by(rt, "signed", KEY)?;
+    signed_by(rt, "signed-certificate", CERTIFICATE)
 }
 
 /// SERVICE_REQUEST, and answers to prompts.

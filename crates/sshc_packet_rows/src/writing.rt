@@ -1,5 +1,7 @@
 //! Packets that are written.
 
+use crate::authenticating::{CERTIFICATE, KEY};
+use sshc_key::parse_public_key_base64;
 use sshc_packets::{
     ChannelOpen, ChannelRequest, Confirmation, GlobalRequest, Sender, TerminalSize,
     channel_failure_packet, channel_open_packet, channel_request_packet, channel_success_packet,
@@ -32,6 +34,15 @@ fn global(
     )
 }
 
+/// A request to prove that a key and a certificate are held.
+fn proof_of_both(rt: &HostRuntime) -> anyhow::Result<()> {
+    let mut keys = Vec::new(rt.alloc());
+    keys.push(parse_public_key_base64(rt.alloc(), KEY)?)?;
+    keys.push(parse_public_key_base64(rt.alloc(), CERTIFICATE)?)?;
+    let request = GlobalRequest::HostKeysProve { keys: &keys };
+    global(rt, "hostkeys-prove-both", true, &request)
+}
+
 pub fn global_requests(rt: &HostRuntime) -> anyhow::Result<()> {
     let forward = GlobalRequest::TcpIpForward {
         address: "localhost",
@@ -60,6 +71,7 @@ pub fn global_requests(rt: &HostRuntime) -> anyhow::Result<()> {
         true,
         &GlobalRequest::HostKeysProve { keys: &[] },
     )?;
+    proof_of_both(rt)?;
     let own = GlobalRequest::Own {
         name: "a@b",
         body: b"\x01\x02".as_slice(),

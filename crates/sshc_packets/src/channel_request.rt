@@ -6,8 +6,10 @@ ghost use Rattle.sshc_wire.specs.Wire.{bool_text, string_text, u32_text};
 ghost use Rattle.sshc_packets.specs.ChannelRequests.{channel_request, channel_request_text, entry_text, modes_text, request_fields, request_name, size_text, wants_reply};
 ghost use Rattle.sshc_packets.specs.Messages.{channel_failure_text, channel_success_text};
 
-use crate::putting::{ADDRESSED, put_addressed, put_string, put_words, string_size};
-use sshc_wire::{NoMemory, Octets, Pty, Sig, msg, put_bool, put_u32};
+use crate::putting::{ADDRESSED, put_addressed, put_string, put_words};
+use sshc_wire::{
+    NoMemory, Octets, Pty, Sig, begin_string, end_string, msg, put_bool, put_u32, string_size,
+};
 use std::alloc::Global;
 
 /// A terminal's size: columns and rows, and the same in pixels.
@@ -181,26 +183,26 @@ fn put_entry(out: &mut Vec<u8>, entry: &(Pty, u32)) -> Result<(), NoMemory>
     put_u32(out, value)
 }
 
-/// The modes except those of number 0.
+/// The modes except those of number 0, and their end (RFC 4254, section 8).
 #[tactic(auto, using(std::proofs::lemmas::List::append_assoc))]
 fn put_each_mode(out: &mut Vec<u8>, modes: &[(Pty, u32)]) -> Result<(), NoMemory>
-    ensures { OnOk result (out.new.items ≡ out.old.items ++ flat_map entry_text modes.now) }
+    ensures { OnOk result (out.new.items ≡ out.old.items ++ modes_text modes.now) }
 {
     for entry in modes {
         put_entry(out, entry)?;
     }
+    out.push(Pty::TTY_OP_END.0)?;
     Ok(())
 }
 
-/// A string of the modes and their end (RFC 4254, section 8).
-#[tactic(auto, using(std::proofs::lemmas::List::append_assoc))]
+/// A string of the modes and their end.
+#[tactic(auto, using(sshc_wire::specs::Nested::string_ended))]
 fn put_modes(out: &mut Vec<u8>, modes: &[(Pty, u32)]) -> Result<(), NoMemory>
     ensures { OnOk result (out.new.items ≡ out.old.items ++ string_text (modes_text modes.now)) }
 {
-    let mut text = Vec::with_capacity(*out.allocator(), modes_size(modes))?;
-    put_each_mode(&mut text, modes)?;
-    text.push(Pty::TTY_OP_END.0)?;
-    put_string(out, &text)
+    let at = begin_string(out)?;
+    put_each_mode(out, modes)?;
+    end_string(out, at)
 }
 
 #[tactic(auto, using(std::proofs::lemmas::List::append_assoc))]

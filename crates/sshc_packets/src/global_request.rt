@@ -5,9 +5,9 @@ ghost use Rattle.std.specs.List.{flat_map};
 ghost use Rattle.sshc_packets.specs.GlobalRequests.{blob_text, global_fields, global_name, global_request, global_request_text};
 ghost use Rattle.sshc_packets.specs.Messages.{request_failure_text, request_success_text};
 
-use crate::putting::{address_size, put_address, put_string, put_words, string_size};
-use sshc_key::{PublicKey, PublicKeyBase64};
-use sshc_wire::{NoMemory, Octets, msg, put_bool};
+use crate::putting::{address_size, put_address, put_words};
+use sshc_key::{PublicKey, put_key};
+use sshc_wire::{NoMemory, Octets, begin_string, end_string, msg, put_bool, string_size};
 use std::alloc::Global;
 
 /// What is asked of the server as a whole.
@@ -47,7 +47,7 @@ impl<'a> GlobalRequest<'a> {
         }
     }
 
-    /// How many bytes the fields take, without the keys of a proof: how long they are shows when they are encoded.
+    /// How many bytes the fields take.
     fn size(&self) -> usize {
         match self {
             GlobalRequest::TcpIpForward { address, .. } => address_size(address),
@@ -58,7 +58,7 @@ impl<'a> GlobalRequest<'a> {
             ),
             GlobalRequest::Keepalive => 0,
             GlobalRequest::NoMoreSessions => 0,
-            GlobalRequest::HostKeysProve { .. } => 0,
+            GlobalRequest::HostKeysProve { keys } => blobs_size(keys),
             GlobalRequest::Own { body, .. } => body.len(),
         }
     }
@@ -67,12 +67,23 @@ impl<'a> GlobalRequest<'a> {
 /// How many bytes a request takes before its fields, without its name: its number, a length and the flag.
 const REQUEST: usize = 6;
 
+/// How many bytes the keys' blobs take as strings.
+fn blobs_size(keys: &[PublicKey]) -> usize {
+    let mut size = 0usize;
+    for key in keys {
+        size = size.saturating_add(string_size(key.key.size()));
+    }
+    size
+}
+
 /// A string of the key's blob.
-fn put_blob(out: &mut Vec<u8>, key: &PublicKey) -> Result<(), NoMemory>
+#[tactic(auto, using(sshc_wire::specs::Nested::string_ended))]
+pub(crate) fn put_blob(out: &mut Vec<u8>, key: &PublicKey) -> Result<(), NoMemory>
     ensures { OnOk result (out.new.items ≡ out.old.items ++ blob_text key.now) }
 {
-    let blob = key.public_key_bytes()?;
-    put_string(out, &blob)
+    let at = begin_string(out)?;
+    put_key(out, &key.key)?;
+    end_string(out, at)
 }
 
 #[tactic(auto, using(std::proofs::lemmas::List::append_assoc))]

@@ -3,11 +3,13 @@
 ghost use Rattle.std.specs.Prelude.{◌≡◌, ◌++◌, Some, None, IfOk, OnOk, Ok, codes};
 ghost use Rattle.sshc_wire.specs.Wire.{string_text};
 ghost use Rattle.sshc_key.specs.Algorithms.{whole_signature};
+ghost use Rattle.sshc_packets.specs.GlobalRequests.{blob_text};
 ghost use Rattle.sshc_packets.specs.HostKeyProof.{JudgedIsProof, proof_bytes, proof_judged, signature_judged};
 
-use crate::putting::{put_string, put_words, string_size};
-use sshc_key::{Error, PublicKey, PublicKeyBase64, Signature, Verifier, read_signature};
-use sshc_wire::{Cursor, HostKeysFault, NoMemory};
+use crate::global_request::put_blob;
+use crate::putting::{put_string, put_words};
+use sshc_key::{Error, PublicKey, Signature, Verifier, read_signature};
+use sshc_wire::{Cursor, HostKeysFault, NoMemory, string_size};
 use std::alloc::Global;
 
 /// How many bytes the request's name takes before the bytes that are signed.
@@ -15,15 +17,15 @@ const REQUEST_NAME: usize = 33;
 
 /// The request's name, the session id and the key's blob, each a string.
 #[tactic(auto, using(std::proofs::lemmas::List::append_assoc))]
-fn put_proof(out: &mut Vec<u8>, session_id: &[u8], blob: &[u8]) -> Result<(), NoMemory>
+fn put_proof(out: &mut Vec<u8>, session_id: &[u8], key: &PublicKey) -> Result<(), NoMemory>
     ensures { OnOk result
         (out.new.items
         ≡ out.old.items ++ string_text (codes "hostkeys-prove-00@openssh.com") ++ string_text session_id.now
-        ++ string_text blob.now) }
+        ++ blob_text key.now) }
 {
     put_words(out, "hostkeys-prove-00@openssh.com")?;
     put_string(out, session_id)?;
-    put_string(out, blob)?;
+    put_blob(out, key)?;
     Ok(())
 }
 
@@ -32,10 +34,9 @@ fn put_proof(out: &mut Vec<u8>, session_id: &[u8], blob: &[u8]) -> Result<(), No
 fn proof_bytes(alloc: Global, session_id: &[u8], key: &PublicKey) -> Result<Vec<u8>, NoMemory>
     ensures { IfOk result (λ v. v.items ≡ proof_bytes session_id.now key.now.0) }
 {
-    let blob = key.public_key_bytes()?;
-    let size = string_size(session_id.len()).saturating_add(string_size(blob.len()));
+    let size = string_size(session_id.len()).saturating_add(string_size(key.key.size()));
     let mut bytes = Vec::with_capacity(alloc, size.saturating_add(REQUEST_NAME))?;
-    put_proof(&mut bytes, session_id, &blob)?;
+    put_proof(&mut bytes, session_id, key)?;
     Ok(bytes)
 }
 

@@ -8,11 +8,6 @@ use sshc_wire::{NoMemory, put_bytes, put_u32};
 /// How many bytes a message's number and the recipient's number of a channel take.
 pub(crate) const ADDRESSED: usize = 5;
 
-/// How many bytes a string of this many bytes takes with its length.
-pub(crate) fn string_size(length: usize) -> usize {
-    length.saturating_add(4)
-}
-
 /// How many bytes an address and a port take.
 pub(crate) fn address_size(address: &str) -> usize {
     address.len().saturating_add(8)

@@ -1,3 +1,2 @@
-pub mod SigningNames
 pub mod RequestTexts
 pub mod KeyParts

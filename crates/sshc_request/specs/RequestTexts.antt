@@ -12,7 +12,7 @@ use Rattle.sshc_key.specs.declared.identity.PublicKeyOrCertificate.{PublicKeyOrC
 use Rattle.sshc_key.specs.declared.identity.PublicKeyOrCertificate.TheVariants as identities
 use Rattle.sshc_event.specs.declared.method.Method.{Method}
 use Rattle.sshc_event.specs.declared.method.Method.TheVariants as methods
-use Rattle.sshc_request.specs.SigningNames.{signing_name}
+use Rattle.sshc_key.specs.RequestNames.{request_name}
 
 -- 5, SERVICE_REQUEST (RFC 4253, section 10): the name of the service
 unfoldable pub service_request : List ℕ
@@ -24,7 +24,7 @@ counted_strings strings = u32_text (length strings) ++ flat_map string_text stri
 
 -- a key in a request: 0 asks whether the key is acceptable, 1 comes with a signature (RFC 4252, section 7)
 abbrev pub key_part : ℕ → Key → Option HashAlg → List ℕ
-key_part flag key hash = string_text (codes "publickey") ++ (flag ∷ string_text (signing_name key hash)) ++ string_text (key_text key)
+key_part flag key hash = string_text (codes "publickey") ++ (flag ∷ string_text (request_name key hash)) ++ string_text (key_text key)
 
 -- a method's name and fields; a password isn't changed (RFC 4252, section 8), and no language is asked for (RFC 4256,
 -- section 3.1)

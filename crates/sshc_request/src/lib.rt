@@ -10,6 +10,6 @@ pub use packets::{
     disconnect_packet, gssapi_complete_packet, gssapi_mic_packet, gssapi_token_packet,
     info_response_packet, service_request_packet,
 };
-pub use parts::{KeyPart, certificate_part, key_part};
+pub use parts::{KeyPart, LentKey, certificate_part, key_part};
 pub use requests::{request_packet, write_auth_request};
 pub use signing::{mic_data, part_to_sign, signed_packet, to_sign};

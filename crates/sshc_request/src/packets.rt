@@ -3,8 +3,10 @@
 ghost use Rattle.std.specs.Prelude.{◌≡◌, ◌<◌, ◌^◌, length, IfOk};
 ghost use Rattle.sshc_request.specs.RequestTexts.{service_request, info_response, gssapi_token, gssapi_complete, gssapi_mic, disconnect};
 
-use crate::parts::{put_texts, string_size, texts_size};
-use sshc_wire::{Disconnect, List, NoMemory, Octets, Text, msg, put_bytes, put_text, put_u32};
+use crate::parts::{put_texts, texts_size};
+use sshc_wire::{
+    Disconnect, List, NoMemory, Octets, Text, msg, put_bytes, put_text, put_u32, string_size,
+};
 use std::alloc::Global;
 
 /// How many bytes SERVICE_REQUEST has: its number and the service as a string.

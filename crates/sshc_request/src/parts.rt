@@ -2,29 +2,27 @@
 
 ghost use Rattle.std.specs.Prelude.{◌≡◌, ◌<◌, ◌^◌, ◌∷◌, ◌++◌, length, codes, IfOk, OnOk};
 ghost use Rattle.sshc_wire.specs.Wire.{string_text};
-ghost use Rattle.sshc_key.specs.View.{view};
-ghost use Rattle.sshc_request.specs.KeyParts.{IsKeyPart};
+ghost use Rattle.sshc_key.specs.KeyGrammar.{key_text};
+ghost use Rattle.sshc_key.specs.LentNames.{spelled};
+ghost use Rattle.sshc_request.specs.KeyParts.{IsKeyPart, key_lent};
 ghost use Rattle.sshc_request.specs.RequestTexts.{counted_strings, request_head};
-ghost use Rattle.sshc_request.specs.SigningNames.{algorithm_name, is_rsa, is_rsa_certificate, rsa_name, signing_name};
 
-use sshc_key::{Algorithm, Certificate, EcdsaCurve, HashAlg, KeyData, PublicKey, PublicKeyBase64};
-use sshc_wire::{List, NoMemory, Octets, Text, msg, put_bytes, put_text, put_u32};
+use sshc_key::{AlgorithmName, Certificate, HashAlg, KeyData, PublicKey, put_certificate, put_key};
+use sshc_wire::{
+    List, NoMemory, Octets, Text, begin_string, end_string, msg, put_bytes, put_text, put_u32,
+    string_size,
+};
 use std::alloc::Global;
 
 /// How many bytes a request has before its method beside the user's own: a number, two lengths and the service.
 const HEAD: usize = 23;
 
-/// How many bytes a request by key has after the service beside the algorithm's name and the key: the method's name, a
-/// flag and three lengths.
-const BY_KEY: usize = 22;
+/// How many bytes a request by key has after the service beside the algorithm's name and the key: the method's name and a
+/// flag.
+const BY_KEY: usize = 14;
 
-/// How many bytes the length of a string has, or the number of strings.
-const LENGTH: usize = 4;
-
-/// How many bytes a string of this many bytes takes.
-pub(crate) fn string_size(length: usize) -> usize {
-    length.saturating_add(LENGTH)
-}
+/// How many bytes the number of strings has.
+const COUNT: usize = 4;
 
 /// How many bytes user and service take.
 pub(crate) fn head_size(user: &str) -> usize {
@@ -33,7 +31,7 @@ pub(crate) fn head_size(user: &str) -> usize {
 
 /// How many bytes the strings take with their number.
 pub(crate) fn octets_size(strings: &List<Octets>) -> usize {
-    let mut size = LENGTH;
+    let mut size = COUNT;
     for one in strings.as_slice() {
         size = size.saturating_add(string_size(one.as_slice().len()));
     }
@@ -42,7 +40,7 @@ pub(crate) fn octets_size(strings: &List<Octets>) -> usize {
 
 /// How many bytes the texts take with their number.
 pub(crate) fn texts_size(texts: &List<Text>) -> usize {
-    let mut size = LENGTH;
+    let mut size = COUNT;
     for one in texts.as_slice() {
         size = size.saturating_add(string_size(one.as_str().len()));
     }
@@ -86,130 +84,94 @@ pub fn put_texts(out: &mut Vec<u8>, texts: &List<Text>) -> Result<(), NoMemory>
     Ok(())
 }
 
-fn rsa_name(hash: Option<HashAlg>) -> &'static str
-    ensures { result.now ≡ rsa_name hash }
-{
-    match hash {
-        None => "ssh-rsa",
-        Some(HashAlg::Sha256) => "rsa-sha2-256",
-        Some(HashAlg::Sha512) => "rsa-sha2-512",
-    }
+/// A borrowed key or certificate.
+#[derive(Clone, Copy, Debug)]
+pub enum LentKey<'a> {
+    Key(&'a KeyData),
+    Certificate(&'a Certificate),
 }
 
-fn rsa_certificate_name(hash: Option<HashAlg>) -> &'static str
-    ensures { result.now ≡ rsa_name hash ++ codes "-cert-v01@openssh.com" }
-{
-    match hash {
-        None => "ssh-rsa-cert-v01@openssh.com",
-        Some(HashAlg::Sha256) => "rsa-sha2-256-cert-v01@openssh.com",
-        Some(HashAlg::Sha512) => "rsa-sha2-512-cert-v01@openssh.com",
-    }
-}
-
-fn is_rsa(key: &KeyData) -> bool
-    ensures { result ≡ is_rsa (view key.now) }
-{
-    match key {
-        KeyData::Rsa { .. } => true,
-        KeyData::Certificate(certificate) => {
-            let _ = &certificate.nonce;
-            false
+impl<'a> LentKey<'a> {
+    /// How many bytes the blob takes.
+    fn size(&self) -> usize {
+        match self {
+            LentKey::Key(key) => key.size(),
+            LentKey::Certificate(certificate) => certificate.size(),
         }
-        _ => false,
+    }
+
+    /// Writes the blob.
+    fn put(&self, out: &mut Vec<u8>) -> Result<(), NoMemory>
+        ensures { OnOk result (out.new.items ≡ out.old.items ++ key_text (key_lent self.now)) }
+    {
+        match self {
+            LentKey::Key(key) => put_key(out, key),
+            LentKey::Certificate(certificate) => put_certificate(out, certificate),
+        }
     }
 }
 
-fn is_rsa_certificate(key: &KeyData) -> bool
-    ensures { result ≡ is_rsa_certificate (view key.now) }
-{
-    match key {
-        KeyData::Certificate(certificate) => is_rsa(&certificate.public_key),
-        _ => false,
-    }
+/// A key with the name of the algorithm by which it signs, of which a request has the name and the blob.
+#[derive(Clone, Copy, Debug)]
+pub struct KeyPart<'a> {
+    pub algorithm: AlgorithmName<'a>,
+    pub key: LentKey<'a>,
 }
 
-fn name_of(alloc: Global, algorithm: Algorithm) -> Result<Text, NoMemory>
-    ensures { IfOk result (λ t. t ≡ algorithm_name algorithm) }
-{
-    match algorithm {
-        Algorithm::Dsa => Text::from_str(alloc, "ssh-dss"),
-        Algorithm::Ecdsa { curve } => match curve {
-            EcdsaCurve::NistP256 => Text::from_str(alloc, "ecdsa-sha2-nistp256"),
-            EcdsaCurve::NistP384 => Text::from_str(alloc, "ecdsa-sha2-nistp384"),
-            EcdsaCurve::NistP521 => Text::from_str(alloc, "ecdsa-sha2-nistp521"),
-        },
-        Algorithm::Ed25519 => Text::from_str(alloc, "ssh-ed25519"),
-        Algorithm::Rsa { hash } => Text::from_str(alloc, rsa_name(hash)),
-        Algorithm::SkEcdsaSha2NistP256 => Text::from_str(
-            alloc,
-            "sk-ecdsa-sha2-nistp256@openssh.com",
-        ),
-        Algorithm::SkEd25519 => Text::from_str(alloc, "sk-ssh-ed25519@openssh.com"),
-        Algorithm::Other(name) => Ok(name),
-    }
-}
-
-/// A key with the name of the algorithm by which it signs, as the two strings of a request.
-#[derive(Debug, Drop)]
-pub struct KeyPart {
-    pub algorithm: Text,
-    pub blob: Octets,
-}
-
-impl KeyPart {
+impl<'a> KeyPart<'a> {
     /// How many bytes a request by this key takes after the service, without a signature.
     pub(crate) fn size(&self) -> usize {
-        let names = self.algorithm.as_str().len().saturating_add(BY_KEY);
-        names.saturating_add(self.blob.as_slice().len())
+        let names = self.algorithm.size().saturating_add(BY_KEY);
+        names.saturating_add(string_size(self.key.size()))
     }
-}
 
-/// The name of the algorithm by which a key signs; for RSA it depends on the hash.
-#[tactic(auto, using(crate::proofs::NameLemmas::named))]
-fn signing_name(alloc: Global, key: &PublicKey, hash: Option<HashAlg>) -> Result<Text, NoMemory>
-    ensures { IfOk result (λ t. t ≡ signing_name key.now.0 hash) }
-{
-    if is_rsa(&key.key) {
-        Text::from_str(alloc, rsa_name(hash))
-    } else if is_rsa_certificate(&key.key) {
-        Text::from_str(alloc, rsa_certificate_name(hash))
-    } else {
-        name_of(alloc, key.algorithm()?)
+    /// Writes the blob as a string.
+    #[tactic(auto, using(sshc_wire::specs::Nested::string_ended))]
+    fn put_blob(&self, out: &mut Vec<u8>) -> Result<(), NoMemory>
+        ensures { OnOk result (out.new.items ≡ out.old.items ++ string_text (key_text (key_lent self.now.key))) }
+    {
+        let at = begin_string(out)?;
+        self.key.put(out)?;
+        end_string(out, at)
+    }
+
+    /// The blob.
+    pub fn blob(&self, alloc: Global) -> Result<Octets, NoMemory>
+        ensures { IfOk result (λ blob. blob ≡ key_text (key_lent self.now.key)) }
+    {
+        let mut blob = Vec::with_capacity(alloc, self.key.size())?;
+        self.key.put(&mut blob)?;
+        Octets::from_vec(blob)
     }
 }
 
 /// The key part of a public key, or of the certificate in its place.
-pub fn key_part(alloc: Global, key: &PublicKey, hash: Option<HashAlg>) -> Result<KeyPart, NoMemory>
-    ensures { IfOk result (λ p. IsKeyPart p key.now.0 hash) }
+pub fn key_part(key: &PublicKey, hash: Option<HashAlg>) -> KeyPart<'_>
+    ensures { IsKeyPart result key.now.0 hash }
 {
-    let algorithm = signing_name(alloc, key, hash)?;
-    let blob = Octets::from_vec(key.public_key_bytes()?)?;
-    Ok(KeyPart { algorithm, blob })
+    KeyPart {
+        algorithm: key.key.request_name(hash),
+        key: LentKey::Key(&key.key),
+    }
 }
 
 /// The key part of a certificate.
-pub fn certificate_part(
-    alloc: Global,
-    certificate: &Certificate,
-    hash: Option<HashAlg>,
-) -> Result<KeyPart, NoMemory>
-    ensures { IfOk result (λ p. IsKeyPart p certificate.now hash) }
+pub fn certificate_part(certificate: &Certificate, hash: Option<HashAlg>) -> KeyPart<'_>
+    ensures { IsKeyPart result certificate.now hash }
 {
-    let copied = Box::new(alloc, certificate.copy()?)?;
-    let key = PublicKey {
-        key: KeyData::Certificate(copied),
-        comment: Text::new(alloc),
-    };
-    key_part(alloc, &key, hash)
+    KeyPart {
+        algorithm: certificate.request_name(hash),
+        key: LentKey::Certificate(certificate),
+    }
 }
 
 /// Writes the method `publickey` with a key, without a signature.
 #[tactic(auto, using(std::proofs::lemmas::List::append_assoc))]
-pub fn put_key(out: &mut Vec<u8>, flag: u8, part: &KeyPart) -> Result<(), NoMemory>
-    ensures { OnOk result (out.new.items ≡ out.old.items ++ string_text (codes "publickey") ++ (flag ∷ string_text part.now.algorithm) ++ string_text part.now.blob) }
+pub fn put_key_method(out: &mut Vec<u8>, flag: u8, part: &KeyPart<'_>) -> Result<(), NoMemory>
+    ensures { OnOk result (out.new.items ≡ out.old.items ++ string_text (codes "publickey") ++ (flag ∷ string_text (spelled part.now.algorithm)) ++ string_text (key_text (key_lent part.now.key))) }
 {
     put_text(out, "publickey")?;
     out.push(flag)?;
-    put_text(out, part.algorithm.as_str())?;
-    put_bytes(out, part.blob.as_slice())
+    part.algorithm.put(out)?;
+    part.put_blob(out)
 }

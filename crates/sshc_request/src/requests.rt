@@ -2,38 +2,44 @@
 
 ghost use Rattle.std.specs.Prelude.{◌≡◌, ◌<◌, ◌^◌, [], ◌∷◌, ◌++◌, length, codes, IfOk, OnOk};
 ghost use Rattle.sshc_wire.specs.Wire.{string_text};
+ghost use Rattle.sshc_key.specs.KeyGrammar.{key_text};
+ghost use Rattle.sshc_key.specs.LentNames.{spelled};
+ghost use Rattle.sshc_request.specs.KeyParts.{key_lent};
 ghost use Rattle.sshc_request.specs.RequestTexts.{request, request_head, counted_strings, key_part};
 
 use crate::parts::{
-    KeyPart, certificate_part, head_size, key_part, octets_size, put_head, put_key, put_octets,
-    string_size,
+    KeyPart, certificate_part, head_size, key_part, octets_size, put_head, put_key_method,
+    put_octets,
 };
 use sshc_event::Method;
 use sshc_key::{Certificate, HashAlg, PublicKey};
-use sshc_wire::{List, NoMemory, Octets, Text, put_bytes, put_text};
+use sshc_wire::{List, NoMemory, Octets, Text, put_bytes, put_text, string_size};
 use std::alloc::Global;
 
-/// How many bytes the methods' names take, with the fields whose sizes don't change.
+/// How many bytes the name of no method takes.
 const NONE: usize = 8;
 
+/// How many bytes a request with a password has after the service beside the password: the method's name and a flag.
 const PASSWORD: usize = 13;
 
-const KEYBOARD_INTERACTIVE: usize = 32;
+/// How many bytes a request for prompts has after the service beside the submethods: the method's name and no language.
+const KEYBOARD_INTERACTIVE: usize = 28;
 
+/// How many bytes the name of the method by GSSAPI takes.
 const GSSAPI: usize = 19;
 
 /// Writes a request by key, which asks whether the server would accept the key.
 #[tactic(auto, using(std::proofs::lemmas::List::append_assoc))]
-fn put_probe(out: &mut Vec<u8>, user: &str, part: &KeyPart) -> Result<(), NoMemory>
+fn put_probe(out: &mut Vec<u8>, user: &str, part: &KeyPart<'_>) -> Result<(), NoMemory>
     requires { length user.now < 2 ^ 32 }
     ensures { OnOk result
         (out.new.items
         ≡ out.old.items ++ request_head user.now ++ string_text (codes "publickey")
-        ++ (0 ∷ string_text part.now.algorithm) ++ string_text part.now.blob) }
+        ++ (0 ∷ string_text (spelled part.now.algorithm)) ++ string_text (key_text (key_lent part.now.key))) }
 {
     out.reserve(head_size(user).saturating_add(part.size()))?;
     put_head(out, user)?;
-    put_key(out, 0, part)
+    put_key_method(out, 0, part)
 }
 
 /// Asks whether the server would accept a key.
@@ -46,7 +52,7 @@ fn put_key_request(
     requires { length user.now < 2 ^ 32 }
     ensures { OnOk result (out.new.items ≡ out.old.items ++ request_head user.now ++ key_part 0 key.now.0 hash) }
 {
-    let part = key_part(*out.allocator(), key, hash)?;
+    let part = key_part(key, hash);
     put_probe(out, user, &part)
 }
 
@@ -60,7 +66,7 @@ fn put_certificate_request(
     requires { length user.now < 2 ^ 32 }
     ensures { OnOk result (out.new.items ≡ out.old.items ++ request_head user.now ++ key_part 0 certificate.now hash) }
 {
-    let part = certificate_part(*out.allocator(), certificate, hash)?;
+    let part = certificate_part(certificate, hash);
     put_probe(out, user, &part)
 }
 
@@ -122,10 +128,7 @@ fn put_keyboard_interactive_request(
         ≡ out.old.items ++ request_head user.now ++ (string_text (codes "keyboard-interactive") ++ string_text []
         ++ string_text submethods.now)) }
 {
-    let method = submethods
-        .as_str()
-        .len()
-        .saturating_add(KEYBOARD_INTERACTIVE);
+    let method = string_size(submethods.as_str().len()).saturating_add(KEYBOARD_INTERACTIVE);
     out.reserve(head_size(user).saturating_add(method))?;
     put_head(out, user)?;
     put_keyboard_interactive(out, submethods)

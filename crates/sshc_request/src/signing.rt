@@ -7,11 +7,9 @@ ghost use Rattle.sshc_wire.specs.declared.hash_alg.HashAlg.{HashAlg as Hash};
 ghost use Rattle.sshc_request.specs.RequestTexts.{mic, request_head, signed, signed_by, signed_request};
 ghost use Rattle.sshc_request.specs.KeyParts.{IsKeyPart};
 
-use crate::parts::{
-    KeyPart, certificate_part, head_size, key_part, put_head, put_key, string_size,
-};
+use crate::parts::{KeyPart, certificate_part, head_size, key_part, put_head, put_key_method};
 use sshc_key::{HashAlg, PublicKeyOrCertificate};
-use sshc_wire::{NoMemory, Octets, put_bytes, put_text};
+use sshc_wire::{NoMemory, Octets, put_bytes, put_text, string_size};
 use std::alloc::Global;
 
 /// How many bytes the method's name takes at the end of the bytes of which a MIC is made.
@@ -23,7 +21,7 @@ pub fn part_to_sign(
     alloc: Global,
     session_id: &[u8],
     user: &str,
-    part: &KeyPart,
+    part: &KeyPart<'_>,
 ) -> Result<Vec<u8>, NoMemory>
     requires id { length session_id.now < 2 ^ 32 }
     requires user { length user.now < 2 ^ 32 }
@@ -36,7 +34,7 @@ pub fn part_to_sign(
     let mut bytes = Vec::with_capacity(alloc, size)?;
     put_bytes(&mut bytes, session_id)?;
     put_head(&mut bytes, user)?;
-    put_key(&mut bytes, 1, part)?;
+    put_key_method(&mut bytes, 1, part)?;
     Ok(bytes)
 }
 
@@ -45,7 +43,7 @@ pub fn part_to_sign(
 pub fn signed_packet(
     alloc: Global,
     user: &str,
-    part: &KeyPart,
+    part: &KeyPart<'_>,
     signature: &[u8],
 ) -> Result<Octets, NoMemory>
     requires user { length user.now < 2 ^ 32 }
@@ -58,7 +56,7 @@ pub fn signed_packet(
     let size = request.saturating_add(string_size(signature.len()));
     let mut packet = Vec::with_capacity(alloc, size)?;
     put_head(&mut packet, user)?;
-    put_key(&mut packet, 1, part)?;
+    put_key_method(&mut packet, 1, part)?;
     put_bytes(&mut packet, signature)?;
     Octets::from_vec(packet)
 }
@@ -77,16 +75,17 @@ pub fn to_sign(
 {
     match k {
         PublicKeyOrCertificate::PublicKey { key, hash_alg } => {
-            let part = key_part(alloc, key, *hash_alg)?;
+            let part = key_part(key, *hash_alg);
             part_to_sign(alloc, session_id, user, &part)
         }
         PublicKeyOrCertificate::Certificate(certificate) => {
-            let part = certificate_part(alloc, certificate, hash)?;
+            let part = certificate_part(certificate, hash);
             part_to_sign(alloc, session_id, user, &part)
         }
     }
 }
 
+/// Writes the session id, and a request by GSSAPI without its mechanisms.
 #[tactic(auto, using(std::proofs::lemmas::List::append_assoc))]
 fn put_mic_data(out: &mut Vec<u8>, session_id: &[u8], user: &str) -> Result<(), NoMemory>
     requires id { length session_id.now < 2 ^ 32 }

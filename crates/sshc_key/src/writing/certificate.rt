@@ -3,48 +3,66 @@
 ghost use Rattle.std.specs.Prelude.{◌≡◌, ◌++◌, IfOk, OnOk};
 ghost use Rattle.std.specs.List.{flat_map};
 ghost use Rattle.sshc_wire.specs.Wire.{string_text};
-ghost use Rattle.sshc_key.specs.KeyGrammar.{type_number, option_text, body_text, key_text};
+ghost use Rattle.sshc_key.specs.KeyGrammar.{type_number, option_text, body_text, key_text, signature_text};
 ghost use Rattle.sshc_key.specs.KeyWriting.{first_text, second_text, said_text};
 ghost use Rattle.sshc_key.specs.View.{view};
 
 use crate::key_data::{CertType, Certificate, KeyData};
+use crate::signature::Signature;
 use crate::writing::fields::put_fields;
-use crate::writing::signature::signature_bytes;
-use sshc_wire::{NoMemory, Octets, Text, put_bytes, put_text, put_u32, put_u64};
+use crate::writing::signature::put_signature;
+use sshc_wire::{
+    NoMemory, Octets, Text, begin_string, end_string, put_bytes, put_text, put_u32, put_u64,
+};
 use std::alloc::Global;
 
-/// The most bytes of a string, and one.
-const TOO_LONG: usize = 1 << 32;
-
-/// Writes a string of bytes that were put together. Too many of them count as out of memory.
-fn put_nested(out: &mut Vec<u8>, bytes: &[u8]) -> Result<(), NoMemory>
-    ensures { OnOk result (out.new.items ≡ out.old.items ++ string_text bytes.now) }
+fn put_each_text(out: &mut Vec<u8>, texts: &[Text]) -> Result<(), NoMemory>
+    ensures { OnOk result (out.new.items ≡ out.old.items ++ flat_map string_text texts.now) }
 {
-    if bytes.len() >= TOO_LONG {
-        return Err(NoMemory);
-    }
-    put_bytes(out, bytes)
-}
-
-fn texts_text(alloc: Global, texts: &[Text]) -> Result<Vec<u8>, NoMemory>
-    ensures { IfOk result (λ v. v.items ≡ flat_map string_text texts.now) }
-{
-    let mut out = Vec::new(alloc);
     for text in texts {
-        put_text(&mut out, text.as_str())?;
+        put_text(out, text.as_str())?;
     }
-    Ok(out)
+    Ok(())
 }
 
-fn options_text(alloc: Global, options: &[(Text, Octets)]) -> Result<Vec<u8>, NoMemory>
-    ensures { IfOk result (λ v. v.items ≡ flat_map option_text options.now) }
+/// A string of the texts.
+#[tactic(auto, using(sshc_wire::specs::Nested::string_ended))]
+fn put_texts(out: &mut Vec<u8>, texts: &[Text]) -> Result<(), NoMemory>
+    ensures { OnOk result (out.new.items ≡ out.old.items ++ string_text (flat_map string_text texts.now)) }
 {
-    let mut out = Vec::new(alloc);
+    let at = begin_string(out)?;
+    put_each_text(out, texts)?;
+    end_string(out, at)
+}
+
+fn put_each_option(out: &mut Vec<u8>, options: &[(Text, Octets)]) -> Result<(), NoMemory>
+    ensures { OnOk result (out.new.items ≡ out.old.items ++ flat_map option_text options.now) }
+{
     for option in options {
-        put_text(&mut out, option.0.as_str())?;
-        put_bytes(&mut out, option.1.as_slice())?;
+        put_text(out, option.0.as_str())?;
+        put_bytes(out, option.1.as_slice())?;
     }
-    Ok(out)
+    Ok(())
+}
+
+/// A string of the options.
+#[tactic(auto, using(sshc_wire::specs::Nested::string_ended))]
+fn put_options(out: &mut Vec<u8>, options: &[(Text, Octets)]) -> Result<(), NoMemory>
+    ensures { OnOk result (out.new.items ≡ out.old.items ++ string_text (flat_map option_text options.now)) }
+{
+    let at = begin_string(out)?;
+    put_each_option(out, options)?;
+    end_string(out, at)
+}
+
+/// A string of the signature.
+#[tactic(auto, using(sshc_wire::specs::Nested::string_ended))]
+fn put_signature_string(out: &mut Vec<u8>, signature: &Signature) -> Result<(), NoMemory>
+    ensures { OnOk result (out.new.items ≡ out.old.items ++ string_text (signature_text signature.now)) }
+{
+    let at = begin_string(out)?;
+    put_signature(out, signature)?;
+    end_string(out, at)
 }
 
 impl CertType {
@@ -58,78 +76,87 @@ impl CertType {
     }
 }
 
-fn put_first(alloc: Global, out: &mut Vec<u8>, certificate: &Certificate) -> Result<(), NoMemory>
+fn put_first(out: &mut Vec<u8>, certificate: &Certificate) -> Result<(), NoMemory>
     ensures { OnOk result (out.new.items ≡ out.old.items ++ first_text certificate.now) }
 {
     put_u64(out, certificate.serial)?;
     put_u32(out, certificate.cert_type.number())?;
     put_text(out, certificate.key_id.as_str())?;
-    put_nested(
-        out,
-        &texts_text(alloc, certificate.valid_principals.as_slice())?,
-    )
+    put_texts(out, certificate.valid_principals.as_slice())
 }
 
-fn put_second(alloc: Global, out: &mut Vec<u8>, certificate: &Certificate) -> Result<(), NoMemory>
+fn put_second(out: &mut Vec<u8>, certificate: &Certificate) -> Result<(), NoMemory>
     ensures { OnOk result (out.new.items ≡ out.old.items ++ second_text certificate.now) }
 {
     put_u64(out, certificate.valid_after)?;
     put_u64(out, certificate.valid_before)?;
-    put_nested(
-        out,
-        &options_text(alloc, certificate.critical_options.as_slice())?,
-    )?;
-    put_nested(
-        out,
-        &options_text(alloc, certificate.extensions.as_slice())?,
-    )?;
+    put_options(out, certificate.critical_options.as_slice())?;
+    put_options(out, certificate.extensions.as_slice())?;
     put_bytes(out, certificate.reserved.as_slice())
 }
 
-fn put_statement(
-    alloc: Global,
-    out: &mut Vec<u8>,
-    certificate: &Certificate,
-) -> Result<(), NoMemory>
+fn put_statement(out: &mut Vec<u8>, certificate: &Certificate) -> Result<(), NoMemory>
     ensures { OnOk result (out.new.items ≡ out.old.items ++ said_text certificate.now) }
 {
-    put_first(alloc, out, certificate)?;
-    put_second(alloc, out, certificate)
+    put_first(out, certificate)?;
+    put_second(out, certificate)
 }
 
 #[cycle(put_keys)]
-fn put_certificate(
-    alloc: Global,
-    out: &mut Vec<u8>,
-    certificate: &Certificate,
-) -> Result<(), NoMemory>
+fn put_certificate_body(out: &mut Vec<u8>, certificate: &Certificate) -> Result<(), NoMemory>
     ensures { OnOk result (out.new.items ≡ out.old.items ++ body_text certificate.now) }
 {
     put_bytes(out, certificate.nonce.as_slice())?;
     put_fields(out, &certificate.public_key)?;
-    put_statement(alloc, out, certificate)?;
-    put_nested(out, &key_bytes(alloc, &certificate.signature_key)?)?;
-    put_nested(out, &signature_bytes(alloc, &certificate.signature)?)
+    put_statement(out, certificate)?;
+    put_key_string(out, &certificate.signature_key)?;
+    put_signature_string(out, &certificate.signature)
+}
+
+/// A string of the key's blob.
+#[cycle(put_keys)]
+#[tactic(auto, using(sshc_wire::specs::Nested::string_ended))]
+fn put_key_string(out: &mut Vec<u8>, key: &KeyData) -> Result<(), NoMemory>
+    ensures { OnOk result (out.new.items ≡ out.old.items ++ string_text (key_text (view key.now))) }
+{
+    let at = begin_string(out)?;
+    put_key(out, key)?;
+    end_string(out, at)
 }
 
 #[cycle(put_keys)]
-fn put_body(alloc: Global, out: &mut Vec<u8>, key: &KeyData) -> Result<(), NoMemory>
+fn put_body(out: &mut Vec<u8>, key: &KeyData) -> Result<(), NoMemory>
     ensures { OnOk result (out.new.items ≡ out.old.items ++ body_text (view key.now)) }
 {
     match key {
-        KeyData::Certificate(certificate) => put_certificate(alloc, out, certificate),
+        KeyData::Certificate(certificate) => put_certificate_body(out, certificate),
         _ => put_fields(out, key),
     }
 }
 
-/// The key's blob.
+/// Writes the key's blob.
 #[cycle(put_keys)]
+pub fn put_key(out: &mut Vec<u8>, key: &KeyData) -> Result<(), NoMemory>
+    ensures { OnOk result (out.new.items ≡ out.old.items ++ key_text (view key.now)) }
+{
+    key.name().put(out)?;
+    put_body(out, key)
+}
+
+/// Writes the certificate's blob.
+pub fn put_certificate(out: &mut Vec<u8>, certificate: &Certificate) -> Result<(), NoMemory>
+    ensures { OnOk result (out.new.items ≡ out.old.items ++ key_text certificate.now) }
+{
+    certificate.name().put(out)?;
+    put_certificate_body(out, certificate)
+}
+
+/// The key's blob.
 pub(crate) fn key_bytes(alloc: Global, key: &KeyData) -> Result<Vec<u8>, NoMemory>
     ensures { IfOk result (λ v. v.items ≡ key_text (view key.now)) }
 {
-    let mut out = Vec::new(alloc);
-    put_text(&mut out, key.name(alloc)?.as_str())?;
-    put_body(alloc, &mut out, key)?;
+    let mut out = Vec::with_capacity(alloc, key.size())?;
+    put_key(&mut out, key)?;
     Ok(out)
 }
 
@@ -138,10 +165,8 @@ impl Certificate {
     pub fn to_bytes(&self) -> Result<Vec<u8>, NoMemory>
         ensures { IfOk result (λ v. v.items ≡ key_text self.now) }
     {
-        let alloc = self.key_id.allocator();
-        let mut out = Vec::new(alloc);
-        put_text(&mut out, self.name(alloc)?.as_str())?;
-        put_certificate(alloc, &mut out, self)?;
+        let mut out = Vec::with_capacity(self.key_id.allocator(), self.size())?;
+        put_certificate(&mut out, self)?;
         Ok(out)
     }
 }

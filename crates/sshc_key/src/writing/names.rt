@@ -1,86 +1,69 @@
 //! The name with which a key's blob begins.
 
-ghost use Rattle.std.specs.Prelude.{◌≡◌, ◌++◌, ◌∷◌, IfOk, MatchOption, codes};
-ghost use Rattle.sshc_key.specs.AlgorithmNames.{parted, marked_name, kind_name, certificate_name, tag_name};
-ghost use Rattle.sshc_key.specs.KeyGrammar.{kind_of, tag_of, key_name};
-ghost use Rattle.sshc_key.specs.RequestNames.{certified_name, request_name, rsa_name};
+ghost use Rattle.std.specs.Prelude.{◌≡◌, ◌++◌, false, IfOk, codes};
+ghost use Rattle.sshc_key.specs.AlgorithmNames.{kind_name, certificate_name};
+ghost use Rattle.sshc_key.specs.KeyGrammar.{kind_of, key_name};
+ghost use Rattle.sshc_key.specs.LentNames.{kind_lent, spelled};
+ghost use Rattle.sshc_key.specs.RequestNames.{certified_name, is_plain_rsa, request_name, rsa_name};
 ghost use Rattle.sshc_key.specs.View.{view};
 
+use crate::algorithm_name::AlgorithmName;
 use crate::key_data::{Certificate, KeyData};
-use crate::kind::{Kind, Known, Tag};
-use crate::reading::parts_of;
+use crate::kind::Known;
 use sshc_wire::{HashAlg, NoMemory, Text};
 use std::alloc::Global;
 
-/// The name with the mark of certificates before its `@`.
-fn marked(alloc: Global, name: &str) -> Result<Text, NoMemory>
-    ensures { IfOk result (λ t. t ≡ marked_name name.now) }
-{
-    let mut marked = String::new(alloc);
-    match parts_of(name) {
-        Some((front, domain)) => {
-            marked.push_str(front)?;
-            marked.push_str("-cert-v01@")?;
-            marked.push_str(domain)?;
-        }
-        None => {
-            marked.push_str(name)?;
-            marked.push_str("-cert-v01")?;
-        }
-    }
-    Text::from_string(marked)
+/// The kind of a plain key, which borrows a name that isn't in the table.
+#[derive(Clone, Copy, Debug)]
+enum KindRef<'a> {
+    Known(Known),
+    Opaque(&'a str),
 }
 
-impl Kind {
-    fn name(&self, alloc: Global) -> Result<Text, NoMemory>
-        ensures { IfOk result (λ t. t ≡ kind_name self.now) }
+impl<'a> KindRef<'a> {
+    fn name(self) -> AlgorithmName<'a>
+        ensures { spelled result ≡ kind_name (kind_lent self.entry) }
     {
         match self {
-            Kind::Known(known) => Text::from_str(alloc, known.name()),
-            Kind::Opaque(name) => name.copy(),
+            KindRef::Known(known) => AlgorithmName::Known(known.name()),
+            KindRef::Opaque(name) => AlgorithmName::Own(name),
         }
     }
 
-    fn certificate_name(&self, alloc: Global) -> Result<Text, NoMemory>
-        ensures { IfOk result (λ t. t ≡ certificate_name self.now) }
+    fn certificate_name(self) -> AlgorithmName<'a>
+        ensures { spelled result ≡ certificate_name (kind_lent self.entry) }
     {
         match self {
-            Kind::Known(known) => Text::from_str(alloc, known.certificate_name()),
-            Kind::Opaque(name) => marked(alloc, name.as_str()),
+            KindRef::Known(known) => AlgorithmName::Known(known.certificate_name()),
+            KindRef::Opaque(name) => AlgorithmName::Certified(name),
         }
     }
 }
 
 impl KeyData {
     /// The kind of the key, or of the key that a certificate speaks of.
-    fn kind(&self) -> Result<Kind, NoMemory>
-        ensures { IfOk result (λ k. k ≡ kind_of (view self.now)) }
+    fn kind(&self) -> KindRef<'_>
+        ensures { kind_lent result ≡ kind_of (view self.now) }
     {
         match self {
-            KeyData::Dsa { .. } => Ok(Kind::Known(Known::Dsa)),
-            KeyData::Ecdsa { curve, .. } => Ok(Kind::Known(Known::Ecdsa(*curve))),
-            KeyData::Ed25519 { .. } => Ok(Kind::Known(Known::Ed25519)),
-            KeyData::Rsa { .. } => Ok(Kind::Known(Known::Rsa)),
-            KeyData::SkEcdsaSha2NistP256 { .. } => Ok(Kind::Known(Known::SkEcdsaSha2NistP256)),
-            KeyData::SkEd25519 { .. } => Ok(Kind::Known(Known::SkEd25519)),
-            KeyData::Other { name, .. } => Ok(Kind::Opaque(name.copy()?)),
+            KeyData::Dsa { .. } => KindRef::Known(Known::Dsa),
+            KeyData::Ecdsa { curve, .. } => KindRef::Known(Known::Ecdsa(*curve)),
+            KeyData::Ed25519 { .. } => KindRef::Known(Known::Ed25519),
+            KeyData::Rsa { .. } => KindRef::Known(Known::Rsa),
+            KeyData::SkEcdsaSha2NistP256 { .. } => KindRef::Known(Known::SkEcdsaSha2NistP256),
+            KeyData::SkEd25519 { .. } => KindRef::Known(Known::SkEd25519),
+            KeyData::Other { name, .. } => KindRef::Opaque(name.as_str()),
             KeyData::Certificate(certificate) => certificate.public_key.kind(),
         }
     }
 
     /// The name with which the key's blob begins.
-    pub(crate) fn name(&self, alloc: Global) -> Result<Text, NoMemory>
-        ensures { IfOk result (λ t. t ≡ key_name (view self.now)) }
+    pub(crate) fn name(&self) -> AlgorithmName<'_>
+        ensures { spelled result ≡ key_name (view self.now) }
     {
         match self {
-            KeyData::Certificate(certificate) => {
-                let kind = certificate.public_key.kind()?;
-                kind.certificate_name(alloc)
-            }
-            _ => {
-                let kind = self.kind()?;
-                kind.name(alloc)
-            }
+            KeyData::Certificate(certificate) => certificate.name(),
+            _ => self.kind().name(),
         }
     }
 }
@@ -109,35 +92,64 @@ fn rsa_certificate_name(hash_alg: Option<HashAlg>) -> &'static str
 
 impl Certificate {
     /// The name with which the certificate's blob begins.
-    pub(super) fn name(&self, alloc: Global) -> Result<Text, NoMemory>
-        ensures { IfOk result (λ t. t ≡ key_name self.now) }
+    pub(super) fn name(&self) -> AlgorithmName<'_>
+        ensures { spelled result ≡ key_name self.now }
     {
-        let kind = self.public_key.kind()?;
-        kind.certificate_name(alloc)
+        self.public_key.kind().certificate_name()
     }
 }
 
 impl KeyData {
-    /// The algorithm that a request names for a certificate for this key.
-    fn certified_name(&self, alloc: Global, hash_alg: Option<HashAlg>) -> Result<Text, NoMemory>
-        ensures { IfOk result (λ t. t ≡ certified_name (view self.now) hash_alg) }
+    fn is_plain_rsa(&self) -> bool
+        ensures { result ≡ is_plain_rsa (view self.now) }
     {
         match self {
-            KeyData::Rsa { .. } => Text::from_str(alloc, rsa_certificate_name(hash_alg)),
+            KeyData::Rsa { .. } => true,
             KeyData::Certificate(certificate) => {
                 let _ = certificate.is_certificate();
-                let kind = certificate.public_key.kind()?;
-                kind.certificate_name(alloc)
+                false
             }
-            _ => {
-                let kind = self.kind()?;
-                kind.certificate_name(alloc)
-            }
+            _ => false,
+        }
+    }
+
+    /// The algorithm that a request names for a certificate for this key.
+    fn certified_name(&self, hash_alg: Option<HashAlg>) -> AlgorithmName<'_>
+        ensures { spelled result ≡ certified_name (view self.now) hash_alg }
+    {
+        let name = self.kind().certificate_name();
+        if self.is_plain_rsa() {
+            AlgorithmName::Known(rsa_certificate_name(hash_alg))
+        } else {
+            name
+        }
+    }
+
+    /// The algorithm that a request names for the key, unless it is an RSA key.
+    #[tactic(auto, unfolding(crate::specs::RequestNames::request_name))]
+    fn fixed_name(&self, hash_alg: Option<HashAlg>) -> AlgorithmName<'_>
+        ensures { is_plain_rsa (view self.now) ≡ false → spelled result ≡ request_name (view self.now) hash_alg }
+    {
+        match self {
+            KeyData::Certificate(certificate) => certificate.request_name(hash_alg),
+            _ => self.name(),
         }
     }
 
     /// The algorithm that a request names for the key or certificate; of an RSA key it depends on the hash.
     #[tactic(auto, unfolding(crate::specs::RequestNames::request_name))]
+    pub fn request_name(&self, hash_alg: Option<HashAlg>) -> AlgorithmName<'_>
+        ensures { spelled result ≡ request_name (view self.now) hash_alg }
+    {
+        let name = self.fixed_name(hash_alg);
+        if self.is_plain_rsa() {
+            AlgorithmName::Known(rsa_name(hash_alg))
+        } else {
+            name
+        }
+    }
+
+    /// The same as a text of its own.
     pub fn request_algorithm(
         &self,
         alloc: Global,
@@ -145,24 +157,16 @@ impl KeyData {
     ) -> Result<Text, NoMemory>
         ensures { IfOk result (λ t. t ≡ request_name (view self.now) hash_alg) }
     {
-        match self {
-            KeyData::Rsa { .. } => Text::from_str(alloc, rsa_name(hash_alg)),
-            KeyData::Certificate(certificate) => certificate.request_algorithm(alloc, hash_alg),
-            _ => self.name(alloc),
-        }
+        self.request_name(hash_alg).to_text(alloc)
     }
 }
 
 impl Certificate {
     /// The algorithm that a request names for the certificate; of one for an RSA key it depends on the hash.
     #[tactic(auto, unfolding(crate::specs::RequestNames::request_name))]
-    pub fn request_algorithm(
-        &self,
-        alloc: Global,
-        hash_alg: Option<HashAlg>,
-    ) -> Result<Text, NoMemory>
-        ensures { IfOk result (λ t. t ≡ request_name self.now hash_alg) }
+    pub fn request_name(&self, hash_alg: Option<HashAlg>) -> AlgorithmName<'_>
+        ensures { spelled result ≡ request_name self.now hash_alg }
     {
-        self.public_key.certified_name(alloc, hash_alg)
+        self.public_key.certified_name(hash_alg)
     }
 }

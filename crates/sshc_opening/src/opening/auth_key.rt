@@ -93,20 +93,20 @@ impl Opening {
     {
         match method {
             Method::PublicKey { key } => {
-                let part = key_part(self.alloc, key.key().public_key(), key.hash_alg())?;
+                let part = key_part(key.key().public_key(), key.hash_alg());
                 self.sign(key.key(), &part, key.hash_alg(), signer, out)
             }
             Method::OpenSshCertificate { key, cert } => {
-                let part = certificate_part(self.alloc, cert, None)?;
+                let part = certificate_part(cert, None);
                 self.sign(key, &part, None, signer, out)
             }
             Method::FuturePublicKey { key, hash_alg } => {
-                let part = key_part(self.alloc, key, *hash_alg)?;
-                self.ask_key(part, *hash_alg, out)
+                let part = key_part(key, *hash_alg);
+                self.ask_key(&part, *hash_alg, out)
             }
             Method::FutureCertificate { cert, hash_alg } => {
-                let part = certificate_part(self.alloc, cert, *hash_alg)?;
-                self.ask_certificate(part, *hash_alg, out)
+                let part = certificate_part(cert, *hash_alg);
+                self.ask_certificate(&part, *hash_alg, out)
             }
             _ => Ok(None),
         }
@@ -116,7 +116,7 @@ impl Opening {
     fn sign<S: LocalSigner>(
         &self,
         pair: &PrivateKey,
-        part: &KeyPart,
+        part: &KeyPart<'_>,
         hash: Option<HashAlg>,
         signer: &mut S,
         out: &mut Outbox,
@@ -139,7 +139,7 @@ impl Opening {
     /// Writes the signed request, by the signer's answer.
     fn signed_by(
         &self,
-        part: &KeyPart,
+        part: &KeyPart<'_>,
         answer: Result<Vec<u8>, SignRefused>,
         out: &mut Outbox,
     ) -> Result<Option<Octets>, Error>
@@ -166,25 +166,25 @@ impl Opening {
     /// Hands out the bytes to sign, with the key.
     fn ask_key(
         &self,
-        part: KeyPart,
+        part: &KeyPart<'_>,
         hash: Option<HashAlg>,
         out: &mut Outbox,
     ) -> Result<Option<Octets>, Error>
-        ensures row { (key : Key) → IsKeyPart part key hash
+        ensures row { (key : Key) → IsKeyPart part.now key hash
             → Handed (ask_key_row self.now key hash) self.now out.old out.new result }
     {
         let bytes = part_to_sign(
             self.alloc,
             self.session_id.as_slice(),
             self.user.as_str(),
-            &part,
+            part,
         )?;
         let bytes = Octets::from_vec(bytes)?;
         let body = bytes.copy()?;
         out.push(Record::Auth {
             ticket: self.ticket,
             asked: AuthRecord::SignRequest {
-                key: part.blob,
+                key: part.blob(self.alloc)?,
                 hash_alg: hash,
                 body,
             },
@@ -195,25 +195,25 @@ impl Opening {
     /// Hands out the bytes to sign, with the certificate.
     fn ask_certificate(
         &self,
-        part: KeyPart,
+        part: &KeyPart<'_>,
         hash: Option<HashAlg>,
         out: &mut Outbox,
     ) -> Result<Option<Octets>, Error>
-        ensures row { (key : Key) → IsKeyPart part key hash
+        ensures row { (key : Key) → IsKeyPart part.now key hash
             → Handed (ask_certificate_row self.now key hash) self.now out.old out.new result }
     {
         let bytes = part_to_sign(
             self.alloc,
             self.session_id.as_slice(),
             self.user.as_str(),
-            &part,
+            part,
         )?;
         let bytes = Octets::from_vec(bytes)?;
         let body = bytes.copy()?;
         out.push(Record::Auth {
             ticket: self.ticket,
             asked: AuthRecord::SignRequestCert {
-                cert: part.blob,
+                cert: part.blob(self.alloc)?,
                 hash_alg: hash,
                 body,
             },

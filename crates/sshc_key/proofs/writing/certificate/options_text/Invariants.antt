@@ -1,7 +1,0 @@
-use Rattle.std.proofs.Common.{◌≡◌, take}
-use Rattle.std.specs.List.{flat_map}
-use Rattle.sshc_key.specs.KeyGrammar.{option_text}
-use Rattle.sshc_key.proofs.writing.certificate.options_text.Given as goal
-
-abbrev pub invariant-loop-option : goal.invariant-loop-option
-invariant-loop-option l = l.out.items ≡ flat_map option_text (take l.option-index l.options)
