@@ -2,13 +2,6 @@
 
 use sshc_wire::{ChannelId, ChannelOpenFailure, List, Octets, Pty, Sig, Text};
 
-/// A terminal's mode and its value (RFC 4254, section 8).
-#[derive(Clone, Copy, Debug, PartialEq, Eq)]
-pub struct TerminalMode {
-    pub mode: Pty,
-    pub value: u32,
-}
-
 /// A message on a channel. Those below the line `only reported` can't be asked for by a user.
 #[derive(Debug, PartialEq, Eq, Drop)]
 pub enum ChannelMsg {
@@ -33,7 +26,7 @@ pub enum ChannelMsg {
         row_height: u32,
         pix_width: u32,
         pix_height: u32,
-        terminal_modes: List<TerminalMode>,
+        terminal_modes: List<(Pty, u32)>,
     },
     /// The terminal's new size (RFC 4254, section 6.7), in characters, then in pixels.
     WindowChange {

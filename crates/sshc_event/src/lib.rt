@@ -6,7 +6,7 @@ mod event;
 mod host_key;
 mod method;
 
-pub use channel_msg::{ChannelMsg, TerminalMode};
+pub use channel_msg::ChannelMsg;
 pub use event::Event;
 pub use host_key::host_key_of;
 pub use method::Method;

@@ -1,19 +1,13 @@
 -- The parts of messages that a handle's calls make of their arguments.
 use Rattle.std.specs.Prelude.{ℕ, List, [], Option, Some}
-use Rattle.sshc_wire.specs.declared.pty.Pty.{Pty}
 use Rattle.sshc_wire.specs.declared.ticket.Ticket.{Ticket}
 use Rattle.sshc_key.specs.KeyGrammar.{Key}
 use Rattle.sshc_key.specs.declared.agent.AgentIdentity.{AgentIdentity}
 use Rattle.sshc_key.specs.declared.agent.AgentIdentity.TheVariants as identities
-use Rattle.sshc_event.specs.declared.channel_msg.TerminalMode.{TerminalMode}
 
 -- an answer is asked for; the submission assigns the ticket
 abbrev pub asked_ticket : Option Ticket
 asked_ticket = Some (record { 0 = 0 })
-
--- a mode of a terminal with its value (RFC 4254, section 8)
-abbrev pub terminal_mode : Pty × ℕ → TerminalMode
-terminal_mode pair = record { mode = pair.0; value = pair.1 }
 
 -- a key or a certificate as a signer knows it, without a comment
 abbrev pub identity_of_key : Key × List ℕ → AgentIdentity

@@ -1,10 +1,9 @@
 //! Requests and bytes for a channel, as messages of it.
 
-ghost use Rattle.std.specs.Prelude.{◌≡◌, IfOk, map};
-ghost use Rattle.sshc_handle_messages.specs.Messages.{terminal_mode};
+ghost use Rattle.std.specs.Prelude.{◌≡◌, IfOk};
 ghost use Rattle.sshc_event.specs.declared.channel_msg.ChannelMsg.TheVariants as msgs;
 
-use sshc_opening::{ChannelMsg, TerminalMode};
+use sshc_opening::ChannelMsg;
 use sshc_wire::{List, NoMemory, Octets, Pty, Sig, Text};
 use std::alloc::Global;
 
@@ -27,21 +26,7 @@ pub fn extended_bytes(alloc: Global, ext: u32, body: &[u8]) -> Result<ChannelMsg
     })
 }
 
-/// The modes of a terminal (RFC 4254, section 8).
-fn terminal_modes(alloc: Global, modes: &[(Pty, u32)]) -> Result<List<TerminalMode>, NoMemory>
-    ensures { IfOk result (λ l. l ≡ map terminal_mode modes.now) }
-{
-    let mut list = List::new(alloc);
-    for (mode, value) in modes {
-        list.push(TerminalMode {
-            mode: *mode,
-            value: *value,
-        })?;
-    }
-    Ok(list)
-}
-
-/// A terminal (RFC 4254, section 6.2): width and height in characters, then in pixels, and its modes.
+/// A terminal (RFC 4254, sections 6.2 and 8): width and height in characters, then in pixels, and its modes.
 pub fn terminal(
     alloc: Global,
     want_reply: bool,
@@ -52,8 +37,7 @@ pub fn terminal(
     pix_height: u32,
     modes: &[(Pty, u32)],
 ) -> Result<ChannelMsg, NoMemory>
-    ensures { IfOk result (λ m. m ≡ msgs.RequestPty want_reply term.now col_width row_height pix_width pix_height
-        (map terminal_mode modes.now)) }
+    ensures { IfOk result (λ m. m ≡ msgs.RequestPty want_reply term.now col_width row_height pix_width pix_height modes.now) }
 {
     Ok(ChannelMsg::RequestPty {
         want_reply,
@@ -62,7 +46,7 @@ pub fn terminal(
         row_height,
         pix_width,
         pix_height,
-        terminal_modes: terminal_modes(alloc, modes)?,
+        terminal_modes: List::from_vec(Vec::from_slice(alloc, modes)?)?,
     })
 }
 

@@ -21,7 +21,7 @@ pub use gssapi::{GssapiAuthenticator, GssapiError, GssapiStep};
 pub use keyboard_interactive::KeyboardInteractiveAuthResponse;
 pub use opening::{Class, Opening, Phase, Settings, Waiter, resolved};
 pub use order::{EventSort, sort_of};
-pub use sshc_event::{ChannelMsg, Event, Method, TerminalMode, host_key_of};
+pub use sshc_event::{ChannelMsg, Event, Method, host_key_of};
 pub use sshc_request::{mic_data, to_sign, write_auth_request};
 pub use sshc_transport::{ExchangeFlag, ExchangeKey, ExchangeResult, NamesChosen};
 pub use sshc_wire::{Outbox, Prompt, Record, Resolution, Ticket};

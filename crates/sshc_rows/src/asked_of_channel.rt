@@ -1,16 +1,15 @@
 //! What the user asks of a channel (RFC 4254, sections 5 and 6).
 
-ghost use Rattle.std.specs.Prelude.{◌≡◌, [], ◌∷◌, IfOk, map};
+ghost use Rattle.std.specs.Prelude.{◌≡◌, [], ◌∷◌};
 ghost use Rattle.sshc_packets.specs.ChannelRequests.{Env, PtyReq, channel_request};
 ghost use Rattle.sshc_moves.specs.Moves.{Does, RequestsOn};
-ghost use Rattle.sshc_moves.specs.SessionTable.Users.{channel_moves, forwarded_moves, mode_of, program_moves, size_of, terminal_moves};
+ghost use Rattle.sshc_moves.specs.SessionTable.Users.{channel_moves, forwarded_moves, program_moves, size_of, terminal_moves};
 
 use sshc_mux::Stream;
-use sshc_opening::{ChannelMsg, TerminalMode};
+use sshc_opening::ChannelMsg;
 use sshc_packets::{ChannelRequest, TerminalSize};
 use sshc_session::Connection;
 use sshc_wire::{ChannelId, NoMemory, Pty, Text};
-use std::alloc::Global;
 
 fn size_of(col_width: u32, row_height: u32, pix_width: u32, pix_height: u32) -> TerminalSize
     ensures { result ≡ size_of col_width row_height pix_width pix_height }
@@ -21,16 +20,6 @@ fn size_of(col_width: u32, row_height: u32, pix_width: u32, pix_height: u32) -> 
         pix_width,
         pix_height,
     }
-}
-
-fn modes_of(alloc: Global, modes: &[TerminalMode]) -> Result<Vec<(Pty, u32)>, NoMemory>
-    ensures { IfOk result (λ v. v.items ≡ map mode_of modes.now) }
-{
-    let mut pairs = Vec::new(alloc);
-    for m in modes {
-        pairs.push((m.mode, m.value))?;
-    }
-    Ok(pairs)
 }
 
 fn request(
@@ -107,13 +96,11 @@ fn request_pty(
     want_reply: bool,
     term: &str,
     size: TerminalSize,
-    modes: &[TerminalMode],
+    modes: &[(Pty, u32)],
 ) -> Result<(), NoMemory>
-    ensures { Does (RequestsOn id.0 (PtyReq want_reply term.now size (map mode_of modes.now)) ∷ []) session.old
+    ensures { Does (RequestsOn id.0 (PtyReq want_reply term.now size modes.now) ∷ []) session.old
         session.new result }
 {
-    let modes = modes_of(session.alloc(), modes)?;
-    let modes = modes.as_slice();
     request(
         session,
         id,

@@ -94,7 +94,7 @@ key_takes x bytes h = string_takes h.0 bytes h.1
 mode_takes : TakesAtLeast 5 IsMode
 mode_takes m bytes (a, b, is, one, four) =
     let first : length a ≡ 1 = ap length one.0 in
-    let second : length b ≡ 4 = ap length four.0 ∙ four_bytes m.value in
+    let second : length b ≡ 4 = ap length four.0 ∙ four_bytes m.1 in
     let size : length bytes ≡ length a + length b = ap length is ∙ length-append a b in
     omega arith
 
@@ -112,7 +112,7 @@ some_keys = counted_parts 4 Bad key_takes counts a_key
 
 pub a_mode : IsGrammar IsMode mode_at
 unfolding mode_at
-a_mode = made_of (λ x. record { mode = record { 0 = x.0 }; value = x.1 }) IsMode (λ a bytes h. h) (λ b bytes h. ((b.mode.0, b.value), refl, h)) (in_row a_u8 a_u32)
+a_mode = made_of (λ x. (record { 0 = x.0 }, x.1)) IsMode (λ a bytes h. h) (λ b bytes h. ((b.0.0, b.1), refl, h)) (in_row a_u8 a_u32)
 
 pub some_modes : IsGrammar (IsCounted IsMode) modes_at
 unfolding modes_at

@@ -6,7 +6,7 @@ use Rattle.sshc_wire.specs.Signals.{signal_of}
 use Rattle.sshc_wire.specs.Wire.{IsBytes}
 use Rattle.sshc_event.specs.declared.channel_msg.ChannelMsg.{ChannelMsg}
 use Rattle.sshc_event.specs.declared.channel_msg.ChannelMsg.TheVariants as msgs
-use Rattle.sshc_event.specs.declared.channel_msg.TerminalMode.{TerminalMode}
+use Rattle.sshc_wire.specs.declared.pty.Pty.{Pty}
 use Rattle.sshc_script.specs.declared.channel_sort.ChannelSort.{ChannelSort}
 use Rattle.sshc_script.specs.declared.channel_sort.ChannelSort.TheVariants as channel_sorts
 use Rattle.sshc_script.specs.ChannelSorts.{channel_sort_number, channel_sort_numbered, channel_sort_again, channel_sort_is}
@@ -72,10 +72,10 @@ window_change_back : (m : ChannelMsg) (bytes : List ℕ) → OfSort channel_sort
 window_change_back (msgs.WindowChange cols rows width height) bytes h = ((cols, (rows, (width, height))), refl, h.1)
 window_change_back m bytes h = absurd cc
 
-abbrev msg_of_request_pty : Bool × (List ℕ × ((ℕ × (ℕ × (ℕ × ℕ))) × List TerminalMode)) → ChannelMsg
+abbrev msg_of_request_pty : Bool × (List ℕ × ((ℕ × (ℕ × (ℕ × ℕ))) × List (Pty × ℕ))) → ChannelMsg
 msg_of_request_pty x = msgs.RequestPty x.0 x.1.0 x.1.1.0.0 x.1.1.0.1.0 x.1.1.0.1.1.0 x.1.1.0.1.1.1 x.1.1.1
 
-request_pty_back : (m : ChannelMsg) (bytes : List ℕ) → OfSort channel_sorts.RequestPty m bytes → (a : Bool × (List ℕ × ((ℕ × (ℕ × (ℕ × ℕ))) × List TerminalMode))) × (msg_of_request_pty a ≡ m) × (InRow IsFlag (InRow IsText (InRow IsSize (IsCounted IsMode)))) a bytes
+request_pty_back : (m : ChannelMsg) (bytes : List ℕ) → OfSort channel_sorts.RequestPty m bytes → (a : Bool × (List ℕ × ((ℕ × (ℕ × (ℕ × ℕ))) × List (Pty × ℕ)))) × (msg_of_request_pty a ≡ m) × (InRow IsFlag (InRow IsText (InRow IsSize (IsCounted IsMode)))) a bytes
 request_pty_back (msgs.RequestPty reply term cols rows width height modes) bytes h = ((reply, (term, ((cols, (rows, (width, height))), modes))), refl, h.1)
 request_pty_back m bytes h = absurd cc
 

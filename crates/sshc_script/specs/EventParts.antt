@@ -8,6 +8,7 @@ use Rattle.sshc_wire.specs.declared.channel_id.ChannelId.{ChannelId}
 use Rattle.sshc_wire.specs.declared.channel_open_failure.ChannelOpenFailure.{ChannelOpenFailure}
 use Rattle.sshc_wire.specs.declared.disconnect.Disconnect.{Disconnect}
 use Rattle.sshc_wire.specs.declared.error.WireError.{WireError}
+use Rattle.sshc_wire.specs.declared.pty.Pty.{Pty}
 use Rattle.sshc_wire.specs.declared.ticket.Ticket.{Ticket}
 use Rattle.sshc_wire.specs.Format.{part_at, both_at, made_at}
 use Rattle.sshc_wire.specs.Grammar.{SpelledAs, InRow, converted_at}
@@ -23,7 +24,6 @@ use Rattle.sshc_key.specs.PairCode.{KeyPair}
 use Rattle.sshc_key.specs.PairGrammar.{key_pair, pair_at}
 use Rattle.sshc_key.specs.declared.error.Error.{Error as KeyError}
 use Rattle.sshc_event.specs.HostKey.{is_plain}
-use Rattle.sshc_event.specs.declared.channel_msg.TerminalMode.{TerminalMode}
 use Rattle.sshc_script.specs.declared.channel_sort.ChannelSort.{ChannelSort}
 use Rattle.sshc_script.specs.declared.error.EventError.{EventError}
 use Rattle.sshc_script.specs.declared.error.EventError.TheVariants.{Bad}
@@ -88,14 +88,14 @@ strings_at bytes = counted_at 4 Bad u32_at octets_at bytes
 unfoldable pub texts_at : Reader EventError (List (List ℕ))
 texts_at bytes = counted_at 4 Bad u32_at words_at bytes
 
-unfoldable pub mode_at : Reader EventError TerminalMode
-mode_at bytes = made_at (λ x. record { mode = record { 0 = x.0 }; value = x.1 }) (both_at u8_at u32_at) bytes
+unfoldable pub mode_at : Reader EventError (Pty × ℕ)
+mode_at bytes = made_at (λ x. (record { 0 = x.0 }, x.1)) (both_at u8_at u32_at) bytes
 
-unfoldable pub modes_at : Reader EventError (List TerminalMode)
+unfoldable pub modes_at : Reader EventError (List (Pty × ℕ))
 modes_at bytes = counted_at 5 Bad u32_at mode_at bytes
 
-abbrev pub IsMode : TerminalMode → List ℕ → Type 0
-IsMode m bytes = InRow IsU8 IsU32 (m.mode.0, m.value) bytes
+abbrev pub IsMode : Pty × ℕ → List ℕ → Type 0
+IsMode m bytes = InRow IsU8 IsU32 (m.0.0, m.1) bytes
 
 -- ---- what a number or a string represents
 

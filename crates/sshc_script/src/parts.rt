@@ -7,7 +7,6 @@ ghost use Rattle.sshc_script.specs.Gives.{Gives, GivesAll};
 use crate::channel_sort::ChannelSort;
 use crate::error::EventError;
 use crate::method_sort::MethodSort;
-use sshc_event::TerminalMode;
 use sshc_key::HashAlg;
 use sshc_wire::{ChannelId, ChannelOpenFailure, Cursor, Disconnect, Octets, Pty, Text, Ticket};
 use std::alloc::Global;
@@ -162,10 +161,10 @@ pub fn token_field(alloc: Global, c: &mut Cursor<'_>) -> Result<Option<Octets>, 
 }
 
 #[tactic(auto, unfolding(crate::specs::EventParts::mode_at))]
-pub fn mode_of(c: &mut Cursor<'_>) -> Result<TerminalMode, EventError>
+pub fn mode_of(c: &mut Cursor<'_>) -> Result<(Pty, u32), EventError>
     ensures { Gives (λ m. m) result c.new (mode_at c.old) }
 {
     let mode = Pty(u8_of(c)?);
     let value = u32_of(c)?;
-    Ok(TerminalMode { mode, value })
+    Ok((mode, value))
 }

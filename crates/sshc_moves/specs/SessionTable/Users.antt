@@ -1,13 +1,11 @@
 -- Rows of what the user asks of an open session. While an exchange runs they are out of turn.
-use Rattle.std.specs.Prelude.{ℕ, Bool, true, false, List, [], ◌∷◌, map, Option, Some, None, is_some, Result, Ok, Err, ◌==◌, if◌then◌else◌}
+use Rattle.std.specs.Prelude.{ℕ, Bool, true, false, List, [], ◌∷◌, Option, Some, None, is_some, Result, Ok, Err, ◌==◌, if◌then◌else◌}
 use Rattle.sshc_wire.specs.declared.channel_open_failure.ChannelOpenFailure.{ChannelOpenFailure}
-use Rattle.sshc_wire.specs.declared.pty.Pty.{Pty}
 use Rattle.sshc_wire.specs.declared.resolution.Resolution.TheVariants.{Dropped, ExtInfoSeen, HostKeysProved}
 use Rattle.sshc_wire.specs.declared.ticket.Ticket.{Ticket}
 use Rattle.sshc_key.specs.KeyGrammar.{Key}
 use Rattle.sshc_event.specs.declared.channel_msg.ChannelMsg.{ChannelMsg}
 use Rattle.sshc_event.specs.declared.channel_msg.ChannelMsg.TheVariants as msgs
-use Rattle.sshc_event.specs.declared.channel_msg.TerminalMode.{TerminalMode}
 use Rattle.sshc_event.specs.declared.event.Event.{Event}
 use Rattle.sshc_event.specs.declared.event.Event.TheVariants as events
 use Rattle.sshc_opening.specs.declared.ended.Ended.TheVariants as ended
@@ -29,9 +27,6 @@ asked_ticket ticket = if ticket.0 == 0 then None else Some ticket
 
 abbrev pub opens : ChannelOpen → Ticket → List Move
 opens asked ticket = Opens asked (asked_ticket ticket) ∷ []
-
-abbrev pub mode_of : TerminalMode → Pty × ℕ
-mode_of m = (m.mode, m.value)
 
 abbrev pub size_of : ℕ → ℕ → ℕ → ℕ → TerminalSize
 size_of columns rows width height =
@@ -56,7 +51,7 @@ forwarded_moves id msg = program_moves id msg
 -- terminals (RFC 4254, sections 6.2 and 6.7)
 unfoldable pub terminal_moves : ℕ → ChannelMsg → List Move
 terminal_moves id (msgs.RequestPty want_reply term columns rows width height modes) =
-    RequestsOn id (PtyReq want_reply term (size_of columns rows width height) (map mode_of modes)) ∷ []
+    RequestsOn id (PtyReq want_reply term (size_of columns rows width height) modes) ∷ []
 terminal_moves id (msgs.WindowChange columns rows width height) =
     RequestsOn id (WindowChange (size_of columns rows width height)) ∷ []
 terminal_moves id msg = forwarded_moves id msg

@@ -9,9 +9,8 @@ ghost use Rattle.sshc_script.specs.Gives.{Gives};
 use crate::error::EventError;
 use crate::keys::key_of;
 use crate::parts::{mode_of, octets_of, text_of, u32_of};
-use sshc_event::TerminalMode;
 use sshc_key::PublicKey;
-use sshc_wire::{Cursor, List, Octets, Text};
+use sshc_wire::{Cursor, List, Octets, Pty, Text};
 use std::alloc::Global;
 
 /// A part that can be an element of a list.
@@ -40,10 +39,10 @@ impl Part for Text {
     }
 }
 
-impl Part for TerminalMode {
+impl Part for (Pty, u32) {
     ghost at = { mode_at };
 
-    fn read(_alloc: Global, c: &mut Cursor<'_>) -> Result<TerminalMode, EventError> {
+    fn read(_alloc: Global, c: &mut Cursor<'_>) -> Result<(Pty, u32), EventError> {
         mode_of(c)
     }
 }
