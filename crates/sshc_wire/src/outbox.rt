@@ -131,6 +131,7 @@ impl Outbox {
         ensures ok { OnOk result (self.new.records ≡ self.old.records ++ shown self.old.muted said.old.items) }
         ensures taken { OnOk result (said.new.items ≡ []) }
         ensures err { OnErr result (self.new.records ≡ self.old.records) }
+        ensures left { OnErr result (said.new.items ≡ said.old.items) }
         ensures same { self.new.muted ≡ self.old.muted }
         ensures succeeds { said.old.items ≡ [] → IsOk result }
     {
