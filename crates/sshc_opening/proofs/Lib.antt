@@ -1,5 +1,6 @@
 mod Rows
 mod PromptLemmas
+mod ListLemmas
 mod CountedLemmas
 mod FaultLemmas
 mod StepLemmas

@@ -1,7 +1,7 @@
 -- Extensions of a server and what they change (RFC 8308, sections 2.3 and 3.1): names that are seen, the signature
 -- names of `server-sig-algs`, and who waits for an extension.
--- Extensions are read whole, and then taken in order; the code does it in place.
-use Rattle.std.specs.Prelude.{ℕ, Bool, true, false, not, List, [], ◌∷◌, ◌++◌, Option, Some, None, Result, Ok, Err, filter, bytes_eq, codes, if◌then◌else◌}
+-- Extensions are read whole, and then taken in order.
+use Rattle.std.specs.Prelude.{ℕ, Bool, true, false, not, List, [], ◌∷◌, ◌++◌, Option, Some, None, Result, Ok, Err, filter, map, bytes_eq, codes, if◌then◌else◌}
 use Rattle.std.specs.Int.{w32}
 use Rattle.sshc_wire.specs.Counted.{counted_at}
 use Rattle.sshc_wire.specs.Names.{names_at}
@@ -10,7 +10,6 @@ use Rattle.sshc_wire.specs.declared.error.WireError.{WireError}
 use Rattle.sshc_wire.specs.declared.error.WireError.TheVariants.{Short}
 use Rattle.sshc_wire.specs.declared.record.Record.{Record}
 use Rattle.sshc_wire.specs.declared.resolution.Resolution.TheVariants.{ExtInfoSeen}
-use Rattle.sshc_opening.specs.declared.extension.Announced.{Announced}
 use Rattle.sshc_opening.specs.declared.extension.Extension.{Extension}
 use Rattle.sshc_opening.specs.declared.extension.TheConstants.{LEAST_EXTENSION}
 use Rattle.sshc_opening.specs.declared.opening.Waiter.{Waiter}
@@ -57,24 +56,27 @@ answers_seen name (waiter ∷ waiters) = (if waits_for name waiter then resolved
 
 -- those who wait for another name
 abbrev pub others : List ℕ → List Waiter → List Waiter
-others name [] = []
-others name (waiter ∷ waiters) = if waits_for name waiter then others name waiters else waiter ∷ others name waiters
+others name waiters = filter (λ waiter. not (waits_for name waiter)) waiters
 
--- the last list of signature names counts
+-- the answers to those who wait for one of these extensions, extension by extension
+abbrev pub answers_to : List Extension → List Waiter → List Record
+answers_to [] waiters = []
+answers_to (extension ∷ extensions) waiters = answers_seen extension.name waiters ++ answers_to extensions (others extension.name waiters)
+
+-- those who wait for none of these extensions
+abbrev pub still_waiting : List Extension → List Waiter → List Waiter
+still_waiting [] waiters = waiters
+still_waiting (extension ∷ extensions) waiters = still_waiting extensions (others extension.name waiters)
+
+-- a list of signature names takes the place of the one before
 abbrev pub newer : Option (List (List ℕ)) → Option (List (List ℕ)) → Option (List (List ℕ))
 newer None old = old
 newer (Some names) old = Some names
 
--- one more extension: its name is seen, and its waiters' tickets are resolved
-abbrev pub announce : Announced → Extension → Announced
-announce a extension = record {
-  sig_algs = newer extension.sig_algs a.sig_algs;
-  seen = a.seen ++ extension.name ∷ [];
-  waiters = others extension.name a.waiters;
-  answers = a.answers ++ answers_seen extension.name a.waiters;
-}
+-- the signature names after these extensions
+abbrev pub last_listed : List Extension → Option (List (List ℕ)) → Option (List (List ℕ))
+last_listed [] old = old
+last_listed (extension ∷ extensions) old = last_listed extensions (newer extension.sig_algs old)
 
--- these extensions more, in order
-abbrev pub announce_all : Announced → List Extension → Announced
-announce_all a [] = a
-announce_all a (extension ∷ extensions) = announce_all (announce a extension) extensions
+abbrev pub names_of : List Extension → List (List ℕ)
+names_of extensions = map (λ extension. extension.name) extensions

@@ -29,7 +29,6 @@ use Rattle.sshc_transport.specs.declared.exchange.ExchangeFlag.TheVariants as fl
 use Rattle.sshc_transport.specs.declared.exchange.ExchangeResult.{ExchangeResult}
 use Rattle.sshc_request.specs.RequestTexts.{gssapi_complete, gssapi_mic, mic, request}
 use Rattle.sshc_opening.specs.declared.error.Error.TheVariants.{OutOfTurn, Inconsistent, Pending, InactivityTimeout}
-use Rattle.sshc_opening.specs.declared.extension.Announced.{Announced}
 use Rattle.sshc_opening.specs.declared.extension.Extension.{Extension}
 use Rattle.sshc_opening.specs.declared.opening.Class.{Class}
 use Rattle.sshc_opening.specs.declared.opening.Class.TheVariants as classes
@@ -38,12 +37,12 @@ use Rattle.sshc_opening.specs.declared.opening.Phase.TheVariants as phases
 use Rattle.sshc_opening.specs.declared.opening.Waiter.{Waiter}
 use Rattle.sshc_opening.specs.declared.step.Told.{Told}
 use Rattle.sshc_opening.specs.declared.step.Told.TheVariants as telling
-use Rattle.sshc_opening.specs.Extensions.{extensions_at, waits_for, answers_seen, announce, announce_all}
+use Rattle.sshc_opening.specs.Extensions.{extensions_at, waits_for, answers_seen, answers_to, others}
 use Rattle.sshc_opening.specs.OpeningState.{OpeningState, is_awaiting}
 use Rattle.sshc_opening.specs.OpeningTable.{answer_row, auth_row, gssapi_row, is_pk_ok, auth_packet_row, packet_row_in, phase_packet_row, held_packet_row, is_exchanging, numbered_row, payload_row, authenticate_row_in, plain_row, user_row, unopened_row, event_row, turn_row, open_row}
 use Rattle.sshc_opening.specs.OpeningTable.Order.{is_out_of_turn, packet_in, ticket_of}
 use Rattle.sshc_opening.specs.OpeningTable.Exchange.{peer_kexinit_row, peer_kexinit_row_at, accepted_row, first_exchange_row, exchange_row_in, exchange_done_row}
-use Rattle.sshc_opening.specs.OpeningTable.ExtInfo.{announced_before, ext_info_row, extensions_row, is_third}
+use Rattle.sshc_opening.specs.OpeningTable.ExtInfo.{ext_info_row, extensions_row, is_third}
 use Rattle.sshc_opening.specs.OpeningTable.Auth.{answered, userauth_failure_row, userauth_success_row, userauth_banner_row, authenticate_again_row, known_methods, next_without}
 use Rattle.sshc_opening.specs.OpeningTable.AuthGssapi.{gssapi_step, gssapi_response_row, gssapi_token_row, gssapi_error_row, gssapi_errtok_row, is_gssapi, last_token, user_token_row, user_mic_row, user_complete_row}
 use Rattle.sshc_opening.specs.OpeningTable.AuthKey.{pk_ok_row, is_pk_ok_body, key_row, signed_by_row}
@@ -135,16 +134,16 @@ seen_keeps s name (waiter ∷ waiters) =
     (cond_keeps (λ (said : List Record). AllByRecursion (HandsStored (kept_of s)) said) (waits_for name waiter) _ _ (resolved_keeps s waiter.ticket answers.ExtInfoSeen) tt)
     (seen_keeps s name waiters)
 
-announced_keeps : (s : OpeningState) (a : Announced) (extensions : List Extension) → AllByRecursion (HandsStored (kept_of s)) a.answers → AllByRecursion (HandsStored (kept_of s)) (announce_all a extensions).answers
-announced_keeps s a [] so_far = so_far
-announced_keeps s a (extension ∷ extensions) so_far =
-    announced_keeps s (announce a extension) extensions (two_keep s a.answers (answers_seen extension.name a.waiters) so_far (seen_keeps s extension.name a.waiters))
+told_keeps : (s : OpeningState) (extensions : List Extension) (waiters : List Waiter) → AllByRecursion (HandsStored (kept_of s)) (answers_to extensions waiters)
+told_keeps s [] waiters = tt
+told_keeps s (extension ∷ extensions) waiters =
+    two_keep s (answers_seen extension.name waiters) (answers_to extensions (others extension.name waiters)) (seen_keeps s extension.name waiters) (told_keeps s extensions (others extension.name waiters))
 
 ext_info_keeps : (s : OpeningState) (event : Event) (body : List ℕ) → Keeps (kept_of s) event (ext_info_row s body)
 unfolding ext_info_row
 ext_info_keeps s event body =
     cond_keeps (Keeps (kept_of s) event) (is_third s) _ _ (tt, tt)
-    (part_keeps s event (extensions_at body) _ (λ told left. end_keeps s event left (extensions_row s told) (announced_keeps s (announced_before s) told tt, ((λ later. (refl, later)), inl (refl, inl refl)))))
+    (part_keeps s event (extensions_at body) _ (λ told left. end_keeps s event left (extensions_row s told) (told_keeps s told s.waiters, ((λ later. (refl, later)), inl (refl, inl refl)))))
 
 stored_keeps : (s : OpeningState) (method : Option Method) → AllByRecursion (HandsStored (kept_of s)) (stored_request s.user method)
 stored_keeps s None = tt

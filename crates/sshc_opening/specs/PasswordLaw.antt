@@ -37,7 +37,6 @@ use Rattle.sshc_transport.specs.declared.exchange.ExchangeResult.{ExchangeResult
 use Rattle.sshc_request.specs.RequestTexts.{disconnect, gssapi_complete, gssapi_mic, gssapi_token, info_response, key_part, method_text, mic, request, request_head, service_request, signed, signed_request, unsigned_request}
 use Rattle.sshc_key.specs.RequestNames.{request_name}
 use Rattle.sshc_opening.specs.declared.error.Error.TheVariants.{OutOfTurn, Inconsistent, Pending, InactivityTimeout}
-use Rattle.sshc_opening.specs.declared.extension.Announced.{Announced}
 use Rattle.sshc_opening.specs.declared.extension.Extension.{Extension}
 use Rattle.sshc_opening.specs.declared.opening.Class.{Class}
 use Rattle.sshc_opening.specs.declared.opening.Class.TheVariants as classes
@@ -46,12 +45,12 @@ use Rattle.sshc_opening.specs.declared.opening.Phase.TheVariants as phases
 use Rattle.sshc_opening.specs.declared.opening.Waiter.{Waiter}
 use Rattle.sshc_opening.specs.declared.step.Told.{Told}
 use Rattle.sshc_opening.specs.declared.step.Told.TheVariants as telling
-use Rattle.sshc_opening.specs.Extensions.{extensions_at, waits_for, answers_seen, announce, announce_all}
+use Rattle.sshc_opening.specs.Extensions.{extensions_at, waits_for, answers_seen, answers_to, others}
 use Rattle.sshc_opening.specs.OpeningState.{OpeningState, is_awaiting}
 use Rattle.sshc_opening.specs.OpeningTable.{answer_row, auth_row, gssapi_row, is_pk_ok, auth_packet_row, packet_row_in, phase_packet_row, held_packet_row, is_exchanging, numbered_row, payload_row, authenticate_row_in, plain_row, user_row, unopened_row, event_row, turn_row, open_row}
 use Rattle.sshc_opening.specs.OpeningTable.Order.{is_out_of_turn, packet_in, ticket_of}
 use Rattle.sshc_opening.specs.OpeningTable.Exchange.{peer_kexinit_row, peer_kexinit_row_at, accepted_row, first_exchange_row, exchange_row_in, exchange_done_row}
-use Rattle.sshc_opening.specs.OpeningTable.ExtInfo.{announced_before, ext_info_row, extensions_row, is_third}
+use Rattle.sshc_opening.specs.OpeningTable.ExtInfo.{ext_info_row, extensions_row, is_third}
 use Rattle.sshc_opening.specs.OpeningTable.Auth.{answered, userauth_failure_row, userauth_success_row, userauth_banner_row, authenticate_again_row, known_methods, next_without}
 use Rattle.sshc_opening.specs.OpeningTable.AuthGssapi.{gssapi_step, gssapi_response_row, gssapi_token_row, gssapi_error_row, gssapi_errtok_row, is_gssapi, last_token, user_token_row, user_mic_row, user_complete_row}
 use Rattle.sshc_opening.specs.OpeningTable.AuthKey.{pk_ok_row, is_pk_ok_body, key_row, signed_by_row}
@@ -215,16 +214,16 @@ none_seen packet name (waiter ∷ waiters) =
     (cond_holds (λ (said : List Record). times_written packet said ≡ 0) (waits_for name waiter) _ _ (none_resolved packet waiter.ticket answers.ExtInfoSeen) refl)
     (none_seen packet name waiters)
 
-none_announced : (packet : List ℕ) (a : Announced) (extensions : List Extension) → times_written packet a.answers ≡ 0 → times_written packet (announce_all a extensions).answers ≡ 0
-none_announced packet a [] so_far = so_far
-none_announced packet a (extension ∷ extensions) so_far =
-    none_announced packet (announce a extension) extensions (none_two packet a.answers (answers_seen extension.name a.waiters) so_far (none_seen packet extension.name a.waiters))
+none_told : (packet : List ℕ) (extensions : List Extension) (waiters : List Waiter) → times_written packet (answers_to extensions waiters) ≡ 0
+none_told packet [] waiters = refl
+none_told packet (extension ∷ extensions) waiters =
+    none_two packet (answers_seen extension.name waiters) (answers_to extensions (others extension.name waiters)) (none_seen packet extension.name waiters) (none_told packet extensions (others extension.name waiters))
 
 ext_info_quiet : (packet : List ℕ) (s : OpeningState) (body : List ℕ) → FitsRequest s → Quiet packet s (ext_info_row s body)
 unfolding ext_info_row
 ext_info_quiet packet s body fits =
     cond_holds (Quiet packet s) (is_third s) _ _ (refl, tt)
-    (part_quiet packet s (extensions_at body) _ (λ told left. end_quiet packet s left (extensions_row s told) (none_announced packet (announced_before s) told refl, (omega arith, fits))))
+    (part_quiet packet s (extensions_at body) _ (λ told left. end_quiet packet s left (extensions_row s told) (none_told packet told s.waiters, (omega arith, fits))))
 
 without_calm : (packet : List ℕ) (s : OpeningState) (kinds : List MethodKind) → FitsRequest s → CalmNext packet s (next_without s kinds)
 without_calm packet s [] fits = tt

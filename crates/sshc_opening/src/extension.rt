@@ -1,8 +1,9 @@
 //! Extensions that a server announces in EXT_INFO (RFC 8308, sections 2.3 and 3.1), and what they change.
 
-ghost use Rattle.std.specs.Prelude.{◌≡◌, ◌++◌, IfOk, OnOk, filter};
+ghost use Rattle.std.specs.Prelude.{◌≡◌, ◌≤◌, ◌+◌, ◌++◌, IfOk, OnOk, filter, length, map};
+ghost use Rattle.std.specs.Vec.{vec_capacity};
 ghost use Rattle.sshc_wire.specs.Counted.{times_at};
-ghost use Rattle.sshc_opening.specs.Extensions.{extension_at, extensions_at, announce, announce_all, others, answers_seen};
+ghost use Rattle.sshc_opening.specs.Extensions.{extension_at, extensions_at, answers_seen, answers_to, last_listed, names_of, others, still_waiting};
 ghost use Rattle.sshc_opening.specs.Reading.{ReadsOr};
 ghost use Rattle.sshc_opening.specs.Row.{resolved};
 ghost use Rattle.sshc_opening.specs.SignatureNames.{is_signature_name};
@@ -25,19 +26,6 @@ pub const LEAST_EXTENSION: u32 = 8;
 pub struct Extension {
     pub name: Text,
     pub sig_algs: Option<List<Text>>,
-}
-
-/// The state after the extensions so far.
-#[derive(Debug, Drop)]
-pub struct Announced {
-    /// The names of the last `server-sig-algs`.
-    pub sig_algs: Option<List<Text>>,
-    /// The names of the extensions.
-    pub seen: List<Text>,
-    /// Those who still wait for an extension.
-    pub waiters: List<Waiter>,
-    /// The answers to those who don't wait any more.
-    pub answers: List<Record>,
 }
 
 /// The known names, in their order.
@@ -104,64 +92,88 @@ pub fn read_extensions(alloc: Global, packet: &mut Cursor<'_>) -> Result<List<Ex
 }
 
 /// Adds the record that resolves a waiter's ticket.
-fn answer(ticket: Ticket, answers: &mut List<Record>) -> Result<(), NoMemory>
-    ensures { OnOk result (answers.new ≡ answers.old ++ resolved ticket ExtInfoSeen) }
+fn answer(ticket: Ticket, answers: &mut Vec<Record>) -> Result<(), NoMemory>
+    ensures { OnOk result (answers.new.items ≡ answers.old.items ++ resolved ticket ExtInfoSeen) }
 {
-    match resolved(ticket, Resolution::ExtInfoSeen) {
-        Some(said) => answers.push(said),
-        None => Ok(()),
+    if let Some(said) = resolved(ticket, Resolution::ExtInfoSeen) {
+        answers.push(said)?;
     }
+    Ok(())
 }
 
-/// Resolves the tickets of those who wait for this extension, and returns the other waiters.
-fn answer_waiters(
-    waiters: List<Waiter>,
-    name: &str,
-    answers: &mut List<Record>,
-) -> Result<List<Waiter>, NoMemory>
-    ensures others { IfOk result (λ l. l ≡ others name.now waiters) }
-    ensures answered { OnOk result (answers.new ≡ answers.old ++ answers_seen name.now waiters) }
+/// Adds the answers to those who wait for this extension, in their order.
+fn answer_seen(waiters: &[&Waiter], name: &str, answers: &mut Vec<Record>) -> Result<(), NoMemory>
+    ensures { OnOk result
+        (answers.new.items ≡ answers.old.items ++ answers_seen name.now (map (λ w. w.now) waiters.now)) }
 {
-    let mut left = List::new(waiters.allocator());
-    for waiter in waiters.into_vec() {
+    for waiter in waiters {
         if waiter.extension_name.as_str() == name {
             answer(waiter.ticket, answers)?;
-        } else {
-            left.push(waiter)?;
         }
     }
-    Ok(left)
+    Ok(())
 }
 
-impl Announced {
-    /// The same with one extension more.
-    fn with(self, extension: Extension) -> Result<Announced, NoMemory>
-        ensures { IfOk result (λ a. a ≡ announce self extension) }
-    {
-        let mut answers = self.answers;
-        let waiters = answer_waiters(self.waiters, extension.name.as_str(), &mut answers)?;
-        let mut seen = self.seen;
-        seen.push(extension.name)?;
-        let sig_algs = match extension.sig_algs {
-            Some(names) => Some(names),
-            None => self.sig_algs,
-        };
-        Ok(Announced {
-            sig_algs,
-            seen,
-            waiters,
-            answers,
-        })
+/// Where each of them is.
+fn places<'a>(alloc: Global, waiters: &'a [Waiter]) -> Result<Vec<&'a Waiter>, NoMemory>
+    ensures { IfOk result (λ v. map (λ w. w.now) v.items ≡ waiters.now) }
+{
+    let mut places = Vec::new(alloc);
+    for waiter in waiters {
+        places.push(waiter)?;
     }
+    Ok(places)
+}
 
-    /// The same with these extensions, in order.
-    pub fn with_all(self, extensions: List<Extension>) -> Result<Announced, NoMemory>
-        ensures { IfOk result (λ a. a ≡ announce_all self extensions) }
-    {
-        let mut announced = self;
-        for extension in extensions.into_vec() {
-            announced = announced.with(extension)?;
+/// Leaves those who wait for another extension.
+fn leave_others(left: &mut Vec<&Waiter>, name: &str)
+    ensures { map (λ w. w.now) left.new.items ≡ others name.now (map (λ w. w.now) left.old.items) }
+{
+    left.retain(|waiter| waiter.extension_name.as_str() != name);
+}
+
+/// The answers to those who wait for one of these extensions, extension by extension.
+pub fn answers_to(
+    alloc: Global,
+    extensions: &[Extension],
+    waiters: &[Waiter],
+) -> Result<Vec<Record>, NoMemory>
+    ensures { IfOk result (λ a. a.items ≡ answers_to extensions.now waiters.now) }
+{
+    let mut answers = Vec::new(alloc);
+    let mut left = places(alloc, waiters)?;
+    for extension in extensions {
+        let name = extension.name.as_str();
+        answer_seen(left.as_slice(), name, &mut answers)?;
+        leave_others(&mut left, name);
+    }
+    Ok(answers)
+}
+
+/// Keeps those who wait for another extension.
+fn keep_others(waiters: &mut Vec<Waiter>, name: &str)
+    ensures { waiters.new.items ≡ others name.now waiters.old.items }
+{
+    waiters.retain(|waiter| waiter.extension_name.as_str() != name);
+}
+
+/// Takes these extensions, for whose names there is room, in order.
+pub fn take_extensions(
+    extensions: Vec<Extension>,
+    sig_algs: &mut Option<List<Text>>,
+    seen: &mut Vec<Text>,
+    waiters: &mut Vec<Waiter>,
+)
+    requires { length seen.old.items + length extensions.items ≤ vec_capacity seen.old }
+    ensures listed { sig_algs.new ≡ last_listed extensions.items sig_algs.old }
+    ensures seen { seen.new.items ≡ seen.old.items ++ names_of extensions.items }
+    ensures waiting { waiters.new.items ≡ still_waiting extensions.items waiters.old.items }
+{
+    for extension in extensions {
+        keep_others(waiters, extension.name.as_str());
+        seen.push_reserved(extension.name);
+        if let Some(names) = extension.sig_algs {
+            *sig_algs = Some(names);
         }
-        Ok(announced)
     }
 }

@@ -95,8 +95,8 @@ pub struct Opening {
     ticket: Ticket,
     ext_infos: u32,
     sig_algs: Option<List<Text>>,
-    seen: List<Text>,
-    waiters: List<Waiter>,
+    seen: Vec<Text>,
+    waiters: Vec<Waiter>,
     pending: PendingCount,
     handed: Octets,
     is_closed: bool,
@@ -122,8 +122,8 @@ impl Model for Opening {
       ticket = o.ticket;
       ext_infos = o.ext_infos;
       sig_algs = o.sig_algs;
-      seen = o.seen;
-      waiters = o.waiters;
+      seen = o.seen.items;
+      waiters = o.waiters.items;
       counted = o.pending;
       handed = o.handed;
       closed = o.is_closed;
@@ -153,8 +153,8 @@ impl Opening {
             ticket: Ticket(0),
             ext_infos: 0,
             sig_algs: None,
-            seen: List::new(alloc),
-            waiters: List::new(alloc),
+            seen: Vec::new(alloc),
+            waiters: Vec::new(alloc),
             pending: PendingCount::new(),
             handed: Octets::new(alloc),
             is_closed: false,

@@ -32,15 +32,14 @@ use Rattle.sshc_opening.specs.declared.opening.Phase.{Phase}
 use Rattle.sshc_opening.specs.declared.opening.Phase.TheVariants as phases
 use Rattle.sshc_opening.specs.declared.step.Told.{Told}
 use Rattle.sshc_opening.specs.declared.step.Told.TheVariants as telling
-use Rattle.sshc_opening.specs.declared.extension.Announced.{Announced}
 use Rattle.sshc_opening.specs.declared.extension.Extension.{Extension}
 use Rattle.sshc_opening.specs.declared.opening.Waiter.{Waiter}
-use Rattle.sshc_opening.specs.Extensions.{announce, announce_all, answers_seen, extensions_at, waits_for}
+use Rattle.sshc_opening.specs.Extensions.{answers_seen, answers_to, extensions_at, others, waits_for}
 use Rattle.sshc_opening.specs.OpeningState.{OpeningState, is_awaiting}
 use Rattle.sshc_opening.specs.OpeningTable.{answer_row, auth_row, gssapi_row, is_pk_ok, auth_packet_row, packet_row_in, held_packet_row, is_exchanging, numbered_row, payload_row, authenticate_row_in, plain_row, user_row, unopened_row, event_row, turn_row, open_row}
 use Rattle.sshc_opening.specs.OpeningTable.Order.{is_out_of_turn, packet_in, ticket_of}
 use Rattle.sshc_opening.specs.OpeningTable.Exchange.{peer_kexinit_row, peer_kexinit_row_at, accepted_row, first_exchange_row, exchange_row_in, exchange_done_row}
-use Rattle.sshc_opening.specs.OpeningTable.ExtInfo.{announced_before, ext_info_row, extensions_row, is_third}
+use Rattle.sshc_opening.specs.OpeningTable.ExtInfo.{ext_info_row, extensions_row, is_third}
 use Rattle.sshc_opening.specs.OpeningTable.Auth.{userauth_failure_row, userauth_success_row, userauth_banner_row, authenticate_again_row, known_methods, next_without}
 use Rattle.sshc_opening.specs.OpeningTable.AuthGssapi.{gssapi_step, gssapi_response_row, gssapi_token_row, gssapi_error_row, gssapi_errtok_row, is_gssapi, last_token, user_token_row, user_mic_row, user_complete_row}
 use Rattle.sshc_opening.specs.OpeningTable.AuthKey.{pk_ok_row, is_pk_ok_body, key_row, signed_by_row}
@@ -79,10 +78,10 @@ seen_session name (waiter ∷ waiters) =
     sessions_on (if waits_for name waiter then resolved waiter.ticket ExtInfoSeen else []) (answers_seen name waiters)
     (cond_stays AreSessions (waits_for name waiter) (resolved waiter.ticket ExtInfoSeen) [] (resolved_session waiter.ticket ExtInfoSeen) tt) (seen_session name waiters)
 
-announced_session : (a : Announced) (told : List Extension) → AreSessions a.answers → AreSessions (announce_all a told).answers
-announced_session a [] so = so
-announced_session a (extension ∷ told) so =
-    announced_session (announce a extension) told (sessions_on a.answers (answers_seen extension.name a.waiters) so (seen_session extension.name a.waiters))
+told_session : (extensions : List Extension) (waiters : List Waiter) → AreSessions (answers_to extensions waiters)
+told_session [] waiters = tt
+told_session (extension ∷ extensions) waiters =
+    sessions_on (answers_seen extension.name waiters) (answers_to extensions (others extension.name waiters)) (seen_session extension.name waiters) (told_session extensions (others extension.name waiters))
 
 stored_session : (user : List ℕ) (method : Option Method) → AreSessions (stored_request user method)
 stored_session user None = tt
@@ -123,7 +122,7 @@ ext_info_stays : (s : OpeningState) (body : List ℕ) → is_open s.phase ≡ fa
 unfolding ext_info_row
 ext_info_stays s body is =
     cond_stays (Stays s.closed) (is_third s) _ _ (tt, tt)
-    (part_stays s.closed (extensions_at body) _ (λ told left. end_stays s.closed left (extensions_row s told) ((refl, is), announced_session (announced_before s) told tt)))
+    (part_stays s.closed (extensions_at body) _ (λ told left. end_stays s.closed left (extensions_row s told) ((refl, is), told_session told s.waiters)))
 
 accept_stays : (s : OpeningState) (body : List ℕ) → is_open s.phase ≡ false → Stays s.closed (service_accept_row s body)
 unfolding service_accept_row

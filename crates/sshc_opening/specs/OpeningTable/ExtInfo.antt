@@ -1,22 +1,20 @@
 -- The row of EXT_INFO in phases Service and Auth (RFC 8308, sections 2.3 and 2.4).
-use Rattle.std.specs.Prelude.{ℕ, ◌+◌, nat_le, Bool, List, [], if◌then◌else◌}
+use Rattle.std.specs.Prelude.{ℕ, ◌+◌, ◌++◌, nat_le, Bool, List, if◌then◌else◌}
 use Rattle.sshc_opening.specs.declared.error.Error.TheVariants.{Inconsistent}
-use Rattle.sshc_opening.specs.declared.extension.Announced.{Announced}
 use Rattle.sshc_opening.specs.declared.extension.Extension.{Extension}
 use Rattle.sshc_opening.specs.declared.extension.TheConstants.{MOST_EXT_INFOS}
-use Rattle.sshc_opening.specs.Extensions.{extensions_at, announce_all}
+use Rattle.sshc_opening.specs.Extensions.{extensions_at, answers_to, still_waiting, last_listed, names_of}
 use Rattle.sshc_opening.specs.OpeningState.{OpeningState}
 use Rattle.sshc_opening.specs.Row.{Row, goes, refused, with_part, broken_row, ends_at}
 
--- what was announced before this packet
-abbrev pub announced_before : OpeningState → Announced
-announced_before s = record { sig_algs = s.sig_algs; seen = s.seen; waiters = s.waiters; answers = [] }
-
-abbrev pub with_announced : OpeningState → Announced → Row
-with_announced s a = goes a.answers (record s { ext_infos = s.ext_infos + 1; sig_algs = a.sig_algs; seen = a.seen; waiters = a.waiters })
-
+-- each extension's name is seen, its waiters are answered, and the last list of signature names counts
 abbrev pub extensions_row : OpeningState → List Extension → Row
-extensions_row s extensions = with_announced s (announce_all (announced_before s) extensions)
+extensions_row s extensions = goes (answers_to extensions s.waiters) (record s {
+  ext_infos = s.ext_infos + 1;
+  sig_algs = last_listed extensions s.sig_algs;
+  seen = s.seen ++ names_of extensions;
+  waiters = still_waiting extensions s.waiters;
+})
 
 -- a server sends two of them at most
 abbrev pub is_third : OpeningState → Bool
