@@ -1,8 +1,8 @@
 #!/bin/sh
 # The agent core over memory: instructions and time of a listing and of a signature with 1, 100 and 10,000 keys.
-# Build first: `rt run` in crates/sshc_agent_bench. It needs valgrind.
+# Build first: `rt run` in crates/sshc_bench. It needs valgrind.
 cd "$(dirname "$0")/.." || exit 1
-program=crates/sshc_agent_bench/out/sshc_agent_bench
+program=crates/sshc_bench/out/sshc_bench
 count() { valgrind --tool=callgrind --callgrind-out-file=/dev/null "$program" "$@" 2>&1 >/dev/null | sed -n 's/.*refs: *//p' | tr -d ,; }
 for word in list sign; do
     for keys in 1 100 1000; do

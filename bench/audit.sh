@@ -1,9 +1,9 @@
 #!/bin/sh
-# `sshc_audit_words hash`, `drop` and `remove` beside `ssh-keygen -H` and `ssh-keygen -R`, on the same files in the same run:
+# `sshc_audit_main hash`, `drop` and `remove` beside `ssh-keygen -H` and `ssh-keygen -R`, on the same files in the same run:
 # 1,000, 10,000 and 100,000 lines of one name each. For each file the programs run in turn, and each one's fastest run counts.
-# Build the program first: `rt run` in crates/sshc_audit_words. AUDIT names another program, RUNS another number of runs.
+# Build the program first: `rt run` in crates/sshc_audit_main. AUDIT names another program, RUNS another number of runs.
 cd "$(dirname "$0")/.." || exit 1
-AUDIT=${AUDIT:-crates/sshc_audit_words/out/sshc_audit_words} RUNS=${RUNS:-5} exec python3 - <<'END'
+AUDIT=${AUDIT:-crates/sshc_audit_main/out/sshc_audit_main} RUNS=${RUNS:-5} exec python3 - <<'END'
 import base64, os, random, shutil, subprocess, tempfile, time
 
 random.seed(1)

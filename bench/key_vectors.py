@@ -1,5 +1,5 @@
 #!/usr/bin/env python3
-"""Runs a program over the blobs of crates/sshc_key_vectors/data/vectors: keys that a server announces, pairs that an agent is
+"""Runs a program over the blobs of crates/sshc_rows_formats/data/keys: keys that a server announces, pairs that an agent is
 given, and lines of known hosts that can't be read, in one script each, and compares what it does with what the file says.
 
 Usage: bench/key_vectors.py PROGRAM
@@ -51,7 +51,7 @@ def is_taken(program, kind, blob):
 
 def main():
     wrong, count = 0, 0
-    with open(os.path.join(FOLDER, "../crates/sshc_key_vectors/data/vectors"), encoding="utf-8") as file:
+    with open(os.path.join(FOLDER, "../crates/sshc_rows_formats/data/keys"), encoding="utf-8") as file:
         lines = [line.split() for line in file if not line.startswith("#")]
     for kind, name, text, *error in lines:
         if "signature" in kind:

@@ -1,5 +1,5 @@
 #!/usr/bin/env python3
-"""Runs a program over the worked runs of crates/sshc_run_rows/data/rows, each as a script at standard input, and compares
+"""Runs a program over the worked runs of crates/sshc_rows_session/data/runs, each as a script at standard input, and compares
 its lines, its last line and its status with the row's.
 
 Usage: bench/worked_rows.py PROGRAM [ROWS]
@@ -10,7 +10,7 @@ import subprocess
 import sys
 import tempfile
 
-ROWS = os.path.join(os.path.dirname(__file__), "..", "crates", "sshc_run_rows", "data", "rows")
+ROWS = os.path.join(os.path.dirname(__file__), "..", "crates", "sshc_rows_session", "data", "runs")
 
 
 def string(body):
@@ -18,14 +18,14 @@ def string(body):
 
 
 def bytes_of(words):
-    """str:, hex: and u32: are a string of the wire and a number; other words are bytes."""
+    """str:, hex: and u32: are a string of the wire and a number; in a str: a + is a space. Other words are bytes."""
     out = b""
     for word in words.split():
         kind, colon, rest = word.partition(":")
         if not colon:
             out += bytes.fromhex(word)
         elif kind == "str":
-            out += string(rest.encode())
+            out += string(rest.replace("+", " ").encode())
         elif kind == "hex":
             out += string(bytes.fromhex(rest))
         elif kind == "u32":

@@ -3,7 +3,7 @@
 locks, unlocks and removes through the program over the agent's socket. ssh-keygen -Y verify judges the signatures.
 
 Usage: examples/ask-an-agent/run.py COMMAND [WORDS..]
-COMMAND runs the program: out/sshc_ask_tool in crates/sshc_ask_tool after `rt run` there, or before any proof `rt try --` there.
+COMMAND runs the program: out/sshc_ask_main in crates/sshc_ask_main after `rt run` there, or before any proof `rt try --` there.
 """
 import base64
 import hashlib

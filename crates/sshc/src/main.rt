@@ -2,9 +2,7 @@
 //! agent to `serve_words`.
 #![tactic(auto)]
 
-use sshc_run::{ToySigner, ToyVerifier};
-use sshc_run_words::run_words;
-use sshc_serve_words::serve_words;
+use sshc_run::{ToySigner, ToyVerifier, run_words, serve_words};
 use sshc_wire::{NoMemory, StdFiles, StdSink, StdSource, Text};
 use std::alloc::Global;
 use std::process::ExitCode;

@@ -1,7 +1,6 @@
-mod Listings
-mod Asked
-pub mod Constrained
-mod Stepped
-mod Fronts
-pub mod Listable
-mod Short
+mod Talking
+mod Ticking
+mod Signed
+mod Quiet
+mod Reading
+pub mod Sending

@@ -1,26 +1,20 @@
-//! The core of an SSH agent: keys, constraints, a lock and frames, as a state machine that takes moments, connections
-//! and inputs.
+//! An agent served over any stream, each connection in a thread of its own; and, from the crates behind it, the agent
+//! itself: its core, its frames, and one agent that connections share.
 #![tactic(auto)]
 
-mod agent_core;
-mod connections;
-mod constraints;
-mod entry;
-mod error;
-mod frame;
-mod frames;
-mod input;
-mod key_list;
-mod message;
-pub mod msg;
+mod fetching;
+mod outside;
+mod seats;
+mod server;
+mod serving;
+mod turn;
 
-pub use agent_core::AgentCore;
-pub use connections::Standing;
-pub use constraints::Constraints;
-pub use entry::Entry;
-pub use error::ServerError;
-pub use frames::Frames;
-pub use input::{AgentInput, AgentOutput, Cause};
-pub use key_list::HeldKey;
-pub use message::message_type;
-pub use sshc_wire::MessageType;
+pub use outside::{Agent, Listener, Pause};
+pub use server::serve;
+pub use serving::serve_one;
+pub use sshc_agent_core::{
+    AgentCore, AgentInput, AgentOutput, Cause, Entry, Frames, MessageType, ServerError,
+};
+pub use sshc_agent_shared::{AgentShared, AgentState, Call, CallRefused, CloseError, Seat};
+pub use sshc_key::agent_msg as msg;
+pub use sshc_wire::Clock;

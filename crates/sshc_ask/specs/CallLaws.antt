@@ -1,19 +1,17 @@
 -- A call that finds a whole answer returns its reading, unless a fault or lack of memory ended it before.
 use Rattle.std.proofs.Common.{◌≡◌, ℕ, ◌+◌, ◌^◌, ◌<◌, ◌≤◌, ◌⊎◌, inl, inr, List, [], ◌∷◌, ◌++◌, length, Option, Some, None, Ok, Result, refl, sym, ap, subst, ◌∙◌, arith, append_assoc, length-append}
 use Rattle.std.specs.Int.{w32}
+use Rattle.sshc_wire.specs.Cases.{some_is}
 use Rattle.sshc_wire.specs.declared.error.WireError.{WireError}
 use Rattle.sshc_wire.specs.Contents.{IsAtEnd, prepend}
 use Rattle.sshc_wire.specs.Format.{done, ok_is}
 use Rattle.sshc_wire.specs.Parts.{number32, strings}
 use Rattle.sshc_wire.specs.Reads.{number_at, string_at}
 use Rattle.sshc_wire.specs.Wire.{IsShort, string_text, u32_text}
-use Rattle.sshc_agent.specs.declared.msg.TheConstants.{MAX_AGENT_FRAME_LEN}
+use Rattle.sshc_key.specs.declared.agent_msg.TheConstants.{MAX_AGENT_FRAME_LEN}
 use Rattle.sshc_ask.specs.AgentCalls.{Course, Finds, IsComplete, IsCourse, answered, oversized, taken, unheard, unsent}
 
 -- ---- numbers and strings at the front are what they are
-
-some_is : (a b : List ℕ) → Some a ≡ Some b → a ≡ b
-some_is a b e = cc
 
 four : (n : ℕ) → length (u32_text n) ≡ 4
 unfolding u32_text

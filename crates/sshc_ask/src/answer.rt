@@ -5,8 +5,7 @@ ghost use Rattle.sshc_wire.specs.Counted.{times_at};
 ghost use Rattle.sshc_key.specs.Gives.{Gives, GivesAll};
 ghost use Rattle.sshc_ask.specs.AgentCalls.Readings.{extension_reading, identities_reading, identity_at, identity_of, listed, query_reading, success_reading};
 
-use sshc_agent::msg;
-use sshc_key::{AgentIdentity, Error, KeyData, PublicKey, parse_public_key};
+use sshc_key::{AgentIdentity, Error, KeyData, PublicKey, agent_msg, parse_public_key};
 use sshc_wire::{Cursor, Text};
 use std::alloc::Global;
 
@@ -18,7 +17,7 @@ pub(crate) fn success_in(answer: &[u8]) -> Result<(), Error>
     match answer {
         [] => Err(Error::AgentFailure),
         [kind, _body @ ..] => {
-            if *kind == msg::SUCCESS {
+            if *kind == agent_msg::SUCCESS {
                 Ok(())
             } else {
                 Err(Error::AgentFailure)
@@ -35,7 +34,7 @@ pub(crate) fn extension_in(answer: &[u8]) -> Result<(), Error>
     match answer {
         [] => Err(Error::AgentFailure),
         [kind, _body @ ..] => {
-            if *kind == msg::SUCCESS || *kind == msg::EXTENSION_RESPONSE {
+            if *kind == agent_msg::SUCCESS || *kind == agent_msg::EXTENSION_RESPONSE {
                 Ok(())
             } else {
                 Err(Error::AgentFailure)
@@ -50,7 +49,7 @@ pub(crate) fn string_in(answer: &[u8]) -> Option<&[u8]>
     ensures { option_map (λ text. text.now) result ≡ query_reading answer.now }
 {
     match answer {
-        [msg::SUCCESS, body @ ..] => match Cursor::new(body).bytes() {
+        [agent_msg::SUCCESS, body @ ..] => match Cursor::new(body).bytes() {
             Ok(text) => Some(text),
             Err(_) => None,
         },
@@ -128,7 +127,7 @@ pub(crate) fn identities_in(alloc: Global, answer: &[u8]) -> Result<Vec<AgentIde
     ensures { GivesAll (λ found. found.items) result (identities_reading answer.now) }
 {
     match answer {
-        [msg::IDENTITIES_ANSWER, body @ ..] => listing(alloc, body),
+        [agent_msg::IDENTITIES_ANSWER, body @ ..] => listing(alloc, body),
         _ => Ok(Vec::new(alloc)),
     }
 }

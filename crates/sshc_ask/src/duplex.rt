@@ -6,7 +6,7 @@ ghost use Rattle.sshc_wire.specs.Beside.{side};
 use sshc_wire::{AgentStream, Failed, Sink, Source};
 
 /// A stream that is read from one object and written to another.
-#[derive(Debug, Drop)]
+#[derive(Drop)]
 pub struct Duplex<R, W> {
     pub source: R,
     pub sink: W,

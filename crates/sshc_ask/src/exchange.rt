@@ -4,8 +4,8 @@ ghost use Rattle.std.specs.Prelude.{◌≡◌, ◌+◌, ◌≤◌, length};
 ghost use Rattle.sshc_wire.specs.Wire.{u32_text};
 ghost use Rattle.sshc_ask.specs.SourceState.{sink_state, source_state, ReadsAnswer, ReadsLength, ReadsPart, WritesFrame};
 
-use sshc_agent::msg::MAX_AGENT_FRAME_LEN;
 use sshc_key::Error;
+use sshc_key::agent_msg::MAX_AGENT_FRAME_LEN;
 use sshc_wire::{Cursor, Failed, Sink, Source, read_up_to, write_whole};
 use std::alloc::Global;
 

@@ -5,8 +5,7 @@ ghost use Rattle.sshc_wire.specs.Wire.{bool_text, counted_text, string_text, u32
 ghost use Rattle.sshc_key.specs.PairGrammar.{key_pair_text};
 ghost use Rattle.sshc_ask.specs.AgentCalls.Frames.{constraint_text, constraints_text};
 
-use sshc_agent::msg;
-use sshc_key::{Constraint, PrivateKey, write_key_pair};
+use sshc_key::{Constraint, PrivateKey, agent_msg, write_key_pair};
 use sshc_wire::{NoMemory, put_bool, put_bytes, put_u32};
 use std::alloc::Global;
 use std::marker::Model;
@@ -85,12 +84,12 @@ impl Message {
     {
         match constraint {
             Constraint::KeyLifetime { seconds } => {
-                self.byte(msg::CONSTRAIN_LIFETIME)?;
+                self.byte(agent_msg::CONSTRAIN_LIFETIME)?;
                 self.number(*seconds)
             }
-            Constraint::Confirm => self.byte(msg::CONSTRAIN_CONFIRM),
+            Constraint::Confirm => self.byte(agent_msg::CONSTRAIN_CONFIRM),
             Constraint::Extensions { name, details } => {
-                self.byte(msg::CONSTRAIN_EXTENSION)?;
+                self.byte(agent_msg::CONSTRAIN_EXTENSION)?;
                 self.string(name.as_slice())?;
                 self.string(details.as_slice())
             }

@@ -9,7 +9,7 @@ use sshc_wire::AgentStream;
 use std::alloc::Global;
 
 /// Why a path could not be opened.
-#[derive(Clone, Copy, Debug, PartialEq, Eq)]
+#[derive(Clone, Copy, PartialEq, Eq)]
 pub enum OpenFailed {
     /// Nothing has this path.
     NotFound,

@@ -6,8 +6,7 @@ ghost use Rattle.sshc_key.specs.Gives.{GivesAll};
 ghost use Rattle.sshc_ask.specs.AgentCalls.Readings.{asked_signature, base64_reading, is_asked, sign_reading, signature_reading, signature_text_in};
 
 use base64::engine::general_purpose::STANDARD_NO_PAD;
-use sshc_agent::msg;
-use sshc_key::{Error, HashAlg, Signature, read_signature};
+use sshc_key::{Error, HashAlg, Signature, agent_msg, read_signature};
 use sshc_wire::{Cursor, NoMemory, put_bytes};
 use std::alloc::Global;
 
@@ -68,12 +67,12 @@ pub(crate) fn signed_in(
     ensures { GivesAll (λ v. v.items) result (sign_reading asked bytes.items answer.now) }
 {
     match answer {
-        [msg::SIGN_RESPONSE, body @ ..] => {
+        [agent_msg::SIGN_RESPONSE, body @ ..] => {
             let text = signature_text(alloc, asked, body)?;
             put_string(&mut bytes, text)?;
             Ok(bytes)
         }
-        [msg::FAILURE, ..] => Err(Error::AgentFailure),
+        [agent_msg::FAILURE, ..] => Err(Error::AgentFailure),
         _ => Err(Error::AgentProtocolError),
     }
 }
@@ -84,7 +83,7 @@ pub(crate) fn signature_in(alloc: Global, answer: &[u8]) -> Result<Signature, Er
     ensures { GivesAll (λ s. s) result (signature_reading answer.now) }
 {
     match answer {
-        [msg::SIGN_RESPONSE, body @ ..] => {
+        [agent_msg::SIGN_RESPONSE, body @ ..] => {
             let text = Cursor::new(body).bytes()?;
             signature_of(alloc, None, text)
         }
@@ -99,7 +98,7 @@ pub(crate) fn base64_in(alloc: Global, answer: &[u8]) -> Result<String, NoMemory
     ensures { IfOk result (λ text. string_bytes text ≡ base64_reading answer.now) }
 {
     match answer {
-        [msg::SIGN_RESPONSE, body @ ..] => Ok(STANDARD_NO_PAD.encode(alloc, body)?),
+        [agent_msg::SIGN_RESPONSE, body @ ..] => Ok(STANDARD_NO_PAD.encode(alloc, body)?),
         _ => Ok(String::new(alloc)),
     }
 }

@@ -4,6 +4,7 @@ use Rattle.std.specs.Prelude.{◌&&◌, ◌||◌, if◌then◌else◌, bytes_eq}
 use mathlib.Core.Bool.{beq}
 use Rattle.std.specs.List.{cons_option}
 use Rattle.std.proofs.lemmas.Slice.Eq.{bytes_eq-Decides}
+use Rattle.sshc_wire.specs.Cases.{both_true}
 use Rattle.sshc_hosts.specs.MatchingLines.{parts_at, field_matches, line_key}
 use Rattle.sshc_hosts.specs.Learning.{Lacks}
 use Rattle.sshc_audit.specs.Lines.{Line, revoked, line_of}
@@ -35,10 +36,6 @@ covers_more host (part ∷ parts) seen o h = (among_more o (line_key host part) 
 covers_next : (host : List ℕ) (parts seen : List (List ℕ)) (part : List ℕ) → Covers host parts seen → IsAmong (line_key host part) seen → Covers host (parts ++ part ∷ []) seen
 covers_next host [] seen part h own = (own, tt)
 covers_next host (first ∷ parts) seen part h own = (h.0, covers_next host parts seen part h.1 own)
-
-both_true : (a b : Bool) → (a && b) ≡ true → (a ≡ true) × (b ≡ true)
-both_true true b h = (refl, h)
-both_true false b h = cc h
 
 beq_same : (a b : Bool) → beq a b ≡ true → a ≡ b
 beq_same true true h = refl

@@ -7,6 +7,7 @@ use Rattle.std.proofs.lemmas.Nat.{mod_below}
 use Rattle.std.proofs.lemmas.Bool.Decides.{nat_tests}
 use Rattle.std.proofs.lemmas.Bool.{eqb-true}
 use Rattle.std.proofs.lemmas.Slice.Eq.{bytes_eq-Decides}
+use Rattle.sshc_wire.specs.Cases.{both_true, not_true}
 use Rattle.base64.specs.Engines.{standard}
 use Rattle.base64.specs.GeneralPurpose.{encode_of, decode_of, decoded_of, IsBytes}
 use Rattle.base64.proofs.EngineFacts.{decode_of-encode_of}
@@ -94,14 +95,6 @@ hashed_matches_by host salt entry bytes =
     by_parts host (encode_of standard salt ++ 124 ∷ encode_of standard (hmac_sha1 salt entry)) _ (hashed_parts salt (hmac_sha1 salt entry))
     ∙ ap (λ (s : Option (List ℕ)). hash_matches host s (base64_bytes (encode_of standard (hmac_sha1 salt entry)))) (base64_back salt bytes)
     ∙ ap (λ (h : Option (List ℕ)). hash_matches host (Some salt) h) (base64_back (hmac_sha1 salt entry) (hmac_bytes salt entry))
-
-both_true : (a b : Bool) → (a && b) ≡ true → (a ≡ true) × (b ≡ true)
-both_true true b h = (refl, h)
-both_true false b h = cc h
-
-not_true : (b : Bool) → not b ≡ true → b ≡ false
-not_true true h = cc h
-not_true false h = refl
 
 pub name_open : (entry : List ℕ) → is_name entry ≡ true → is_hashed entry ≡ false
 name_open entry is = not_true (is_hashed entry) (both_true (not (length entry == 0)) (not (is_hashed entry)) is).1

@@ -5,6 +5,7 @@ use Rattle.std.specs.List.{list_any, join_with_byte}
 use Rattle.std.proofs.lemmas.Bool.{eqb-true, false_from_ne_true}
 use Rattle.std.proofs.lemmas.Bool.Decides.{nat_tests}
 use Rattle.std.proofs.lemmas.Slice.Eq.{bytes_eq-Decides}
+use Rattle.sshc_wire.specs.Cases.{both_true, not_true}
 use Rattle.sshc_hosts.specs.MatchingLines.{parts_at, hashed_matches, is_hashed, entry_matches, field_matches, is_comment, third_field, line_key}
 use Rattle.sshc_hosts.specs.Learning.{Lacks}
 use Rattle.sshc_hosts.proofs.LineLemmas.{parts_at-first, parts_at-lacking}
@@ -204,14 +205,6 @@ any_left false b h = refl
 none_lacks : (byte : ℕ) (xs : List ℕ) → list_any (λ c. c == byte) xs ≡ false → Lacks xs byte
 none_lacks byte [] h = Lacks-nothing byte
 none_lacks byte (x ∷ xs) h = Lacks-cons x xs byte (any_left (x == byte) (list_any (λ c. c == byte) xs) h) (none_lacks byte xs (or_right (x == byte) (list_any (λ c. c == byte) xs) h))
-
-both_true : (a b : Bool) → (a && b) ≡ true → (a ≡ true) × (b ≡ true)
-both_true true b h = (refl, h)
-both_true false b h = cc h
-
-not_true : (b : Bool) → not b ≡ true → b ≡ false
-not_true true h = cc h
-not_true false h = refl
 
 hashed_begins : (b : ℕ) (rest : List ℕ) → b ≡ 64 → is_hashed (b ∷ rest) ≡ false
 hashed_begins b rest is = rw is refl

@@ -2,6 +2,7 @@
 use Rattle.std.proofs.Common.{◌≡◌, ℕ, ◌+◌, Bool, true, false, List, [], ◌∷◌, ◌++◌, Option, Some, None, Result, Ok, refl, ap, sym, ◌∙◌, subst}
 use Rattle.std.specs.Prelude.{◌==◌, ◌&&◌, ◌||◌, not, if◌then◌else◌, map, filter, option_map}
 use Rattle.std.specs.List.{list_any, list_all, join_with_byte, flat_map, cons_option}
+use Rattle.sshc_wire.specs.Cases.{both_false, both_true, neither, not_true}
 use Rattle.sshc_key.specs.KeyGrammar.{Key}
 use Rattle.sshc_key.specs.declared.error.Error.{Error}
 use Rattle.sshc_hosts.specs.MatchingLines.{parts_at, entry_matches, field_matches, is_comment, line_key, matching}
@@ -19,21 +20,13 @@ use Rattle.sshc_audit.proofs.Agreement.{agrees, matching_rewritten}
 
 -- ---- filters
 
-either_false : (a b : Bool) → (a || b) ≡ false → (a ≡ false) × (b ≡ false)
-either_false true b h = cc h
-either_false false b h = (refl, h)
-
-both_false : (a b : Bool) → a ≡ false → b ≡ false → (a || b) ≡ false
-both_false true b h k = cc h
-both_false false b h k = k
-
 module _ (p q : List ℕ → Bool) where
   stay_case : (x : List ℕ) (xs : List (List ℕ)) (b : Bool) → q x ≡ b → list_any p (if not b then x ∷ filter (λ y. not (q y)) xs else filter (λ y. not (q y)) xs) ≡ false
       → (list_any p (filter (λ y. not (q y)) xs) ≡ false → list_any p (filter q xs) ≡ list_any p xs)
       → list_any p (if b then x ∷ filter q xs else filter q xs) ≡ (p x || list_any p xs)
   stay_case x xs true e h later = ap (λ (b : Bool). p x || b) (later h)
   stay_case x xs false e h later =
-      let (miss, none) = either_false (p x) (list_any p (filter (λ y. not (q y)) xs)) h in
+      let (miss, none) = neither (p x) (list_any p (filter (λ y. not (q y)) xs)) h in
       later none ∙ ap (λ (b : Bool). b || list_any p xs) (sym miss)
 
   -- whether any element passes p depends only on those that pass q, if no element that fails q passes p
@@ -57,19 +50,11 @@ all_pass : (q : List ℕ → Bool) (xs : List (List ℕ)) → list_all q (filter
 all_pass q [] = refl
 all_pass q (x ∷ xs) = pass_case q x (filter q xs) (q x) refl (all_pass q xs)
 
-both_true : (a b : Bool) → (a && b) ≡ true → (a ≡ true) × (b ≡ true)
-both_true true b h = (refl, h)
-both_true false b h = cc h
-
-not_true : (b : Bool) → not b ≡ true → b ≡ false
-not_true true h = cc h
-not_true false h = refl
-
 -- ---- the new host field
 
 begins_no_comment : (x : List ℕ) → begins_apart x ≡ false → is_comment x ≡ false
 begins_no_comment [] h = refl
-begins_no_comment (b ∷ rest) h = (either_false (b == 35) (b == 64) h).0
+begins_no_comment (b ∷ rest) h = (neither (b == 35) (b == 64) h).0
 
 pub no_comment_join : (x : List ℕ) (xs : List (List ℕ)) (rest : List ℕ) → is_comment x ≡ false → is_comment (join_with_byte 44 (x ∷ xs) ++ 32 ∷ rest) ≡ false
 no_comment_join [] [] rest h = refl
@@ -162,7 +147,7 @@ module _ (host : List ℕ) where
     any_append : (xs ys : List (List ℕ)) → list_any (λ e. entry_matches other e) (xs ++ ys) ≡ false → NoneMatches other xs × NoneMatches other ys
     any_append [] ys h = (refl, h)
     any_append (x ∷ xs) ys h =
-        let (miss, none) = either_false (entry_matches other x) (list_any (λ e. entry_matches other e) (xs ++ ys)) h in
+        let (miss, none) = neither (entry_matches other x) (list_any (λ e. entry_matches other e) (xs ++ ys)) h in
         let (front, back) = any_append xs ys none in
         (both_false (entry_matches other x) (list_any (λ e. entry_matches other e) xs) miss front, back)
 

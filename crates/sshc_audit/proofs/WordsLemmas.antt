@@ -1,6 +1,6 @@
 -- No answer has the status of invalid arguments.
 use Rattle.std.proofs.Common.{◌≡◌, inl, inr, ℕ, List, Option, Result, Ok, Err, sym, ◌∙◌, arith}
-use Rattle.sshc_words.specs.Adding.{Adds}
+use Rattle.sshc_hosts_words.specs.Adding.{Adds}
 use Rattle.sshc_audit.specs.declared.refusal.Refusal.{Refusal}
 use Rattle.sshc_audit.specs.declared.refusal.Refusal.TheVariants as refusal
 use Rattle.sshc_audit.specs.AuditWords.{Asked, written_for, status_for, Outside, Audits}

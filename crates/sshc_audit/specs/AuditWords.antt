@@ -7,8 +7,8 @@ use Rattle.sshc_wire.specs.Faults.{Rose}
 use Rattle.sshc_key.specs.KeyFiles.{Told}
 use Rattle.sshc_hosts.specs.HostText.{host_text}
 use Rattle.sshc_hosts.specs.HostsFile.{text_at, HoldsNoText}
-use Rattle.sshc_words.specs.Port.{IsPort}
-use Rattle.sshc_words.specs.Adding.{Adds}
+use Rattle.sshc_hosts_words.specs.Port.{IsPort}
+use Rattle.sshc_hosts_words.specs.Adding.{Adds}
 use Rattle.sshc_audit.specs.declared.asked.AuditAsked.{AuditAsked}
 use Rattle.sshc_audit.specs.declared.asked.AuditAsked.TheVariants as code
 use Rattle.sshc_audit.specs.declared.refusal.Refusal.{Refusal}

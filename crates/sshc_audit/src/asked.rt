@@ -3,11 +3,11 @@
 ghost use Rattle.std.specs.Prelude.{◌≡◌, IfSome, IsNone, length};
 ghost use Rattle.sshc_audit.specs.AuditWords.{Asked, Asks, asked_by};
 
+use sshc_hosts_words::port_of;
 use sshc_wire::Text;
-use sshc_words::port_of;
 
 /// What the arguments ask for: the path of a known hosts file, with the path of its salts, or with a host at a port.
-#[derive(Clone, Copy, Debug)]
+#[derive(Clone, Copy)]
 pub enum AuditAsked<'a> {
     Hash {
         file: &'a str,

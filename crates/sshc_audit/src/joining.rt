@@ -11,7 +11,7 @@ use std::alloc::Global;
 use std::marker::Model;
 
 /// Texts joined into one, separated by an ASCII byte.
-#[derive(Debug, Drop)]
+#[derive(Drop)]
 pub struct Joining {
     separator: u8,
     text: String,

@@ -12,7 +12,7 @@ use sshc_wire::NoMemory;
 
 /// A line: whether it is marked `@revoked`, its host field, its third field, and everything after the host field and
 /// its space.
-#[derive(Clone, Copy, Debug)]
+#[derive(Clone, Copy)]
 pub struct LineFields<'a> {
     pub marked: bool,
     pub host: &'a str,

@@ -6,7 +6,7 @@ ghost use Rattle.sshc_audit.specs.declared.refusal.Refusal.TheVariants.{NoMemory
 use sshc_wire::NoMemory;
 
 /// Why there is no new text.
-#[derive(Clone, Copy, Debug, PartialEq, Eq)]
+#[derive(Clone, Copy, PartialEq, Eq)]
 pub enum Refusal {
     /// A file isn't UTF-8 text, or reading it failed.
     KnownFile,

@@ -12,7 +12,7 @@ use std::alloc::Global;
 use std::marker::Model;
 
 /// A list of salts, which are returned one after the other. If none remains, it counts a fault.
-#[derive(Debug, Drop)]
+#[derive(Drop)]
 pub struct SaltList {
     salts: Vec<[u8; 20]>,
     next: usize,

@@ -1,7 +1,7 @@
 //! Runs the auditor's command-line arguments, and writes the new text or the reason why there is none.
 
 ghost use Rattle.std.specs.Prelude.{◌≡◌, ◌≤◌, IfOk, Ok, Err, codes};
-ghost use Rattle.sshc_words.specs.Adding.{Adds};
+ghost use Rattle.sshc_hosts_words.specs.Adding.{Adds};
 ghost use Rattle.sshc_audit.specs.Hashing.{hashed_text, names_of};
 ghost use Rattle.sshc_audit.specs.SaltLines.{salts_in};
 ghost use Rattle.sshc_audit.specs.AuditWords.{Asked, hash, drop, remove, Asks, asked_by, IsReading, IsAnswer, HashesWith, written_for, status_for, outside, Audits, RefusesWords};
@@ -13,8 +13,8 @@ use crate::hashing::hash_names;
 use crate::refusal::Refusal;
 use crate::removing::remove_host;
 use crate::salt_list::SaltList;
+use sshc_hosts_words::{KNOWN_FILE_STATUS, NO_MEMORY_STATUS, WORDS_STATUS, add_line};
 use sshc_wire::{Failed, Files, Found, Sink, Text};
-use sshc_words::{KNOWN_FILE_STATUS, NO_MEMORY_STATUS, WORDS_STATUS, add_line};
 use std::alloc::Global;
 
 /// The exit status if a name has no salt.

@@ -12,8 +12,8 @@ const CALL: usize = 32_768;
 const TARGET: u32 = 2_097_152;
 
 /// What the outboxes held, and after how many events bytes waited.
-#[derive(Clone, Copy, Debug)]
-pub(crate) struct Counts {
+#[derive(Clone, Copy)]
+struct Counts {
     payloads: u64,
     bytes: u64,
     waits: u64,
@@ -165,39 +165,25 @@ fn small_events(alloc: Global, channels: u32, events: u32) -> Result<Counts, NoM
     Ok(counts)
 }
 
-/// The counts of a run of this name, if there is one.
-pub(crate) fn counts_of(
-    alloc: Global,
-    name: &str,
-    first: u32,
-    second: u32,
-) -> Result<Option<Counts>, NoMemory> {
-    let counts = match name {
-        "channels" => sent(alloc, first, second, 32_768)?,
-        "packets" => sent(alloc, 1, second, first)?,
-        "grants" => granted(alloc, first, second)?,
-        "flushes" => flushed(alloc, first, second)?,
-        "closes" => closed(alloc, second)?,
-        "oldest-first" => churned(alloc, first)?,
-        "events" => small_events(alloc, first, second)?,
-        _ => return Ok(None),
-    };
-    Ok(Some(counts))
+/// Makes a run of this name: what is written in it. An unknown name makes no run.
+fn counts_of(alloc: Global, name: &str, first: u32, second: u32) -> Result<Counts, NoMemory> {
+    match name {
+        "channels" => sent(alloc, first, second, 32_768),
+        "packets" => sent(alloc, 1, second, first),
+        "grants" => granted(alloc, first, second),
+        "flushes" => flushed(alloc, first, second),
+        "closes" => closed(alloc, second),
+        "oldest-first" => churned(alloc, first),
+        "events" => small_events(alloc, first, second),
+        _ => Ok(Counts::new()),
+    }
 }
 
-/// Makes a run of this name, and prints what was written.
-pub(crate) fn print_channels(
-    rt: &HostRuntime,
-    name: &str,
-    first: u32,
-    second: u32,
-) -> anyhow::Result<bool> {
-    let Some(counts) = counts_of(rt.alloc(), name, first, second)? else {
-        return Ok(false);
-    };
-    println!(rt;
+/// The line of a run of this name.
+pub fn line(alloc: Global, name: &str, first: u32, second: u32) -> Result<String, NoMemory> {
+    let counts = counts_of(alloc, name, first, second)?;
+    Ok(format!(in alloc;
         "{name} {first} {second}: {} payloads of {} bytes, {} waits",
         counts.payloads, counts.bytes, counts.waits
-    )?;
-    Ok(true)
+    )?)
 }

@@ -1,18 +1,21 @@
 //! Measurements, printed as counts.
 //!
-//! The arguments NAME FIRST SECOND make one run over a channel table (README.md lists them), `script EVENTS` runs a
-//! script over memory. Without arguments there is a small run of each.
+//! The first argument names what is measured, two numbers how much of it (README.md lists them). Without arguments there
+//! is a small run of each.
 #![tactic(auto)]
 
+mod agent;
 mod channels;
+mod handle;
 mod script;
 
-use crate::channels::print_channels;
-use crate::script::tell_script;
 use std::env;
+use std::sync::Wait;
+use std::thread::Threads;
+use std::time::Clock;
 
 /// The runs without arguments.
-const SMALL: [(&str, u32, u32); 7] = [
+const SMALL: [(&str, u32, u32); 11] = [
     ("channels", 3, 10),
     ("packets", 1_000, 2),
     ("grants", 3, 10),
@@ -20,37 +23,61 @@ const SMALL: [(&str, u32, u32); 7] = [
     ("closes", 1, 10),
     ("oldest-first", 10, 0),
     ("events", 3, 30),
+    ("script", 12, 0),
+    ("list", 3, 10),
+    ("sign", 3, 10),
+    ("pings", 1, 16),
 ];
 
-/// The number in an argument, or `other` if there is no argument.
-fn number_or(word: Option<String>, other: u32) -> u32 {
+/// The number in an argument; 0 if there is no number.
+fn number(word: Option<String>) -> u32 {
     match word {
-        Some(word) => word.as_str().parse::<u32>().unwrap_or(other),
-        None => other,
+        Some(word) => word.as_str().parse::<u32>().unwrap_or(0),
+        None => 0,
+    }
+}
+
+fn is_known(name: &str) -> bool {
+    for (known, _first, _second) in SMALL {
+        if known == name {
+            return true;
+        }
+    }
+    false
+}
+
+/// Makes one run, and returns its line.
+fn line<R: Threads + Wait + Sync + AllocGlobal + Clock>(
+    rt: &R,
+    name: &str,
+    first: u32,
+    second: u32,
+) -> anyhow::Result<String> {
+    let alloc = rt.alloc();
+    match name {
+        "script" => Ok(script::line(alloc, first)?),
+        "list" => Ok(agent::line(alloc, false, first, second)?),
+        "sign" => Ok(agent::line(alloc, true, first, second)?),
+        "pings" => handle::line(rt, first, second),
+        _ if is_known(name) => Ok(channels::line(alloc, name, first, second)?),
+        _ => Ok(String::from_str(alloc, "NAME FIRST SECOND")?),
     }
 }
 
 fn main(rt: HostRuntime) -> anyhow::Result<()> {
     let mut words = env::args(&rt)?;
     let _program = words.next();
-    let Some(name) = words.next() else {
-        for (name, first, second) in SMALL {
-            let _ = print_channels(&rt, name, first, second)?;
+    match words.next() {
+        Some(name) => {
+            let first = number(words.next());
+            let second = number(words.next());
+            println!(&rt; "{}", line(&rt, name.as_str(), first, second)?)?;
         }
-        return tell_script(&rt, 12);
-    };
-    let first = words.next();
-    if name.as_str() == "script" {
-        return tell_script(&rt, number_or(first, 12));
-    }
-    let is_known = print_channels(
-        &rt,
-        name.as_str(),
-        number_or(first, 3),
-        number_or(words.next(), 10),
-    )?;
-    if !is_known {
-        println!(rt; "NAME FIRST SECOND, or script EVENTS")?;
+        None => {
+            for (name, first, second) in SMALL {
+                println!(&rt; "{}", line(&rt, name, first, second)?)?;
+            }
+        }
     }
     Ok(())
 }

@@ -1,7 +1,7 @@
 //! A login script with a long run of requests to authenticate, over memory.
 
-use sshc_opening::Ended;
-use sshc_run::{Config, RefusingSigner, RefusingVerifier, RunError, run_script};
+use sshc_auth::Ended;
+use sshc_run_script::{Config, RefusingSigner, RefusingVerifier, RunError, run_script};
 use sshc_wire::{MemSink, MemSource, NoMemory, put_u32};
 use std::alloc::Global;
 
@@ -57,13 +57,11 @@ fn told(answer: &Result<Ended, RunError>) -> &'static str {
     }
 }
 
-/// Runs a login of so many events, and prints what was written and the result.
-pub(crate) fn tell_script(rt: &HostRuntime, events: u32) -> anyhow::Result<()> {
-    let alloc = rt.alloc();
+/// Runs a login of so many events into a sink, and returns the name of its result.
+fn run(alloc: Global, events: u32, sink: &mut MemSink) -> Result<&'static str, NoMemory> {
     let mut config = Config::default_in(alloc)?;
     config.max_events = events;
     let mut source = MemSource::new(script_of(alloc, events)?, Vec::new(alloc));
-    let mut sink = MemSink::new(Vec::new(alloc), Vec::new(alloc));
     let mut signer = RefusingSigner::new(alloc);
     let answer = run_script(
         alloc,
@@ -74,14 +72,19 @@ pub(crate) fn tell_script(rt: &HostRuntime, events: u32) -> anyhow::Result<()> {
         &mut signer,
         &RefusingVerifier,
         &mut source,
-        &mut sink,
+        sink,
     );
+    Ok(told(&answer))
+}
+
+/// The line of a run of so many events: what was written, and the result.
+pub fn line(alloc: Global, events: u32) -> Result<String, NoMemory> {
+    let mut sink = MemSink::new(Vec::new(alloc), Vec::new(alloc));
+    let told = run(alloc, events, &mut sink)?;
     let written = sink.contents();
     let lines = written.iter().filter(|byte| **byte == b'\n').count();
-    println!(rt;
-        "{events} events: {lines} lines of {} bytes, {}",
-        written.len(),
-        told(&answer)
-    )?;
-    Ok(())
+    Ok(format!(in alloc;
+        "{events} events: {lines} lines of {} bytes, {told}",
+        written.len()
+    )?)
 }

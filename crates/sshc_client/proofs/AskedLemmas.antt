@@ -6,28 +6,28 @@ use Rattle.sshc_wire.specs.Outgoing.{Outgoing}
 use Rattle.sshc_wire.specs.declared.record.Record.{Record}
 use Rattle.sshc_key.specs.Signers.{SignCall}
 use Rattle.sshc_key.specs.declared.identity.PublicKeyOrCertificate.{PublicKeyOrCertificate}
-use Rattle.sshc_event.specs.HostKey.{host_key}
-use Rattle.sshc_event.specs.declared.event.Event.{Event}
-use Rattle.sshc_event.specs.declared.event.Event.TheVariants as events
+use Rattle.sshc_auth_event.specs.HostKey.{host_key}
+use Rattle.sshc_auth_event.specs.declared.event.Event.{Event}
+use Rattle.sshc_auth_event.specs.declared.event.Event.TheVariants as events
 use Rattle.sshc_transport.specs.declared.exchange.ExchangeResult.{ExchangeResult}
-use Rattle.sshc_opening.specs.declared.error.Error.{Error}
-use Rattle.sshc_opening.specs.declared.step.Asks.{Asks}
-use Rattle.sshc_opening.specs.declared.step.Asks.TheVariants as asking
-use Rattle.sshc_opening.specs.declared.step.Step.{Step}
-use Rattle.sshc_opening.specs.declared.step.Step.TheVariants as steps
-use Rattle.sshc_opening.specs.declared.step.Told.{Told}
-use Rattle.sshc_opening.specs.AskedLaws.{AsksFor, asks_for, first_asks}
-use Rattle.sshc_opening.specs.CauseLaws.{SaysAlso, cause_also}
-use Rattle.sshc_opening.specs.Causes.{GateSaysNo, HasGateCause, SaysNoTo}
-use Rattle.sshc_opening.specs.OpeningState.{OpeningState}
-use Rattle.sshc_opening.specs.OpeningTable.{asked_of, key_asked}
-use Rattle.sshc_opening.specs.Promises.{Stepped}
-use Rattle.sshc_opening.specs.SessionWords.{AcceptsFirst, GoesOnFirst, IsFirst, KeepsFirst, KeepsTo}
-use Rattle.sshc_opening.specs.Stepping.{Lent as OpeningLent, Answered, GateAnswers, GateKeeps, GateRefused, Judged, LentGate, StaysClosed, StepsBy, StepsTold, Tells, exchange_in, told_of, with_gate, lent}
-use Rattle.sshc_moves.specs.SessionState.{SessionState}
-use Rattle.sshc_moves.specs.Grown.{Grown}
-use Rattle.sshc_moves.specs.GrownLaws.{grown_same}
-use Rattle.sshc_session.specs.OpeningStep.{StepsLent, goes_on, lent_session, outbox_of}
+use Rattle.sshc_auth.specs.declared.error.Error.{Error}
+use Rattle.sshc_auth.specs.declared.step.Asks.{Asks}
+use Rattle.sshc_auth.specs.declared.step.Asks.TheVariants as asking
+use Rattle.sshc_auth.specs.declared.step.Step.{Step}
+use Rattle.sshc_auth.specs.declared.step.Step.TheVariants as steps
+use Rattle.sshc_auth.specs.declared.step.Told.{Told}
+use Rattle.sshc_auth.specs.AskedLaws.{AsksFor, asks_for, first_asks}
+use Rattle.sshc_auth.specs.CauseLaws.{SaysAlso, cause_also}
+use Rattle.sshc_auth.specs.Causes.{GateSaysNo, HasGateCause, SaysNoTo}
+use Rattle.sshc_auth.specs.OpeningState.{OpeningState}
+use Rattle.sshc_auth.specs.OpeningTable.{asked_of, key_asked}
+use Rattle.sshc_auth.specs.Promises.{Stepped}
+use Rattle.sshc_auth.specs.SessionWords.{AcceptsFirst, GoesOnFirst, IsFirst, KeepsFirst, KeepsTo}
+use Rattle.sshc_auth.specs.Stepping.{Lent as OpeningLent, Answered, GateAnswers, GateKeeps, GateRefused, Judged, LentGate, StaysClosed, StepsBy, StepsTold, Tells, exchange_in, told_of, with_gate, lent}
+use Rattle.sshc_client_table.specs.SessionState.{SessionState}
+use Rattle.sshc_client_table.specs.Grown.{Grown}
+use Rattle.sshc_client_table.specs.GrownLaws.{grown_same}
+use Rattle.sshc_client_state.specs.OpeningStep.{StepsLent, goes_on, lent_session, outbox_of}
 use Rattle.sshc_client.specs.Asked.{AsksHandler, IsVerdict, Said, Says, StepsBefore, verdict_gate}
 use Rattle.sshc_client.specs.Handling.{HandlerAt, HandlerKeeps, Handles}
 use Rattle.sshc_client.specs.HandledStep.{AddsNothing, EndsBy, handler_gate, has_left}

@@ -4,23 +4,23 @@ use Rattle.std.specs.Prelude.{if◌then◌else◌}
 use Rattle.sshc_wire.specs.Faults.{Rose}
 use Rattle.sshc_key.specs.Signers.{SignCall}
 use Rattle.sshc_key.specs.declared.identity.PublicKeyOrCertificate.{PublicKeyOrCertificate}
-use Rattle.sshc_event.specs.declared.event.Event.{Event}
-use Rattle.sshc_opening.specs.declared.error.Error.{Error}
-use Rattle.sshc_opening.specs.declared.error.Error.TheVariants.{NoMemory}
-use Rattle.sshc_opening.specs.declared.step.Asks.{Asks}
-use Rattle.sshc_opening.specs.declared.step.Asks.TheVariants as asking
-use Rattle.sshc_opening.specs.declared.step.Step.{Step}
-use Rattle.sshc_opening.specs.declared.step.Step.TheVariants as steps
-use Rattle.sshc_opening.specs.AskedLaws.{has_exchange}
-use Rattle.sshc_opening.specs.OpeningState.{OpeningState}
-use Rattle.sshc_opening.specs.OpeningTable.{asked_of}
-use Rattle.sshc_opening.specs.Stepping.{GateKeeps, HasExchange, exchange_in}
-use Rattle.sshc_moves.specs.SessionState.{SessionState, is_live, is_open, runs}
-use Rattle.sshc_moves.specs.declared.life.Life.TheVariants.{Runs}
-use Rattle.sshc_moves.specs.Grown.{Grown}
-use Rattle.sshc_moves.specs.GrownLaws.{grown_same}
-use Rattle.sshc_moves.specs.KeepLaws.{grown_keeps}
-use Rattle.sshc_session.specs.OpeningStep.{lent_session}
+use Rattle.sshc_auth_event.specs.declared.event.Event.{Event}
+use Rattle.sshc_auth.specs.declared.error.Error.{Error}
+use Rattle.sshc_auth.specs.declared.error.Error.TheVariants.{NoMemory}
+use Rattle.sshc_auth.specs.declared.step.Asks.{Asks}
+use Rattle.sshc_auth.specs.declared.step.Asks.TheVariants as asking
+use Rattle.sshc_auth.specs.declared.step.Step.{Step}
+use Rattle.sshc_auth.specs.declared.step.Step.TheVariants as steps
+use Rattle.sshc_auth.specs.AskedLaws.{has_exchange}
+use Rattle.sshc_auth.specs.OpeningState.{OpeningState}
+use Rattle.sshc_auth.specs.OpeningTable.{asked_of}
+use Rattle.sshc_auth.specs.Stepping.{GateKeeps, HasExchange, exchange_in}
+use Rattle.sshc_client_table.specs.SessionState.{SessionState, is_live, is_open, runs}
+use Rattle.sshc_client_table.specs.declared.life.Life.TheVariants.{Runs}
+use Rattle.sshc_client_table.specs.Grown.{Grown}
+use Rattle.sshc_client_table.specs.GrownLaws.{grown_same}
+use Rattle.sshc_client_table.specs.KeepLaws.{grown_keeps}
+use Rattle.sshc_client_state.specs.OpeningStep.{lent_session}
 use Rattle.sshc_client.specs.Asked.{AsksHandler, IsVerdict, Refuses, RefusesKey, Said, StepsBefore, verdict_gate}
 use Rattle.sshc_client.specs.Handling.{HandlerAt, HandlerKeeps, handler_at}
 use Rattle.sshc_client.specs.HandledStep.{Before, RefusedBefore, StepsBehind, WhyRefused, handler_gate, shut_session}

@@ -3,10 +3,10 @@ use Rattle.std.proofs.Common.{◌≡◌, ◌≤◌, ◌+◌, ◌⊎◌, inl, inr
 use Rattle.std.specs.Prelude.{IsErrAnd, is_some, min, nat_lt}
 use Rattle.sshc_wire.specs.Faults.{Rose}
 use Rattle.sshc_wire.specs.declared.error.NoMemory.{NoMemory as RanOut}
-use Rattle.sshc_opening.specs.declared.error.Error.{Error}
-use Rattle.sshc_opening.specs.declared.error.Error.TheVariants.{Inconsistent, NoMemory}
-use Rattle.sshc_moves.specs.declared.open_answer.OpenAnswer.{OpenAnswer}
-use Rattle.sshc_moves.specs.declared.open_answer.OpenAnswer.TheVariants.{Accept}
+use Rattle.sshc_auth.specs.declared.error.Error.{Error}
+use Rattle.sshc_auth.specs.declared.error.Error.TheVariants.{Inconsistent, NoMemory}
+use Rattle.sshc_client_table.specs.declared.open_answer.OpenAnswer.{OpenAnswer}
+use Rattle.sshc_client_table.specs.declared.open_answer.OpenAnswer.TheVariants.{Accept}
 use Rattle.sshc_wire.specs.declared.channel_open_failure.ChannelOpenFailure.TheVariants.{UnknownChannelType}
 use Rattle.sshc_wire.specs.declared.channel_record.ChannelRecord.{ChannelRecord}
 use Rattle.sshc_wire.specs.declared.channel_record.ChannelRecord.TheVariants as happened
@@ -15,19 +15,19 @@ use Rattle.sshc_wire.specs.declared.channel_record.ServerOpen.TheVariants as ope
 use Rattle.sshc_wire.specs.declared.record.Record.TheVariants.{ServerOpened as ServerOpenedRecord}
 use Rattle.sshc_wire.specs.declared.ticket.Ticket.{Ticket}
 use Rattle.sshc_mux.specs.ChannelTable.{adjusted_at}
-use Rattle.sshc_packets.specs.declared.channel_open.Confirmation.{Confirmation}
-use Rattle.sshc_packets.specs.declared.channel_open.Sender.{Sender}
-use Rattle.sshc_packets.specs.ChannelPackets.{Refusal}
-use Rattle.sshc_moves.specs.SessionState.{SessionState, own_window}
-use Rattle.sshc_moves.specs.Moves.{Confirms, Does, Fails, Fronts, Grants, Move, Receives, Rejects, Reserves, Targets, Tells, after, done, onto}
-use Rattle.sshc_moves.specs.SessionRow.{Callback, Opinions, SessionRow, asking, behind_moves, ends, goes, passed_over, refused, refuses, reports}
-use Rattle.sshc_moves.specs.SessionTable.Opens.{confirmed_row, failed_row, numbered_open_row, served_row, serving_row, settled}
-use Rattle.sshc_moves.specs.SessionTable.Streams.{retargets}
-use Rattle.sshc_moves.specs.Grown.{Grown}
-use Rattle.sshc_moves.specs.GrownLaws.{done-append, grown_same}
-use Rattle.sshc_rows.specs.declared.flow.Flow.{Flow}
-use Rattle.sshc_rows.specs.declared.flow.Flow.TheVariants as flows
-use Rattle.sshc_rows.specs.Follows.{Follows, all_moves, default_opinions}
+use Rattle.sshc_client_packets.specs.declared.channel_open.Confirmation.{Confirmation}
+use Rattle.sshc_client_packets.specs.declared.channel_open.Sender.{Sender}
+use Rattle.sshc_client_packets.specs.ChannelPackets.{Refusal}
+use Rattle.sshc_client_table.specs.SessionState.{SessionState, own_window}
+use Rattle.sshc_client_table.specs.Moves.{Confirms, Does, Fails, Fronts, Grants, Move, Receives, Rejects, Reserves, Targets, Tells, after, done, onto}
+use Rattle.sshc_client_table.specs.SessionRow.{Callback, Opinions, SessionRow, asking, behind_moves, ends, goes, passed_over, refused, refuses, reports}
+use Rattle.sshc_client_table.specs.SessionTable.Opens.{confirmed_row, failed_row, numbered_open_row, served_row, serving_row, settled}
+use Rattle.sshc_client_table.specs.SessionTable.Streams.{retargets}
+use Rattle.sshc_client_table.specs.Grown.{Grown}
+use Rattle.sshc_client_table.specs.GrownLaws.{done-append, grown_same}
+use Rattle.sshc_client_rows.specs.declared.flow.Flow.{Flow}
+use Rattle.sshc_client_rows.specs.declared.flow.Flow.TheVariants as flows
+use Rattle.sshc_client_rows.specs.Follows.{Follows, all_moves, default_opinions}
 use Rattle.sshc_client.specs.declared.stop.Stop.{Stop}
 use Rattle.sshc_client.specs.declared.stop.Stop.TheVariants.{Own, Handler}
 use Rattle.sshc_client.specs.Handling.{HandlerAt, HandlerKeeps, Handles, Opines}

@@ -2,11 +2,11 @@
 use Rattle.std.proofs.Common.{◌≡◌, List, [], ◌∷◌, None, Result, Ok, Err, refl, sym, subst}
 use Rattle.sshc_wire.specs.declared.disconnect.Disconnect.{Disconnect}
 use Rattle.sshc_wire.specs.declared.error.NoMemory.{NoMemory as RanOut}
-use Rattle.sshc_packets.specs.ChannelOpens.{ChannelOpen}
-use Rattle.sshc_moves.specs.SessionState.{SessionState}
-use Rattle.sshc_moves.specs.Moves.{Disconnects, Leaves, Move, Moved, Opens, after, done}
-use Rattle.sshc_moves.specs.Grown.{Grown, May}
-use Rattle.sshc_moves.specs.GrownLaws.{grown_by, grown_same}
+use Rattle.sshc_client_packets.specs.ChannelOpens.{ChannelOpen}
+use Rattle.sshc_client_table.specs.SessionState.{SessionState}
+use Rattle.sshc_client_table.specs.Moves.{Disconnects, Leaves, Move, Moved, Opens, after, done}
+use Rattle.sshc_client_table.specs.Grown.{Grown, May}
+use Rattle.sshc_client_table.specs.GrownLaws.{grown_by, grown_same}
 use Rattle.sshc_client.specs.Methods.{Acts, acted}
 
 pub moved_acts : (m : Move) (old new : SessionState) (moved : Result (Unit {0}) RanOut) → Moved m old new moved → Acts (m ∷ []) old new (acted moved)

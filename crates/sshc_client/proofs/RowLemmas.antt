@@ -2,22 +2,22 @@
 use Rattle.std.proofs.Common.{◌≡◌, ℕ, Bool, true, false, if◌then◌else◌, List, [], ◌∷◌, Result, Ok, Err, refl, ap, sym, subst, ◌∙◌}
 use Rattle.sshc_transport.specs.declared.exchange.ExchangeFlag.{ExchangeFlag}
 use Rattle.sshc_transport.specs.declared.exchange.ExchangeFlag.TheVariants.{Idle, Ours, Peer}
-use Rattle.sshc_opening.specs.OpeningTable.Packets.{counted_with, is_ignored, waits_for_exchange}
-use Rattle.sshc_opening.specs.declared.error.Error.{Error}
-use Rattle.sshc_packets.specs.HostKeyProof.{Accepts}
+use Rattle.sshc_auth.specs.OpeningTable.Packets.{counted_with, is_ignored, waits_for_exchange}
+use Rattle.sshc_auth.specs.declared.error.Error.{Error}
+use Rattle.sshc_client_packets.specs.HostKeyProof.{Accepts}
 use Rattle.sshc_wire.specs.declared.msg.TheConstants.{DISCONNECT, GLOBAL_REQUEST}
 use Rattle.std.specs.Prelude.{◌==◌, length}
-use Rattle.sshc_moves.specs.SessionState.{SessionState, is_live}
-use Rattle.sshc_moves.specs.Moves.{Counts, Hears, Move, after}
-use Rattle.sshc_moves.specs.MoveLaws.{is_done}
-use Rattle.sshc_moves.specs.SessionRow.{Opinions, SessionRow, behind_moves, passed_over}
-use Rattle.sshc_moves.specs.SessionTable.{disconnect_row, held_row, numbered_row, packet_row, payload_row}
-use Rattle.sshc_moves.specs.SessionTable.Opens.{channel_open_row, open_confirmation_row, open_failure_row}
-use Rattle.sshc_moves.specs.SessionTable.Replies.{request_failure_row, request_success_row}
-use Rattle.sshc_moves.specs.SessionTable.Requests.{channel_request_row}
-use Rattle.sshc_moves.specs.SessionTable.Streams.{channel_close_row, channel_data_row, channel_extended_data_row, channel_report_row, window_adjust_row}
-use Rattle.sshc_rows.specs.declared.flow.Flow.{Flow}
-use Rattle.sshc_rows.specs.Follows.{Follows, default_opinions}
+use Rattle.sshc_client_table.specs.SessionState.{SessionState, is_live}
+use Rattle.sshc_client_table.specs.Moves.{Counts, Hears, Move, after}
+use Rattle.sshc_client_table.specs.MoveLaws.{is_done}
+use Rattle.sshc_client_table.specs.SessionRow.{Opinions, SessionRow, behind_moves, passed_over}
+use Rattle.sshc_client_table.specs.SessionTable.{disconnect_row, held_row, numbered_row, packet_row, payload_row}
+use Rattle.sshc_client_table.specs.SessionTable.Opens.{channel_open_row, open_confirmation_row, open_failure_row}
+use Rattle.sshc_client_table.specs.SessionTable.Replies.{request_failure_row, request_success_row}
+use Rattle.sshc_client_table.specs.SessionTable.Requests.{channel_request_row}
+use Rattle.sshc_client_table.specs.SessionTable.Streams.{channel_close_row, channel_data_row, channel_extended_data_row, channel_report_row, window_adjust_row}
+use Rattle.sshc_client_rows.specs.declared.flow.Flow.{Flow}
+use Rattle.sshc_client_rows.specs.Follows.{Follows, default_opinions}
 use Rattle.sshc_client.specs.declared.stop.Stop.{Stop}
 use Rattle.sshc_client.specs.Handling.{HandlerAt}
 use Rattle.sshc_client.specs.HandledRow.{FollowsRow, FollowsWith, own_result}

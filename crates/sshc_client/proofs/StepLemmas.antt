@@ -6,35 +6,35 @@ use Rattle.sshc_wire.specs.Outgoing.{Outgoing}
 use Rattle.sshc_wire.specs.declared.record.Record.{Record}
 use Rattle.sshc_key.specs.Signers.{SignCall, since}
 use Rattle.sshc_key.specs.declared.identity.PublicKeyOrCertificate.{PublicKeyOrCertificate}
-use Rattle.sshc_event.specs.declared.event.Event.{Event}
-use Rattle.sshc_opening.specs.declared.ended.Ended.TheVariants.{Disconnected}
-use Rattle.sshc_opening.specs.declared.error.Error.{Error}
-use Rattle.sshc_opening.specs.declared.error.Error.TheVariants.{NoMemory}
-use Rattle.sshc_opening.specs.declared.step.Asks.{Asks}
-use Rattle.sshc_opening.specs.declared.step.Asks.TheVariants as asking
+use Rattle.sshc_auth_event.specs.declared.event.Event.{Event}
+use Rattle.sshc_auth.specs.declared.ended.Ended.TheVariants.{Disconnected}
+use Rattle.sshc_auth.specs.declared.error.Error.{Error}
+use Rattle.sshc_auth.specs.declared.error.Error.TheVariants.{NoMemory}
+use Rattle.sshc_auth.specs.declared.step.Asks.{Asks}
+use Rattle.sshc_auth.specs.declared.step.Asks.TheVariants as asking
 use Rattle.sshc_transport.specs.declared.exchange.ExchangeResult.{ExchangeResult}
-use Rattle.sshc_opening.specs.declared.step.Step.{Step}
-use Rattle.sshc_opening.specs.declared.step.Step.TheVariants as steps
-use Rattle.sshc_opening.specs.OpeningState.{OpeningState, shut}
-use Rattle.sshc_opening.specs.OpeningTable.{asked_of}
-use Rattle.sshc_opening.specs.Promises.{Stepped}
-use Rattle.sshc_opening.specs.Stepping.{Lent as OpeningLent, Answered, GateAnswers, exchange_in, GateKeeps, StepsBy, SignerGrows, gate_answers, lent, with_gate}
-use Rattle.sshc_opening.specs.Causes.{HasGateCause}
-use Rattle.sshc_packets.specs.HostKeyProof.{Accepts}
-use Rattle.sshc_moves.specs.declared.life.Life.{Life}
-use Rattle.sshc_moves.specs.declared.life.Life.TheVariants.{Runs, Left, Over}
-use Rattle.sshc_moves.specs.declared.open_answer.OpenAnswer.{OpenAnswer}
-use Rattle.sshc_moves.specs.declared.open_answer.OpenAnswer.TheVariants.{Accept}
-use Rattle.sshc_moves.specs.SessionState.{SessionState, is_live, is_open, opens_later, runs}
-use Rattle.sshc_moves.specs.Moves.{Fronts, Move, Stops, after, done, onto}
-use Rattle.sshc_moves.specs.SessionRow.{Callback, Opinions, SessionRow, ends, goes, refuses}
-use Rattle.sshc_moves.specs.SessionTable.{session_row}
-use Rattle.sshc_session.specs.OpeningStep.{Lent, StepsLent, StepsOpening, goes_on, lent_session, life_behind, life_if, outbox_of, outgoing}
-use Rattle.sshc_session_laws.specs.KeptByMoves.{moves_keep}
-use Rattle.sshc_session_laws.specs.OpenCauseLaws.{all_keep, open_why, session_holds}
-use Rattle.sshc_rows.specs.declared.flow.Flow.{Flow}
-use Rattle.sshc_rows.specs.declared.flow.Flow.TheVariants as flows
-use Rattle.sshc_rows.specs.Follows.{all_moves, default_opinions}
+use Rattle.sshc_auth.specs.declared.step.Step.{Step}
+use Rattle.sshc_auth.specs.declared.step.Step.TheVariants as steps
+use Rattle.sshc_auth.specs.OpeningState.{OpeningState, shut}
+use Rattle.sshc_auth.specs.OpeningTable.{asked_of}
+use Rattle.sshc_auth.specs.Promises.{Stepped}
+use Rattle.sshc_auth.specs.Stepping.{Lent as OpeningLent, Answered, GateAnswers, exchange_in, GateKeeps, StepsBy, SignerGrows, gate_answers, lent, with_gate}
+use Rattle.sshc_auth.specs.Causes.{HasGateCause}
+use Rattle.sshc_client_packets.specs.HostKeyProof.{Accepts}
+use Rattle.sshc_client_table.specs.declared.life.Life.{Life}
+use Rattle.sshc_client_table.specs.declared.life.Life.TheVariants.{Runs, Left, Over}
+use Rattle.sshc_client_table.specs.declared.open_answer.OpenAnswer.{OpenAnswer}
+use Rattle.sshc_client_table.specs.declared.open_answer.OpenAnswer.TheVariants.{Accept}
+use Rattle.sshc_client_table.specs.SessionState.{SessionState, is_live, is_open, opens_later, runs}
+use Rattle.sshc_client_table.specs.Moves.{Fronts, Move, Stops, after, done, onto}
+use Rattle.sshc_client_table.specs.SessionRow.{Callback, Opinions, SessionRow, ends, goes, refuses}
+use Rattle.sshc_client_table.specs.SessionTable.{session_row}
+use Rattle.sshc_client_state.specs.OpeningStep.{Lent, StepsLent, StepsOpening, goes_on, lent_session, life_behind, life_if, outbox_of, outgoing}
+use Rattle.sshc_client_table.specs.KeptByMoves.{moves_keep}
+use Rattle.sshc_client_table.specs.OpenCauseLaws.{all_keep, open_why, session_holds}
+use Rattle.sshc_client_rows.specs.declared.flow.Flow.{Flow}
+use Rattle.sshc_client_rows.specs.declared.flow.Flow.TheVariants as flows
+use Rattle.sshc_client_rows.specs.Follows.{all_moves, default_opinions}
 use Rattle.sshc_client.specs.declared.stop.Stop.{Stop}
 use Rattle.sshc_client.specs.declared.stop.Stop.TheVariants.{Own, Handler}
 use Rattle.sshc_client.specs.Handling.{HandlerAt, HandlerKeeps, handler_at}

@@ -2,15 +2,15 @@
 use Rattle.std.specs.Prelude.{◌≡◌, ◌⊎◌, Bool, true, false, ◌&&◌, Result, Ok, Err}
 use Rattle.sshc_wire.specs.Faults.{Rose}
 use Rattle.sshc_key.specs.declared.identity.PublicKeyOrCertificate.{PublicKeyOrCertificate}
-use Rattle.sshc_event.specs.declared.event.Event.{Event}
-use Rattle.sshc_opening.specs.declared.error.Error.{Error}
-use Rattle.sshc_opening.specs.declared.step.Asks.{Asks}
-use Rattle.sshc_opening.specs.declared.step.Asks.TheVariants as asking
-use Rattle.sshc_opening.specs.declared.step.Step.{Step}
-use Rattle.sshc_opening.specs.Stepping.{GateAnswers, gate_answers}
-use Rattle.sshc_moves.specs.SessionState.{SessionState}
-use Rattle.sshc_moves.specs.Grown.{Grown}
-use Rattle.sshc_session.specs.OpeningStep.{Lent, StepsLent, goes_on}
+use Rattle.sshc_auth_event.specs.declared.event.Event.{Event}
+use Rattle.sshc_auth.specs.declared.error.Error.{Error}
+use Rattle.sshc_auth.specs.declared.step.Asks.{Asks}
+use Rattle.sshc_auth.specs.declared.step.Asks.TheVariants as asking
+use Rattle.sshc_auth.specs.declared.step.Step.{Step}
+use Rattle.sshc_auth.specs.Stepping.{GateAnswers, gate_answers}
+use Rattle.sshc_client_table.specs.SessionState.{SessionState}
+use Rattle.sshc_client_table.specs.Grown.{Grown}
+use Rattle.sshc_client_state.specs.OpeningStep.{Lent, StepsLent, goes_on}
 use Rattle.sshc_client.specs.Handling.{HandlerAt, HandlerKeeps}
 use Rattle.sshc_client.specs.HandledStep.{AddsNothing, EndsBy, has_left}
 

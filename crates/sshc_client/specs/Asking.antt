@@ -1,8 +1,8 @@
 -- When the user may be asked for an event.
 use Rattle.std.specs.Prelude.{Bool, not, ◌&&◌, ◌||◌}
-use Rattle.sshc_opening.specs.OpeningState.{is_awaiting}
+use Rattle.sshc_auth.specs.OpeningState.{is_awaiting}
 use Rattle.sshc_mux.specs.ChannelTable.{any_waits}
-use Rattle.sshc_moves.specs.SessionState.{SessionState, exchanging, runs}
+use Rattle.sshc_client_table.specs.SessionState.{SessionState, exchanging, runs}
 
 -- an answer is awaited; or no exchange runs, nothing waits on a channel, and the session hasn't ended
 abbrev pub wants_user_events : SessionState → Bool

@@ -1,7 +1,7 @@
 -- The default settings of a client, and which of them a session and its opening keep.
 use Rattle.std.specs.Prelude.{◌≡◌, false, None, is_some, codes}
-use Rattle.sshc_opening.specs.declared.opening.Settings.{Settings}
-use Rattle.sshc_moves.specs.declared.settings.SessionSettings.{SessionSettings}
+use Rattle.sshc_auth.specs.declared.opening.Settings.{Settings}
+use Rattle.sshc_client_table.specs.declared.settings.SessionSettings.{SessionSettings}
 use Rattle.sshc_client.specs.declared.config.Config.{Config}
 
 pub record IsDefault (c : Config) : Type 0 where

@@ -9,18 +9,18 @@ use Rattle.sshc_wire.specs.declared.channel_record.ServerOpen.{ServerOpen}
 use Rattle.sshc_wire.specs.declared.channel_record.ServerOpen.TheVariants as opens
 use Rattle.sshc_wire.specs.declared.error.NoMemory.{NoMemory as RanOut}
 use Rattle.sshc_wire.specs.declared.record.Record.TheVariants.{ServerOpened as ServerOpenedRecord}
-use Rattle.sshc_opening.specs.declared.error.Error.{Error}
-use Rattle.sshc_opening.specs.declared.error.Error.TheVariants.{NoMemory}
-use Rattle.sshc_moves.specs.declared.open_answer.OpenAnswer.{OpenAnswer}
-use Rattle.sshc_moves.specs.declared.open_answer.OpenAnswer.TheVariants.{Accept, Reject}
-use Rattle.sshc_moves.specs.SessionState.{SessionState}
-use Rattle.sshc_moves.specs.Moves.{Fronts, Move, Targets, Tells, done}
-use Rattle.sshc_moves.specs.SessionRow.{Callback, Opinions, ServerOpened, SessionRow, ends, goes, refuses}
-use Rattle.sshc_moves.specs.SessionTable.Opens.{settled}
-use Rattle.sshc_moves.specs.Grown.{Grown}
-use Rattle.sshc_rows.specs.declared.flow.Flow.{Flow}
-use Rattle.sshc_rows.specs.declared.flow.Flow.TheVariants as flows
-use Rattle.sshc_rows.specs.Follows.{default_opinions}
+use Rattle.sshc_auth.specs.declared.error.Error.{Error}
+use Rattle.sshc_auth.specs.declared.error.Error.TheVariants.{NoMemory}
+use Rattle.sshc_client_table.specs.declared.open_answer.OpenAnswer.{OpenAnswer}
+use Rattle.sshc_client_table.specs.declared.open_answer.OpenAnswer.TheVariants.{Accept, Reject}
+use Rattle.sshc_client_table.specs.SessionState.{SessionState}
+use Rattle.sshc_client_table.specs.Moves.{Fronts, Move, Targets, Tells, done}
+use Rattle.sshc_client_table.specs.SessionRow.{Callback, Opinions, ServerOpened, SessionRow, ends, goes, refuses}
+use Rattle.sshc_client_table.specs.SessionTable.Opens.{settled}
+use Rattle.sshc_client_table.specs.Grown.{Grown}
+use Rattle.sshc_client_rows.specs.declared.flow.Flow.{Flow}
+use Rattle.sshc_client_rows.specs.declared.flow.Flow.TheVariants as flows
+use Rattle.sshc_client_rows.specs.Follows.{default_opinions}
 use Rattle.sshc_client.specs.declared.stop.Stop.{Stop}
 use Rattle.sshc_client.specs.declared.stop.Stop.TheVariants.{Own, Handler}
 use Rattle.sshc_client.specs.Handling.{HandlerAt, HandlerKeeps, Handles, Opines}

@@ -5,27 +5,27 @@ use Rattle.std.specs.Prelude.{◌≡◌, ◌⊎◌, ℕ, Bool, true, false, ◌&
 use Rattle.sshc_wire.specs.Faults.{Rose}
 use Rattle.sshc_wire.specs.declared.record.Record.{Record}
 use Rattle.sshc_key.specs.declared.identity.PublicKeyOrCertificate.{PublicKeyOrCertificate}
-use Rattle.sshc_event.specs.declared.event.Event.{Event}
-use Rattle.sshc_opening.specs.declared.ended.Ended.TheVariants.{Disconnected}
-use Rattle.sshc_opening.specs.declared.error.Error.{Error}
-use Rattle.sshc_opening.specs.declared.error.Error.TheVariants.{NoMemory}
-use Rattle.sshc_opening.specs.declared.step.Asks.{Asks}
-use Rattle.sshc_opening.specs.declared.step.Asks.TheVariants as asking
-use Rattle.sshc_opening.specs.declared.step.Step.{Step}
-use Rattle.sshc_opening.specs.declared.step.Step.TheVariants as steps
-use Rattle.sshc_opening.specs.OpeningState.{shut}
-use Rattle.sshc_opening.specs.OpeningTable.{asked_of}
-use Rattle.sshc_opening.specs.Stepping.{GateAnswers, gate_answers}
-use Rattle.sshc_packets.specs.HostKeyProof.{Accepts}
-use Rattle.sshc_moves.specs.declared.life.Life.{Life}
-use Rattle.sshc_moves.specs.declared.life.Life.TheVariants.{Left, Over}
-use Rattle.sshc_moves.specs.SessionState.{SessionState, is_live, opens_later, runs}
-use Rattle.sshc_moves.specs.Moves.{Stops, after}
-use Rattle.sshc_moves.specs.SessionTable.{session_row}
-use Rattle.sshc_moves.specs.Grown.{Grown}
-use Rattle.sshc_session.specs.OpeningStep.{Lent, StepsLent, goes_on}
-use Rattle.sshc_rows.specs.declared.flow.Flow.{Flow}
-use Rattle.sshc_rows.specs.declared.flow.Flow.TheVariants as flows
+use Rattle.sshc_auth_event.specs.declared.event.Event.{Event}
+use Rattle.sshc_auth.specs.declared.ended.Ended.TheVariants.{Disconnected}
+use Rattle.sshc_auth.specs.declared.error.Error.{Error}
+use Rattle.sshc_auth.specs.declared.error.Error.TheVariants.{NoMemory}
+use Rattle.sshc_auth.specs.declared.step.Asks.{Asks}
+use Rattle.sshc_auth.specs.declared.step.Asks.TheVariants as asking
+use Rattle.sshc_auth.specs.declared.step.Step.{Step}
+use Rattle.sshc_auth.specs.declared.step.Step.TheVariants as steps
+use Rattle.sshc_auth.specs.OpeningState.{shut}
+use Rattle.sshc_auth.specs.OpeningTable.{asked_of}
+use Rattle.sshc_auth.specs.Stepping.{GateAnswers, gate_answers}
+use Rattle.sshc_client_packets.specs.HostKeyProof.{Accepts}
+use Rattle.sshc_client_table.specs.declared.life.Life.{Life}
+use Rattle.sshc_client_table.specs.declared.life.Life.TheVariants.{Left, Over}
+use Rattle.sshc_client_table.specs.SessionState.{SessionState, is_live, opens_later, runs}
+use Rattle.sshc_client_table.specs.Moves.{Stops, after}
+use Rattle.sshc_client_table.specs.SessionTable.{session_row}
+use Rattle.sshc_client_table.specs.Grown.{Grown}
+use Rattle.sshc_client_state.specs.OpeningStep.{Lent, StepsLent, goes_on}
+use Rattle.sshc_client_rows.specs.declared.flow.Flow.{Flow}
+use Rattle.sshc_client_rows.specs.declared.flow.Flow.TheVariants as flows
 use Rattle.sshc_client.specs.declared.stop.Stop.{Stop}
 use Rattle.sshc_client.specs.declared.stop.Stop.TheVariants.{Own, Handler}
 use Rattle.sshc_client.specs.Handling.{HandlerAt, HandlerKeeps, handler_at}

@@ -2,8 +2,8 @@
 -- default body returns. Stated by relations between two moments; the code is any handler's.
 use Rattle.std.specs.Prelude.{◌≡◌, ◌≤◌, ℕ, List, Result, Ok, Err, Bool, OnErr}
 use Rattle.sshc_wire.specs.Faults.{Rose}
-use Rattle.sshc_moves.specs.SessionState.{SessionState}
-use Rattle.sshc_moves.specs.Grown.{Grown}
+use Rattle.sshc_client_table.specs.SessionState.{SessionState}
+use Rattle.sshc_client_table.specs.Grown.{Grown}
 use Rattle.sshc_client.specs.declared.answers.DisconnectReason.{DisconnectReason}
 use Rattle.sshc_client.specs.declared.answers.DisconnectReason.TheVariants as reasons
 

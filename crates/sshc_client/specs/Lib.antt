@@ -6,4 +6,4 @@ pub mod HandledRow
 pub mod HandledStep
 pub mod Methods
 pub mod Stepping
-pub use Rattle.sshc_rows.specs.Follows
+pub use Rattle.sshc_client_rows.specs.Follows

@@ -3,13 +3,13 @@ use Rattle.std.specs.Prelude.{◌≡◌, ◌⊎◌, true, false, List, [], ◌�
 use Rattle.sshc_wire.specs.declared.channel_id.ChannelId.{ChannelId}
 use Rattle.sshc_wire.specs.declared.error.NoMemory.{NoMemory as RanOut}
 use Rattle.sshc_wire.specs.declared.ticket.Ticket.{Ticket}
-use Rattle.sshc_opening.specs.declared.error.Error.{Error}
-use Rattle.sshc_opening.specs.declared.error.Error.TheVariants.{NoMemory, NotAuthenticated}
+use Rattle.sshc_auth.specs.declared.error.Error.{Error}
+use Rattle.sshc_auth.specs.declared.error.Error.TheVariants.{NoMemory, NotAuthenticated}
 use Rattle.sshc_mux.specs.ChannelTable.Opens.{next_number}
-use Rattle.sshc_packets.specs.ChannelOpens.{ChannelOpen}
-use Rattle.sshc_moves.specs.Messages.{Ask}
-use Rattle.sshc_moves.specs.Moves.{Asks, DeniesTicket, Move, Opens, after, done}
-use Rattle.sshc_moves.specs.SessionState.{SessionState, is_live, is_open}
+use Rattle.sshc_client_packets.specs.ChannelOpens.{ChannelOpen}
+use Rattle.sshc_client_table.specs.Messages.{Ask}
+use Rattle.sshc_client_table.specs.Moves.{Asks, DeniesTicket, Move, Opens, after, done}
+use Rattle.sshc_client_table.specs.SessionState.{SessionState, is_live, is_open}
 
 -- a call did the moves, or was out of memory and did nothing; a move that may not be done does nothing either
 abbrev pub Acts : {A : Type 0} → List Move → SessionState → SessionState → Result A Error → Type 0

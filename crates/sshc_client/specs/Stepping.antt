@@ -2,21 +2,21 @@
 -- the session is open the opening's step is done, in an open session the event's row is followed, and a session that
 -- has ended returns `Closed`. In the code the opening is a part of the session all along.
 use Rattle.std.specs.Prelude.{◌≡◌, ◌⊎◌, true}
-use Rattle.sshc_event.specs.declared.event.Event.{Event}
-use Rattle.sshc_opening.specs.declared.ended.Ended.TheVariants.{Disconnected}
-use Rattle.sshc_opening.specs.declared.error.Error.{Error}
-use Rattle.sshc_opening.specs.declared.error.Error.TheVariants.{NoMemory}
-use Rattle.sshc_opening.specs.declared.step.Step.{Step}
-use Rattle.sshc_opening.specs.declared.step.Step.TheVariants as steps
-use Rattle.sshc_opening.specs.Stepping.{GateAnswers}
-use Rattle.sshc_packets.specs.HostKeyProof.{Accepts}
-use Rattle.sshc_moves.specs.declared.life.Life.TheVariants.{Left, Over}
-use Rattle.sshc_moves.specs.SessionState.{SessionState, is_live, opens_later}
-use Rattle.sshc_moves.specs.Moves.{Fronts, Stops, after, done}
-use Rattle.sshc_moves.specs.SessionRow.{SessionRow, ends, goes, refuses}
-use Rattle.sshc_moves.specs.SessionTable.{session_row}
-use Rattle.sshc_session.specs.OpeningStep.{Lent, StepsOpening}
-use Rattle.sshc_rows.specs.Follows.{all_moves, default_opinions}
+use Rattle.sshc_auth_event.specs.declared.event.Event.{Event}
+use Rattle.sshc_auth.specs.declared.ended.Ended.TheVariants.{Disconnected}
+use Rattle.sshc_auth.specs.declared.error.Error.{Error}
+use Rattle.sshc_auth.specs.declared.error.Error.TheVariants.{NoMemory}
+use Rattle.sshc_auth.specs.declared.step.Step.{Step}
+use Rattle.sshc_auth.specs.declared.step.Step.TheVariants as steps
+use Rattle.sshc_auth.specs.Stepping.{GateAnswers}
+use Rattle.sshc_client_packets.specs.HostKeyProof.{Accepts}
+use Rattle.sshc_client_table.specs.declared.life.Life.TheVariants.{Left, Over}
+use Rattle.sshc_client_table.specs.SessionState.{SessionState, is_live, opens_later}
+use Rattle.sshc_client_table.specs.Moves.{Fronts, Stops, after, done}
+use Rattle.sshc_client_table.specs.SessionRow.{SessionRow, ends, goes, refuses}
+use Rattle.sshc_client_table.specs.SessionTable.{session_row}
+use Rattle.sshc_client_state.specs.OpeningStep.{Lent, StepsOpening}
+use Rattle.sshc_client_rows.specs.Follows.{all_moves, default_opinions}
 
 -- ---- in an open session
 

@@ -1,9 +1,9 @@
 //! What a handler is passed at the end of a session.
 
-use sshc_opening::RemoteDisconnectInfo;
+use sshc_auth::RemoteDisconnectInfo;
 
 /// Why a session has ended.
-#[derive(Debug, Drop)]
+#[derive(Drop)]
 pub enum DisconnectReason<E> {
     /// The server disconnected.
     ReceivedDisconnect(RemoteDisconnectInfo),

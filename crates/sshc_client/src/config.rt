@@ -3,13 +3,13 @@
 ghost use Rattle.std.specs.Prelude.{◌≡◌, IfOk};
 ghost use Rattle.sshc_client.specs.Configured.{IsDefault, session_settings_of, settings_of};
 
-use sshc_moves::SessionSettings;
-use sshc_opening::Settings;
+use sshc_auth::Settings;
+use sshc_client_table::SessionSettings;
 use sshc_wire::{NoMemory, Text};
 use std::alloc::Global;
 
 /// The settings of a session. Times are milliseconds.
-#[derive(Debug, Drop)]
+#[derive(Drop)]
 pub struct Config {
     /// The text of our version line, which the transport uses (RFC 4253, section 4.2).
     pub client_id: Text,

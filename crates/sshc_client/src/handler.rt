@@ -3,14 +3,14 @@
 ghost use Rattle.std.specs.Prelude.{◌≡◌, ◌≤◌, ℕ, List, Result, Bool, false, Ok, OnErr};
 ghost use Rattle.sshc_wire.specs.Faults.{Rose};
 ghost use Rattle.sshc_key.specs.declared.identity.PublicKeyOrCertificate.{PublicKeyOrCertificate as HostKey};
-ghost use Rattle.sshc_opening.specs.declared.error.Error.{Error as Refusal};
+ghost use Rattle.sshc_auth.specs.declared.error.Error.{Error as Refusal};
 ghost use Rattle.sshc_client.specs.Handling.{Handles, Opines, ended_by, handler_at};
 
 use crate::answers::DisconnectReason;
 use crate::session::Session;
+use sshc_auth::{Error, NamesChosen};
+use sshc_client_table::OpenAnswer;
 use sshc_key::{PublicKey, PublicKeyOrCertificate};
-use sshc_moves::OpenAnswer;
-use sshc_opening::{Error, NamesChosen};
 use sshc_wire::{ChannelId, ChannelOpenFailure, Sig};
 
 /// The callbacks that a session makes. A callback that is lent the session may call its methods, and nothing else
@@ -79,7 +79,7 @@ pub trait Handler: Send {
     }
 
     /// The server's banner (RFC 4252, section 5.4), before the session is open.
-    #[tactic(auto, using(sshc_moves::specs::GrownLaws::grown_same))]
+    #[tactic(auto, using(sshc_client_table::specs::GrownLaws::grown_same))]
     fn auth_banner(&mut self, banner: &str, session: &mut Session) -> Result<(), Self::Error>
         ensures { Handles keeps_defaults (Ok tt)
             (handler_at (refusals self.old) (setting self.old)) (handler_at (refusals self.new) (setting self.new))
@@ -90,7 +90,7 @@ pub trait Handler: Send {
 
     /// A key exchange is done. `session` is as it was before: at the first exchange it isn't open yet, and its host key
     /// has just been accepted.
-    #[tactic(auto, using(sshc_moves::specs::GrownLaws::grown_same))]
+    #[tactic(auto, using(sshc_client_table::specs::GrownLaws::grown_same))]
     fn kex_done(
         &mut self,
         shared_secret: Option<&[u8]>,
@@ -105,7 +105,7 @@ pub trait Handler: Send {
     }
 
     /// The server confirmed a channel of ours: its packet size and its window, in bytes.
-    #[tactic(auto, using(sshc_moves::specs::GrownLaws::grown_same))]
+    #[tactic(auto, using(sshc_client_table::specs::GrownLaws::grown_same))]
     fn channel_open_confirmation(
         &mut self,
         id: ChannelId,
@@ -121,7 +121,7 @@ pub trait Handler: Send {
     }
 
     /// The server did what was asked on a channel.
-    #[tactic(auto, using(sshc_moves::specs::GrownLaws::grown_same))]
+    #[tactic(auto, using(sshc_client_table::specs::GrownLaws::grown_same))]
     fn channel_success(
         &mut self,
         channel: ChannelId,
@@ -135,7 +135,7 @@ pub trait Handler: Send {
     }
 
     /// The server did not do what was asked on a channel.
-    #[tactic(auto, using(sshc_moves::specs::GrownLaws::grown_same))]
+    #[tactic(auto, using(sshc_client_table::specs::GrownLaws::grown_same))]
     fn channel_failure(
         &mut self,
         channel: ChannelId,
@@ -149,7 +149,7 @@ pub trait Handler: Send {
     }
 
     /// The server closed a channel, which is gone.
-    #[tactic(auto, using(sshc_moves::specs::GrownLaws::grown_same))]
+    #[tactic(auto, using(sshc_client_table::specs::GrownLaws::grown_same))]
     fn channel_close(
         &mut self,
         channel: ChannelId,
@@ -163,7 +163,7 @@ pub trait Handler: Send {
     }
 
     /// The server sends no more bytes on a channel.
-    #[tactic(auto, using(sshc_moves::specs::GrownLaws::grown_same))]
+    #[tactic(auto, using(sshc_client_table::specs::GrownLaws::grown_same))]
     fn channel_eof(&mut self, channel: ChannelId, session: &mut Session) -> Result<(), Self::Error>
         ensures { Handles keeps_defaults (Ok tt)
             (handler_at (refusals self.old) (setting self.old)) (handler_at (refusals self.new) (setting self.new))
@@ -173,7 +173,7 @@ pub trait Handler: Send {
     }
 
     /// The server refused a channel of ours, which is gone.
-    #[tactic(auto, using(sshc_moves::specs::GrownLaws::grown_same))]
+    #[tactic(auto, using(sshc_client_table::specs::GrownLaws::grown_same))]
     fn channel_open_failure(
         &mut self,
         channel: ChannelId,
@@ -190,7 +190,7 @@ pub trait Handler: Send {
     }
 
     /// The server opens a session (RFC 4254, section 6.1).
-    #[tactic(auto, using(sshc_moves::specs::GrownLaws::grown_same))]
+    #[tactic(auto, using(sshc_client_table::specs::GrownLaws::grown_same))]
     fn server_channel_open_session(
         &mut self,
         id: ChannelId,
@@ -204,7 +204,7 @@ pub trait Handler: Send {
     }
 
     /// The server opens a connection to a host (RFC 4254, section 7.2).
-    #[tactic(auto, using(sshc_moves::specs::GrownLaws::grown_same))]
+    #[tactic(auto, using(sshc_client_table::specs::GrownLaws::grown_same))]
     fn server_channel_open_direct_tcpip(
         &mut self,
         id: ChannelId,
@@ -222,7 +222,7 @@ pub trait Handler: Send {
     }
 
     /// The server opens a connection to a socket (OpenSSH's PROTOCOL, section 2.4).
-    #[tactic(auto, using(sshc_moves::specs::GrownLaws::grown_same))]
+    #[tactic(auto, using(sshc_client_table::specs::GrownLaws::grown_same))]
     fn server_channel_open_direct_streamlocal(
         &mut self,
         id: ChannelId,
@@ -237,7 +237,7 @@ pub trait Handler: Send {
     }
 
     /// The server opens a connection to the display (RFC 4254, section 6.3.2).
-    #[tactic(auto, using(sshc_moves::specs::GrownLaws::grown_same))]
+    #[tactic(auto, using(sshc_client_table::specs::GrownLaws::grown_same))]
     fn server_channel_open_x11(
         &mut self,
         id: ChannelId,
@@ -253,7 +253,7 @@ pub trait Handler: Send {
     }
 
     /// A connection came to a port that the server forwards (RFC 4254, section 7.2).
-    #[tactic(auto, using(sshc_moves::specs::GrownLaws::grown_same))]
+    #[tactic(auto, using(sshc_client_table::specs::GrownLaws::grown_same))]
     fn server_channel_open_forwarded_tcpip(
         &mut self,
         id: ChannelId,
@@ -271,7 +271,7 @@ pub trait Handler: Send {
     }
 
     /// A connection came to a socket that the server forwards (OpenSSH's PROTOCOL, section 2.4).
-    #[tactic(auto, using(sshc_moves::specs::GrownLaws::grown_same))]
+    #[tactic(auto, using(sshc_client_table::specs::GrownLaws::grown_same))]
     fn server_channel_open_forwarded_streamlocal(
         &mut self,
         id: ChannelId,
@@ -286,7 +286,7 @@ pub trait Handler: Send {
     }
 
     /// The server opens a connection to the user's agent.
-    #[tactic(auto, using(sshc_moves::specs::GrownLaws::grown_same))]
+    #[tactic(auto, using(sshc_client_table::specs::GrownLaws::grown_same))]
     fn server_channel_open_agent_forward(
         &mut self,
         id: ChannelId,
@@ -300,7 +300,7 @@ pub trait Handler: Send {
     }
 
     /// The server opens a channel of a type that isn't known, which `should_accept_unknown_server_channel` took.
-    #[tactic(auto, using(sshc_moves::specs::GrownLaws::grown_same))]
+    #[tactic(auto, using(sshc_client_table::specs::GrownLaws::grown_same))]
     fn server_channel_open_unknown(
         &mut self,
         id: ChannelId,
@@ -314,7 +314,7 @@ pub trait Handler: Send {
     }
 
     /// Bytes came on a channel.
-    #[tactic(auto, using(sshc_moves::specs::GrownLaws::grown_same))]
+    #[tactic(auto, using(sshc_client_table::specs::GrownLaws::grown_same))]
     fn data(
         &mut self,
         channel: ChannelId,
@@ -329,7 +329,7 @@ pub trait Handler: Send {
     }
 
     /// Bytes of a type came on a channel; type 1 is the standard error stream.
-    #[tactic(auto, using(sshc_moves::specs::GrownLaws::grown_same))]
+    #[tactic(auto, using(sshc_client_table::specs::GrownLaws::grown_same))]
     fn extended_data(
         &mut self,
         channel: ChannelId,
@@ -345,7 +345,7 @@ pub trait Handler: Send {
     }
 
     /// Whether we may do flow control (RFC 4254, section 6.8).
-    #[tactic(auto, using(sshc_moves::specs::GrownLaws::grown_same))]
+    #[tactic(auto, using(sshc_client_table::specs::GrownLaws::grown_same))]
     fn xon_xoff(
         &mut self,
         channel: ChannelId,
@@ -360,7 +360,7 @@ pub trait Handler: Send {
     }
 
     /// The exit status of the remote command (RFC 4254, section 6.10).
-    #[tactic(auto, using(sshc_moves::specs::GrownLaws::grown_same))]
+    #[tactic(auto, using(sshc_client_table::specs::GrownLaws::grown_same))]
     fn exit_status(
         &mut self,
         channel: ChannelId,
@@ -375,7 +375,7 @@ pub trait Handler: Send {
     }
 
     /// The signal that ended the remote command (RFC 4254, section 6.10).
-    #[tactic(auto, using(sshc_moves::specs::GrownLaws::grown_same))]
+    #[tactic(auto, using(sshc_client_table::specs::GrownLaws::grown_same))]
     fn exit_signal(
         &mut self,
         channel: ChannelId,
@@ -394,7 +394,7 @@ pub trait Handler: Send {
 
     /// The server granted more bytes: `new_size` is the window that remains, in bytes, after the waiting bytes were
     /// sent.
-    #[tactic(auto, using(sshc_moves::specs::GrownLaws::grown_same))]
+    #[tactic(auto, using(sshc_client_table::specs::GrownLaws::grown_same))]
     fn window_adjusted(
         &mut self,
         channel: ChannelId,
@@ -409,7 +409,7 @@ pub trait Handler: Send {
     }
 
     /// The server announced host keys (OpenSSH's PROTOCOL, section 2.5). Nothing proves them yet.
-    #[tactic(auto, using(sshc_moves::specs::GrownLaws::grown_same))]
+    #[tactic(auto, using(sshc_client_table::specs::GrownLaws::grown_same))]
     fn openssh_ext_host_keys_announced(
         &mut self,
         keys: Vec<PublicKey>,

@@ -15,9 +15,9 @@ pub use config::Config;
 pub use handler::Handler;
 pub use message::Msg;
 pub use session::Session;
-pub use sshc_moves::{OpenAnswer, SessionSettings};
-pub use sshc_opening::{
+pub use sshc_auth::{
     ChannelMsg, Ended, Error, Event, KeyboardInteractiveAuthResponse, Method, RemoteDisconnectInfo,
     Settings, Step,
 };
+pub use sshc_client_table::{OpenAnswer, SessionSettings};
 pub use sshc_wire::{Outbox, Prompt, Record, Resolution, Ticket};

@@ -3,12 +3,12 @@
 ghost use Rattle.std.specs.Prelude.{◌≡◌};
 ghost use Rattle.sshc_client.specs.declared.message.Msg.TheVariants as msgs;
 
+use sshc_auth::{ChannelMsg, Method};
 use sshc_key::PublicKey;
-use sshc_opening::{ChannelMsg, Method};
 use sshc_wire::{ChannelId, ChannelOpenFailure, Disconnect, List, Octets, Text, Ticket};
 
 /// A message that a user submits. One with a ticket gets an answer with that ticket; `None` asks for no answer.
-#[derive(Debug, PartialEq, Eq, Drop)]
+#[derive(PartialEq, Eq, Drop)]
 pub enum Msg {
     /// RFC 4252, section 5.
     Authenticate {

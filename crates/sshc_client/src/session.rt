@@ -1,13 +1,13 @@
 //! The session.
 
 ghost use Rattle.std.specs.Prelude.{◌≡◌, []};
-ghost use Rattle.sshc_opening.specs.OpeningState.{is_awaiting};
-ghost use Rattle.sshc_session.specs.Start.{new_session};
+ghost use Rattle.sshc_auth.specs.OpeningState.{is_awaiting};
+ghost use Rattle.sshc_client_state.specs.Start.{new_session};
 ghost use Rattle.sshc_client.specs.Asking.{wants_user_events};
 
-use sshc_moves::{Life, SessionSettings};
-use sshc_opening::Settings;
-use sshc_session::Connection;
+use sshc_auth::Settings;
+use sshc_client_state::Connection;
+use sshc_client_table::{Life, SessionSettings};
 use sshc_wire::Outbox;
 use std::alloc::Global;
 use std::marker::Model;
@@ -27,15 +27,15 @@ mod stepping;
 mod streams;
 
 /// A session, which contracts see as plain data.
-#[derive(Debug, Drop)]
+#[derive(Drop)]
 pub struct Session {
     connection: Connection,
     alloc: Global,
 }
 
 impl Model for Session {
-    ghost use Rattle.sshc_moves.specs.SessionState.{SessionState};
-    ghost use Rattle.sshc_session.specs.StateCode.{session_code};
+    ghost use Rattle.sshc_client_table.specs.SessionState.{SessionState};
+    ghost use Rattle.sshc_client_state.specs.StateCode.{session_code};
 
     ghost Value = { SessionState };
 

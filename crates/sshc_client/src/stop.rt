@@ -1,16 +1,16 @@
 //! Why a row doesn't continue.
 
 ghost use Rattle.std.specs.Prelude.{◌≡◌};
-ghost use Rattle.sshc_opening.specs.declared.error.Error.TheVariants as errors;
+ghost use Rattle.sshc_auth.specs.declared.error.Error.TheVariants as errors;
 ghost use Rattle.sshc_client.specs.HandledRow.{lent_result, own_result, went_result};
 ghost use Rattle.sshc_client.specs.declared.stop.Stop.TheVariants as stops;
 
-use sshc_opening::Error;
-use sshc_rows::Flow;
+use sshc_auth::Error;
+use sshc_client_rows::Flow;
 use sshc_wire::{NoMemory, WireError};
 
 /// Why a row doesn't continue.
-#[derive(Debug, Drop)]
+#[derive(Drop)]
 pub enum Stop<E> {
     /// The session refuses it.
     Own(Error),

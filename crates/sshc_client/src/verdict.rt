@@ -1,8 +1,8 @@
 //! The handler's verdict on a host key, as a gate of the opening.
 
 use crate::handler::Handler;
+use sshc_auth::{Error, Gate, NamesChosen};
 use sshc_key::PublicKeyOrCertificate;
-use sshc_opening::{Error, Gate, NamesChosen};
 use sshc_wire::Outbox;
 use std::marker::PhantomData;
 

@@ -4,14 +4,14 @@ use Rattle.std.proofs.lemmas.Bool.{eq-eqb}
 use Rattle.std.specs.Prelude.{IfErr, if◌then◌else◌, nat_eq}
 use Rattle.sshc_wire.specs.declared.record.Record.{Record}
 use Rattle.sshc_wire.specs.declared.ticket.Ticket.{Ticket}
-use Rattle.sshc_event.specs.declared.event.Event.{Event}
-use Rattle.sshc_event.specs.declared.method.Method.TheVariants.{KeyboardInteractive}
-use Rattle.sshc_opening.specs.declared.ended.Ended.{Ended}
-use Rattle.sshc_opening.specs.declared.error.Error.{Error}
-use Rattle.sshc_opening.specs.declared.error.Error.TheVariants.{Disconnect, NoMemory, RecvError, SendError}
+use Rattle.sshc_auth_event.specs.declared.event.Event.{Event}
+use Rattle.sshc_auth_event.specs.declared.method.Method.TheVariants.{KeyboardInteractive}
+use Rattle.sshc_auth.specs.declared.ended.Ended.{Ended}
+use Rattle.sshc_auth.specs.declared.error.Error.{Error}
+use Rattle.sshc_auth.specs.declared.error.Error.TheVariants.{Disconnect, NoMemory, RecvError, SendError}
 use Rattle.sshc_client.specs.declared.message.Msg.{Msg}
 use Rattle.sshc_client.specs.declared.message.Msg.TheVariants.{Authenticate}
-use Rattle.sshc_tickets.specs.Tickets.{first_of}
+use Rattle.sshc_handle_tickets.specs.Tickets.{first_of}
 use Rattle.sshc_handle_state.specs.declared.end.End.{End}
 use Rattle.sshc_handle_state.specs.Asked.{PromptsAt, Responds, TellsEnd}
 use Rattle.sshc_handle_state.specs.HandleAt.{HandleAt}

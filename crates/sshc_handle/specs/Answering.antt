@@ -6,12 +6,12 @@ use Rattle.sshc_wire.specs.declared.channel_id.ChannelId.{ChannelId}
 use Rattle.sshc_wire.specs.declared.channel_record.ChannelRecord.{ChannelRecord}
 use Rattle.sshc_wire.specs.declared.record.Record.{Record}
 use Rattle.sshc_wire.specs.declared.ticket.Ticket.{Ticket}
-use Rattle.sshc_event.specs.declared.channel_msg.ChannelMsg.{ChannelMsg}
-use Rattle.sshc_opening.specs.declared.error.Error.{Error}
-use Rattle.sshc_opening.specs.declared.error.Error.TheVariants.{Disconnect, NoMemory, RecvError, SendError}
-use Rattle.sshc_tickets.specs.declared.auth_answers.AuthResult.{AuthResult}
-use Rattle.sshc_tickets.specs.Answers.{auth_answer, reply_answer}
-use Rattle.sshc_tickets.specs.Tickets.{is_of}
+use Rattle.sshc_auth_event.specs.declared.channel_msg.ChannelMsg.{ChannelMsg}
+use Rattle.sshc_auth.specs.declared.error.Error.{Error}
+use Rattle.sshc_auth.specs.declared.error.Error.TheVariants.{Disconnect, NoMemory, RecvError, SendError}
+use Rattle.sshc_auth.specs.declared.auth_result.AuthResult.{AuthResult}
+use Rattle.sshc_handle_tickets.specs.Answers.{auth_answer, reply_answer}
+use Rattle.sshc_handle_tickets.specs.Tickets.{is_of}
 use Rattle.sshc_handle_messages.specs.declared.with_error.WithError.{WithError}
 use Rattle.sshc_handle_messages.specs.declared.with_error.WithError.TheVariants.{Session, Signer}
 use Rattle.sshc_handle_messages.specs.Happened.{channel_msg}

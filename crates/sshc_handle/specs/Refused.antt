@@ -1,9 +1,9 @@
 -- Why a stream couldn't be had, and how the end of a session reaches its handler.
 use Rattle.std.specs.Prelude.{ℕ}
 use Rattle.sshc_wire.specs.Faults.{Rose}
-use Rattle.sshc_opening.specs.declared.ended.Ended.TheVariants.{RemoteDisconnect}
-use Rattle.sshc_opening.specs.declared.error.Error.{Error}
-use Rattle.sshc_opening.specs.declared.error.Error.TheVariants.{Disconnect, NoMemory, TransportFailed}
+use Rattle.sshc_auth.specs.declared.ended.Ended.TheVariants.{RemoteDisconnect}
+use Rattle.sshc_auth.specs.declared.error.Error.{Error}
+use Rattle.sshc_auth.specs.declared.error.Error.TheVariants.{Disconnect, NoMemory, TransportFailed}
 use Rattle.sshc_client.specs.declared.answers.DisconnectReason.{DisconnectReason}
 use Rattle.sshc_client.specs.declared.answers.DisconnectReason.TheVariants as reasons
 use Rattle.sshc_handle_state.specs.declared.end.Turn.{Turn}

@@ -2,10 +2,10 @@
 
 ghost use Rattle.std.specs.Prelude.{◌≡◌, Option, Result};
 ghost use Rattle.sshc_wire.specs.declared.record.Record.{Record as Said};
-ghost use Rattle.sshc_opening.specs.declared.error.Error.{Error as Refusal};
+ghost use Rattle.sshc_auth.specs.declared.error.Error.{Error as Refusal};
 
-use sshc_opening::Error;
-use sshc_tickets::{
+use sshc_auth::Error;
+use sshc_handle_tickets::{
     AuthResult, KeyboardInteractiveAuthResponse, algs_answer, auth_answer, done_answer,
     open_answer, port_answer, prompt_answer, reply_answer,
 };
@@ -27,7 +27,7 @@ pub(crate) struct Login;
 impl Reader for Login {
     type Answer = AuthResult;
 
-    ghost use Rattle.sshc_tickets.specs.Answers.{auth_answer};
+    ghost use Rattle.sshc_handle_tickets.specs.Answers.{auth_answer};
 
     ghost reads = { auth_answer };
 
@@ -42,7 +42,7 @@ pub(crate) struct Prompted;
 impl Reader for Prompted {
     type Answer = KeyboardInteractiveAuthResponse;
 
-    ghost use Rattle.sshc_tickets.specs.Answers.{prompt_answer};
+    ghost use Rattle.sshc_handle_tickets.specs.Answers.{prompt_answer};
 
     ghost reads = { prompt_answer };
 
@@ -57,7 +57,7 @@ pub(crate) struct Opened;
 impl Reader for Opened {
     type Answer = ChannelId;
 
-    ghost use Rattle.sshc_tickets.specs.Answers.{open_answer};
+    ghost use Rattle.sshc_handle_tickets.specs.Answers.{open_answer};
 
     ghost reads = { open_answer };
 
@@ -72,7 +72,7 @@ pub(crate) struct Done;
 impl Reader for Done {
     type Answer = ();
 
-    ghost use Rattle.sshc_tickets.specs.Answers.{done_answer};
+    ghost use Rattle.sshc_handle_tickets.specs.Answers.{done_answer};
 
     ghost reads = { done_answer };
 
@@ -87,7 +87,7 @@ pub(crate) struct Port;
 impl Reader for Port {
     type Answer = u32;
 
-    ghost use Rattle.sshc_tickets.specs.Answers.{port_answer};
+    ghost use Rattle.sshc_handle_tickets.specs.Answers.{port_answer};
 
     ghost reads = { port_answer };
 
@@ -102,7 +102,7 @@ pub(crate) struct Reply;
 impl Reader for Reply {
     type Answer = Octets;
 
-    ghost use Rattle.sshc_tickets.specs.Answers.{reply_answer};
+    ghost use Rattle.sshc_handle_tickets.specs.Answers.{reply_answer};
 
     ghost reads = { reply_answer };
 
@@ -117,7 +117,7 @@ pub(crate) struct Algs;
 impl Reader for Algs {
     type Answer = Option<Option<HashAlg>>;
 
-    ghost use Rattle.sshc_tickets.specs.Answers.{algs_answer};
+    ghost use Rattle.sshc_handle_tickets.specs.Answers.{algs_answer};
 
     ghost reads = { algs_answer };
 

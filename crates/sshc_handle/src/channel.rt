@@ -4,12 +4,12 @@ ghost use Rattle.std.specs.Prelude.{◌≡◌, IfErr, IfSome};
 ghost use Rattle.sshc_handle.specs.Answering.{IsDeclined, IsReported};
 
 use crate::shared::Shared;
+use sshc_auth::{ChannelMsg, Error};
 use sshc_client::{Handler, Msg};
 use sshc_handle_messages::{
     bytes_sent, channel_msg, command, environment, extended_bytes, signal_sent, subsystem,
     terminal, x11_forwarding,
 };
-use sshc_opening::{ChannelMsg, Error};
 use sshc_wire::{ChannelId, Pty, Record, Sig};
 use std::alloc::Global;
 use std::marker::Model;

@@ -1,6 +1,6 @@
 //! How channels are opened.
 
-ghost use Rattle.sshc_tickets.specs.Answers.{open_answer};
+ghost use Rattle.sshc_handle_tickets.specs.Answers.{open_answer};
 ghost use Rattle.sshc_handle.specs.Answering.{Answers};
 ghost use Rattle.sshc_handle_state.specs.Submission.{asks_answer};
 ghost use Rattle.std.specs.Prelude.{◌≡◌, true};
@@ -8,9 +8,9 @@ ghost use Rattle.std.specs.Prelude.{◌≡◌, true};
 use crate::answering::Opened;
 use crate::channel::Channel;
 use crate::handle::Handle;
+use sshc_auth::Error;
 use sshc_client::{Handler, Msg};
 use sshc_handle_messages::{asked, direct_streamlocal, direct_tcpip, x11};
-use sshc_opening::Error;
 use std::sync::Wait;
 
 impl<H: Handler> Handle<H> {

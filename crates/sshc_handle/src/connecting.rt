@@ -7,14 +7,14 @@ ghost use Rattle.sshc_handle.specs.Making.{and_address};
 ghost use Rattle.sshc_handle.specs.Refused.{IsMakers};
 
 use crate::handle::Handle;
-use crate::runner::{Clock, Runner};
+use crate::runner::Runner;
 use crate::shared::Shared;
+use sshc_auth::Error;
 use sshc_client::{Config, Handler};
 use sshc_handle_state::HandleState;
 use sshc_key::{LocalSigner, Verifier};
-use sshc_opening::Error;
 use sshc_transport::Transport;
-use sshc_wire::{Failed, NoMemory, Octets};
+use sshc_wire::{Clock, Failed, NoMemory, Octets};
 use std::alloc::Global;
 use std::net::SocketAddr;
 use std::sync::Arc;

@@ -1,15 +1,15 @@
 //! The handle of a session.
 
 ghost use Rattle.std.specs.Prelude.{◌≡◌, Err, IfErr, IfOk, IfSome, OnErr, true};
-ghost use Rattle.sshc_tickets.specs.Tickets.{is_of};
+ghost use Rattle.sshc_handle_tickets.specs.Tickets.{is_of};
 ghost use Rattle.sshc_handle_state.specs.Submission.{asks_answer};
 ghost use Rattle.sshc_handle.specs.Answering.{Given, IsDeclined, IsEndError};
 
 use crate::channel::Channel;
 use crate::shared::Shared;
+use sshc_auth::{Ended, Error};
 use sshc_client::{Handler, Msg};
 use sshc_key::AgentSessionBinding;
-use sshc_opening::{Ended, Error};
 use sshc_wire::{ChannelId, NoMemory, Record, Ticket};
 use std::alloc::Global;
 use std::sync::{Arc, Wait};

@@ -15,10 +15,11 @@ mod signing;
 pub use channel::Channel;
 pub use connecting::{Maker, connect, connect_stream};
 pub use handle::Handle;
-pub use runner::{Clock, Runner};
+pub use runner::Runner;
 pub use sshc_handle_messages::WithError;
 pub use sshc_handle_state::{End, HandleState, Timers, Turn};
-pub use sshc_tickets::{
+pub use sshc_handle_tickets::{
     AuthResult, KeyboardInteractiveAuthResponse, algs_answer, auth_answer, done_answer,
     open_answer, port_answer, prompt_answer, reply_answer,
 };
+pub use sshc_wire::Clock;

@@ -1,15 +1,15 @@
 //! Logins that involve only the server, the local signer and the user.
 
-ghost use Rattle.sshc_tickets.specs.Answers.{auth_answer, prompt_answer};
+ghost use Rattle.sshc_handle_tickets.specs.Answers.{auth_answer, prompt_answer};
 ghost use Rattle.sshc_handle.specs.Answering.{Answers, AnswersPrompts};
 
 use crate::answering::{Login, Prompted};
 use crate::handle::Handle;
+use sshc_auth::{Error, Method};
 use sshc_client::Handler;
 use sshc_handle_messages::login;
+use sshc_handle_tickets::{AuthResult, KeyboardInteractiveAuthResponse};
 use sshc_key::{Certificate, PrivateKey, PrivateKeyWithHashAlg};
-use sshc_opening::{Error, Method};
-use sshc_tickets::{AuthResult, KeyboardInteractiveAuthResponse};
 use sshc_wire::{List, Text};
 use std::sync::Wait;
 

@@ -1,18 +1,18 @@
 //! Requests to the server that are of no channel, and bytes for a channel.
 
 ghost use Rattle.std.specs.Prelude.{IfErr};
-ghost use Rattle.sshc_tickets.specs.Answers.{algs_answer, done_answer, port_answer, reply_answer};
+ghost use Rattle.sshc_handle_tickets.specs.Answers.{algs_answer, done_answer, port_answer, reply_answer};
 ghost use Rattle.sshc_handle.specs.Answering.{Answers, IsDeclined, Replies};
 
 use crate::answering::{Algs, Done, Port, Reply};
 use crate::handle::Handle;
+use sshc_auth::Error;
 use sshc_client::{Handler, Msg};
 use sshc_handle_messages::{
     asked, bytes_sent, cancel_forward, cancel_streamlocal, disconnection, forward, global_request,
     prove_keys, streamlocal,
 };
 use sshc_key::{HashAlg, PublicKey};
-use sshc_opening::Error;
 use sshc_wire::{ChannelId, Disconnect, Octets};
 use std::sync::Wait;
 

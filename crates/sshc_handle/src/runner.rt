@@ -4,19 +4,15 @@ ghost use Rattle.std.specs.Prelude.{◌≡◌};
 ghost use Rattle.sshc_handle.specs.Refused.{reason_of};
 
 use crate::shared::Shared;
+use sshc_auth::{Ended, Error};
 use sshc_client::{DisconnectReason, Handler};
 use sshc_handle_state::Turn;
 use sshc_key::{LocalSigner, Verifier};
-use sshc_opening::{Ended, Error};
 use sshc_transport::Transport;
+use sshc_wire::Clock;
 use std::alloc::Global;
 use std::sync::{Arc, Wait};
 use std::time;
-
-/// Returns moments in milliseconds.
-pub trait Clock {
-    fn now(&mut self) -> u64;
-}
 
 /// Takes turns with a session until it has ended, in a thread of its own.
 #[derive(Drop)]

@@ -1,14 +1,14 @@
 //! What a handle, its channels and its runner share: the value under its lock, and the means to wait for each other.
 
 ghost use Rattle.std.specs.Prelude.{◌≡◌, IfErr, true};
-ghost use Rattle.sshc_tickets.specs.Tickets.{is_of};
+ghost use Rattle.sshc_handle_tickets.specs.Tickets.{is_of};
 ghost use Rattle.sshc_handle_state.specs.Submission.{asks_answer};
 ghost use Rattle.sshc_handle.specs.Answering.{Answers, CannotRespond, Given, IsDeclined, IsRead};
 
 use crate::answering::Reader;
+use sshc_auth::Error;
 use sshc_client::{Handler, Msg};
 use sshc_handle_state::HandleState;
-use sshc_opening::Error;
 use sshc_wire::{List, Record, Resolution, Text, Ticket};
 use std::alloc::Global;
 use std::sync::atomic::{AtomicBool, Ordering};

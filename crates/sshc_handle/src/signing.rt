@@ -4,14 +4,13 @@ ghost use Rattle.std.specs.Prelude.{◌≤◌, IfErr};
 ghost use Rattle.sshc_handle.specs.Answering.{AnswersWith, FailsWith, IsDeclined};
 
 use crate::handle::Handle;
+use sshc_auth::{Error, GssapiAuthenticator, Method};
 use sshc_client::Handler;
 use sshc_handle_messages::{
-    WithError, authenticated, certificate_login, gssapi_said, key_login, let_go, login, signed,
-    to_sign,
+    WithError, authenticated, certificate_login, gssapi_said, key_login, login, signed, to_sign,
 };
+use sshc_handle_tickets::{AuthResult, auth_answer};
 use sshc_key::{AgentIdentity, Certificate, HashAlg, PublicKey, Signer};
-use sshc_opening::{Error, GssapiAuthenticator, Method};
-use sshc_tickets::{AuthResult, auth_answer};
 use sshc_wire::{GssapiRecord, List, NoMemory, Octets, Ticket};
 use std::sync::Wait;
 
@@ -30,7 +29,7 @@ impl<H: Handler> Handle<H> {
         match key_login(key, hash_alg) {
             Ok((identity, method)) => {
                 let answer = self.sign_in(rt, user, method, &identity, hash_alg, signer);
-                let_go(identity);
+                drop(identity);
                 answer
             }
             Err(NoMemory) => Err(WithError::Session(Error::NoMemory)),
@@ -51,7 +50,7 @@ impl<H: Handler> Handle<H> {
         match certificate_login(cert, hash_alg) {
             Ok((identity, method)) => {
                 let answer = self.sign_in(rt, user, method, &identity, hash_alg, signer);
-                let_go(identity);
+                drop(identity);
                 answer
             }
             Err(NoMemory) => Err(WithError::Session(Error::NoMemory)),

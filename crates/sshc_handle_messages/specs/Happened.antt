@@ -3,8 +3,8 @@
 use Rattle.sshc_wire.specs.declared.channel_id.ChannelId.{ChannelId}
 use Rattle.sshc_wire.specs.declared.channel_record.ChannelRecord.{ChannelRecord}
 use Rattle.sshc_wire.specs.declared.channel_record.ChannelRecord.TheVariants as records
-use Rattle.sshc_event.specs.declared.channel_msg.ChannelMsg.{ChannelMsg}
-use Rattle.sshc_event.specs.declared.channel_msg.ChannelMsg.TheVariants as said
+use Rattle.sshc_auth_event.specs.declared.channel_msg.ChannelMsg.{ChannelMsg}
+use Rattle.sshc_auth_event.specs.declared.channel_msg.ChannelMsg.TheVariants as said
 
 abbrev pub channel_msg : ChannelId → ChannelRecord → ChannelMsg
 channel_msg id (records.Open max_packet_size window_size) = said.Open id max_packet_size window_size

@@ -7,9 +7,9 @@ use Rattle.sshc_wire.specs.declared.auth_record.GssapiRecord.{GssapiRecord}
 use Rattle.sshc_wire.specs.declared.auth_record.GssapiRecord.TheVariants as reports
 use Rattle.sshc_wire.specs.declared.record.Record.{Record}
 use Rattle.sshc_wire.specs.declared.record.Record.TheVariants.{Auth}
-use Rattle.sshc_opening.specs.declared.error.Error.TheVariants.{NoMemory}
-use Rattle.sshc_opening.specs.declared.gssapi.GssapiStep.{GssapiStep}
-use Rattle.sshc_opening.specs.declared.gssapi.GssapiStep.TheVariants.{Complete, Continue}
+use Rattle.sshc_auth.specs.declared.error.Error.TheVariants.{NoMemory}
+use Rattle.sshc_auth.specs.declared.gssapi.GssapiStep.{GssapiStep}
+use Rattle.sshc_auth.specs.declared.gssapi.GssapiStep.TheVariants.{Complete, Continue}
 use Rattle.sshc_client.specs.declared.message.Msg.{Msg}
 use Rattle.sshc_client.specs.declared.message.Msg.TheVariants as msgs
 use Rattle.sshc_handle_messages.specs.declared.with_error.WithError.{WithError}

@@ -1,9 +1,9 @@
 //! Requests and bytes for a channel, as messages of it.
 
 ghost use Rattle.std.specs.Prelude.{◌≡◌, IfOk};
-ghost use Rattle.sshc_event.specs.declared.channel_msg.ChannelMsg.TheVariants as msgs;
+ghost use Rattle.sshc_auth_event.specs.declared.channel_msg.ChannelMsg.TheVariants as msgs;
 
-use sshc_opening::ChannelMsg;
+use sshc_auth::ChannelMsg;
 use sshc_wire::{List, NoMemory, Octets, Pty, Sig, Text};
 use std::alloc::Global;
 

@@ -3,7 +3,7 @@
 ghost use Rattle.std.specs.Prelude.{◌≡◌};
 ghost use Rattle.sshc_handle_messages.specs.Happened.{channel_msg};
 
-use sshc_opening::ChannelMsg;
+use sshc_auth::ChannelMsg;
 use sshc_wire::{ChannelId, ChannelRecord};
 
 /// What happened on the channel of this number, as a message of it. The description in a refusal is left out.

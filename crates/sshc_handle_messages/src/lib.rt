@@ -16,7 +16,7 @@ pub use channel_requests::{
     x11_forwarding,
 };
 pub use happened::channel_msg;
-pub use logins::{asked, certificate_login, key_login, let_go, login};
+pub use logins::{asked, certificate_login, key_login, login};
 pub use requests::{
     cancel_forward, cancel_streamlocal, disconnection, forward, global_request, prove_keys,
     streamlocal,

@@ -2,12 +2,12 @@
 
 ghost use Rattle.std.specs.Prelude.{◌≡◌, IfOk, Some};
 ghost use Rattle.sshc_handle_messages.specs.Messages.{asked_ticket, identity_of_certificate, identity_of_key};
-ghost use Rattle.sshc_event.specs.declared.method.Method.TheVariants as methods;
+ghost use Rattle.sshc_auth_event.specs.declared.method.Method.TheVariants as methods;
 ghost use Rattle.sshc_client.specs.declared.message.Msg.TheVariants as msgs;
 
+use sshc_auth::Method;
 use sshc_client::Msg;
 use sshc_key::{AgentIdentity, Certificate, HashAlg, PublicKey};
-use sshc_opening::Method;
 use sshc_wire::{NoMemory, Text, Ticket};
 use std::alloc::Global;
 
@@ -17,9 +17,6 @@ pub fn asked() -> Option<Ticket>
 {
     Some(Ticket(0))
 }
-
-/// Drops a value; its variants need not be distinguished.
-pub fn let_go<T: Drop>(_value: T) {}
 
 /// A login (RFC 4252, section 5).
 pub fn login(alloc: Global, user: &str, method: Method) -> Result<Msg, NoMemory>
@@ -32,7 +29,7 @@ pub fn login(alloc: Global, user: &str, method: Method) -> Result<Msg, NoMemory>
             ticket: asked(),
         }),
         Err(e) => {
-            let_go(method);
+            drop(method);
             Err(e)
         }
     }
@@ -49,7 +46,7 @@ pub fn key_login(
     match key_identity(&key) {
         Ok(identity) => Ok((identity, Method::FuturePublicKey { key, hash_alg })),
         Err(e) => {
-            let_go(key);
+            drop(key);
             Err(e)
         }
     }
@@ -72,7 +69,7 @@ pub fn certificate_login(
     match certificate_identity(&cert) {
         Ok(identity) => Ok((identity, Method::FutureCertificate { cert, hash_alg })),
         Err(e) => {
-            let_go(cert);
+            drop(cert);
             Err(e)
         }
     }

@@ -5,9 +5,9 @@ ghost use Rattle.sshc_wire.specs.Faults.{Rose};
 ghost use Rattle.sshc_handle_messages.specs.Signing.{IsSigned, IsSigners, IsStep, Submits, completed, gssapi_said, step_msg, to_sign};
 
 use crate::with_error::WithError;
+use sshc_auth::{Error, GssapiAuthenticator, GssapiError, GssapiStep};
 use sshc_client::Msg;
 use sshc_key::{AgentIdentity, HashAlg, Signer};
-use sshc_opening::{Error, GssapiAuthenticator, GssapiError, GssapiStep};
 use sshc_wire::{AuthRecord, GssapiRecord, NoMemory, Octets, Record};
 
 /// The bytes that a record asks to be signed, or the record if it asks for none (RFC 4252, section 7).

@@ -3,10 +3,10 @@
 ghost use Rattle.std.specs.Prelude.{◌≡◌};
 ghost use Rattle.sshc_handle_messages.specs.declared.with_error.WithError.TheVariants as errors;
 
-use sshc_opening::Error;
+use sshc_auth::Error;
 
 /// Why a login with a signer or an authenticator of the caller's has no answer.
-#[derive(Debug, Drop)]
+#[derive(Drop)]
 pub enum WithError<E> {
     /// The signer or the authenticator refused.
     Signer(E),

@@ -11,7 +11,7 @@ use Rattle.sshc_wire.specs.declared.error.NoMemory.{NoMemory as RanOut}
 use Rattle.sshc_wire.specs.declared.source.Failed.{Failed}
 use Rattle.sshc_wire.specs.declared.source.Failed.TheVariants.{Fault}
 use Rattle.sshc_transport.specs.Transports.{Answer, Handing, exchange_begun, payload}
-use Rattle.sshc_tickets.specs.Tickets.{TicketState}
+use Rattle.sshc_handle_tickets.specs.Tickets.{TicketState}
 use Rattle.sshc_handle_state.specs.Picking.{LinkAt, link_at}
 use Rattle.sshc_handle_state.specs.Dealing.{Deals, DealsBy, DealsFront, Hands, HandsOn, gains_all, handing_of, handings, told, told_all}
 

@@ -1,12 +1,12 @@
 -- A turn that takes an event, from what each of its parts does.
 use Rattle.std.proofs.Common.{◌≡◌, ◌∙◌, ap, sym, subst, Bool, Result}
 use Rattle.sshc_wire.specs.declared.error.NoMemory.{NoMemory as RanOut}
-use Rattle.sshc_event.specs.declared.event.Event.{Event}
-use Rattle.sshc_opening.specs.declared.step.Step.{Step}
-use Rattle.sshc_opening.specs.Stepping.{GateAnswers}
-use Rattle.sshc_packets.specs.HostKeyProof.{Accepts}
-use Rattle.sshc_moves.specs.SessionState.{SessionState}
-use Rattle.sshc_session.specs.OpeningStep.{goes_on}
+use Rattle.sshc_auth_event.specs.declared.event.Event.{Event}
+use Rattle.sshc_auth.specs.declared.step.Step.{Step}
+use Rattle.sshc_auth.specs.Stepping.{GateAnswers}
+use Rattle.sshc_client_packets.specs.HostKeyProof.{Accepts}
+use Rattle.sshc_client_table.specs.SessionState.{SessionState}
+use Rattle.sshc_client_state.specs.OpeningStep.{goes_on}
 use Rattle.sshc_client.specs.HandledStep.{SessionSteps}
 use Rattle.sshc_client.specs.Stepping.{SessionStepped}
 use Rattle.sshc_handle_state.specs.declared.end.Turn.{Turn}

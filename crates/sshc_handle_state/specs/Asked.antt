@@ -2,13 +2,13 @@
 use Rattle.std.specs.Prelude.{◌≡◌, ℕ, Bool, true, false, List, Option, Some, None, IsSome, Result, Ok, Err}
 use Rattle.std.specs.List.{list_any}
 use Rattle.sshc_wire.specs.declared.ticket.Ticket.{Ticket}
-use Rattle.sshc_event.specs.declared.event.Event.TheVariants.{AuthInfoResponse}
-use Rattle.sshc_event.specs.declared.method.Method.TheVariants.{KeyboardInteractive}
-use Rattle.sshc_opening.specs.declared.ended.Ended.{Ended}
-use Rattle.sshc_opening.specs.declared.error.Error.{Error}
-use Rattle.sshc_opening.specs.declared.error.Error.TheVariants as errors
+use Rattle.sshc_auth_event.specs.declared.event.Event.TheVariants.{AuthInfoResponse}
+use Rattle.sshc_auth_event.specs.declared.method.Method.TheVariants.{KeyboardInteractive}
+use Rattle.sshc_auth.specs.declared.ended.Ended.{Ended}
+use Rattle.sshc_auth.specs.declared.error.Error.{Error}
+use Rattle.sshc_auth.specs.declared.error.Error.TheVariants as errors
 use Rattle.sshc_client.specs.declared.message.Msg.TheVariants.{Authenticate}
-use Rattle.sshc_tickets.specs.Tickets.{TicketState, is_ticket}
+use Rattle.sshc_handle_tickets.specs.Tickets.{TicketState, is_ticket}
 use Rattle.sshc_handle_state.specs.declared.end.End.{End}
 use Rattle.sshc_handle_state.specs.declared.end.End.TheVariants as ends
 use Rattle.sshc_handle_state.specs.HandleAt.{HandleAt, with_event, with_ticket}

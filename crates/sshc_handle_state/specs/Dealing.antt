@@ -9,7 +9,7 @@ use Rattle.sshc_wire.specs.declared.error.NoMemory.{NoMemory as RanOut}
 use Rattle.sshc_wire.specs.declared.record.Record.{Record}
 use Rattle.sshc_wire.specs.declared.record.Record.TheVariants.{Auth, BeginExchange, Channel, Payload, Resolved}
 use Rattle.sshc_transport.specs.Transports.{Handing, exchange_begun, payload}
-use Rattle.sshc_tickets.specs.Tickets.{TicketState, closed_behind, due_behind, opened_by}
+use Rattle.sshc_handle_tickets.specs.Tickets.{TicketState, closed_behind, due_behind, opened_by}
 use Rattle.sshc_handle_state.specs.Picking.{LinkAt}
 
 -- ---- records that are held

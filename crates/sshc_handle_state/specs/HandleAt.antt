@@ -3,12 +3,12 @@ use Rattle.std.specs.Prelude.{ℕ, Bool, false, List, [], ◌∷◌, ◌++◌, O
 use Rattle.sshc_wire.specs.declared.channel_id.ChannelId.{ChannelId}
 use Rattle.sshc_wire.specs.declared.ticket.Ticket.{Ticket}
 use Rattle.sshc_key.specs.declared.agent.AgentSessionBinding.{AgentSessionBinding}
-use Rattle.sshc_event.specs.declared.event.Event.{Event}
-use Rattle.sshc_moves.specs.SessionState.{SessionState}
-use Rattle.sshc_session.specs.Start.{new_session}
+use Rattle.sshc_auth_event.specs.declared.event.Event.{Event}
+use Rattle.sshc_client_table.specs.SessionState.{SessionState}
+use Rattle.sshc_client_state.specs.Start.{new_session}
 use Rattle.sshc_client.specs.declared.config.Config.{Config}
 use Rattle.sshc_client.specs.Configured.{session_settings_of, settings_of}
-use Rattle.sshc_tickets.specs.Tickets.{TicketState, dropped}
+use Rattle.sshc_handle_tickets.specs.Tickets.{TicketState, dropped}
 use Rattle.sshc_handle_state.specs.declared.end.End.{End}
 use Rattle.sshc_handle_state.specs.declared.timers.Timers.{Timers}
 

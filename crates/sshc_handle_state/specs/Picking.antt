@@ -7,11 +7,11 @@ use Rattle.sshc_wire.specs.declared.source.Failed.TheVariants.{Fault, NoMemory}
 use Rattle.sshc_transport.specs.Transports.{Answer, AnswersNext, Handing}
 use Rattle.sshc_transport.specs.declared.transport.TransportEvent.{TransportEvent}
 use Rattle.sshc_transport.specs.declared.transport.TransportEvent.TheVariants as came
-use Rattle.sshc_event.specs.declared.event.Event.{Event}
-use Rattle.sshc_event.specs.declared.event.Event.TheVariants as events
-use Rattle.sshc_opening.specs.OpeningState.{is_awaiting}
+use Rattle.sshc_auth_event.specs.declared.event.Event.{Event}
+use Rattle.sshc_auth_event.specs.declared.event.Event.TheVariants as events
+use Rattle.sshc_auth.specs.OpeningState.{is_awaiting}
 use Rattle.sshc_client.specs.Asking.{wants_user_events}
-use Rattle.sshc_tickets.specs.Tickets.{first_of, without_first}
+use Rattle.sshc_handle_tickets.specs.Tickets.{first_of, without_first}
 use Rattle.sshc_handle_state.specs.Clocks.{begun, is_inactive, is_keepalive_due}
 use Rattle.sshc_handle_state.specs.HandleAt.{HandleAt}
 use Rattle.sshc_handle_state.specs.declared.picking.Pick.{Pick}

@@ -3,10 +3,10 @@
 use Rattle.std.specs.Prelude.{Bool, true, false, if◌then◌else◌, is_some, Option, Some, None}
 use Rattle.sshc_wire.specs.declared.channel_id.ChannelId.{ChannelId}
 use Rattle.sshc_wire.specs.declared.ticket.Ticket.{Ticket}
-use Rattle.sshc_event.specs.declared.channel_msg.ChannelMsg.{ChannelMsg}
-use Rattle.sshc_event.specs.declared.channel_msg.ChannelMsg.TheVariants.{ExitSignal, ExitStatus, Failure, Open, OpenFailure, Success, WindowAdjusted, XonXoff}
-use Rattle.sshc_event.specs.declared.event.Event.{Event}
-use Rattle.sshc_event.specs.declared.event.Event.TheVariants as events
+use Rattle.sshc_auth_event.specs.declared.channel_msg.ChannelMsg.{ChannelMsg}
+use Rattle.sshc_auth_event.specs.declared.channel_msg.ChannelMsg.TheVariants.{ExitSignal, ExitStatus, Failure, Open, OpenFailure, Success, WindowAdjusted, XonXoff}
+use Rattle.sshc_auth_event.specs.declared.event.Event.{Event}
+use Rattle.sshc_auth_event.specs.declared.event.Event.TheVariants as events
 use Rattle.sshc_client.specs.declared.message.Msg.{Msg}
 use Rattle.sshc_client.specs.declared.message.Msg.TheVariants as msgs
 

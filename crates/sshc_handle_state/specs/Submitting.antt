@@ -1,11 +1,11 @@
 -- What a submission does to what the threads share, by its result.
 use Rattle.std.specs.Prelude.{◌≡◌, ◌+◌, Bool, true, false, length, Option, Some, None, IsSome, Result, Ok, Err}
 use Rattle.sshc_wire.specs.declared.ticket.Ticket.{Ticket}
-use Rattle.sshc_event.specs.declared.event.Event.{Event}
-use Rattle.sshc_opening.specs.declared.error.Error.{Error}
-use Rattle.sshc_opening.specs.declared.error.Error.TheVariants.{NoMemory, RecvError, SendError}
+use Rattle.sshc_auth_event.specs.declared.event.Event.{Event}
+use Rattle.sshc_auth.specs.declared.error.Error.{Error}
+use Rattle.sshc_auth.specs.declared.error.Error.TheVariants.{NoMemory, RecvError, SendError}
 use Rattle.sshc_client.specs.declared.message.Msg.{Msg}
-use Rattle.sshc_tickets.specs.Tickets.{TicketState, free_within}
+use Rattle.sshc_handle_tickets.specs.Tickets.{TicketState, free_within}
 use Rattle.sshc_handle_state.specs.HandleAt.{HandleAt, with_event, with_ticket}
 use Rattle.sshc_handle_state.specs.Submission.{asks_answer, event_of}
 

@@ -9,18 +9,18 @@ use Rattle.sshc_transport.specs.Transports.{Answer, Handing}
 use Rattle.sshc_transport.specs.declared.exchange.ExchangeKey.{ExchangeKey}
 use Rattle.sshc_transport.specs.declared.exchange.ExchangeKey.TheVariants as keys
 use Rattle.sshc_transport.specs.declared.exchange.ExchangeResult.{ExchangeResult}
-use Rattle.sshc_event.specs.declared.event.Event.{Event}
-use Rattle.sshc_event.specs.declared.event.Event.TheVariants.{ExchangeDone}
-use Rattle.sshc_opening.specs.declared.ended.Ended.{Ended}
-use Rattle.sshc_opening.specs.declared.ended.Ended.TheVariants.{Closed, Disconnected, RemoteDisconnect}
-use Rattle.sshc_opening.specs.declared.error.Error.{Error}
-use Rattle.sshc_opening.specs.declared.error.Error.TheVariants.{NoMemory}
-use Rattle.sshc_opening.specs.declared.step.Step.{Step}
-use Rattle.sshc_opening.specs.declared.step.Step.TheVariants as steps
-use Rattle.sshc_opening.specs.Stepping.{GateAnswers}
-use Rattle.sshc_packets.specs.HostKeyProof.{Accepts}
-use Rattle.sshc_moves.specs.SessionState.{SessionState}
-use Rattle.sshc_session.specs.OpeningStep.{Lent, goes_on, lent_session}
+use Rattle.sshc_auth_event.specs.declared.event.Event.{Event}
+use Rattle.sshc_auth_event.specs.declared.event.Event.TheVariants.{ExchangeDone}
+use Rattle.sshc_auth.specs.declared.ended.Ended.{Ended}
+use Rattle.sshc_auth.specs.declared.ended.Ended.TheVariants.{Closed, Disconnected, RemoteDisconnect}
+use Rattle.sshc_auth.specs.declared.error.Error.{Error}
+use Rattle.sshc_auth.specs.declared.error.Error.TheVariants.{NoMemory}
+use Rattle.sshc_auth.specs.declared.step.Step.{Step}
+use Rattle.sshc_auth.specs.declared.step.Step.TheVariants as steps
+use Rattle.sshc_auth.specs.Stepping.{GateAnswers}
+use Rattle.sshc_client_packets.specs.HostKeyProof.{Accepts}
+use Rattle.sshc_client_table.specs.SessionState.{SessionState}
+use Rattle.sshc_client_state.specs.OpeningStep.{Lent, goes_on, lent_session}
 use Rattle.sshc_client.specs.HandledStep.{SessionSteps}
 use Rattle.sshc_client.specs.Stepping.{SessionStepped}
 use Rattle.sshc_handle_state.specs.declared.end.End.{End}

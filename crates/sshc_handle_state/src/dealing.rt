@@ -5,8 +5,7 @@ ghost use Rattle.sshc_transport.specs.Transports.{exchange_begun, payload};
 ghost use Rattle.sshc_handle_state.specs.Dealing.{Deals, DealsBy, Hands, handing_of, told};
 ghost use Rattle.sshc_handle_state.specs.Picking.{link_at};
 
-use crate::submission::let_go;
-use sshc_tickets::Tickets;
+use sshc_handle_tickets::Tickets;
 use sshc_transport::Transport;
 use sshc_wire::{Failed, NoMemory, Outbox, Record};
 
@@ -65,7 +64,7 @@ fn tell(tickets: &mut Tickets, said: Record) -> Result<(), NoMemory>
         ),
         _ => {
             tickets.reopen(&said);
-            let_go(said);
+            drop(said);
             Ok(())
         }
     }

@@ -1,9 +1,9 @@
 //! How a session under a handle ends, and what a turn of its runner does.
 
-use sshc_opening::Ended;
+use sshc_auth::Ended;
 
 /// How the session has ended.
-#[derive(Debug, Drop)]
+#[derive(Drop)]
 pub enum End {
     /// By the server, by its user, or because the transport is at its end.
     Ended(Ended),
@@ -12,7 +12,7 @@ pub enum End {
 }
 
 /// What a turn of the runner did.
-#[derive(Debug, Drop)]
+#[derive(Drop)]
 pub enum Turn<E> {
     /// It took an event, and the session continues.
     Took,

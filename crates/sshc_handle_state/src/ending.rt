@@ -3,7 +3,7 @@
 ghost use Rattle.std.specs.Prelude.{◌≡◌, IfOk, OnErr};
 ghost use Rattle.sshc_handle_state.specs.Ends.{IsRemote};
 
-use sshc_opening::{Ended, RemoteDisconnectInfo};
+use sshc_auth::{Ended, RemoteDisconnectInfo};
 use sshc_wire::NoMemory;
 
 fn info_copied(info: &RemoteDisconnectInfo) -> Result<RemoteDisconnectInfo, NoMemory>

@@ -1,18 +1,18 @@
 //! Which event a turn takes.
 
 ghost use Rattle.std.specs.Prelude.{◌≡◌, IfNone};
-ghost use Rattle.sshc_tickets.specs.Tickets.{first_of, without_first};
+ghost use Rattle.sshc_handle_tickets.specs.Tickets.{first_of, without_first};
 ghost use Rattle.sshc_handle_state.specs.Picking.{Picks, Ruled, begun_at, heard, is_reply, link_at, oldest, on_answer, on_event, picked, users_event};
 
 use crate::state::HandleState;
+use sshc_auth::Event;
 use sshc_client::Handler;
-use sshc_opening::Event;
 use sshc_transport::{Transport, TransportEvent};
 use sshc_wire::Failed;
 use std::collections::VecDeque;
 
 /// What a turn takes.
-#[derive(Debug, Drop)]
+#[derive(Drop)]
 pub(crate) enum Pick {
     Event(Event),
     Idle,
@@ -29,7 +29,7 @@ fn is_reply(event: &Event) -> bool
 }
 
 /// Takes the first reply to a channel that the server opens, where there is one.
-#[tactic(auto, using(sshc_tickets::proofs::Firsts::first_found, sshc_tickets::proofs::Firsts::first_cut, sshc_tickets::proofs::Firsts::none_found, sshc_tickets::proofs::Firsts::none_cut, sshc_tickets::proofs::Firsts::passed_on))]
+#[tactic(auto, using(sshc_handle_tickets::proofs::Firsts::first_found, sshc_handle_tickets::proofs::Firsts::first_cut, sshc_handle_tickets::proofs::Firsts::none_found, sshc_handle_tickets::proofs::Firsts::none_cut, sshc_handle_tickets::proofs::Firsts::passed_on))]
 fn take_reply(submitted: &mut VecDeque<Event>) -> Option<Event>
     ensures taken { result ≡ first_of is_reply submitted.old.items }
     ensures rest { submitted.new.items ≡ without_first is_reply submitted.old.items }

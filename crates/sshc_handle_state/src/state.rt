@@ -4,20 +4,20 @@ ghost use Rattle.std.specs.Prelude.{◌≡◌, ◌<◌, ◌++◌, Some, IfOk, On
 ghost use Rattle.std.specs.List.{list_any};
 ghost use Rattle.std.specs.VecDeque.{deque_capacity, deque_len};
 ghost use Rattle.sshc_wire.specs.Outgoing.{listed};
-ghost use Rattle.sshc_opening.specs.OpeningState.{is_awaiting};
-ghost use Rattle.sshc_tickets.specs.Tickets.{closed_with, first_of, is_channel, is_of, is_on, is_ticket, without_first};
+ghost use Rattle.sshc_auth.specs.OpeningState.{is_awaiting};
+ghost use Rattle.sshc_handle_tickets.specs.Tickets.{closed_with, first_of, is_channel, is_of, is_on, is_ticket, without_first};
 ghost use Rattle.sshc_handle_state.specs.Asked.{Admits, PromptsAt, Responds, TellsEnd, kept_prompts};
 ghost use Rattle.sshc_handle_state.specs.HandleAt.{new_handle};
 ghost use Rattle.sshc_handle_state.specs.Submitting.{Submits, SubmitsEvent};
 
 use crate::end::End;
 use crate::ending::ended_copied;
-use crate::submission::{asks_answer, event_of, let_go};
+use crate::submission::{asks_answer, event_of};
 use crate::timers::Timers;
+use sshc_auth::{Ended, Error, Event, Method};
 use sshc_client::{Config, Handler, Msg, Session};
+use sshc_handle_tickets::Tickets;
 use sshc_key::AgentSessionBinding;
-use sshc_opening::{Ended, Error, Event, Method};
-use sshc_tickets::Tickets;
 use sshc_wire::{ChannelId, List, NoMemory, Octets, Record, Text, Ticket};
 use std::alloc::Global;
 use std::collections::VecDeque;
@@ -145,7 +145,7 @@ impl<H: Handler> HandleState<H> {
                 Ok(ticket)
             }
             Err(e) => {
-                let_go(msg);
+                drop(msg);
                 Err(e)
             }
         }

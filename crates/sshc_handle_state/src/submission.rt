@@ -3,12 +3,9 @@
 ghost use Rattle.std.specs.Prelude.{◌≡◌};
 ghost use Rattle.sshc_handle_state.specs.Submission.{asks_answer, channel_event, event_of, is_reported, stamped, ticket_in};
 
+use sshc_auth::{ChannelMsg, Event};
 use sshc_client::Msg;
-use sshc_opening::{ChannelMsg, Event};
 use sshc_wire::{ChannelId, Ticket};
-
-/// Drops a value; its variants need not be distinguished.
-pub(crate) fn let_go<T: Drop>(_value: T) {}
 
 /// The ticket that a message names, if it has one.
 fn ticket_in(msg: &Msg) -> Option<Ticket>
@@ -70,7 +67,7 @@ fn channel_event(id: ChannelId, msg: ChannelMsg) -> Option<Event>
     ensures { result ≡ channel_event id msg }
 {
     if is_reported(&msg) {
-        let_go(msg);
+        drop(msg);
         None
     } else {
         Some(Event::Channel { id, msg })

@@ -4,7 +4,7 @@ ghost use Rattle.std.specs.Prelude.{◌≡◌, Some};
 ghost use Rattle.sshc_handle_state.specs.Clocks.{begun, has_passed, is_inactive, is_keepalive_due};
 
 /// The two timers of a session, with the moments by which they run, in milliseconds.
-#[derive(Clone, Copy, Debug, PartialEq, Eq)]
+#[derive(Clone, Copy, PartialEq, Eq)]
 pub struct Timers {
     /// For how long it may be that nothing is heard.
     pub inactivity_timeout: Option<u64>,

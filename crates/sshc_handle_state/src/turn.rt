@@ -5,17 +5,16 @@ ghost use Rattle.sshc_client.specs.HandledStep.{handler_gate};
 ghost use Rattle.sshc_handle_state.specs.HandleAt.{ended_with};
 ghost use Rattle.sshc_handle_state.specs.Picking.{link_at};
 ghost use Rattle.sshc_handle_state.specs.Turning.{Binds, Closes, DealsWith, TakesEvent, Turns, binding_of, both, callers_at, key_blob, turn_by};
-ghost use Rattle.sshc_session.specs.OpeningStep.{goes_on};
+ghost use Rattle.sshc_client_state.specs.OpeningStep.{goes_on};
 
 use crate::dealing::deal;
 use crate::end::{End, Turn};
 use crate::ending::ended_copied;
 use crate::picking::Pick;
 use crate::state::HandleState;
-use crate::submission::let_go;
+use sshc_auth::{Ended, Error, Event, ExchangeKey, ExchangeResult, Step};
 use sshc_client::Handler;
 use sshc_key::{AgentSessionBinding, LocalSigner, Verifier};
-use sshc_opening::{Ended, Error, Event, ExchangeKey, ExchangeResult, Step};
 use sshc_transport::Transport;
 use sshc_wire::{NoMemory, Octets};
 
@@ -152,7 +151,7 @@ impl<H: Handler> HandleState<H> {
     {
         let step = self.session.step(&event, handler, signer, verifier);
         let bound = self.bind(&event, goes_on(&step));
-        let_go(event);
+        drop(event);
         let dealt = self.deal(transport);
         self.close(turn_by::<H>(step, both(bound, dealt)))
     }

@@ -1,5 +1,5 @@
 -- Worked examples of the definitions, by computing them. A line with a whole key is worked in StandardKey; more of
--- them, and lines with hashes, are tested in sshc_hosts_tests.
+-- them, and lines with hashes, are tested in sshc_test_key_hosts.
 use Rattle.std.proofs.Common.{◌≡◌, List, ℕ, [], ◌∷◌, ◌++◌, refl}
 use Rattle.std.specs.Prelude.{codes}
 use Rattle.sshc_hosts.specs.HostText.{host_text}

@@ -18,7 +18,7 @@ use Rattle.sshc_key.specs.KeyFiles.{at_white_space, commented_key, is_key_line, 
 use Rattle.sshc_key.specs.KeyGrammar.{Key, key_name, key_text}
 use Rattle.sshc_key.specs.KeyLines.{IsLineKey, IsLoadedFrom}
 use Rattle.sshc_key.specs.KeyText.{decoded_key}
-use Rattle.sshc_key.specs.KeyLaws.Names.{both_true}
+use Rattle.sshc_wire.specs.Cases.{both_true}
 use Rattle.sshc_key.specs.KeyLaws.Words.{is_word_byte, is_word, name_word, base64_word, base64_some}
 use Rattle.sshc_key.proofs.LineLemmas.{no_parts, parts_of_chars}
 

@@ -9,7 +9,7 @@ use crate::public_key::PublicKey;
 use sshc_wire::{NoMemory, Octets, Text};
 
 /// Under what condition an agent holds a key.
-#[derive(Debug, Drop, PartialEq, Eq)]
+#[derive(Drop, PartialEq, Eq)]
 pub enum Constraint {
     /// For so many seconds.
     KeyLifetime { seconds: u32 },
@@ -37,7 +37,7 @@ impl Constraint {
 }
 
 /// A key or certificate that an agent holds, with the comment under which it was added.
-#[derive(Debug, Drop, PartialEq, Eq)]
+#[derive(Drop, PartialEq, Eq)]
 pub enum AgentIdentity {
     PublicKey {
         key: PublicKey,
@@ -50,7 +50,7 @@ pub enum AgentIdentity {
 }
 
 /// A borrowed public key, or one that was made for the caller.
-#[derive(Debug, Drop)]
+#[derive(Drop)]
 pub enum KeyRef<'a> {
     Borrowed(&'a PublicKey),
     Owned(PublicKey),
@@ -93,17 +93,23 @@ impl AgentIdentity {
         ensures { IfOk result (λ i. i ≡ self.now) }
     {
         match self {
-            AgentIdentity::PublicKey { key, comment } => Ok(AgentIdentity::PublicKey {
-                key: key.copy()?,
-                comment: comment.copy()?,
-            }),
+            AgentIdentity::PublicKey { key, comment } => {
+                let comment = comment.copy()?;
+                Ok(AgentIdentity::PublicKey {
+                    key: key.copy()?,
+                    comment,
+                })
+            }
             AgentIdentity::Certificate {
                 certificate,
                 comment,
-            } => Ok(AgentIdentity::Certificate {
-                certificate: certificate.copy()?,
-                comment: comment.copy()?,
-            }),
+            } => {
+                let comment = comment.copy()?;
+                Ok(AgentIdentity::Certificate {
+                    certificate: certificate.copy()?,
+                    comment,
+                })
+            }
         }
     }
 }
@@ -150,7 +156,7 @@ impl From<Certificate> for AgentIdentity {
 
 /// A session with a server, bound to a connection of an agent (OpenSSH's PROTOCOL.agent, section 1): the blob of the server's host
 /// key, the session's identifier, and the signature of that key over it.
-#[derive(Debug, Drop, PartialEq, Eq)]
+#[derive(Drop, PartialEq, Eq)]
 pub struct AgentSessionBinding {
     host_key: Octets,
     session_id: Octets,

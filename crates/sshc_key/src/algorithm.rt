@@ -6,7 +6,7 @@ ghost use Rattle.sshc_key.specs.AlgorithmNames.{curve_name, point_length};
 use sshc_wire::{HashAlg, Text};
 
 /// A curve of ECDSA (RFC 5656, section 10.1).
-#[derive(Clone, Copy, Debug, PartialEq, Eq)]
+#[derive(Clone, Copy, PartialEq, Eq)]
 pub enum EcdsaCurve {
     NistP256,
     NistP384,
@@ -37,7 +37,7 @@ impl EcdsaCurve {
 }
 
 /// An algorithm of a key, for RSA with the hash of its signatures.
-#[derive(Debug, Drop, PartialEq, Eq)]
+#[derive(Drop, PartialEq, Eq)]
 pub enum Algorithm {
     Dsa,
     Ecdsa { curve: EcdsaCurve },

@@ -13,7 +13,7 @@ use std::alloc::Global;
 const MARK: &str = "-cert-v01";
 
 /// The name of an algorithm, which borrows the texts of which it is made.
-#[derive(Clone, Copy, Debug)]
+#[derive(Clone, Copy)]
 pub enum AlgorithmName<'a> {
     /// A name of the table.
     Known(&'static str),

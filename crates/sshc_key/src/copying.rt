@@ -1,6 +1,6 @@
 //! Copies of keys and of what holds them, each of the same value.
 
-ghost use Rattle.std.specs.Prelude.{◌≡◌, IfOk, Some};
+ghost use Rattle.std.specs.Prelude.{◌≡◌, IfOk, Ok, Some};
 ghost use Rattle.sshc_key.specs.KeyGrammar.{said, dsa, rsa, sk_ecdsa, sk_ed25519, opaque, plain};
 ghost use Rattle.sshc_key.specs.View.{view};
 
@@ -11,6 +11,25 @@ use crate::pair::{PairData, PrivateKey};
 use crate::public_key::PublicKey;
 use crate::statement::Statement;
 use sshc_wire::{List, NoMemory, Octets, Text};
+
+/// Both values, or neither. A caller holds no key where a step can fail.
+fn both<A: Drop, B: Drop>(
+    first: Result<A, NoMemory>,
+    second: Result<B, NoMemory>,
+) -> Result<(A, B), NoMemory>
+    ensures { IfOk result (λ x. (first ≡ Ok x.0) × (second ≡ Ok x.1)) }
+{
+    match first {
+        Ok(one) => match second {
+            Ok(other) => Ok((one, other)),
+            Err(refused) => {
+                drop(one);
+                Err(refused)
+            }
+        },
+        Err(refused) => Err(refused),
+    }
+}
 
 fn copied_texts(texts: &List<Text>) -> Result<List<Text>, NoMemory>
     ensures { IfOk result (λ l. l ≡ texts.now) }
@@ -131,13 +150,12 @@ impl Certificate {
         ensures { IfOk result (λ c. c ≡ self.now) }
     {
         let nonce = self.nonce.copy()?;
-        let public_key = self.public_key.copy()?;
         let says = self.copied_statement()?;
-        let signature_key = self.signature_key.copy()?;
         let signature = self.signature.copy()?;
+        let keys = both(self.public_key.copy(), self.signature_key.copy())?;
         Ok(Certificate {
             nonce,
-            public_key,
+            public_key: keys.0,
             serial: says.serial,
             cert_type: says.cert_type,
             key_id: says.key_id,
@@ -147,7 +165,7 @@ impl Certificate {
             critical_options: says.critical_options,
             extensions: says.extensions,
             reserved: says.reserved,
-            signature_key,
+            signature_key: keys.1,
             signature,
         })
     }
@@ -178,8 +196,8 @@ impl PublicKey {
     pub fn copy(&self) -> Result<PublicKey, NoMemory>
         ensures { IfOk result (λ k. k ≡ self.now) }
     {
-        let key = self.key.copy()?;
         let comment = self.comment.copy()?;
+        let key = self.key.copy()?;
         Ok(PublicKey { key, comment })
     }
 }
@@ -208,9 +226,11 @@ impl PrivateKey {
     pub fn copy(&self) -> Result<PrivateKey, NoMemory>
         ensures { IfOk result (λ k. k ≡ self.now) }
     {
-        let public = self.public.copy()?;
-        let pair = self.pair.copy()?;
-        Ok(PrivateKey { public, pair })
+        let both = both(self.public.copy(), self.pair.copy())?;
+        Ok(PrivateKey {
+            public: both.0,
+            pair: both.1,
+        })
     }
 }
 

@@ -12,7 +12,7 @@ use sshc_wire::{HashAlg, Text};
 use std::marker::Model;
 
 /// A public key and the hash with which it signs, or a certificate.
-#[derive(Debug, Drop, PartialEq, Eq)]
+#[derive(Drop, PartialEq, Eq)]
 pub enum PublicKeyOrCertificate {
     PublicKey {
         key: PublicKey,
@@ -22,7 +22,7 @@ pub enum PublicKeyOrCertificate {
 }
 
 /// A key pair and the hash with which an RSA key signs, which contracts see as these two.
-#[derive(Debug, Drop)]
+#[derive(Drop)]
 pub struct PrivateKeyWithHashAlg {
     key: PrivateKey,
     hash_alg: Option<HashAlg>,

@@ -10,7 +10,7 @@ use std::marker::Model;
 
 /// What a public key is made of. Numbers are kept as the bytes of their mpints.
 #[cycle(key)]
-#[derive(Debug, Drop)]
+#[derive(Drop)]
 pub enum KeyData {
     Dsa {
         p: Octets,
@@ -46,7 +46,7 @@ pub enum KeyData {
 }
 
 /// Whom a certificate speaks of.
-#[derive(Clone, Copy, Debug, PartialEq, Eq)]
+#[derive(Clone, Copy, PartialEq, Eq)]
 pub enum CertType {
     User,
     Host,
@@ -54,7 +54,7 @@ pub enum CertType {
 
 /// A certificate, which contracts see as the key of the grammar that it is.
 #[cycle(key)]
-#[derive(Debug, Drop)]
+#[derive(Drop)]
 pub struct Certificate {
     pub nonce: Octets,
     /// The certified key, which is no certificate.

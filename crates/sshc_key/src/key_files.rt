@@ -135,10 +135,11 @@ fn public_key_text(alloc: Global, text: &str) -> Result<PublicKey, Error>
         return Err(Error::CouldNotReadKey);
     };
     let (key, comment) = key_fields(line);
+    let comment = Text::from_str(alloc, comment)?;
     let bare = parse_public_key_base64(alloc, key)?;
     Ok(PublicKey {
         key: bare.key,
-        comment: Text::from_str(alloc, comment)?,
+        comment,
     })
 }
 

@@ -7,7 +7,7 @@ use crate::algorithm::EcdsaCurve;
 use sshc_wire::Text;
 
 /// A kind of plain key that has a name of its own.
-#[derive(Clone, Copy, Debug, PartialEq, Eq)]
+#[derive(Clone, Copy, PartialEq, Eq)]
 pub enum Known {
     Dsa,
     Ecdsa(EcdsaCurve),
@@ -18,7 +18,7 @@ pub enum Known {
 }
 
 /// A kind of plain key, which is an algorithm without a hash.
-#[derive(Debug, Drop, PartialEq, Eq)]
+#[derive(Drop, PartialEq, Eq)]
 pub enum Kind {
     Known(Known),
     /// An algorithm that isn't in the table, by its name, which has a domain.
@@ -26,7 +26,7 @@ pub enum Kind {
 }
 
 /// What a blob's name says: a plain key or a certificate of a kind.
-#[derive(Debug, Drop, PartialEq, Eq)]
+#[derive(Drop, PartialEq, Eq)]
 pub enum Tag {
     Plain(Kind),
     Certified(Kind),

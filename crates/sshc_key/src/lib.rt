@@ -2,6 +2,7 @@
 #![tactic(auto)]
 
 mod agent;
+pub mod agent_msg;
 mod algorithm;
 mod algorithm_name;
 mod comparing;

@@ -7,7 +7,7 @@ use sshc_wire::Octets;
 use std::marker::Model;
 
 /// The private part of a key pair. Numbers are kept as the bytes of their mpints.
-#[derive(Debug, Drop, PartialEq, Eq)]
+#[derive(Drop, PartialEq, Eq)]
 pub enum PairData {
     Dsa {
         x: Octets,
@@ -28,7 +28,7 @@ pub enum PairData {
 }
 
 /// A key pair, which contracts see as the public key's value and the private part.
-#[derive(Debug, Drop)]
+#[derive(Drop)]
 pub struct PrivateKey {
     pub public: PublicKey,
     pub pair: PairData,

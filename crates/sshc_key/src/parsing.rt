@@ -76,6 +76,7 @@ pub fn parse_whole_public_key(alloc: Global, blob: &[u8]) -> Result<PublicKey, E
             if c.rest().is_empty() {
                 Ok(bare(alloc, key))
             } else {
+                drop(key);
                 Err(Error::SshKey)
             }
         }

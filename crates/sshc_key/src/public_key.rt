@@ -5,7 +5,7 @@ use sshc_wire::Text;
 use std::marker::Model;
 
 /// A public key or certificate and its comment, which contracts see as that pair.
-#[derive(Debug, Drop)]
+#[derive(Drop)]
 pub struct PublicKey {
     pub key: KeyData,
     pub comment: Text,

@@ -5,14 +5,14 @@ ghost use Rattle.std.specs.Prelude.{◌≡◌, IfOk};
 use sshc_wire::{NoMemory, Octets, Text};
 
 /// What a security key adds to its signature.
-#[derive(Clone, Copy, Debug, PartialEq, Eq)]
+#[derive(Clone, Copy, PartialEq, Eq)]
 pub struct SkFields {
     pub flags: u8,
     pub counter: u32,
 }
 
 /// A signature. The fields of a security key are there exactly where the name begins `sk-`.
-#[derive(Debug, Drop, PartialEq, Eq)]
+#[derive(Drop, PartialEq, Eq)]
 pub struct Signature {
     pub name: Text,
     pub body: Octets,

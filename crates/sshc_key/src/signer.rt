@@ -9,14 +9,14 @@ use crate::pair::PrivateKey;
 use sshc_wire::HashAlg;
 
 /// Who asks for a signature: the session, or a connection of the agent by its number.
-#[derive(Clone, Copy, Debug, PartialEq, Eq)]
+#[derive(Clone, Copy, PartialEq, Eq)]
 pub enum Asker {
     Session,
     Agent(u32),
 }
 
 /// Why there is no signature.
-#[derive(Clone, Copy, Debug, PartialEq, Eq)]
+#[derive(Clone, Copy, PartialEq, Eq)]
 pub enum SignRefused {
     Refused,
     NoMemory,

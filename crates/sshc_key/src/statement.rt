@@ -4,7 +4,7 @@ use crate::key_data::CertType;
 use sshc_wire::{List, Octets, Text};
 
 /// A certificate without its nonce, its keys and its signature.
-#[derive(Debug, Drop)]
+#[derive(Drop)]
 pub struct Statement {
     pub serial: u64,
     pub cert_type: CertType,

@@ -13,7 +13,8 @@ use Rattle.sshc_mux.specs.ChannelTable.Windows.{held, adjust_of}
 use Rattle.sshc_mux.specs.ChannelAccount.{Call, OpenUser, ReserveServer, SettleServer, Confirm, Fail, Bytes, AskEof, AskClose, PeerClose, Grant, FlushAll, Received, called, ran, no_channels, marked, taken, packets_by, bytes_in, pending, gain, gain_in, granted, IsSound, Part, no_part, eof_part, close_part, grant_part, accept_part, confirm_part, received_part, part, part_in, added, asks_eof, asks_close, lets_end, NoneDue, Moves, HasThroughout, Orderly, has_eof, has_close, Life, born, table_after, sent, Account, IsFront, sent_with}
 use Rattle.sshc_mux.proofs.AccountLemmas.{bytes-append, orderly_then}
 use Rattle.sshc_mux.specs.Places.{numbers, has, Apart}
-use Rattle.sshc_mux.proofs.NumbersLemmas.{or_false, has_none, apart_append}
+use Rattle.sshc_mux.proofs.NumbersLemmas.{has_none, apart_append}
+use Rattle.sshc_wire.specs.Cases.{neither}
 use Rattle.sshc_mux.proofs.TestLemmas.{no_length, not_false}
 use Rattle.sshc_mux.proofs.CallLemmas.{packets-append}
 use Rattle.sshc_mux.proofs.LifeLemmas.{step_moves}
@@ -232,7 +233,7 @@ stage_sent Stages.Sent asked none = refl
 found_last : (n : ℕ) (cs : List ChannelState) (new : ChannelState) → channel_of n cs ≡ None → new.head.number ≡ n → channel_of n (cs ++ new ∷ []) ≡ Some new
 found_last n [] new none is = ap (λ (b : Bool). if b then Some new else None) (eq-eqb new.head.number n is)
 found_last n (x ∷ cs) new none is =
-    let parts = or_false (eqb x.head.number n) (has n (numbers cs)) (has_none n (x ∷ cs) none) in
+    let parts = neither (eqb x.head.number n) (has n (numbers cs)) (has_none n (x ∷ cs) none) in
     ap (λ (b : Bool). if b then Some x else channel_of n (cs ++ new ∷ [])) parts.0
     ∙ found_last n cs new (ap (λ (b : Bool). if b then Some x else channel_of n cs) (sym parts.0) ∙ none) is
 

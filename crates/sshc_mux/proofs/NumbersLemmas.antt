@@ -2,20 +2,17 @@
 use Rattle.std.proofs.Common.{◌≡◌, ℕ, Bool, true, false, ◌||◌, List, [], ◌∷◌, ◌++◌, eqb, if◌then◌else◌, Option, Some, None, refl, ap, sym, subst, ◌∙◌, inl, inr, eq-eqb}
 use Rattle.std.proofs.lemmas.Bool.{ne_eqb}
 use Rattle.std.proofs.lemmas.Bool.Decides.{eqb_tells}
+use Rattle.sshc_wire.specs.Cases.{neither}
 use Rattle.sshc_mux.specs.ChannelState.{ChannelState, channel_of, with_channel, without}
 use Rattle.sshc_mux.specs.Places.{numbers, has, Apart}
 use Rattle.sshc_mux.specs.ChannelTable.{flush_turn, all_flushed}
-
-pub or_false : (a b : Bool) → (a || b) ≡ false → (a ≡ false) × (b ≡ false)
-or_false true b h = absurd (cc)
-or_false false b h = (refl, h)
 
 -- a number that no channel has is not among the numbers
 
 pub none_has : (n : ℕ) (cs : List ChannelState) → has n (numbers cs) ≡ false → channel_of n cs ≡ None
 none_has n [] h = refl
 none_has n (c ∷ cs) h =
-    let parts = or_false (eqb c.head.number n) (has n (numbers cs)) h in
+    let parts = neither (eqb c.head.number n) (has n (numbers cs)) h in
     ap (λ (b : Bool). if b then Some c else channel_of n cs) parts.0 ∙ none_has n cs parts.1
 
 pub has_none : (n : ℕ) (cs : List ChannelState) → channel_of n cs ≡ None → has n (numbers cs) ≡ false
@@ -92,7 +89,7 @@ without_same n (x ∷ cs) apart = elim (eqb_tells x.head.number n) [
 pub has_without : (k n : ℕ) (cs : List ChannelState) → has k (numbers cs) ≡ false → has k (numbers (without n cs)) ≡ false
 has_without k n [] h = refl
 has_without k n (x ∷ cs) h =
-    let parts = or_false (eqb x.head.number k) (has k (numbers cs)) h in
+    let parts = neither (eqb x.head.number k) (has k (numbers cs)) h in
     elim (eqb_tells x.head.number n) [
       | inl w ↦ ap (λ (b : Bool). has k (numbers (if b then cs else x ∷ without n cs))) w.0 ∙ parts.1
       | inr w ↦
@@ -122,13 +119,13 @@ append_found n (x ∷ cs) more c found = elim (eqb_tells x.head.number n) [
 has_append : (k : ℕ) (cs : List ChannelState) (new : ChannelState) → has k (numbers cs) ≡ false → eqb new.head.number k ≡ false → has k (numbers (cs ++ new ∷ [])) ≡ false
 has_append k [] new h ne = ap (λ (b : Bool). b || false) ne
 has_append k (x ∷ cs) new h ne =
-    let parts = or_false (eqb x.head.number k) (has k (numbers cs)) h in
+    let parts = neither (eqb x.head.number k) (has k (numbers cs)) h in
     ap (λ (b : Bool). b || has k (numbers (cs ++ new ∷ []))) parts.0 ∙ has_append k cs new parts.1 ne
 
 pub apart_append : (cs : List ChannelState) (new : ChannelState) → Apart (numbers cs) → has new.head.number (numbers cs) ≡ false → Apart (numbers (cs ++ new ∷ []))
 apart_append [] new apart fresh = (refl, tt)
 apart_append (x ∷ cs) new apart fresh =
-    let parts = or_false (eqb x.head.number new.head.number) (has new.head.number (numbers cs)) fresh in
+    let parts = neither (eqb x.head.number new.head.number) (has new.head.number (numbers cs)) fresh in
     let ne : eqb new.head.number x.head.number ≡ false = elim (eqb_tells x.head.number new.head.number) [
       | inl w ↦ let no : true ≡ false = sym w.0 ∙ parts.0 in absurd (cc)
       | inr w ↦ ne_eqb new.head.number x.head.number (λ e. w.1 (sym e))

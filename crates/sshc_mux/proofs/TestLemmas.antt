@@ -1,10 +1,7 @@
 -- Tests that are true.
 use Rattle.std.proofs.Common.{◌≡◌, ℕ, suc, ◌<◌, ◌≤◌, Bool, true, false, not, ◌&&◌, List, [], ◌∷◌, length, eqb, if◌then◌else◌, refl, arith}
 use Rattle.std.proofs.Math.Dec.{eqb-suc-zero}
-
-pub not_true : (b : Bool) → not b ≡ true → b ≡ false
-not_true true h = absurd (cc)
-not_true false h = refl
+use Rattle.sshc_wire.specs.Cases.{not_true}
 
 pub and_left : (a b : Bool) → (a && b) ≡ true → a ≡ true
 and_left true b h = refl

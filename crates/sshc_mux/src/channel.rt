@@ -17,7 +17,7 @@ use std::collections::VecDeque;
 use std::marker::Model;
 
 /// Who opened a channel.
-#[derive(Clone, Copy, Debug, PartialEq, Eq)]
+#[derive(Clone, Copy, PartialEq, Eq)]
 pub enum Opener {
     /// The user, with the ticket under which the open is answered, if there is one.
     User(Option<Ticket>),
@@ -26,7 +26,7 @@ pub enum Opener {
 }
 
 /// The state of EOF or of our close on a channel.
-#[derive(Clone, Copy, Debug, PartialEq, Eq)]
+#[derive(Clone, Copy, PartialEq, Eq)]
 pub enum Stage {
     /// Nobody asked for it.
     Unasked,
@@ -77,7 +77,7 @@ impl Stage {
 }
 
 /// A channel.
-#[derive(Debug, Drop)]
+#[derive(Drop)]
 pub(crate) struct Channel {
     number: u32,
     opener: Opener,

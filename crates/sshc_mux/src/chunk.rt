@@ -7,7 +7,7 @@ use std::alloc::Global;
 use std::marker::Model;
 
 /// The kind of a channel's bytes, with the code of extended data (RFC 4254, section 5.2).
-#[derive(Clone, Copy, Debug, PartialEq, Eq)]
+#[derive(Clone, Copy, PartialEq, Eq)]
 pub enum Stream {
     /// Plain data.
     Data,
@@ -16,7 +16,7 @@ pub enum Stream {
 }
 
 /// The bytes of one call, of which a front was sent. Contracts see those that wait, with their kind.
-#[derive(Debug, Drop)]
+#[derive(Drop)]
 pub(crate) struct Chunk {
     stream: Stream,
     body: Vec<u8>,

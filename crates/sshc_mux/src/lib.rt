@@ -13,4 +13,5 @@ pub use channel::{Opener, Stage};
 pub use chunk::Stream;
 pub use error::MuxError;
 pub use law::account;
-pub use table::{ChannelId, ChannelTable};
+pub use sshc_wire::ChannelId;
+pub use table::ChannelTable;

@@ -13,18 +13,14 @@ ghost use Rattle.sshc_mux.specs.ChannelTable.Opens.{unsettled_at};
 ghost use Rattle.sshc_mux.specs.Places.{IsPlace, IsIndexed, HasNumbers, Apart, numbers, present};
 
 use crate::channel::Channel;
-use sshc_wire::Record;
+use sshc_wire::{ChannelId, Record};
 use std::alloc::Global;
 use std::collections::HashMap;
 use std::marker::Model;
 
-/// The number of a channel on our side.
-#[derive(Clone, Copy, Debug, PartialEq, Eq)]
-pub struct ChannelId(pub u32);
-
 /// The channels of a connection, which contracts see in the order in which they were opened, with the last number
 /// assigned.
-#[derive(Debug, Drop)]
+#[derive(Drop)]
 pub struct ChannelTable {
     /// In the order in which they were opened. The slot of a channel that was removed is empty.
     slots: Vec<Option<Channel>>,

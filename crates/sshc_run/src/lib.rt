@@ -1,18 +1,24 @@
-//! Scripts: bytes in, records out.
+//! Runs of scripts by command-line arguments, the report of a run, and large scripts made from a number; and, from the
+//! crates behind it, the run itself and the arguments of an agent.
 #![tactic(auto)]
 
-mod error;
-mod known_hosts_handler;
-mod point;
-mod record_lines;
-mod run;
-mod serving;
-mod stepping;
-mod turn;
-mod unasked;
+mod blocks;
+mod draws;
+mod gen_words;
+mod generated;
+mod kinds;
+mod login;
+mod script_words;
+mod summary;
+mod told;
+mod words;
 
-pub use error::RunError;
-pub use known_hosts_handler::{HandlerError, KnownHostsHandler};
-pub use run::run_script;
-pub use sshc_client::Config;
-pub use sshc_toy::{RefusingSigner, RefusingVerifier, ToySigner, ToyVerifier};
+pub use blocks::{BlockKind, generate};
+pub use draws::Draws;
+pub use generated::Generated;
+pub use login::{HOST, KNOWN, PORT};
+pub use sshc_agent_words::serve_words;
+pub use sshc_run_script::{
+    Config, HandlerError, KnownHostsHandler, RunError, ToySigner, ToyVerifier, run_script,
+};
+pub use words::run_words;

@@ -5,8 +5,8 @@ use crate::line::Line;
 use crate::packet::{add_packet, asked_by};
 use crate::packet_table::Asked;
 use crate::part::{Stop, add_parts};
-use sshc_event::Event;
-use sshc_script::{EventError, EventKind, RawEvent, read_event};
+use sshc_auth_event::Event;
+use sshc_run_reader::{EventError, EventKind, RawEvent, read_event};
 use sshc_wire::Cursor;
 use std::alloc::Global;
 

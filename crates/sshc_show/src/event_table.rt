@@ -1,7 +1,7 @@
 //! Events of scripts by their kinds (docs/FORMATS.md, "Kinds of events").
 
 use crate::part::{Case, Part, Shape};
-use sshc_script::EventKind;
+use sshc_run_reader::EventKind;
 
 /// An event: its kind, its name, its parts, and those after a choice among them.
 #[derive(Clone, Copy)]

@@ -5,7 +5,7 @@ use crate::line::Line;
 use crate::packet_table::Asked;
 use crate::part::Stop;
 use anyhow::bail;
-use sshc_script::{NextError, RawEvent, next_event};
+use sshc_run_reader::{NextError, RawEvent, next_event};
 use sshc_wire::{Source, StdSource};
 use std::alloc::Global;
 use std::fs;

@@ -9,7 +9,7 @@ use std::alloc::Global;
 use std::marker::Model;
 
 /// A call of a signer, with its answer; `None` if it was refused.
-#[derive(Debug, Drop)]
+#[derive(Drop)]
 struct Kept {
     by: Asker,
     key: PrivateKey,
@@ -19,7 +19,7 @@ struct Kept {
 }
 
 /// The calls in order, and how often one was refused.
-#[derive(Debug, Drop)]
+#[derive(Drop)]
 pub(crate) struct Calls {
     alloc: Global,
     calls: Vec<Kept>,

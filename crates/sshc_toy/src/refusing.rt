@@ -11,7 +11,7 @@ use std::alloc::Global;
 use std::marker::Model;
 
 /// Refuses each signature, and records the calls, which contracts see as calls without an answer.
-#[derive(Debug, Drop)]
+#[derive(Drop)]
 pub struct RefusingSigner {
     calls: Calls,
 }
@@ -59,7 +59,7 @@ impl LocalSigner for RefusingSigner {
 }
 
 /// Accepts no signature.
-#[derive(Debug, Drop)]
+#[derive(Drop)]
 pub struct RefusingVerifier;
 
 impl Verifier for RefusingVerifier {

@@ -16,7 +16,7 @@ use std::marker::Model;
 /// Signs by an HMAC under the key's blob, which anyone who knows the public key can make, and records its calls: for
 /// runs without a server. It refuses security keys, for which there are no pairs, and signature names of more than 64
 /// bytes.
-#[derive(Debug, Drop)]
+#[derive(Drop)]
 pub struct ToySigner {
     calls: Calls,
 }

@@ -11,7 +11,7 @@ use std::alloc::Global;
 
 /// Accepts what the toy signer returns: for a plain key, a signature with one of its names, without a counter, whose
 /// body is the HMAC.
-#[derive(Debug, Drop)]
+#[derive(Drop)]
 pub struct ToyVerifier {
     alloc: Global,
 }

@@ -3,7 +3,7 @@
 use sshc_wire::{Octets, Text};
 
 /// Whose key exchange runs: ours after our own KEXINIT, the peer's after the peer's (RFC 4253, section 7.1).
-#[derive(Clone, Copy, Debug, PartialEq, Eq)]
+#[derive(Clone, Copy, PartialEq, Eq)]
 pub enum ExchangeFlag {
     Idle,
     Ours,
@@ -11,7 +11,7 @@ pub enum ExchangeFlag {
 }
 
 /// The host key of an exchange, as the blob that the peer sent.
-#[derive(Debug, PartialEq, Eq, Drop)]
+#[derive(PartialEq, Eq, Drop)]
 pub enum ExchangeKey {
     Missing,
     Key(Octets),
@@ -19,7 +19,7 @@ pub enum ExchangeKey {
 }
 
 /// The algorithms that an exchange chose, by their names.
-#[derive(Debug, PartialEq, Eq, Drop)]
+#[derive(PartialEq, Eq, Drop)]
 pub struct NamesChosen {
     pub kex: Text,
     pub key: Text,
@@ -31,7 +31,7 @@ pub struct NamesChosen {
 }
 
 /// The result of a key exchange. The transport has verified the signature over the hash.
-#[derive(Debug, PartialEq, Eq, Drop)]
+#[derive(PartialEq, Eq, Drop)]
 pub struct ExchangeResult {
     pub key: ExchangeKey,
     /// The exchange hash H.

@@ -5,7 +5,7 @@ ghost use Rattle.std.specs.Prelude.{◌≡◌, ◌+◌, ◌*◌, ◌-◌, ◌^�
 use std::marker::Model;
 
 /// A count of bytes, which contracts see as that number. It saturates at 2^64 - 1.
-#[derive(Debug, Drop)]
+#[derive(Drop)]
 pub struct PendingCount {
     bytes: u64,
 }

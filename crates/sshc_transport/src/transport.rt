@@ -8,7 +8,7 @@ use crate::exchange::ExchangeResult;
 use sshc_wire::{Failed, Octets};
 
 /// What `next` returns: an event of the transport.
-#[derive(Debug, PartialEq, Eq, Drop)]
+#[derive(PartialEq, Eq, Drop)]
 pub enum TransportEvent {
     /// The peer's KEXINIT came (RFC 4253, section 7.1).
     PeerKexinit,

@@ -2,16 +2,9 @@
 use Rattle.std.proofs.Common.{◌≡◌, ◌++◌, Bool, true, false, List, [], ◌∷◌, refl, sym}
 use Rattle.std.specs.Prelude.{◌||◌}
 use Rattle.std.proofs.lemmas.Slice.Eq.{bytes_eq-Decides}
+use Rattle.sshc_wire.specs.Cases.{both_false, neither}
 use Rattle.sshc_wire.specs.declared.methods.MethodKind.{MethodKind}
 use Rattle.sshc_wire.specs.Methods.{HasNoDoubles, has_method, is_method, method_name}
-
-neither : (a b : Bool) → (a || b) ≡ false → (a ≡ false) × (b ≡ false)
-neither true b e = absurd cc
-neither false b e = (refl, e)
-
-both_false : (a b : Bool) → a ≡ false → b ≡ false → (a || b) ≡ false
-both_false true b e f = absurd cc
-both_false false b e f = f
 
 flips_at : (a b : Bool) → (b ≡ true → a ≡ true) → a ≡ false → b ≡ false
 flips_at a true h e = absurd (let t = h refl in cc)

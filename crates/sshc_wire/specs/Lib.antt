@@ -4,6 +4,7 @@ pub mod Format
 pub mod Parts
 pub mod Whole
 pub mod Grammar
+pub mod Cases
 pub mod Lookup
 pub mod Beside
 pub mod Faults

@@ -15,7 +15,7 @@ pub enum AgentFault {
 }
 
 /// What an agent says on a connection.
-#[derive(Debug, PartialEq, Eq, Drop)]
+#[derive(PartialEq, Eq, Drop)]
 pub enum AgentRecord {
     /// A whole frame with its length.
     Answer(Octets),

@@ -6,7 +6,7 @@ use crate::octets::Octets;
 use crate::text::Text;
 
 /// One prompt of an interactive authentication (RFC 4256, section 3.2).
-#[derive(Debug, PartialEq, Eq, Drop)]
+#[derive(PartialEq, Eq, Drop)]
 pub struct Prompt {
     pub prompt: Text,
     /// Whether what the user types may be shown.
@@ -14,7 +14,7 @@ pub struct Prompt {
 }
 
 /// What the user is asked for before the authentication continues.
-#[derive(Debug, PartialEq, Eq, Drop)]
+#[derive(PartialEq, Eq, Drop)]
 pub enum AuthRecord {
     /// A signature by the key of this blob over the body.
     SignRequest {
@@ -39,7 +39,7 @@ pub enum AuthRecord {
 }
 
 /// What the server said in a GSSAPI authentication (RFC 4462, section 3).
-#[derive(Debug, PartialEq, Eq, Drop)]
+#[derive(PartialEq, Eq, Drop)]
 pub enum GssapiRecord {
     /// The mechanism that it chose; the user's first token is due.
     Response {

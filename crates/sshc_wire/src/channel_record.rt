@@ -6,7 +6,7 @@ use crate::signal::Sig;
 use crate::text::Text;
 
 /// What the peer did on a channel, or what the session did there on its own.
-#[derive(Debug, PartialEq, Eq, Drop)]
+#[derive(PartialEq, Eq, Drop)]
 pub enum ChannelRecord {
     /// The peer confirmed our channel: its packet size and window in bytes.
     Open {
@@ -50,7 +50,7 @@ pub enum ChannelRecord {
 }
 
 /// A channel that the server opens, by its type (RFC 4254, sections 6.1, 6.3.2 and 7.2; OpenSSH's PROTOCOL).
-#[derive(Debug, PartialEq, Eq, Drop)]
+#[derive(PartialEq, Eq, Drop)]
 pub enum ServerOpen {
     Session,
     DirectTcpIp {

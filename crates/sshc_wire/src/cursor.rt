@@ -11,7 +11,7 @@ use crate::names::Names;
 use std::marker::Model;
 
 /// The bytes of a packet that are still unread, which contracts see as that list.
-#[derive(Debug, Drop)]
+#[derive(Drop)]
 pub struct Cursor<'a> {
     bytes: &'a [u8],
 }

@@ -9,7 +9,7 @@ use crate::source::Failed;
 use crate::text::Text;
 
 /// What a path was found to be.
-#[derive(Debug, PartialEq, Eq, Drop)]
+#[derive(PartialEq, Eq, Drop)]
 pub enum Found {
     Text(Text),
     /// No file could be opened at the path.

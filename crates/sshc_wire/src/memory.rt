@@ -17,7 +17,7 @@ use std::alloc::{AllocError, Global};
 use std::marker::Model;
 
 /// Bytes in memory, which contracts see as the bytes that remain, with the numbers of the calls that fail.
-#[derive(Debug, Drop)]
+#[derive(Drop)]
 pub struct MemSource {
     contents: Vec<u8>,
     at: usize,
@@ -104,7 +104,7 @@ impl Source for MemSource {
 }
 
 /// A list of bytes in memory, which contracts see as that list, with the numbers of the calls that fail.
-#[derive(Debug, Drop)]
+#[derive(Drop)]
 pub struct MemSink {
     contents: Vec<u8>,
     failing: Vec<u64>,
@@ -185,7 +185,7 @@ impl Sink for MemSink {
 }
 
 /// Files in memory, which contracts see as paths and bytes, with the numbers of the calls that fail.
-#[derive(Debug, Drop)]
+#[derive(Drop)]
 pub struct MemFiles {
     alloc: Global,
     contents: Vec<(Text, Octets)>,

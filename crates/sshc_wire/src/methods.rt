@@ -60,7 +60,7 @@ impl MethodKind {
 }
 
 /// Methods without doubles in the order of their adding, which contracts see as that list.
-#[derive(Debug, Drop)]
+#[derive(Drop)]
 pub struct MethodSet {
     methods: Vec<MethodKind>,
 }

@@ -14,7 +14,7 @@ use std::collections::VecDeque;
 use std::marker::Model;
 
 /// Records in order, which contracts see with the room that was made for one more. A muted outbox drops packets.
-#[derive(Debug, Drop)]
+#[derive(Drop)]
 pub struct Outbox {
     records: VecDeque<Record>,
     is_muted: bool,
@@ -64,7 +64,8 @@ impl Outbox {
         self.records.len()
     }
 
-    /// Makes room for one record, whose text has at most so many bytes.
+    /// Makes room for one record, whose text has at most so many bytes. Records are kept as values, so that any text fits
+    /// into the room of one.
     #[tactic(auto, using(crate::proofs::Shown::room_made))]
     pub fn reserve(&mut self, text: usize) -> Result<(), NoMemory>
         ensures room { OnOk result (text ≤ self.new.room) }
@@ -91,7 +92,10 @@ impl Outbox {
         ensures err { OnErr result (self.new.records ≡ self.old.records) }
         ensures same { self.new.muted ≡ self.old.muted }
     {
-        self.records.reserve(1)?;
+        if let Err(refused) = self.records.reserve(1) {
+            drop(said);
+            return Err(refused.into());
+        }
         add(&mut self.records, self.is_muted, said);
         Ok(())
     }
@@ -120,7 +124,11 @@ impl Outbox {
         ensures err { OnErr result (self.new.records ≡ self.old.records) }
         ensures same { self.new.muted ≡ self.old.muted }
     {
-        self.records.reserve(2)?;
+        if let Err(refused) = self.records.reserve(2) {
+            drop(first);
+            drop(second);
+            return Err(refused.into());
+        }
         add_if_some(&mut self.records, self.is_muted, first);
         add_if_some(&mut self.records, self.is_muted, second);
         Ok(())
@@ -169,7 +177,7 @@ impl Outbox {
     pub fn drop_first(&mut self)
         ensures { (self.new.records ≡ drop 1 self.old.records) × (self.new.muted ≡ self.old.muted) }
     {
-        let _ = self.records.pop_front();
+        drop(self.records.pop_front());
     }
 
     /// Takes the first record, or changes nothing.
@@ -202,9 +210,10 @@ fn add(records: &mut VecDeque<Record>, is_muted: bool, said: Record)
 {
     let is_packet = matches!(&said, Record::Payload(_));
     if is_packet && is_muted {
-        return;
+        drop(said);
+    } else {
+        records.push_back_reserved(said);
     }
-    records.push_back_reserved(said);
 }
 
 fn add_if_some(records: &mut VecDeque<Record>, is_muted: bool, said: Option<Record>)

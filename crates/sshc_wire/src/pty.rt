@@ -1,7 +1,7 @@
 //! Modes of terminals (RFC 4254, section 8).
 
 /// A terminal mode by its number, 0 to 255.
-#[derive(Clone, Copy, Debug, PartialEq, Eq)]
+#[derive(Clone, Copy, PartialEq, Eq)]
 pub struct Pty(pub u8);
 
 impl Pty {

@@ -22,7 +22,7 @@ use crate::text::Text;
 use crate::ticket::Ticket;
 
 /// One thing that a session or an agent reports.
-#[derive(Debug, PartialEq, Eq, Drop)]
+#[derive(PartialEq, Eq, Drop)]
 pub enum Record {
     /// A packet for the transport.
     Payload(Octets),

@@ -24,7 +24,7 @@ pub enum HostKeysFault {
 }
 
 /// How a ticket is resolved.
-#[derive(Debug, PartialEq, Eq, Drop)]
+#[derive(PartialEq, Eq, Drop)]
 pub enum Resolution {
     /// The server accepted the authentication.
     AuthSuccess,

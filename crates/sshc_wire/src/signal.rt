@@ -8,7 +8,7 @@ use crate::text::Text;
 use std::alloc::Global;
 
 /// A signal; each name that isn't in the standard's list is `Custom`.
-#[derive(Debug, Drop, PartialEq, Eq)]
+#[derive(Drop, PartialEq, Eq)]
 pub enum Sig {
     ABRT,
     ALRM,

@@ -8,8 +8,7 @@ ghost use Rattle.sshc_ask.specs.AgentCalls.Readings.{identities_reading};
 use crate::answer::identities_in;
 use crate::client::AgentClient;
 use crate::message::Message;
-use sshc_agent::msg;
-use sshc_key::{AgentIdentity, Error};
+use sshc_key::{AgentIdentity, Error, agent_msg};
 use sshc_wire::AgentStream;
 
 impl<S: AgentStream> AgentClient<S> {
@@ -19,7 +18,7 @@ impl<S: AgentStream> AgentClient<S> {
         ensures call { Calls (frame request_identities)
             (λ answer. GivesAll (λ found. found.items) result (identities_reading answer)) self.old self.new result }
     {
-        let message = Message::new(self.alloc, msg::REQUEST_IDENTITIES)?;
+        let message = Message::new(self.alloc, agent_msg::REQUEST_IDENTITIES)?;
         let answer = self.ask(message)?;
         identities_in(self.alloc, &answer)
     }

@@ -8,8 +8,7 @@ ghost use Rattle.sshc_ask.specs.AgentCalls.Readings.{success_reading};
 use crate::calls::messages::{addition, removal};
 use crate::client::AgentClient;
 use crate::message::Message;
-use sshc_agent::msg;
-use sshc_key::{Constraint, Error, PrivateKey, PublicKey};
+use sshc_key::{Constraint, Error, PrivateKey, PublicKey, agent_msg};
 use sshc_wire::AgentStream;
 
 impl<S: AgentStream> AgentClient<S> {
@@ -41,7 +40,7 @@ impl<S: AgentStream> AgentClient<S> {
         ensures call { Calls (frame remove_all_identities)
             (λ answer. GivesAll (λ x. x) result (success_reading answer)) self.old self.new result }
     {
-        let message = Message::new(self.alloc, msg::REMOVE_ALL_IDENTITIES)?;
+        let message = Message::new(self.alloc, agent_msg::REMOVE_ALL_IDENTITIES)?;
         self.succeed(message)
     }
 }

@@ -6,8 +6,9 @@ ghost use Rattle.sshc_wire.specs.Wire.{string_text};
 ghost use Rattle.sshc_ask.specs.AgentCalls.Frames.{message, add_identity, add_smartcard_key, bind_session, extension, lock, query_extension, remove_identity, remove_smartcard_key, unlock};
 
 use crate::message::Message;
-use sshc_agent::msg;
-use sshc_key::{AgentSessionBinding, Constraint, PrivateKey, PublicKey, PublicKeyBase64};
+use sshc_key::{
+    AgentSessionBinding, Constraint, PrivateKey, PublicKey, PublicKeyBase64, agent_msg,
+};
 use sshc_wire::NoMemory;
 use std::alloc::Global;
 
@@ -18,7 +19,7 @@ pub(super) fn session_bind(
 ) -> Result<Message, NoMemory>
     ensures { IfOk result (λ m. m ≡ message (bind_session binding.now forwarding)) }
 {
-    let mut written = Message::new(alloc, msg::EXTENSION)?;
+    let mut written = Message::new(alloc, agent_msg::EXTENSION)?;
     written.string(b"session-bind@openssh.com")?;
     written.string(binding.host_key())?;
     written.string(binding.session_id())?;
@@ -35,8 +36,8 @@ pub(super) fn addition(
     ensures { IfOk result (λ m. m ≡ message (add_identity key.now constraints.now)) }
 {
     let number = match constraints {
-        [] => msg::ADD_IDENTITY,
-        _ => msg::ADD_ID_CONSTRAINED,
+        [] => agent_msg::ADD_IDENTITY,
+        _ => agent_msg::ADD_ID_CONSTRAINED,
     };
     let mut written = Message::new(alloc, number)?;
     written.pair(key)?;
@@ -64,9 +65,9 @@ pub(super) fn smartcard_addition(
     ensures { IfOk result (λ m. m ≡ message (add_smartcard_key id.now pin.now constraints.now)) }
 {
     match constraints {
-        [] => smartcard(alloc, msg::ADD_SMARTCARD_KEY, id, pin),
+        [] => smartcard(alloc, agent_msg::ADD_SMARTCARD_KEY, id, pin),
         _ => {
-            let mut written = smartcard(alloc, msg::ADD_SMARTCARD_KEY_CONSTRAINED, id, pin)?;
+            let mut written = smartcard(alloc, agent_msg::ADD_SMARTCARD_KEY_CONSTRAINED, id, pin)?;
             written.counted_constraints(constraints)?;
             Ok(written)
         }
@@ -76,13 +77,13 @@ pub(super) fn smartcard_addition(
 pub(super) fn smartcard_removal(alloc: Global, id: &str, pin: &[u8]) -> Result<Message, NoMemory>
     ensures { IfOk result (λ m. m ≡ message (remove_smartcard_key id.now pin.now)) }
 {
-    smartcard(alloc, msg::REMOVE_SMARTCARD_KEY, id, pin)
+    smartcard(alloc, agent_msg::REMOVE_SMARTCARD_KEY, id, pin)
 }
 
 pub(super) fn locking(alloc: Global, passphrase: &[u8]) -> Result<Message, NoMemory>
     ensures { IfOk result (λ m. m ≡ message (lock passphrase.now)) }
 {
-    let mut written = Message::new(alloc, msg::LOCK)?;
+    let mut written = Message::new(alloc, agent_msg::LOCK)?;
     written.string(passphrase)?;
     Ok(written)
 }
@@ -90,7 +91,7 @@ pub(super) fn locking(alloc: Global, passphrase: &[u8]) -> Result<Message, NoMem
 pub(super) fn unlocking(alloc: Global, passphrase: &[u8]) -> Result<Message, NoMemory>
     ensures { IfOk result (λ m. m ≡ message (unlock passphrase.now)) }
 {
-    let mut written = Message::new(alloc, msg::UNLOCK)?;
+    let mut written = Message::new(alloc, agent_msg::UNLOCK)?;
     written.string(passphrase)?;
     Ok(written)
 }
@@ -98,7 +99,7 @@ pub(super) fn unlocking(alloc: Global, passphrase: &[u8]) -> Result<Message, NoM
 pub(super) fn removal(alloc: Global, public: &PublicKey) -> Result<Message, NoMemory>
     ensures { IfOk result (λ m. m ≡ message (remove_identity public.now.0)) }
 {
-    let mut written = Message::new(alloc, msg::REMOVE_IDENTITY)?;
+    let mut written = Message::new(alloc, agent_msg::REMOVE_IDENTITY)?;
     written.string(&public.public_key_bytes()?)?;
     Ok(written)
 }
@@ -106,7 +107,7 @@ pub(super) fn removal(alloc: Global, public: &PublicKey) -> Result<Message, NoMe
 pub(super) fn extending(alloc: Global, typ: &[u8], ext: &[u8]) -> Result<Message, NoMemory>
     ensures { IfOk result (λ m. m ≡ message (extension typ.now ext.now)) }
 {
-    let mut written = Message::new(alloc, msg::EXTENSION)?;
+    let mut written = Message::new(alloc, agent_msg::EXTENSION)?;
     written.string(typ)?;
     written.string(ext)?;
     Ok(written)
@@ -115,7 +116,7 @@ pub(super) fn extending(alloc: Global, typ: &[u8], ext: &[u8]) -> Result<Message
 pub(super) fn querying(alloc: Global, typ: &[u8]) -> Result<Message, NoMemory>
     ensures { IfOk result (λ m. m ≡ message (query_extension typ.now)) }
 {
-    let mut written = Message::new(alloc, msg::EXTENSION)?;
+    let mut written = Message::new(alloc, agent_msg::EXTENSION)?;
     written.string(typ)?;
     Ok(written)
 }

@@ -5,12 +5,13 @@ ghost use Rattle.sshc_wire.specs.Wire.{string_text, u32_text};
 ghost use Rattle.sshc_key.specs.Algorithms.{kept_hash};
 ghost use Rattle.sshc_key.specs.KeyGrammar.{key_text};
 ghost use Rattle.sshc_key.specs.View.{view};
-ghost use Rattle.sshc_agent.specs.declared.msg.TheConstants.{SIGN_REQUEST};
+ghost use Rattle.sshc_key.specs.declared.agent_msg.TheConstants.{SIGN_REQUEST};
 ghost use Rattle.sshc_ask.specs.AgentCalls.Frames.{message, hash_flag, sent_hash, sign_request, signing_key};
 
 use crate::message::Message;
-use sshc_agent::msg;
-use sshc_key::{AgentIdentity, Certificate, HashAlg, KeyData, PublicKey, PublicKeyBase64};
+use sshc_key::{
+    AgentIdentity, Certificate, HashAlg, KeyData, PublicKey, PublicKeyBase64, agent_msg,
+};
 use sshc_wire::NoMemory;
 use std::alloc::Global;
 
@@ -59,8 +60,8 @@ fn flag_of(asked: Option<HashAlg>) -> u32
 {
     match asked {
         None => 0,
-        Some(HashAlg::Sha256) => msg::SSH_AGENT_RSA_SHA2_256,
-        Some(HashAlg::Sha512) => msg::SSH_AGENT_RSA_SHA2_512,
+        Some(HashAlg::Sha256) => agent_msg::SSH_AGENT_RSA_SHA2_256,
+        Some(HashAlg::Sha512) => agent_msg::SSH_AGENT_RSA_SHA2_512,
     }
 }
 
@@ -83,7 +84,7 @@ fn signing(
     ensures { IfOk result
         (λ m. m ≡ SIGN_REQUEST ∷ (string_text blob.now ++ (string_text body.now ++ u32_text (hash_flag asked)))) }
 {
-    let mut written = Message::new(alloc, msg::SIGN_REQUEST)?;
+    let mut written = Message::new(alloc, agent_msg::SIGN_REQUEST)?;
     written.string(blob)?;
     written.string(body)?;
     written.number(flag_of(asked))?;

@@ -1,10 +1,10 @@
 //! The results of a session's methods.
 
 ghost use Rattle.std.specs.Prelude.{◌≡◌};
-ghost use Rattle.sshc_moves.specs.Moves.{or_none};
+ghost use Rattle.sshc_client_table.specs.Moves.{or_none};
 ghost use Rattle.sshc_client.specs.Methods.{acted};
 
-use sshc_opening::Error;
+use sshc_auth::Error;
 use sshc_wire::{NoMemory, Ticket};
 
 /// The result of a method that did its moves.

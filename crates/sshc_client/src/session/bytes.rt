@@ -5,14 +5,14 @@ ghost use Rattle.std.specs.Prelude.{◌≡◌, ◌∷◌, []};
 ghost use Rattle.sshc_mux.specs.declared.chunk.Stream.{Stream as Kind};
 ghost use Rattle.sshc_mux.specs.ChannelState.{channel_of};
 ghost use Rattle.sshc_mux.specs.ChannelTable.{waits_in, window_in};
-ghost use Rattle.sshc_moves.specs.Grown.{Grown};
-ghost use Rattle.sshc_moves.specs.Moves.{Begins, Closes, Disconnects, EndsBytes, Leaves, Sends};
+ghost use Rattle.sshc_client_table.specs.Grown.{Grown};
+ghost use Rattle.sshc_client_table.specs.Moves.{Begins, Closes, Disconnects, EndsBytes, Leaves, Sends};
 ghost use Rattle.sshc_client.specs.Methods.{Acts};
 
 use super::Session;
 use super::acting::acted;
-use sshc_mux::{ChannelId as Number, Stream};
-use sshc_opening::Error;
+use sshc_auth::Error;
+use sshc_mux::Stream;
 use sshc_wire::{ChannelId, Disconnect, Text};
 
 impl Session {
@@ -86,13 +86,13 @@ impl Session {
     pub fn has_pending_data(&self, id: ChannelId) -> bool
         ensures { result ≡ waits_in (channel_of id.0 self.now.table.channels) }
     {
-        self.connection.table().has_pending_data(Number(id.0))
+        self.connection.table().has_pending_data(id)
     }
 
     /// How many bytes the peer's window allows; 0 if there is no such channel, or if an open of ours waits there.
     pub fn sender_window_size(&self, id: ChannelId) -> usize
         ensures { result ≡ window_in (channel_of id.0 self.now.table.channels) }
     {
-        self.connection.table().sender_window_size(Number(id.0))
+        self.connection.table().sender_window_size(id)
     }
 }

@@ -1,15 +1,15 @@
 //! Calls of the handler that is lent the session, each with the record that follows it.
 
 ghost use Rattle.std.specs.Prelude.{◌≡◌, [], ◌∷◌, Ok};
-ghost use Rattle.sshc_moves.specs.Moves.{Does, Grants, Tells};
-ghost use Rattle.sshc_moves.specs.SessionRow.{on_channel, reports};
+ghost use Rattle.sshc_client_table.specs.Moves.{Does, Grants, Tells};
+ghost use Rattle.sshc_client_table.specs.SessionRow.{on_channel, reports};
 ghost use Rattle.sshc_client.specs.Handling.{handler_at};
 ghost use Rattle.sshc_client.specs.HandledRow.{Calls, FollowsOne};
 
 use super::Session;
 use crate::handler::Handler;
 use crate::stop::{Stop, lent, went};
-use sshc_rows::Flow;
+use sshc_client_rows::Flow;
 use sshc_wire::{ChannelId, ChannelRecord, NoMemory, Record, Sig};
 
 impl Session {

@@ -1,13 +1,13 @@
 //! Channels of ours (RFC 4254, section 5.1), for code that the session is lent to.
 
 ghost use Rattle.std.specs.Prelude.{◌≡◌};
-ghost use Rattle.sshc_packets.specs.ChannelOpens.{DirectStreamLocal, DirectTcpIp, Session as SessionOpen, X11, channel_open};
-ghost use Rattle.sshc_moves.specs.Grown.{Grown};
+ghost use Rattle.sshc_client_packets.specs.ChannelOpens.{DirectStreamLocal, DirectTcpIp, Session as SessionOpen, X11, channel_open};
+ghost use Rattle.sshc_client_table.specs.Grown.{Grown};
 ghost use Rattle.sshc_client.specs.Methods.{OpensChannel};
 
 use super::Session;
-use sshc_opening::Error;
-use sshc_packets::ChannelOpen;
+use sshc_auth::Error;
+use sshc_client_packets::ChannelOpen;
 use sshc_wire::ChannelId;
 
 impl Session {

@@ -2,16 +2,16 @@
 //! established, or after our close was sent, nothing is written.
 
 ghost use Rattle.std.specs.Prelude.{◌≡◌, ◌∷◌, []};
-ghost use Rattle.sshc_packets.specs.ChannelRequests.{AgentForward, Env, Exec, PtyReq, Shell, Signal, Subsystem, WindowChange, X11, channel_request};
-ghost use Rattle.sshc_moves.specs.Grown.{Grown};
-ghost use Rattle.sshc_moves.specs.Moves.{RequestsOn};
-ghost use Rattle.sshc_moves.specs.SessionTable.Users.{size_of};
+ghost use Rattle.sshc_client_packets.specs.ChannelRequests.{AgentForward, Env, Exec, PtyReq, Shell, Signal, Subsystem, WindowChange, X11, channel_request};
+ghost use Rattle.sshc_client_table.specs.Grown.{Grown};
+ghost use Rattle.sshc_client_table.specs.Moves.{RequestsOn};
+ghost use Rattle.sshc_client_table.specs.SessionTable.Users.{size_of};
 ghost use Rattle.sshc_client.specs.Methods.{Acts};
 
 use super::Session;
 use super::acting::acted;
-use sshc_opening::Error;
-use sshc_packets::{ChannelRequest, TerminalSize};
+use sshc_auth::Error;
+use sshc_client_packets::{ChannelRequest, TerminalSize};
 use sshc_wire::{ChannelId, Pty, Sig};
 
 impl Session {

@@ -2,16 +2,16 @@
 
 ghost use Rattle.std.specs.Prelude.{◌≡◌, [], ◌∷◌, Ok, option_copied};
 ghost use Rattle.sshc_wire.specs.declared.record.Record.TheVariants.{KexDone as KexDoneRecord};
-ghost use Rattle.sshc_moves.specs.Moves.{Does, Resumes, Tells};
-ghost use Rattle.sshc_moves.specs.SessionTable.Exchanges.{exchange_done_row};
+ghost use Rattle.sshc_client_table.specs.Moves.{Does, Resumes, Tells};
+ghost use Rattle.sshc_client_table.specs.SessionTable.Exchanges.{exchange_done_row};
 ghost use Rattle.sshc_client.specs.Handling.{handler_at};
 ghost use Rattle.sshc_client.specs.HandledRow.{Calls, FollowsOne};
 
 use super::Session;
 use crate::handler::Handler;
 use crate::stop::{Stop, lent, went};
-use sshc_opening::{Error, ExchangeFlag, ExchangeResult};
-use sshc_rows::Flow;
+use sshc_auth::{Error, ExchangeFlag, ExchangeResult};
+use sshc_client_rows::Flow;
 use sshc_wire::{NoMemory, Record, Text};
 
 /// The shared secret of an exchange, if the transport passed it on.

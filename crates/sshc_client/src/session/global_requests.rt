@@ -2,16 +2,16 @@
 //! wanted. Before the session is open the ticket is denied; once it has ended nothing is done.
 
 ghost use Rattle.std.specs.Prelude.{◌≡◌, ◌∷◌, []};
-ghost use Rattle.sshc_moves.specs.Grown.{Grown};
-ghost use Rattle.sshc_moves.specs.Messages.{CancelForward, CancelForwardSocket, Forward, ForwardSocket, KeepAlive, NoMore, OwnRequest, Ping};
-ghost use Rattle.sshc_moves.specs.Moves.{Asks, or_none};
-ghost use Rattle.sshc_session.specs.Asks.{ask_of};
+ghost use Rattle.sshc_client_table.specs.Grown.{Grown};
+ghost use Rattle.sshc_client_table.specs.Messages.{CancelForward, CancelForwardSocket, Forward, ForwardSocket, KeepAlive, NoMore, OwnRequest, Ping};
+ghost use Rattle.sshc_client_table.specs.Moves.{Asks, or_none};
+ghost use Rattle.sshc_client_state.specs.Asks.{ask_of};
 ghost use Rattle.sshc_client.specs.Methods.{Acts, asks_or_denies};
 
 use super::Session;
 use super::acting::{acted, ticket_or_none};
-use sshc_opening::{Error, Phase};
-use sshc_session::Ask;
+use sshc_auth::{Error, Phase};
+use sshc_client_state::Ask;
 use sshc_wire::Ticket;
 
 impl Session {

@@ -2,10 +2,10 @@
 //! part; then the opening's step continues with the handler's verdict on the host key.
 
 ghost use Rattle.std.specs.Prelude.{◌≡◌, ◌&&◌, [], false, option_copied};
-ghost use Rattle.sshc_opening.specs.OpeningTable.{asked_of};
-ghost use Rattle.sshc_opening.specs.Stepping.{HasExchange, exchange_in};
-ghost use Rattle.sshc_moves.specs.SessionState.{is_open};
-ghost use Rattle.sshc_session.specs.OpeningStep.{goes_on, lent_session};
+ghost use Rattle.sshc_auth.specs.OpeningTable.{asked_of};
+ghost use Rattle.sshc_auth.specs.Stepping.{HasExchange, exchange_in};
+ghost use Rattle.sshc_client_table.specs.SessionState.{is_open};
+ghost use Rattle.sshc_client_state.specs.OpeningStep.{goes_on, lent_session};
 ghost use Rattle.sshc_client.specs.Asked.{AsksHandler, StepsBefore, verdict_gate};
 ghost use Rattle.sshc_client.specs.Handling.{handler_at};
 ghost use Rattle.sshc_client.specs.HandledStep.{Before, EndsBy, handler_gate, has_left};
@@ -14,9 +14,9 @@ use super::Session;
 use super::exchanges::secret_of;
 use crate::handler::Handler;
 use crate::verdict::Verdict;
+use sshc_auth::{Asks, Ended, Error, Event, ExchangeResult, Step};
+use sshc_client_table::Life;
 use sshc_key::{LocalSigner, PublicKeyOrCertificate};
-use sshc_moves::Life;
-use sshc_opening::{Asks, Ended, Error, Event, ExchangeResult, Step};
 use sshc_wire::NoMemory;
 use std::marker::PhantomData;
 

@@ -2,10 +2,10 @@
 
 ghost use Rattle.std.specs.Prelude.{◌≡◌, [], ◌∷◌, Ok, Some, true, false};
 ghost use Rattle.sshc_mux.specs.ChannelTable.Opens.{awaited, next_number};
-ghost use Rattle.sshc_packets.specs.ChannelPackets.{lent_refusal};
-ghost use Rattle.sshc_moves.specs.Moves.{Does, Tells};
-ghost use Rattle.sshc_moves.specs.SessionState.{is_live};
-ghost use Rattle.sshc_moves.specs.SessionTable.Opens.{channel_open_row, confirmed_row, failed_row, numbered_open_row, open_confirmation_row, open_failure_row, settled};
+ghost use Rattle.sshc_client_packets.specs.ChannelPackets.{lent_refusal};
+ghost use Rattle.sshc_client_table.specs.Moves.{Does, Tells};
+ghost use Rattle.sshc_client_table.specs.SessionState.{is_live};
+ghost use Rattle.sshc_client_table.specs.SessionTable.Opens.{channel_open_row, confirmed_row, failed_row, numbered_open_row, open_confirmation_row, open_failure_row, settled};
 ghost use Rattle.sshc_wire.specs.declared.record.Record.TheVariants.{ServerOpened as ServerOpenedRecord};
 ghost use Rattle.sshc_client.specs.Handling.{handler_at};
 ghost use Rattle.sshc_client.specs.HandledRow.{Accepts, Calls, FollowsOne, FollowsWith, default_answer, is_unknown, served};
@@ -13,18 +13,18 @@ ghost use Rattle.sshc_client.specs.HandledRow.{Accepts, Calls, FollowsOne, Follo
 use super::Session;
 use crate::handler::Handler;
 use crate::stop::{Stop, lent, went};
-use sshc_moves::OpenAnswer;
-use sshc_opening::Error;
-use sshc_packets::{
+use sshc_auth::Error;
+use sshc_client_packets::{
     Confirmation, OpenRefusal, Sender, read_channel_open, read_confirmation, read_open_failure,
     read_server_open,
 };
-use sshc_rows::{Flow, refusal_of};
+use sshc_client_rows::{Flow, refusal_of};
+use sshc_client_table::OpenAnswer;
 use sshc_wire::{ChannelId, ChannelOpenFailure, ChannelRecord, NoMemory, Record, ServerOpen, Text};
 
 impl Session {
     /// CHANNEL_OPEN_CONFIRMATION.
-    #[tactic(auto, using(crate::proofs::HandlerLemmas::ran_out_with, crate::proofs::HandlerLemmas::passed_with, crate::proofs::HandlerLemmas::refused_with), unfolding(sshc_moves::specs::SessionTable::Opens::open_confirmation_row))]
+    #[tactic(auto, using(crate::proofs::HandlerLemmas::ran_out_with, crate::proofs::HandlerLemmas::passed_with, crate::proofs::HandlerLemmas::refused_with), unfolding(sshc_client_table::specs::SessionTable::Opens::open_confirmation_row))]
     pub(super) fn open_confirmation<H: Handler>(
         &mut self,
         body: &[u8],
@@ -67,7 +67,7 @@ impl Session {
     }
 
     /// CHANNEL_OPEN_FAILURE.
-    #[tactic(auto, using(crate::proofs::HandlerLemmas::ran_out_with, crate::proofs::HandlerLemmas::passed_with, crate::proofs::HandlerLemmas::refused_with), unfolding(sshc_moves::specs::SessionTable::Opens::open_failure_row))]
+    #[tactic(auto, using(crate::proofs::HandlerLemmas::ran_out_with, crate::proofs::HandlerLemmas::passed_with, crate::proofs::HandlerLemmas::refused_with), unfolding(sshc_client_table::specs::SessionTable::Opens::open_failure_row))]
     pub(super) fn open_failure<H: Handler>(
         &mut self,
         body: &[u8],
@@ -112,7 +112,7 @@ impl Session {
     }
 
     /// CHANNEL_OPEN. If no number is free, it is out of memory.
-    #[tactic(auto, using(crate::proofs::HandlerLemmas::ran_out_with, crate::proofs::HandlerLemmas::passed_with, crate::proofs::HandlerLemmas::refused_with), unfolding(sshc_moves::specs::SessionTable::Opens::channel_open_row))]
+    #[tactic(auto, using(crate::proofs::HandlerLemmas::ran_out_with, crate::proofs::HandlerLemmas::passed_with, crate::proofs::HandlerLemmas::refused_with), unfolding(sshc_client_table::specs::SessionTable::Opens::channel_open_row))]
     pub(super) fn channel_open<H: Handler>(
         &mut self,
         body: &[u8],

@@ -1,20 +1,20 @@
 //! Packets in an open session, by their numbers.
 
 ghost use Rattle.std.specs.Prelude.{◌≡◌, [], ◌∷◌, true};
-ghost use Rattle.sshc_opening.specs.OpeningTable.Packets.{is_ignored};
-ghost use Rattle.sshc_moves.specs.Moves.{Counts, Hears};
-ghost use Rattle.sshc_moves.specs.SessionRow.{behind_moves};
-ghost use Rattle.sshc_moves.specs.SessionState.{is_live};
-ghost use Rattle.sshc_moves.specs.SessionTable.{numbered_row, packet_row, payload_row};
+ghost use Rattle.sshc_auth.specs.OpeningTable.Packets.{is_ignored};
+ghost use Rattle.sshc_client_table.specs.Moves.{Counts, Hears};
+ghost use Rattle.sshc_client_table.specs.SessionRow.{behind_moves};
+ghost use Rattle.sshc_client_table.specs.SessionState.{is_live};
+ghost use Rattle.sshc_client_table.specs.SessionTable.{numbered_row, packet_row, payload_row};
 ghost use Rattle.sshc_client.specs.Handling.{handler_at};
 ghost use Rattle.sshc_client.specs.HandledRow.{FollowsWith};
 
 use super::Session;
 use crate::handler::Handler;
 use crate::stop::{Stop, own};
+use sshc_auth::{Error, ExchangeFlag};
+use sshc_client_rows::{Flow, disconnect, request_failure, request_success};
 use sshc_key::Verifier;
-use sshc_opening::{Error, ExchangeFlag};
-use sshc_rows::{Flow, disconnect, request_failure, request_success};
 use sshc_wire::{ChannelRecord, Octets, msg};
 
 /// 2, IGNORE; 3, UNIMPLEMENTED; 4, DEBUG (RFC 4253, section 11).
@@ -26,7 +26,7 @@ fn is_ignored(number: u8) -> bool
 
 impl Session {
     /// An empty packet is passed over, and doesn't count as heard from the peer.
-    #[tactic(auto, using(crate::proofs::HandlerLemmas::passed_with, crate::proofs::HandlerLemmas::own_with), unfolding(sshc_moves::specs::SessionTable::payload_row))]
+    #[tactic(auto, using(crate::proofs::HandlerLemmas::passed_with, crate::proofs::HandlerLemmas::own_with), unfolding(sshc_client_table::specs::SessionTable::payload_row))]
     pub(super) fn payload<V: Verifier, H: Handler>(
         &mut self,
         packet: &Octets,
@@ -150,7 +150,7 @@ impl Session {
     }
 
     /// A packet by its number; one that isn't known is passed over.
-    #[tactic(auto, using(crate::proofs::HandlerLemmas::passed_with, crate::proofs::HandlerLemmas::own_with), unfolding(sshc_moves::specs::SessionTable::numbered_row))]
+    #[tactic(auto, using(crate::proofs::HandlerLemmas::passed_with, crate::proofs::HandlerLemmas::own_with), unfolding(sshc_client_table::specs::SessionTable::numbered_row))]
     fn numbered<V: Verifier, H: Handler>(
         &mut self,
         number: u8,

@@ -2,27 +2,27 @@
 
 ghost use Rattle.std.specs.Prelude.{◌≡◌, [], ◌∷◌, Ok};
 ghost use Rattle.sshc_wire.specs.declared.record.Record.TheVariants.{HostKeysAnnounced as AnnouncedRecord};
-ghost use Rattle.sshc_packets.specs.PeerGlobals.{blobs_of};
-ghost use Rattle.sshc_moves.specs.Moves.{Does, Tells};
-ghost use Rattle.sshc_moves.specs.SessionRow.{HostKeysAnnounced, asking};
-ghost use Rattle.sshc_moves.specs.SessionTable.Requests.{asked_row, channel_request_row, global_request_row, requested_row};
+ghost use Rattle.sshc_client_packets.specs.PeerGlobals.{blobs_of};
+ghost use Rattle.sshc_client_table.specs.Moves.{Does, Tells};
+ghost use Rattle.sshc_client_table.specs.SessionRow.{HostKeysAnnounced, asking};
+ghost use Rattle.sshc_client_table.specs.SessionTable.Requests.{asked_row, channel_request_row, global_request_row, requested_row};
 ghost use Rattle.sshc_client.specs.Handling.{handler_at};
 ghost use Rattle.sshc_client.specs.HandledRow.{Calls, FollowsOne};
 
 use super::Session;
 use crate::handler::Handler;
 use crate::stop::{Stop, lent, own, went};
-use sshc_key::PublicKey;
-use sshc_packets::{
+use sshc_client_packets::{
     PeerGlobal, PeerRequest, key_blobs, read_channel_request, read_global_request,
     read_request_head,
 };
-use sshc_rows::{Flow, answered, answered_on, refusal_of};
+use sshc_client_rows::{Flow, answered, answered_on, refusal_of};
+use sshc_key::PublicKey;
 use sshc_wire::{ChannelId, ChannelRecord, List, NoMemory, Octets, Record};
 
 impl Session {
     /// CHANNEL_REQUEST: number and name are read first; on a channel that isn't established the rest isn't.
-    #[tactic(auto, using(crate::proofs::HandlerLemmas::ran_out_with, crate::proofs::HandlerLemmas::passed_with, crate::proofs::HandlerLemmas::refused_with), unfolding(sshc_moves::specs::SessionTable::Requests::channel_request_row))]
+    #[tactic(auto, using(crate::proofs::HandlerLemmas::ran_out_with, crate::proofs::HandlerLemmas::passed_with, crate::proofs::HandlerLemmas::refused_with), unfolding(sshc_client_table::specs::SessionTable::Requests::channel_request_row))]
     pub(super) fn channel_request<H: Handler>(
         &mut self,
         body: &[u8],
@@ -87,7 +87,7 @@ impl Session {
     }
 
     /// GLOBAL_REQUEST.
-    #[tactic(auto, using(crate::proofs::HandlerLemmas::ran_out_with, crate::proofs::HandlerLemmas::passed_with, crate::proofs::HandlerLemmas::refused_with), unfolding(sshc_moves::specs::SessionTable::Requests::global_request_row))]
+    #[tactic(auto, using(crate::proofs::HandlerLemmas::ran_out_with, crate::proofs::HandlerLemmas::passed_with, crate::proofs::HandlerLemmas::refused_with), unfolding(sshc_client_table::specs::SessionTable::Requests::global_request_row))]
     pub(super) fn global_request<H: Handler>(
         &mut self,
         body: &[u8],

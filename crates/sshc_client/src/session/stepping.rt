@@ -1,9 +1,9 @@
 //! A step of a session.
 
 ghost use Rattle.std.specs.Prelude.{◌≡◌, true};
-ghost use Rattle.sshc_moves.specs.SessionState.{is_live};
-ghost use Rattle.sshc_moves.specs.SessionTable.{session_row};
-ghost use Rattle.sshc_session.specs.OpeningStep.{lent_session};
+ghost use Rattle.sshc_client_table.specs.SessionState.{is_live};
+ghost use Rattle.sshc_client_table.specs.SessionTable.{session_row};
+ghost use Rattle.sshc_client_state.specs.OpeningStep.{lent_session};
 ghost use Rattle.sshc_client.specs.Handling.{handler_at};
 ghost use Rattle.sshc_client.specs.HandledRow.{FollowsWith};
 ghost use Rattle.sshc_client.specs.HandledStep.{EndsRow, SessionSteps, StepsOpen, handler_gate};
@@ -12,10 +12,10 @@ ghost use Rattle.sshc_client.specs.Stepping.{SessionStepped};
 use super::Session;
 use crate::handler::Handler;
 use crate::stop::{Stop, own};
+use sshc_auth::{Ended, Error, Event, Step};
+use sshc_client_rows::{Flow, inactivity_timer, keepalive_timer, peer_kexinit, rekey_limit, user};
+use sshc_client_table::Life;
 use sshc_key::{LocalSigner, Verifier};
-use sshc_moves::Life;
-use sshc_opening::{Ended, Error, Event, Step};
-use sshc_rows::{Flow, inactivity_timer, keepalive_timer, peer_kexinit, rekey_limit, user};
 
 impl Session {
     /// What an event does. In an open session its row is followed, with whatever the handler does to the session that
@@ -119,7 +119,7 @@ impl Session {
     }
 
     /// The row of an event in an open session.
-    #[tactic(auto, using(crate::proofs::HandlerLemmas::refused_with, crate::proofs::HandlerLemmas::own_with), unfolding(sshc_moves::specs::SessionTable::session_row))]
+    #[tactic(auto, using(crate::proofs::HandlerLemmas::refused_with, crate::proofs::HandlerLemmas::own_with), unfolding(sshc_client_table::specs::SessionTable::session_row))]
     fn row<H: Handler, V: Verifier>(
         &mut self,
         event: &Event,

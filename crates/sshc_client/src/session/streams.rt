@@ -3,19 +3,18 @@
 
 ghost use Rattle.std.specs.Prelude.{◌≡◌, [], ◌∷◌, true};
 ghost use Rattle.sshc_mux.specs.ChannelTable.{is_established};
-ghost use Rattle.sshc_moves.specs.Moves.{Receives, done};
-ghost use Rattle.sshc_moves.specs.SessionRow.{reports};
-ghost use Rattle.sshc_moves.specs.SessionState.{is_live};
-ghost use Rattle.sshc_moves.specs.SessionTable.Streams.{channel_close_row, channel_data_row, channel_extended_data_row, channel_report_row, retargets, window_adjust_row};
+ghost use Rattle.sshc_client_table.specs.Moves.{Receives, done};
+ghost use Rattle.sshc_client_table.specs.SessionRow.{reports};
+ghost use Rattle.sshc_client_table.specs.SessionState.{is_live};
+ghost use Rattle.sshc_client_table.specs.SessionTable.Streams.{channel_close_row, channel_data_row, channel_extended_data_row, channel_report_row, retargets, window_adjust_row};
 ghost use Rattle.sshc_client.specs.Handling.{Opines, handler_at};
 ghost use Rattle.sshc_client.specs.HandledRow.{FollowsOne, FollowsWith, Retargets, target_moves};
 
 use super::Session;
 use crate::handler::Handler;
 use crate::stop::Stop;
-use sshc_mux::ChannelId as Number;
-use sshc_packets::{read_channel, read_data, read_extended_data, read_window_adjust};
-use sshc_rows::Flow;
+use sshc_client_packets::{read_channel, read_data, read_extended_data, read_window_adjust};
+use sshc_client_rows::Flow;
 use sshc_wire::{ChannelId, ChannelRecord, Octets};
 
 impl Session {
@@ -23,11 +22,11 @@ impl Session {
     pub(super) fn is_established(&self, id: ChannelId) -> bool
         ensures { result ≡ is_established id.0 self.now.table }
     {
-        self.connection.table().is_established(Number(id.0))
+        self.connection.table().is_established(id)
     }
 
     /// CHANNEL_WINDOW_ADJUST.
-    #[tactic(auto, using(crate::proofs::HandlerLemmas::ran_out_with, crate::proofs::HandlerLemmas::passed_with, crate::proofs::HandlerLemmas::refused_with, crate::proofs::HandlerLemmas::reports_front), unfolding(sshc_moves::specs::SessionTable::Streams::window_adjust_row))]
+    #[tactic(auto, using(crate::proofs::HandlerLemmas::ran_out_with, crate::proofs::HandlerLemmas::passed_with, crate::proofs::HandlerLemmas::refused_with, crate::proofs::HandlerLemmas::reports_front), unfolding(sshc_client_table::specs::SessionTable::Streams::window_adjust_row))]
     pub(super) fn window_adjust<H: Handler>(
         &mut self,
         body: &[u8],
@@ -91,7 +90,7 @@ impl Session {
     }
 
     /// CHANNEL_DATA. The bytes are copied once, into the record.
-    #[tactic(auto, using(crate::proofs::HandlerLemmas::ran_out_with, crate::proofs::HandlerLemmas::passed_with, crate::proofs::HandlerLemmas::refused_with), unfolding(sshc_moves::specs::SessionTable::Streams::channel_data_row))]
+    #[tactic(auto, using(crate::proofs::HandlerLemmas::ran_out_with, crate::proofs::HandlerLemmas::passed_with, crate::proofs::HandlerLemmas::refused_with), unfolding(sshc_client_table::specs::SessionTable::Streams::channel_data_row))]
     pub(super) fn channel_data<H: Handler>(
         &mut self,
         body: &[u8],
@@ -113,7 +112,7 @@ impl Session {
     }
 
     /// CHANNEL_EXTENDED_DATA. The bytes are copied once, into the record.
-    #[tactic(auto, using(crate::proofs::HandlerLemmas::ran_out_with, crate::proofs::HandlerLemmas::passed_with, crate::proofs::HandlerLemmas::refused_with), unfolding(sshc_moves::specs::SessionTable::Streams::channel_extended_data_row))]
+    #[tactic(auto, using(crate::proofs::HandlerLemmas::ran_out_with, crate::proofs::HandlerLemmas::passed_with, crate::proofs::HandlerLemmas::refused_with), unfolding(sshc_client_table::specs::SessionTable::Streams::channel_extended_data_row))]
     pub(super) fn channel_extended_data<H: Handler>(
         &mut self,
         body: &[u8],
@@ -141,7 +140,7 @@ impl Session {
     }
 
     /// CHANNEL_EOF, CHANNEL_SUCCESS and CHANNEL_FAILURE.
-    #[tactic(auto, using(crate::proofs::HandlerLemmas::ran_out_with, crate::proofs::HandlerLemmas::passed_with, crate::proofs::HandlerLemmas::refused_with), unfolding(sshc_moves::specs::SessionTable::Streams::channel_report_row))]
+    #[tactic(auto, using(crate::proofs::HandlerLemmas::ran_out_with, crate::proofs::HandlerLemmas::passed_with, crate::proofs::HandlerLemmas::refused_with), unfolding(sshc_client_table::specs::SessionTable::Streams::channel_report_row))]
     pub(super) fn channel_report<H: Handler>(
         &mut self,
         happened: ChannelRecord,
@@ -161,7 +160,7 @@ impl Session {
     }
 
     /// CHANNEL_CLOSE: the channel is removed.
-    #[tactic(auto, using(crate::proofs::HandlerLemmas::ran_out_with, crate::proofs::HandlerLemmas::passed_with, crate::proofs::HandlerLemmas::refused_with, crate::proofs::HandlerLemmas::reports_front), unfolding(sshc_moves::specs::SessionTable::Streams::channel_close_row))]
+    #[tactic(auto, using(crate::proofs::HandlerLemmas::ran_out_with, crate::proofs::HandlerLemmas::passed_with, crate::proofs::HandlerLemmas::refused_with, crate::proofs::HandlerLemmas::reports_front), unfolding(sshc_client_table::specs::SessionTable::Streams::channel_close_row))]
     pub(super) fn channel_close<H: Handler>(
         &mut self,
         body: &[u8],

@@ -14,7 +14,8 @@ use Rattle.sshc_key.specs.declared.kind.Kind.TheVariants as kinds
 use Rattle.sshc_key.specs.declared.kind.Tag.{Tag}
 use Rattle.sshc_key.specs.declared.kind.Tag.TheVariants as tags
 use Rattle.sshc_key.specs.AlgorithmNames.{Parted, parted, at_domain, is_name_byte, is_side, is_marked, is_taken, is_opaque, known_stemmed, known_name, known_certificate_name, known_named, known_certified, all_known, with_mark, marked_name, tag_name, IsTag, unmarked, certified_tag, opaque_tag, certified_or, plain_or, tag_named}
-use Rattle.sshc_key.specs.KeyLaws.Names.{both_true, chosen, some, some_is, cases_option, parted_back, parted_there, unmarked_there, name_bytes, opaque_short, all_append, sides, opaque_here, marked_is, opaque_again, certified_again}
+use Rattle.sshc_key.specs.KeyLaws.Names.{chosen, some, some_is, cases_option, parted_back, parted_there, unmarked_there, name_bytes, opaque_short, all_append, sides, opaque_here, marked_is, opaque_again, certified_again}
+use Rattle.sshc_wire.specs.Cases.{both_true}
 
 -- ---- the table
 

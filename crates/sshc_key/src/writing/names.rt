@@ -14,7 +14,7 @@ use sshc_wire::{HashAlg, NoMemory, Text};
 use std::alloc::Global;
 
 /// The kind of a plain key, which borrows a name that isn't in the table.
-#[derive(Clone, Copy, Debug)]
+#[derive(Clone, Copy)]
 enum KindRef<'a> {
     Known(Known),
     Opaque(&'a str),

@@ -5,8 +5,8 @@ ghost use Rattle.sshc_mux.specs.ChannelState.{channel_of};
 ghost use Rattle.sshc_mux.specs.ChannelAccount.{called, Did, DidItsPart, WritesNothing, AskEof, AskClose, PeerClose};
 ghost use Rattle.sshc_mux.specs.ChannelTable.{is_established};
 
-use crate::table::{ChannelId, ChannelTable, place, recounted, remove};
-use sshc_wire::{NoMemory, Outbox};
+use crate::table::{ChannelTable, place, recounted, remove};
+use sshc_wire::{ChannelId, NoMemory, Outbox};
 
 impl ChannelTable {
     /// Asks for EOF, which is sent once, after all bytes that were taken.

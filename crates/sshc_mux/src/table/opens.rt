@@ -8,8 +8,8 @@ ghost use Rattle.sshc_mux.specs.ChannelTable.Opens.{next_number, IsNew, made_in,
 
 use crate::channel::Channel;
 use crate::error::MuxError;
-use crate::table::{ChannelId, ChannelTable, place, recounted, remove};
-use sshc_wire::{NoMemory, Ticket};
+use crate::table::{ChannelTable, place, recounted, remove};
+use sshc_wire::{ChannelId, NoMemory, Ticket};
 use std::collections::HashMap;
 
 impl ChannelTable {

@@ -8,8 +8,8 @@ ghost use Rattle.sshc_mux.specs.Places.{present, flushed_slot, waiting_of};
 
 use crate::channel::Channel;
 use crate::chunk::Stream;
-use crate::table::{ChannelId, ChannelTable, place, recounted};
-use sshc_wire::{NoMemory, Outbox, Record};
+use crate::table::{ChannelTable, place, recounted};
+use sshc_wire::{ChannelId, NoMemory, Outbox, Record};
 use std::alloc::Global;
 
 impl ChannelTable {

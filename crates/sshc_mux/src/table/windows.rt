@@ -4,8 +4,8 @@ ghost use Rattle.std.specs.Prelude.{◌≡◌, OnOk, IfOk, IsOk, false};
 ghost use Rattle.sshc_mux.specs.ChannelAccount.{called, Did, DidItsPart, WritesNothing, Grant, Received};
 ghost use Rattle.sshc_mux.specs.ChannelTable.{is_established, granted_at, adjusted_at};
 
-use crate::table::{ChannelId, ChannelTable, place, recounted};
-use sshc_wire::{NoMemory, Outbox};
+use crate::table::{ChannelTable, place, recounted};
+use sshc_wire::{ChannelId, NoMemory, Outbox};
 
 impl ChannelTable {
     /// A grant of the peer's. Returns the window after it, or `None` if the channel isn't established.

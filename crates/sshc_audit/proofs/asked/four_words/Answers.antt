@@ -1,5 +1,5 @@
 use Rattle.std.proofs.Common.{◌∙◌, sym}
-use Rattle.sshc_words.specs.WordLaws.{same_word, at_place}
+use Rattle.sshc_hosts_words.specs.WordLaws.{same_word, at_place}
 use Rattle.sshc_audit.proofs.WordLists.{four_words}
 use Rattle.sshc_audit.proofs.asked.four_words.Goals as goal
 

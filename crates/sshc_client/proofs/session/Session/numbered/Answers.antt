@@ -1,9 +1,9 @@
 use Rattle.std.proofs.Common.{rules, ◌≡◌, [], ◌∷◌, true, ℕ, ◌+◌, ◌-◌, ◌*◌, ◌<◌, ◌≤◌, length, ◌/◌, ◌%◌, Bool, false, nat_eq, nat_lt, List, ◌++◌, slice_index_or, slice_set, bit_and, bit_or, Fits, w8, w32, w64, Bor, MutBor}
-use Rattle.sshc_opening.specs.OpeningTable.Packets.{is_ignored}
-use Rattle.sshc_moves.specs.Moves.{Counts, Hears}
-use Rattle.sshc_moves.specs.SessionRow.{behind_moves}
-use Rattle.sshc_moves.specs.SessionState.{is_live}
-use Rattle.sshc_moves.specs.SessionTable.{numbered_row, packet_row, payload_row}
+use Rattle.sshc_auth.specs.OpeningTable.Packets.{is_ignored}
+use Rattle.sshc_client_table.specs.Moves.{Counts, Hears}
+use Rattle.sshc_client_table.specs.SessionRow.{behind_moves}
+use Rattle.sshc_client_table.specs.SessionState.{is_live}
+use Rattle.sshc_client_table.specs.SessionTable.{numbered_row, packet_row, payload_row}
 use Rattle.sshc_client.specs.Handling.{handler_at}
 use Rattle.sshc_client.specs.HandledRow.{FollowsWith}
 use Rattle.std.proofs.Common.{refl}

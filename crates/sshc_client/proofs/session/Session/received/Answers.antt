@@ -1,9 +1,9 @@
 use Rattle.std.proofs.Common.{rules, ◌≡◌, [], ◌∷◌, true, ℕ, ◌+◌, ◌-◌, ◌*◌, ◌<◌, ◌≤◌, length, ◌/◌, ◌%◌, Bool, false, nat_eq, nat_lt, List, ◌++◌, slice_index_or, slice_set, bit_and, bit_or, Fits, w8, w32, w64, Bor, MutBor}
 use Rattle.sshc_mux.specs.ChannelTable.{is_established}
-use Rattle.sshc_moves.specs.Moves.{Receives, done}
-use Rattle.sshc_moves.specs.SessionRow.{reports}
-use Rattle.sshc_moves.specs.SessionState.{is_live}
-use Rattle.sshc_moves.specs.SessionTable.Streams.{channel_close_row, channel_data_row, channel_extended_data_row, channel_report_row, retargets, window_adjust_row}
+use Rattle.sshc_client_table.specs.Moves.{Receives, done}
+use Rattle.sshc_client_table.specs.SessionRow.{reports}
+use Rattle.sshc_client_table.specs.SessionState.{is_live}
+use Rattle.sshc_client_table.specs.SessionTable.Streams.{channel_close_row, channel_data_row, channel_extended_data_row, channel_report_row, retargets, window_adjust_row}
 use Rattle.sshc_client.specs.Handling.{Opines, handler_at}
 use Rattle.sshc_client.specs.HandledRow.{FollowsOne, FollowsWith, Retargets, target_moves}
 use Rattle.sshc_client.proofs.HandlerLemmas.{brought_back, kept_window}

@@ -1,7 +1,7 @@
 use Rattle.std.proofs.Common.{rules, ◌≡◌, true, ℕ, ◌+◌, ◌-◌, ◌*◌, ◌<◌, ◌≤◌, length, ◌/◌, ◌%◌, Bool, false, nat_eq, nat_lt, List, [], ◌∷◌, ◌++◌, slice_index_or, slice_set, bit_and, bit_or, Fits, w8, w32, w64, Bor, MutBor}
-use Rattle.sshc_moves.specs.SessionState.{is_live}
-use Rattle.sshc_moves.specs.SessionTable.{session_row}
-use Rattle.sshc_session.specs.OpeningStep.{lent_session}
+use Rattle.sshc_client_table.specs.SessionState.{is_live}
+use Rattle.sshc_client_table.specs.SessionTable.{session_row}
+use Rattle.sshc_client_state.specs.OpeningStep.{lent_session}
 use Rattle.sshc_client.specs.Handling.{handler_at}
 use Rattle.sshc_client.specs.HandledRow.{FollowsWith}
 use Rattle.sshc_client.specs.HandledStep.{EndsRow, SessionSteps, StepsOpen, handler_gate}

@@ -1,8 +1,8 @@
 use Rattle.std.proofs.Common.{rules, ◌≡◌, ◌&&◌, [], false, option_copied, ℕ, ◌+◌, ◌-◌, ◌*◌, ◌<◌, ◌≤◌, length, ◌/◌, ◌%◌, Bool, true, nat_eq, nat_lt, List, ◌∷◌, ◌++◌, slice_index_or, slice_set, bit_and, bit_or, Fits, w8, w32, w64, Bor, MutBor}
-use Rattle.sshc_opening.specs.OpeningTable.{asked_of}
-use Rattle.sshc_opening.specs.Stepping.{HasExchange, exchange_in}
-use Rattle.sshc_moves.specs.SessionState.{is_open}
-use Rattle.sshc_session.specs.OpeningStep.{goes_on, lent_session}
+use Rattle.sshc_auth.specs.OpeningTable.{asked_of}
+use Rattle.sshc_auth.specs.Stepping.{HasExchange, exchange_in}
+use Rattle.sshc_client_table.specs.SessionState.{is_open}
+use Rattle.sshc_client_state.specs.OpeningStep.{goes_on, lent_session}
 use Rattle.sshc_client.specs.Asked.{AsksHandler, StepsBefore, verdict_gate}
 use Rattle.sshc_client.specs.Handling.{handler_at}
 use Rattle.sshc_client.specs.HandledStep.{Before, EndsBy, handler_gate, has_left}

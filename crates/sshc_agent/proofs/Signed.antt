@@ -1,0 +1,55 @@
+-- The signer's calls during a connection's calls: for one call, and for calls one after another.
+use Rattle.std.proofs.Common.{◌≡◌, ℕ, List, [], ◌∷◌, ◌++◌, Result, Ok, Err, IfOk, OnErr, OnOk, refl, sym, ap, subst, ◌∙◌, append_assoc}
+use Rattle.std.proofs.lemmas.List.{append-nil}
+use Rattle.sshc_key.specs.Signers.{SignCall, since}
+use Rattle.sshc_agent_core.specs.declared.input.AgentInput.{AgentInput}
+use Rattle.sshc_agent_core.specs.declared.input.AgentOutput.{AgentOutput}
+use Rattle.sshc_agent_shared.specs.declared.call.Call.{Call}
+use Rattle.sshc_agent_shared.specs.declared.error.CallRefused.{CallRefused}
+use Rattle.sshc_agent_shared.specs.Calls.{call_of}
+use Rattle.sshc_agent_shared.specs.Closing.{Tells}
+use Rattle.sshc_agent_shared.specs.Kept.{SeatState, refused_once}
+use Rattle.sshc_agent.specs.Signing.{AreSteps, Signs}
+
+pub signs_nothing : (signed : List SignCall) (seat : SeatState) → Signs signed signed seat seat
+signs_nothing signed seat = record { added = []; calls = sym (append-nil seat.calls); conn = refl; gained = []; list = sym (append-nil signed); steps = refl }
+
+-- one call, answered or refused
+pub signs_once : (signed signed' : List SignCall) (seat seat' : SeatState) (now : ℕ) (input : AgentInput) (r : Result AgentOutput CallRefused)
+    → IfOk r (λ out. Tells seat seat' (call_of now input out) (since signed signed')) → OnOk r (signed' ≡ signed ++ since signed signed')
+    → OnErr r (seat' ≡ refused_once seat) → OnErr r (signed' ≡ signed) → Signs signed signed' seat seat'
+signs_once signed signed' seat seat' now input (Ok output) tells asked refused unasked =
+    record {
+      added = call_of now input output ∷ [];
+      calls = ap (λ (s : SeatState). s.calls) tells.added;
+      conn = ap (λ (s : SeatState). s.conn) tells.added;
+      gained = since signed signed';
+      list = asked;
+      steps = (since signed signed', [], sym (append-nil (since signed signed')), tells.step, refl);
+    }
+signs_once signed signed' seat seat' now input (Err e) tells asked refused unasked =
+    record {
+      added = [];
+      calls = ap (λ (s : SeatState). s.calls) refused ∙ sym (append-nil seat.calls);
+      conn = ap (λ (s : SeatState). s.conn) refused;
+      gained = [];
+      list = unasked ∙ sym (append-nil signed);
+      steps = refl;
+    }
+
+steps_on : (conn : ℕ) (calls more : List Call) (gained gained' : List SignCall) → AreSteps conn calls gained → AreSteps conn more gained' → AreSteps conn (calls ++ more) (gained ++ gained')
+steps_on conn [] more gained gained' none on = subst (λ (g : List SignCall). AreSteps conn more (g ++ gained')) (sym none) on
+steps_on conn (call ∷ calls) more gained gained' (first, rest, parts, step, steps) on =
+    (first, rest ++ gained', ap (λ (g : List SignCall). g ++ gained') parts ∙ append_assoc first rest gained', step, steps_on conn calls more rest gained' steps on)
+
+-- calls, and more calls after them
+pub signs_on : (signed mid signed' : List SignCall) (seat seat' seat'' : SeatState) → Signs signed mid seat seat' → Signs mid signed' seat' seat'' → Signs signed signed' seat seat''
+signs_on signed mid signed' seat seat' seat'' s t =
+    record {
+      added = s.added ++ t.added;
+      calls = t.calls ∙ (ap (λ (x : List Call). x ++ t.added) s.calls ∙ append_assoc seat.calls s.added t.added);
+      conn = t.conn ∙ s.conn;
+      gained = s.gained ++ t.gained;
+      list = t.list ∙ (ap (λ (x : List SignCall). x ++ t.gained) s.list ∙ append_assoc signed s.gained t.gained);
+      steps = steps_on seat.conn s.added t.added s.gained t.gained s.steps (subst (λ (n : ℕ). AreSteps n t.added t.gained) s.conn t.steps);
+    }

@@ -1,0 +1,115 @@
+use Rattle.sshc_agent.specs.Talk.{seen}
+use Rattle.sshc_agent.proofs.Talking.{asks_turn, begun, closed_turn, goes_turn, gone, refused_turn, starved_turn, unfetched, write_failed_turn}
+use Rattle.sshc_agent.proofs.Ticking.{called_last, closed_last, no_call, one_more, refused_last, stopped}
+use Rattle.sshc_agent.proofs.Signed.{signs_nothing, signs_on}
+use Rattle.sshc_agent.proofs.serving.serve_one.Goals as goal
+
+pub loop-init : goal.loop-init
+loop-init g c = (tt, tt, rw c.new-frames.ensures (begun _ _ _ _), no_call _ _, signs_nothing _ _)
+
+pub returns-in-Err : goal.returns-in-Err
+returns-in-Err g c =
+    record {
+      serves =
+          unfetched _ _ _ _ (seen (g.S.Source.left c.loop.stream) (g.S.Sink.contents c.loop.stream) (g.S.Source.faults c.loop.stream) (g.S.Sink.faults c.loop.stream))
+          (seen (g.S.Source.left c.fetch.new.stream) (g.S.Sink.contents c.fetch.new.stream) (g.S.Source.faults c.fetch.new.stream) (g.S.Sink.faults c.fetch.new.stream))
+          _ c.loop.frames c.fetch.new.frames c.loop.answer _ c.loop.invariant.2 c.in-Err.ensures.fetched c.fetch.ensures.unwritten.0;
+      moments = stopped _ _ _ _ c.loop.invariant.3;
+      signs = c.loop.invariant.4;
+    }
+
+pub returns-in-Ok-None : goal.returns-in-Ok-None
+returns-in-Ok-None g c =
+    let f = rw c.in-Ok-None.field-0-is at c.in-Ok-None.ensures.fetched in
+    record {
+      serves =
+          gone _ _ _ _ (seen (g.S.Source.left c.loop.stream) (g.S.Sink.contents c.loop.stream) (g.S.Source.faults c.loop.stream) (g.S.Sink.faults c.loop.stream))
+          (seen (g.S.Source.left c.fetch.new.stream) (g.S.Sink.contents c.fetch.new.stream) (g.S.Source.faults c.fetch.new.stream) (g.S.Sink.faults c.fetch.new.stream))
+          _ c.close.result c.loop.frames c.fetch.new.frames c.loop.answer c.loop.invariant.2 f c.fetch.ensures.unwritten.0 c.close.ensures.closes;
+      moments = closed_last _ _ _ _ _ _ c.loop.invariant.3 c.close.ensures.tick c.close.ensures.closes;
+      signs = signs_on _ _ _ _ _ _ c.loop.invariant.4 c.close.ensures.signs;
+    }
+
+pub loop-preserved-in-Goes : goal.loop-preserved-in-Goes
+loop-preserved-in-Goes g c =
+    let f = rw c.in-Ok-Some.field-0-is at c.in-Ok-Some.ensures.fetched in
+    let t = rw c.in-Goes.is at c.turn-next_seat.ensures.turned in (
+      tt,
+      tt,
+      goes_turn _ _ _ _ (seen (g.S.Source.left c.loop.stream) (g.S.Sink.contents c.loop.stream) (g.S.Source.faults c.loop.stream) (g.S.Sink.faults c.loop.stream))
+          (seen (g.S.Source.left c.fetch.new.stream) (g.S.Sink.contents c.fetch.new.stream) (g.S.Source.faults c.fetch.new.stream) (g.S.Sink.faults c.fetch.new.stream))
+          (seen (g.S.Source.left c.turn-next_seat.new.stream) (g.S.Sink.contents c.turn-next_seat.new.stream) (g.S.Source.faults c.turn-next_seat.new.stream) (g.S.Sink.faults c.turn-next_seat.new.stream))
+          _ _ c.loop.frames c.fetch.new.frames c.loop.answer c.in-Ok-Some.input c.loop.invariant.2 f c.fetch.ensures.later c.fetch.ensures.unwritten c.turn-next_seat.ensures.unread c.turn-next_seat.ensures.later t,
+      one_more _ _ _ _ _ _ c.loop.invariant.3 c.turn-next_seat.ensures.tick _ t.0 t.1,
+      signs_on _ _ _ _ _ _ c.loop.invariant.4 c.turn-next_seat.ensures.signs,
+    )
+
+pub loop-preserved : goal.loop-preserved
+loop-preserved g c =
+    let f = rw c.in-Ok-Some.field-0-is at c.in-Ok-Some.ensures.fetched in
+    let t = rw c.in-Asks.is at c.turn-next_seat.ensures.turned in (
+      tt,
+      tt,
+      asks_turn _ _ _ _ (seen (g.S.Source.left c.loop.stream) (g.S.Sink.contents c.loop.stream) (g.S.Source.faults c.loop.stream) (g.S.Sink.faults c.loop.stream))
+          (seen (g.S.Source.left c.fetch.new.stream) (g.S.Sink.contents c.fetch.new.stream) (g.S.Source.faults c.fetch.new.stream) (g.S.Sink.faults c.fetch.new.stream))
+          (seen (g.S.Source.left c.turn-next_seat.new.stream) (g.S.Sink.contents c.turn-next_seat.new.stream) (g.S.Source.faults c.turn-next_seat.new.stream) (g.S.Sink.faults c.turn-next_seat.new.stream))
+          _ _ c.loop.frames c.fetch.new.frames c.loop.answer c.in-Ok-Some.input c.loop.invariant.2 f c.fetch.ensures.later c.fetch.ensures.unwritten c.turn-next_seat.ensures.unread c.turn-next_seat.ensures.later c.in-Asks.input t,
+      one_more _ _ _ _ _ _ c.loop.invariant.3 c.turn-next_seat.ensures.tick _ t.0 t.1,
+      signs_on _ _ _ _ _ _ c.loop.invariant.4 c.turn-next_seat.ensures.signs,
+    )
+
+pub returns-in-Refused : goal.returns-in-Refused
+returns-in-Refused g c =
+    let f = rw c.in-Ok-Some.field-0-is at c.in-Ok-Some.ensures.fetched in
+    let t = rw c.in-Refused.is at c.turn-next_seat.ensures.turned in
+    record {
+      serves =
+          refused_turn _ _ _ _ (seen (g.S.Source.left c.loop.stream) (g.S.Sink.contents c.loop.stream) (g.S.Source.faults c.loop.stream) (g.S.Sink.faults c.loop.stream))
+          (seen (g.S.Source.left c.fetch.new.stream) (g.S.Sink.contents c.fetch.new.stream) (g.S.Source.faults c.fetch.new.stream) (g.S.Sink.faults c.fetch.new.stream))
+          (seen (g.S.Source.left c.turn-next_seat.new.stream) (g.S.Sink.contents c.turn-next_seat.new.stream) (g.S.Source.faults c.turn-next_seat.new.stream) (g.S.Sink.faults c.turn-next_seat.new.stream))
+          _ _ c.loop.frames c.fetch.new.frames c.loop.answer c.in-Ok-Some.input c.loop.invariant.2 f c.fetch.ensures.later c.fetch.ensures.unwritten c.turn-next_seat.ensures.unread c.turn-next_seat.ensures.later t;
+      moments = refused_last _ _ _ _ _ _ c.loop.invariant.3 c.turn-next_seat.ensures.tick t.0;
+      signs = signs_on _ _ _ _ _ _ c.loop.invariant.4 c.turn-next_seat.ensures.signs;
+    }
+
+pub returns-in-Closed : goal.returns-in-Closed
+returns-in-Closed g c =
+    let f = rw c.in-Ok-Some.field-0-is at c.in-Ok-Some.ensures.fetched in
+    let t = rw c.in-Closed.is at c.turn-next_seat.ensures.turned in
+    record {
+      serves =
+          closed_turn _ _ _ _ (seen (g.S.Source.left c.loop.stream) (g.S.Sink.contents c.loop.stream) (g.S.Source.faults c.loop.stream) (g.S.Sink.faults c.loop.stream))
+          (seen (g.S.Source.left c.fetch.new.stream) (g.S.Sink.contents c.fetch.new.stream) (g.S.Source.faults c.fetch.new.stream) (g.S.Sink.faults c.fetch.new.stream))
+          (seen (g.S.Source.left c.turn-next_seat.new.stream) (g.S.Sink.contents c.turn-next_seat.new.stream) (g.S.Source.faults c.turn-next_seat.new.stream) (g.S.Sink.faults c.turn-next_seat.new.stream))
+          _ _ c.loop.frames c.fetch.new.frames c.loop.answer c.in-Ok-Some.input c.loop.invariant.2 f c.fetch.ensures.later c.fetch.ensures.unwritten c.turn-next_seat.ensures.unread c.turn-next_seat.ensures.later t;
+      moments = called_last _ _ _ _ _ _ c.loop.invariant.3 c.turn-next_seat.ensures.tick _ t.0 t.1;
+      signs = signs_on _ _ _ _ _ _ c.loop.invariant.4 c.turn-next_seat.ensures.signs;
+    }
+
+pub returns-in-WriteFailed : goal.returns-in-WriteFailed
+returns-in-WriteFailed g c =
+    let f = rw c.in-Ok-Some.field-0-is at c.in-Ok-Some.ensures.fetched in
+    let t = rw c.in-WriteFailed.is at c.turn-next_seat.ensures.turned in
+    record {
+      serves =
+          write_failed_turn _ _ _ _ (seen (g.S.Source.left c.loop.stream) (g.S.Sink.contents c.loop.stream) (g.S.Source.faults c.loop.stream) (g.S.Sink.faults c.loop.stream))
+          (seen (g.S.Source.left c.fetch.new.stream) (g.S.Sink.contents c.fetch.new.stream) (g.S.Source.faults c.fetch.new.stream) (g.S.Sink.faults c.fetch.new.stream))
+          (seen (g.S.Source.left c.turn-next_seat.new.stream) (g.S.Sink.contents c.turn-next_seat.new.stream) (g.S.Source.faults c.turn-next_seat.new.stream) (g.S.Sink.faults c.turn-next_seat.new.stream))
+          _ _ c.loop.frames c.fetch.new.frames c.loop.answer c.in-Ok-Some.input c.loop.invariant.2 f c.fetch.ensures.later c.fetch.ensures.unwritten c.turn-next_seat.ensures.unread c.turn-next_seat.ensures.later t;
+      moments = called_last _ _ _ _ _ _ c.loop.invariant.3 c.turn-next_seat.ensures.tick _ t.0 t.1;
+      signs = signs_on _ _ _ _ _ _ c.loop.invariant.4 c.turn-next_seat.ensures.signs;
+    }
+
+pub returns-in-Starved : goal.returns-in-Starved
+returns-in-Starved g c =
+    let f = rw c.in-Ok-Some.field-0-is at c.in-Ok-Some.ensures.fetched in
+    let t = rw c.in-Starved.is at c.turn-next_seat.ensures.turned in
+    record {
+      serves =
+          starved_turn _ _ _ _ (seen (g.S.Source.left c.loop.stream) (g.S.Sink.contents c.loop.stream) (g.S.Source.faults c.loop.stream) (g.S.Sink.faults c.loop.stream))
+          (seen (g.S.Source.left c.fetch.new.stream) (g.S.Sink.contents c.fetch.new.stream) (g.S.Source.faults c.fetch.new.stream) (g.S.Sink.faults c.fetch.new.stream))
+          (seen (g.S.Source.left c.turn-next_seat.new.stream) (g.S.Sink.contents c.turn-next_seat.new.stream) (g.S.Source.faults c.turn-next_seat.new.stream) (g.S.Sink.faults c.turn-next_seat.new.stream))
+          _ _ c.loop.frames c.fetch.new.frames c.loop.answer c.in-Ok-Some.input c.loop.invariant.2 f c.fetch.ensures.later c.fetch.ensures.unwritten c.turn-next_seat.ensures.unread c.turn-next_seat.ensures.later _ t;
+      moments = called_last _ _ _ _ _ _ c.loop.invariant.3 c.turn-next_seat.ensures.tick _ t.0 t.1;
+      signs = signs_on _ _ _ _ _ _ c.loop.invariant.4 c.turn-next_seat.ensures.signs;
+    }

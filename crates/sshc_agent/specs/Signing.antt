@@ -1,0 +1,24 @@
+-- The signer gets exactly the calls that the steps of a connection's calls make, in their order
+-- (draft-miller-ssh-agent, section 3.6).
+-- The definitions are about whole lists of calls; the code passes the signer to each call.
+use Rattle.std.specs.Prelude.{◌≡◌, ℕ, List, [], ◌∷◌, ◌++◌}
+use Rattle.sshc_key.specs.Signers.{SignCall}
+use Rattle.sshc_agent_shared.specs.declared.call.Call.{Call}
+use Rattle.sshc_agent_shared.specs.Closing.{IsStep}
+use Rattle.sshc_agent_shared.specs.Kept.{SeatState}
+
+-- each call is a step of an agent to which a legal history leads, and the signer's calls are those of all these steps
+abbrev pub AreSteps : ℕ → List Call → List SignCall → Type 0
+AreSteps conn [] gained = gained ≡ []
+AreSteps conn (call ∷ calls) gained = (first rest : List SignCall) × (gained ≡ first ++ rest) × IsStep conn call first × AreSteps conn calls rest
+
+-- the signer's calls during a connection's calls
+pub record Signs (signed signed' : List SignCall) (seat seat' : SeatState) : Type 0 where
+  -- the calls that were added to the seat
+  pub added : List Call
+  pub calls : seat'.calls ≡ seat.calls ++ added
+  pub conn : seat'.conn ≡ seat.conn
+  -- the calls added to the signer's list, which are those of the steps of these calls
+  pub gained : List SignCall
+  pub list : signed' ≡ signed ++ gained
+  pub steps : AreSteps seat.conn added gained

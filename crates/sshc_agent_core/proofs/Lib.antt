@@ -1,0 +1,7 @@
+mod Listings
+mod Asked
+pub mod Constrained
+mod Stepped
+mod Fronts
+pub mod Listable
+mod Short

@@ -1,0 +1,116 @@
+//! Closing a shared agent: all seats are back, and their calls are those of the journal.
+
+ghost use Rattle.std.specs.Prelude.{◌≡◌, ◌≤◌, All, IfErr, IfOk, MatchOption, length, sum_by};
+ghost use Rattle.sshc_agent_shared.specs.Calls.{calls_of, journal_weight};
+ghost use Rattle.sshc_agent_shared.specs.Closing.{Accounts, IsLegalBy, LockedCause};
+ghost use Rattle.sshc_agent_core.specs.LockLaw.{LocksHold};
+
+use crate::error::CloseError;
+use crate::seat::Seat;
+use crate::settings::Settings;
+use crate::state::AgentState;
+use crate::tear::first_tear;
+use sshc_agent_core::Entry;
+use sshc_wire::NoMemory;
+
+/// How many parts the ledger has. Each seat has one.
+const PARTS: usize = 67_108_864;
+
+impl<L: Settings> AgentState<L> {
+    /// The first call in which a seat and the journal differ.
+    fn torn(&self, seats: &[Seat<L>]) -> Result<Option<CloseError>, NoMemory>
+        ensures { IfOk result
+            (λ r. MatchOption r (All (λ p. calls_of p.conn self.now.journal ≡ p.calls) seats.now)
+            (λ e. LockedCause self.now seats.now e)) }
+    {
+        for seat in seats {
+            if let Some(tear) = first_tear(
+                self.journal.as_slice(),
+                seat.conn,
+                seat.calls.as_slice(),
+            )? {
+                return Ok(Some(CloseError::Torn {
+                    conn: seat.conn,
+                    at: tear.at,
+                    got: tear.got,
+                    kept: tear.kept,
+                }));
+            }
+        }
+        Ok(None)
+    }
+
+    /// How many seats there are: at most as many as the ledger has parts.
+    fn counted(self, seats: Vec<Seat<L>>) -> (AgentState<L>, Vec<Seat<L>>, u32)
+        ensures state { result.0 ≡ self }
+        ensures seats { result.1.items ≡ seats.items }
+        ensures count { result.2 ≡ length seats.items }
+    {
+        let count = seats.len();
+        if count <= PARTS {
+            return (self, seats, count as u32);
+        }
+        let AgentState {
+            mut spare,
+            whole,
+            ..
+        } = self;
+        let mut seats = seats;
+        let _of = &whole.of;
+        while let Some(seat) = seats.pop() {
+            let Seat { part, .. } = seat;
+            spare.merge(part);
+        }
+        unreachable!()
+    }
+
+    /// Every part is back, so the seats' calls are all the entries of the journal.
+    fn settle(self, seats: Vec<Seat<L>>) -> Vec<Entry>
+        requires { length seats.items ≡ self.made }
+        ensures journal { result.items ≡ self.journal }
+        ensures legal { IsLegalBy L.asks result.items }
+        ensures within { journal_weight self.made result.items ≤ L.limit }
+        ensures together { length result.items ≡ sum_by (λ p. length p.calls) seats.items }
+    {
+        let AgentState {
+            journal,
+            mut book,
+            mut spare,
+            whole,
+            ..
+        } = self;
+        let _of = &whole.of;
+        let mut seats = seats;
+        while let Some(seat) = seats.pop() {
+            let Seat { part, .. } = seat;
+            spare.merge(part);
+        }
+        book.audit(&mut spare);
+        journal
+    }
+
+    /// The journal, if every seat is back and its calls are in the journal. Otherwise returns the state and the seats
+    /// with the error.
+    pub fn close(
+        self,
+        seats: Vec<Seat<L>>,
+    ) -> Result<Vec<Entry>, (AgentState<L>, Vec<Seat<L>>, CloseError)>
+        ensures journal { IfOk result (λ h. h.items ≡ self.journal) }
+        ensures accounts { IfOk result (λ h. Accounts L.asks L.limit h.items seats.items) }
+        // From each acknowledged lock to the unlock with its passphrase, nothing is signed, listed or acknowledged.
+        ensures locks { IfOk result (λ h. LocksHold h.items) }
+        ensures same { IfErr result (λ r. (r.0 ≡ self) × (r.1.items ≡ seats.items)) }
+        ensures cause { IfErr result (λ r. LockedCause self seats.items r.2) }
+    {
+        let (state, seats, given) = self.counted(seats);
+        if given != state.made {
+            let made = state.made;
+            return Err((state, seats, CloseError::SeatsOut { made, given }));
+        }
+        match state.torn(seats.as_slice()) {
+            Err(NoMemory) => Err((state, seats, CloseError::NoMemory)),
+            Ok(Some(why)) => Err((state, seats, why)),
+            Ok(None) => Ok(state.settle(seats)),
+        }
+    }
+}

@@ -1,0 +1,300 @@
+-- What each row of the table satisfies, every step satisfies.
+use Rattle.std.proofs.Common.{◌≡◌, ◌≢◌, ◌⊎◌, inl, inr, ℕ, Bool, true, false, List, [], ◌∷◌, ◌++◌, Option, Some, None, Result, Ok, Err, refl, ap, sym, ◌∙◌, subst, append-nil, append_assoc}
+use Rattle.std.proofs.Math.Seq.{drop-length}
+use Rattle.std.specs.List.{AllByRecursion}
+use Rattle.sshc_wire.specs.Outgoing.{Outgoing, kept, shown}
+use Rattle.sshc_wire.specs.Records.{IsResolved}
+use Rattle.sshc_wire.specs.declared.record.Record.{Record}
+use Rattle.sshc_wire.specs.declared.record.Record.TheVariants as records
+use Rattle.sshc_key.specs.Asking.{Asking, done, asks, call_of, Makes, MakesFirst}
+use Rattle.sshc_key.specs.AskingLaws.{all_first, always_makes}
+use Rattle.sshc_key.specs.Signers.{SignCall, since}
+use Rattle.sshc_key.specs.declared.identity.PublicKeyOrCertificate.{PublicKeyOrCertificate}
+use Rattle.sshc_key.specs.declared.signer.Asker.TheVariants.{Session}
+use Rattle.sshc_auth_event.specs.declared.event.Event.{Event}
+use Rattle.sshc_auth_event.specs.declared.event.Event.TheVariants as events
+use Rattle.sshc_transport.specs.declared.exchange.ExchangeResult.{ExchangeResult}
+use Rattle.sshc_auth.specs.declared.error.Error.{Error}
+use Rattle.sshc_auth.specs.declared.error.Error.TheVariants.{NoMemory}
+use Rattle.sshc_auth.specs.declared.opening.Phase.TheVariants as phases
+use Rattle.sshc_auth.specs.declared.step.Asks.{Asks}
+use Rattle.sshc_auth.specs.declared.step.Asks.TheVariants as asking
+use Rattle.sshc_auth.specs.declared.step.Step.{Step}
+use Rattle.sshc_auth.specs.declared.step.Step.TheVariants as steps
+use Rattle.sshc_auth.specs.declared.step.Told.{Told}
+use Rattle.sshc_auth.specs.declared.step.Told.TheVariants as telling
+use Rattle.sshc_auth.specs.AskedLaws.{AsksFor, IsKeyAtMost, asks_for, first_at_most}
+use Rattle.sshc_auth.specs.GateLaw.{FirstRow, FirstOrTaken, TakesFirst, first_row}
+use Rattle.sshc_auth.specs.KeepLaws.{Keeps, KeepsNext, KeepsState, KeepsAsked, KeepsAsking, SettledNext, open_keeps}
+use Rattle.sshc_auth.specs.OpeningState.{OpeningState, shut}
+use Rattle.sshc_auth.specs.OpeningTable.{open_row, asked_of}
+use Rattle.sshc_auth.specs.Row.{Row, Next, Span, Did, Steps, stays, opens, ends, refuses}
+use Rattle.sshc_auth.specs.SessionWords.{Kept, kept_of, AddsOnly, IsNoPacket, IsFirst, GoesOnFirst, AcceptsFirst, KeepsFirst, KeepsSession, KeepsRequest, SignsStored, HandsStored, IsSettled, AsksOnce, Stores, KeepsTo}
+use Rattle.sshc_auth.specs.Stepping.{Lent, GateAnswers, Adds, Answered, Judged, Tells, GateRefused, StepsBy, StaysClosed, exchange_in, gained, map_step, span_of, told_of}
+
+-- ---- what was added
+
+-- the records that a gate added are answers to tickets
+pub record GateAdds (old mid : Outgoing) : Type 0 where
+  pub more : List Record
+  pub added : mid.records ≡ old.records ++ more
+  pub answers : AllByRecursion IsResolved more
+
+pub nothing_added : (old mid : Outgoing) → mid ≡ old → GateAdds old mid
+nothing_added old mid same = record { more = []; added = ap (λ (o : Outgoing). o.records) same ∙ sym (append-nil old.records); answers = tt }
+
+by_gate : {E : Type 0} (tells : Result (Unit {0}) E → List Record → Type 0) (old mid : Outgoing) (told : Result Told E) → Tells tells old mid told → GateAdds old mid
+by_gate tells old mid (Ok told) (went, (u, (more, told_so, resolved, added, muted))) = record { more = more; added = added; answers = resolved }
+by_gate tells old mid (Err e) (more, told_so, resolved, added, muted) = record { more = more; added = added; answers = resolved }
+
+by_verdict : {E : Type 0} (tells : Result (Unit {0}) E → List Record → Type 0) (old mid : Outgoing) (told : Result Told E) (verdict : Result Bool E) → Judged tells old mid told verdict → GateAdds old mid
+by_verdict tells old mid told (Ok true) judged = by_gate tells old mid told judged
+by_verdict tells old mid told (Ok false) (is, same) = nothing_added old mid same
+by_verdict tells old mid told (Err e) (is, same) = nothing_added old mid same
+
+pub gate_adds : {E : Type 0} (gate : GateAnswers E) (event : Event) (old mid : Outgoing) (told : Result Told E) (wanted : Asks) → Answered gate (exchange_in event) old mid told wanted → GateAdds old mid
+gate_adds gate event old mid told asking.Nothing (is, same) = nothing_added old mid same
+gate_adds gate event old mid told (asking.HostKey key) (verdict, judges, judged) = by_verdict (told_of gate (exchange_in event)) old mid told verdict judged
+gate_adds gate event old mid told asking.Exchange tells = by_gate (told_of gate (exchange_in event)) old mid told tells
+gate_adds gate event old mid told (asking.Banner text) tells = by_gate (gate.tells_banner text) old mid told tells
+
+all_two : (P : Record → Type 0) (a b : List Record) → AllByRecursion P a → AllByRecursion P b → AllByRecursion P (a ++ b)
+all_two P [] b one other = other
+all_two P (said ∷ a) b one other = (one.0, all_two P a b one.1 other)
+
+kept_all : (P : Record → Type 0) (muted : Bool) (said : Record) → P said → AllByRecursion P (kept muted said)
+kept_all P false said holds = (holds, tt)
+kept_all P true (records.Payload packet) holds = tt
+kept_all P true said holds = (holds, tt)
+
+shown_all : (P : Record → Type 0) (muted : Bool) (said : List Record) → AllByRecursion P said → AllByRecursion P (shown muted said)
+shown_all P muted [] holds = tt
+shown_all P muted (one ∷ said) holds = all_two P (kept muted one) (shown muted said) (kept_all P muted one holds.0) (shown_all P muted said holds.1)
+
+resolved_all : (P : Record → Type 0) → ((said : Record) → IsResolved said → P said) → (said : List Record) → AllByRecursion IsResolved said → AllByRecursion P said
+resolved_all P each [] holds = tt
+resolved_all P each (one ∷ said) holds = (each one holds.0, resolved_all P each said holds.1)
+
+no_packet : (said : Record) → IsResolved said → IsNoPacket said
+no_packet (records.Resolved ticket resolution) is = λ never. never
+no_packet said never = absurd never
+
+none_handed : (k : Kept) (said : Record) → IsResolved said → HandsStored k said
+none_handed k (records.Resolved ticket resolution) is = tt
+none_handed k said never = absurd never
+
+-- the gate's records, and then the row's
+adds_both : (P : Record → Type 0) (was is : Lent) (mid : Outgoing) (said : List Record) → ((one : Record) → IsResolved one → P one) → GateAdds was.outbox mid → is.outbox.records ≡ mid.records ++ shown mid.muted said → AllByRecursion P said → AddsOnly P was is
+adds_both P was is mid said each gate added holds = (
+  gate.more ++ shown mid.muted said,
+  added ∙ ap (λ (before : List Record). before ++ shown mid.muted said) gate.added ∙ append_assoc was.outbox.records gate.more (shown mid.muted said),
+  all_two P gate.more (shown mid.muted said) (resolved_all P each gate.more gate.answers) (shown_all P mid.muted said holds),
+)
+
+adds_gate : (P : Record → Type 0) (was is : Lent) (mid : Outgoing) → ((one : Record) → IsResolved one → P one) → GateAdds was.outbox mid → is.outbox ≡ mid → AddsOnly P was is
+adds_gate P was is mid each gate same = (gate.more, ap (λ (o : Outgoing). o.records) same ∙ gate.added, resolved_all P each gate.more gate.answers)
+
+-- ---- the signer's calls
+
+-- one call at most, for the stored request
+abbrev OneCall : Kept → List SignCall → Type 0
+OneCall k [] = Unit {0}
+OneCall k (call ∷ []) = (call.by ≡ Session) × SignsStored k.method k call.key call.hash call.bytes
+OneCall k (call ∷ other ∷ calls) = ⊥
+
+asked_first : (k : Kept) (event : Event) (row : Asking Row) (calls : List SignCall) → KeepsAsked k event row → MakesFirst row calls → calls ≡ []
+asked_first k event (done row) [] keeps first = refl
+asked_first k event (done row) (call ∷ calls) keeps never = absurd never
+asked_first k event (asks asked on) calls never first = absurd never
+
+one_call : (k : Kept) (event : Event) (row : Asking Row) (calls : List SignCall) → KeepsAsking k event row → MakesFirst row calls → OneCall k calls
+one_call k event (done row) [] keeps first = tt
+one_call k event (done row) (call ∷ calls) keeps never = absurd never
+one_call k event (asks asked on) [] keeps first = tt
+one_call k event (asks asked on) (call ∷ calls) (by, signs, each) (is, first) =
+    let none : calls ≡ [] = asked_first k event (on call.answer) calls (each call.answer) first in
+    rw none (ap (λ (c : SignCall). c.by) is ∙ by, subst (λ (c : SignCall). SignsStored k.method k c.key c.hash c.bytes) (sym is) signs)
+
+asked_settles : (k : Kept) (event : Event) (row : Asking Row) (calls : List SignCall) (to : Row) → KeepsAsked k event row → Makes row calls to → Keeps k event to × SettledNext to.next
+asked_settles k event (done row) [] to keeps is = subst (λ (r : Row). Keeps k event r × SettledNext r.next) is keeps
+asked_settles k event (done row) (call ∷ calls) to keeps never = absurd never
+asked_settles k event (asks asked on) calls to never is = absurd never
+
+-- a call settles the request
+abbrev Settles : List SignCall → Next → Type 0
+Settles [] next = Unit {0}
+Settles (call ∷ calls) next = SettledNext next
+
+made_keeps : (k : Kept) (event : Event) (row : Asking Row) (calls : List SignCall) (to : Row) → KeepsAsking k event row → Makes row calls to → Keeps k event to × Settles calls to.next
+made_keeps k event (done row) [] to keeps is = (subst (Keeps k event) is keeps, tt)
+made_keeps k event (done row) (call ∷ calls) to keeps never = absurd never
+made_keeps k event (asks asked on) [] to keeps never = absurd never
+made_keeps k event (asks asked on) (call ∷ calls) to (by, signs, each) (is, makes) = asked_settles k event (on call.answer) calls to (each call.answer) makes
+
+asks_once : (k : Kept) (t : OpeningState) (calls : List SignCall) → OneCall k calls → (IsSettled t ⊎ (calls ≡ [])) → AsksOnce k t calls
+asks_once k t [] one settled = tt
+asks_once k t (call ∷ []) one (inl settled) = (one.0, one.1, settled)
+asks_once k t (call ∷ []) one (inr none) = absurd cc
+asks_once k t (call ∷ other ∷ calls) never settled = absurd never
+
+settled_by : (t : OpeningState) (calls : List SignCall) (next : Next) → Settles calls next → (SettledNext next → IsSettled t) → IsSettled t ⊎ (calls ≡ [])
+settled_by t [] next settles is = inr refl
+settled_by t (call ∷ calls) next settles is = inl (is settles)
+
+-- ---- a step by its result
+
+-- what the table says of the step
+record KeptSo (k : Kept) (event : Event) (calls : List SignCall) (to : OpeningState) : Type 0 where
+  session : KeepsSession k to
+  request : KeepsRequest k event to
+  asked : AsksOnce k to calls
+
+over : (s : OpeningState) (event : Event) (calls : List SignCall) → OneCall (kept_of s) calls → KeptSo (kept_of s) event calls (shut s)
+over s event calls one = record { session = λ later. (refl, later); request = inl (refl, inl refl); asked = asks_once (kept_of s) (shut s) calls one (inl (inr refl)) }
+
+shut_stores : (event : Event) (t : OpeningState) → Stores event t → Stores event (shut t)
+shut_stores (events.Authenticate ticket user method) t stores = stores
+shut_stores event t never = absurd never
+
+shut_keeps : (k : Kept) (event : Event) (t : OpeningState) → KeepsRequest k event t → KeepsRequest k event (shut t)
+shut_keeps k event t (inl same) = inl same
+shut_keeps k event t (inr stores) = inr (shut_stores event t stores)
+
+kept_by : (s : OpeningState) (event : Event) (told : Told) (calls : List SignCall) (at : Span) (answer : Step Error) → at.before ≡ s → Steps (open_row s event told) calls at answer → KeptSo (kept_of s) event calls at.after
+kept_by s event told calls at steps.Went same (row, (makes, adds), next) =
+    let k : Kept = kept_of s in
+    let made = made_keeps k event (open_row s event told) calls row (open_keeps s event told) makes in
+    let state : KeepsState k event at.after = subst (KeepsNext k event) next made.0.1 in
+    record {
+      session = state.0;
+      request = state.1;
+      asked = asks_once k at.after calls (one_call k event (open_row s event told) calls (open_keeps s event told) (all_first (open_row s event told) calls row makes))
+          (settled_by at.after calls row.next made.1 (λ settled. inl (subst SettledNext next settled)));
+    }
+kept_by s event told calls at steps.Opened same (row, to, (makes, adds), next, after) =
+    let k : Kept = kept_of s in
+    let made = made_keeps k event (open_row s event told) calls row (open_keeps s event told) makes in
+    let state : KeepsState k event to = subst (KeepsNext k event) next made.0.1 in
+    rw after (record {
+      session = state.0;
+      request = shut_keeps k event to state.1;
+      asked = asks_once k (shut to) calls (one_call k event (open_row s event told) calls (open_keeps s event told) (all_first (open_row s event told) calls row makes)) (inl (inr refl));
+    })
+kept_by s event told calls at (steps.Ended e) same (row, (makes, adds), next, after) =
+    rw (after, same) (over s event calls (one_call (kept_of s) event (open_row s event told) calls (open_keeps s event told) (all_first (open_row s event told) calls row makes)))
+kept_by s event told calls at (steps.Refused e) same (after, inl (memory, adds, first)) =
+    rw (after, same) (over s event calls (one_call (kept_of s) event (open_row s event told) calls (open_keeps s event told) first))
+kept_by s event told calls at (steps.Refused e) same (after, inr (row, (makes, adds), next)) =
+    rw (after, same) (over s event calls (one_call (kept_of s) event (open_row s event told) calls (open_keeps s event told) (all_first (open_row s event told) calls row makes)))
+kept_by s event told calls at steps.Closed same never = absurd never
+
+-- the records of the row, of which this holds, and no others
+row_adds : (Q : Record → Type 0) (row : Asking Row) (calls : List SignCall) (at : Span) (answer : Step Error) → ((to : Row) → Makes row calls to → AllByRecursion Q to.records) → Steps row calls at answer →
+    (said : List Record) × (at.new.records ≡ at.old.records ++ shown at.old.muted said) × AllByRecursion Q said
+row_adds Q row calls at steps.Went each (to, (makes, adds), next) = (to.records, adds.0, each to makes)
+row_adds Q row calls at steps.Opened each (to, s, (makes, adds), next, after) = (to.records, adds.0, each to makes)
+row_adds Q row calls at (steps.Ended e) each (to, (makes, adds), next, after) = (to.records, adds.0, each to makes)
+row_adds Q row calls at (steps.Refused e) each (after, inl (memory, adds, first)) = ([], adds.0, tt)
+row_adds Q row calls at (steps.Refused e) each (after, inr (to, (makes, adds), next)) = (to.records, adds.0, each to makes)
+row_adds Q row calls at steps.Closed each never = absurd never
+
+-- ---- the first exchange
+
+-- if the gate let the row of the first exchange continue, it accepted the host key
+judged_true : {E : Type 0} (gate : GateAnswers E) (x : Option ExchangeResult) (old mid : Outgoing) (told : Told) (wanted : Asks) → IsKeyAtMost wanted → Answered gate x old mid (Ok told) wanted → told ≡ telling.Went →
+    (key : PublicKeyOrCertificate) × (wanted ≡ asking.HostKey key) × gate.judges key (Ok true)
+judged_true gate x old mid told asking.Nothing most (is, same) went = let clash : telling.Went ≡ telling.NotAsked = sym went ∙ cc in absurd cc
+judged_true gate x old mid told (asking.HostKey key) most (Ok true, judges, judged) went = (key, refl, judges)
+judged_true gate x old mid told (asking.HostKey key) most (Ok false, judges, (is, same)) went = let clash : telling.Went ≡ telling.No = sym went ∙ cc in absurd cc
+judged_true gate x old mid told (asking.HostKey key) most (Err e, judges, (is, same)) went = absurd cc
+judged_true gate x old mid told wanted never answered went = absurd never
+
+accepts : {E : Type 0} (gate : GateAnswers E) (s t : OpeningState) (event : Event) (old mid : Outgoing) (told : Told) → IsFirst s → Answered gate (exchange_in event) old mid (Ok told) (asked_of s event) → TakesFirst event told t → AcceptsFirst gate event t
+accepts gate s t event old mid told first answered (x, is, went, id) =
+    let key = judged_true gate (exchange_in event) old mid told (asked_of s event) (first_at_most s event first.exchanging) answered went in
+    let wanted : AsksFor s event key.0 = asks_for s event key.0 key.1 in
+    let same : events.ExchangeDone wanted.exchange ≡ events.ExchangeDone x = sym wanted.is ∙ is in
+    let one : wanted.exchange ≡ x = cc in
+    record { exchange = wanted.exchange; came = wanted.is; key = key.0; is_there = wanted.has; accepted = key.2; session_id = id ∙ ap (λ (y : ExchangeResult). y.session_hash) (sym one) }
+
+accepts_shut : {E : Type 0} (gate : GateAnswers E) (event : Event) (t : OpeningState) → AcceptsFirst gate event t → AcceptsFirst gate event (shut t)
+accepts_shut gate event t a = record { exchange = a.exchange; came = a.came; key = a.key; is_there = a.is_there; accepted = a.accepted; session_id = a.session_id }
+
+behind_first : {E : Type 0} (gate : GateAnswers E) (s : OpeningState) (event : Event) (old mid : Outgoing) (told : Told) (calls : List SignCall) (at : Span) (answer : Step Error) (result : Step E) →
+    IsFirst s → Answered gate (exchange_in event) old mid (Ok told) (asked_of s event) → at.before ≡ s → result ≡ map_step gate.told_as answer → Steps (open_row s event told) calls at answer → GoesOnFirst at.after result ⊎ AcceptsFirst gate event at.after
+behind_first gate s event old mid told calls at steps.Went result first answered same is (row, (makes, adds), next) =
+    by (subst (FirstOrTaken event told) next (always_makes (FirstRow event told) (open_row s event told) calls row (first_row s event told first) makes).1)
+  where
+    by : FirstOrTaken event told (stays at.after) → GoesOnFirst at.after result ⊎ AcceptsFirst gate event at.after
+    by (inl goes_on) = rw is (inl goes_on)
+    by (inr takes) = inr (accepts gate s at.after event old mid told first answered takes)
+behind_first gate s event old mid told calls at steps.Opened result first answered same is (row, to, (makes, adds), next, after) =
+    let takes : TakesFirst event told to = subst (FirstOrTaken event told) next (always_makes (FirstRow event told) (open_row s event told) calls row (first_row s event told first) makes).1 in
+    inr (rw after (accepts_shut gate event to (accepts gate s to event old mid told first answered takes)))
+behind_first gate s event old mid told calls at (steps.Ended e) result first answered same is (row, (makes, adds), next, after) = rw is (inl (rw (after, same) first.exchanging))
+behind_first gate s event old mid told calls at (steps.Refused e) result first answered same is (after, why) = rw is (inl (rw (after, same) first.exchanging))
+behind_first gate s event old mid told calls at steps.Closed result first answered same is never = absurd never
+
+-- ---- a step
+
+refused_keeps : {E : Type 0} (gate : GateAnswers E) (event : Event) (e : E) (was is : Lent) (mid : Outgoing) (result : Step E) → GateAdds was.outbox mid → GateRefused e (record was { outbox = mid }) is result → KeepsTo gate event was is result
+refused_keeps gate event e was is mid result adds (refused, shut_so, outbox, calls) = record {
+  first = λ first. record {
+    unwritten = adds_gate IsNoPacket was is mid no_packet adds outbox;
+    behind = inl (rw (refused, shut_so) first.exchanging);
+  };
+  session = rw shut_so (λ later. (refl, later));
+  asked = rw none tt;
+  handed = adds_gate (HandsStored (kept_of was.opening)) was is mid (none_handed (kept_of was.opening)) adds outbox;
+  request = rw shut_so (inl (refl, inl refl));
+}
+  where
+    none : gained was is ≡ []
+    none = ap (since was.calls) calls ∙ drop-length was.calls
+
+told_keeps : {E : Type 0} (gate : GateAnswers E) (event : Event) (was is : Lent) (mid : Outgoing) (told : Told) (answer : Step Error) (result : Step E) → Answered gate (exchange_in event) was.outbox mid (Ok told) (asked_of was.opening event) →
+    result ≡ map_step gate.told_as answer → Steps (open_row was.opening event told) (gained was is) (span_of (record was { outbox = mid }) is) answer → KeepsTo gate event was is result
+told_keeps gate event was is mid told answer result answered same steps_so =
+    let s : OpeningState = was.opening in
+    let at : Span = span_of (record was { outbox = mid }) is in
+    let adds = gate_adds gate event was.outbox mid (Ok told) (asked_of s event) answered in
+    let kept_so = kept_by s event told (gained was is) at answer refl steps_so in
+    let handed = row_adds (HandsStored (kept_of s)) (open_row s event told) (gained was is) at answer
+    (λ row makes. (made_keeps (kept_of s) event (open_row s event told) (gained was is) row (open_keeps s event told) makes).0.0) steps_so in
+    record {
+      first = λ first.
+          let unwritten = row_adds IsNoPacket (open_row s event told) (gained was is) at answer
+          (λ row makes. (always_makes (FirstRow event told) (open_row s event told) (gained was is) row (first_row s event told first) makes).0) steps_so in
+          record {
+            unwritten = adds_both IsNoPacket was is mid unwritten.0 no_packet adds unwritten.1 unwritten.2;
+            behind = behind_first gate s event was.outbox mid told (gained was is) at answer result first answered refl same steps_so;
+          };
+      session = kept_so.session;
+      asked = kept_so.asked;
+      handed = adds_both (HandsStored (kept_of s)) was is mid handed.0 (none_handed (kept_of s)) adds handed.1 handed.2;
+      request = kept_so.request;
+    }
+
+by_told : {E : Type 0} (gate : GateAnswers E) (event : Event) (was is : Lent) (result : Step E) → StepsBy gate event was is result → KeepsTo gate event was is result
+by_told gate event was is result (inl refused) = refused_keeps gate event (gate.told_as NoMemory) was is was.outbox result (nothing_added was.outbox was.outbox refl) refused
+by_told gate event was is result (inr (Ok told, mid, answered, (answer, same, steps_so))) = told_keeps gate event was is mid told answer result answered same steps_so
+by_told gate event was is result (inr (Err e, mid, answered, refused)) = refused_keeps gate event e was is mid result (gate_adds gate event was.outbox mid (Err e) (asked_of was.opening event) answered) refused
+
+closed_keeps : {E : Type 0} (gate : GateAnswers E) (event : Event) (was is : Lent) (result : Step E) → was.opening.closed ≡ true → StaysClosed was is result → KeepsTo gate event was is result
+closed_keeps gate event was is result shut_before closed =
+    let so = closed shut_before in
+    record {
+      first = λ first. let clash : true ≡ false = sym shut_before ∙ first.fresh in absurd cc;
+      session = rw so.1 (λ later. (refl, later));
+      asked = rw (ap (since was.calls) so.3 ∙ drop-length was.calls) tt;
+      handed = ([], ap (λ (o : Outgoing). o.records) so.2 ∙ sym (append-nil was.outbox.records), tt);
+      request = rw so.1 (inl (refl, inl refl));
+    }
+
+by_closed : {E : Type 0} (gate : GateAnswers E) (event : Event) (was is : Lent) (result : Step E) (closed : Bool) → was.opening.closed ≡ closed → StaysClosed was is result → (was.opening.closed ≡ false → StepsBy gate event was is result) → KeepsTo gate event was is result
+by_closed gate event was is result true is_so closed row = closed_keeps gate event was is result is_so closed
+by_closed gate event was is result false is_so closed row = by_told gate event was is result (row is_so)
+
+-- a step of the table satisfies it
+pub step_keeps : {E : Type 0} (gate : GateAnswers E) (event : Event) (was is : Lent) (result : Step E) → StaysClosed was is result → (was.opening.closed ≡ false → StepsBy gate event was is result) → KeepsTo gate event was is result
+step_keeps gate event was is result closed row = by_closed gate event was is result was.opening.closed refl closed row

@@ -1,0 +1,132 @@
+-- A call that follows its row, and a step with a gate: why it refuses or ends, what it asked the gate, and what the
+-- gate returned.
+use Rattle.std.proofs.Common.{◌≡◌, ◌≢◌, ◌⊎◌, ◌<◌, ◌≤◌, ◌+◌, ◌-◌, ◌*◌, ◌^◌, inl, inr, ℕ, Bool, true, false, List, [], ◌∷◌, ◌++◌, ◌/◌, length, Option, Some, None, Result, Ok, Err, refl, ap, sym, ◌∙◌, subst, arith}
+use Rattle.std.specs.Prelude.{min, not, ◌==◌, ◌||◌, nat_le, nat_lt, if◌then◌else◌, bytes_eq, codes}
+use Rattle.std.specs.Int.{w32}
+use Rattle.std.specs.List.{AllByRecursion}
+use Rattle.std.proofs.lemmas.Bool.Decides.{nat_tests}
+use Rattle.sshc_wire.specs.Methods.{has_method, method_of, with_method}
+use Rattle.sshc_wire.specs.Names.{names_in}
+use Rattle.sshc_wire.specs.Reads.{boolean_at, number_at, string_at, text_at}
+use Rattle.sshc_wire.specs.Reasons.{disconnect_of}
+use Rattle.sshc_wire.specs.declared.auth_record.Prompt.{Prompt}
+use Rattle.sshc_wire.specs.declared.disconnect.Disconnect.{Disconnect}
+use Rattle.sshc_wire.specs.declared.error.WireError.{WireError}
+use Rattle.sshc_wire.specs.declared.methods.MethodKind.{MethodKind}
+use Rattle.sshc_wire.specs.declared.msg.TheConstants.{DISCONNECT, SERVICE_ACCEPT, USERAUTH_FAILURE, USERAUTH_SUCCESS, USERAUTH_BANNER, USERAUTH_PK_OK, USERAUTH_GSSAPI_TOKEN, USERAUTH_GSSAPI_ERROR, USERAUTH_GSSAPI_ERRTOK}
+use Rattle.sshc_wire.specs.declared.record.Record.{Record}
+use Rattle.sshc_wire.specs.declared.record.Record.TheVariants as records
+use Rattle.sshc_wire.specs.declared.auth_record.AuthRecord.TheVariants.{AuthInfoRequest}
+use Rattle.sshc_wire.specs.declared.auth_record.GssapiRecord.TheVariants as gssapi
+use Rattle.sshc_wire.specs.declared.hash_alg.HashAlg.{HashAlg}
+use Rattle.sshc_wire.specs.declared.ticket.Ticket.{Ticket}
+use Rattle.sshc_key.specs.Asking.{Answer, Asking, done, asks, Always}
+use Rattle.sshc_key.specs.KeyGrammar.{Key}
+use Rattle.sshc_key.specs.PairCode.{KeyPair}
+use Rattle.sshc_auth_event.specs.HostKey.{host_key}
+use Rattle.sshc_key.specs.declared.identity.PublicKeyOrCertificate.{PublicKeyOrCertificate}
+use Rattle.sshc_wire.specs.Faults.{Rose}
+use Rattle.sshc_wire.specs.Outgoing.{Outgoing}
+use Rattle.sshc_auth_event.specs.declared.event.Event.{Event}
+use Rattle.sshc_auth_event.specs.declared.event.Event.TheVariants as events
+use Rattle.sshc_auth_event.specs.declared.method.Method.{Method}
+use Rattle.sshc_auth_event.specs.declared.method.Method.TheVariants as methods
+use Rattle.sshc_transport.specs.declared.exchange.ExchangeFlag.{ExchangeFlag}
+use Rattle.sshc_transport.specs.declared.exchange.ExchangeFlag.TheVariants as flags
+use Rattle.sshc_transport.specs.declared.exchange.ExchangeResult.{ExchangeResult}
+use Rattle.sshc_auth.specs.declared.ended.Ended.{Ended}
+use Rattle.sshc_auth.specs.declared.step.Flow.TheVariants as flows
+use Rattle.sshc_auth.specs.declared.error.Error.{Error}
+use Rattle.sshc_auth.specs.declared.error.Error.TheVariants as errors
+use Rattle.sshc_auth.specs.declared.opening.Class.{Class}
+use Rattle.sshc_auth.specs.declared.opening.Class.TheVariants as classes
+use Rattle.sshc_auth.specs.declared.opening.Phase.{Phase}
+use Rattle.sshc_auth.specs.declared.opening.Phase.TheVariants as phases
+use Rattle.sshc_auth.specs.declared.order.EventSort.TheVariants as sorts
+use Rattle.sshc_auth.specs.declared.step.Asks.{Asks}
+use Rattle.sshc_auth.specs.declared.step.Asks.TheVariants as asking
+use Rattle.sshc_auth.specs.declared.step.Step.{Step}
+use Rattle.sshc_auth.specs.declared.step.Step.TheVariants as steps
+use Rattle.sshc_auth.specs.declared.step.Told.{Told}
+use Rattle.sshc_auth.specs.declared.step.Told.TheVariants as telling
+use Rattle.sshc_auth.specs.Causes.{Part, number, boolean, string, text, prompts, end, Breaks, BreaksBehind, after, after_prompts, rest_of, AreTooMany, HasTooManyPrompts, AreUnknown, IsInvalidReason, IsLocal, IsUnexpectedIn, IsCause, IsEarly, IsNotUsers, IsOutOfTurn, WasToldNo, HasCause, IsEndCause, Why, why, Caused, AllCaused, SaysNoTo, GateSaysNo, HasGateCause, behind, auth_parts, answer_parts, parts_in, is_answer}
+use Rattle.sshc_auth.specs.OpeningState.{OpeningState, is_awaiting}
+use Rattle.sshc_auth.specs.OpeningTable.{answer_row, auth_row, gssapi_row, is_pk_ok, auth_packet_row, packet_row_in, phase_packet_row, held_packet_row, is_exchanging, numbered_row, payload_row, authenticate_row_in, plain_row, event_row, turn_row, open_row, asked_of, event_asks, exchange_asks, key_asked, packet_asks, number_asks, is_held_back, banner_asks, banner_at_end, FitsAsked}
+use Rattle.sshc_auth.specs.OpeningTable.Order.{sort_of, is_early, is_early_at, is_early_awaiting, is_out_of_turn, packet_in}
+use Rattle.sshc_auth.specs.OpeningTable.Exchange.{peer_kexinit_row, peer_kexinit_row_at, accepted_row, first_exchange_row, exchange_row_in, exchange_done_row}
+use Rattle.sshc_auth.specs.OpeningTable.Auth.{userauth_failure_row, userauth_success_row, userauth_banner_row, authenticate_again_row, known_behind, known_methods, add_known, next_without}
+use Rattle.sshc_auth.specs.OpeningTable.AuthGssapi.{gssapi_step, gssapi_response_row, gssapi_token_row, gssapi_error_row, gssapi_errtok_row, is_gssapi, user_token_row, user_mic_row, user_complete_row}
+use Rattle.sshc_auth.specs.OpeningTable.AuthKey.{pk_ok_row, is_pk_ok_body, is_at_end, key_row, sign_row, signed_by_row}
+use Rattle.sshc_auth.specs.OpeningTable.AuthPrompts.{info_request_row, info_response_row, is_too_many, prompts_at, prompts_row}
+use Rattle.sshc_auth.specs.OpeningTable.Awaiting.{awaiting_row, answer_row_in, responses_row, signature_row, signed_row, is_signed}
+use Rattle.sshc_auth.specs.OpeningTable.Packets.{disconnect_row, disconnect_reason_row, is_ignored, waits_for_exchange, is_too_much, counted_with}
+use Rattle.sshc_auth.specs.OpeningTable.Service.{service_accept_row, service_packet_row, authenticate_first_row, stored_request}
+use Rattle.sshc_auth.specs.OpeningTable.User.{rekey_row, await_extension_info_row, get_server_sig_algs_row, is_seen, user_disconnect_row}
+use Rattle.sshc_auth_request.specs.RequestTexts.{mic}
+use Rattle.sshc_auth.specs.Stepping.{GateAnswers, LentGate, Answered, Judged, Tells, HasExchange, exchange_in, told_of, map_step}
+use Rattle.sshc_auth.specs.Row.{Row, Next, Span, SignerAt, FollowsAsking, stays, refuses, refused, goes, passed_over, ends_at, with_part, broken_row}
+use Rattle.sshc_auth.specs.AskedLaws.{first_asks}
+use Rattle.sshc_auth.specs.CauseLaws.{SaysAlso, cause_also, open_cause}
+
+-- ---- a call that follows its row
+
+caused_by : (P : Why) → P.refusal errors.NoMemory → (asking : Asking Row) (was is : SignerAt) (at : Span) (e : Error) → AllCaused P asking → FollowsAsking asking was is at (Err e) → P.refusal e
+caused_by P free (done row) was is at e cause (same, (left, inl memory)) = subst P.refusal (sym memory.0) free
+caused_by P free (done row) was is at e cause (same, (left, inr (adds, next))) = subst (λ (n : Next). Caused P n) next cause
+caused_by P free (asks asked on) was is at e cause (inl (calls, later, memory, left, adds)) = let same : e ≡ errors.NoMemory = cc in subst P.refusal (sym same) free
+caused_by P free (asks asked on) was is at e cause (inr (answer, mid, keeps, rest)) = caused_by P free (on answer) mid is at e (cause answer) rest
+
+-- it is refused for a cause
+pub follows_cause : (s : OpeningState) (event : Event) (told : Told) (was is : SignerAt) (at : Span) (e : Error) → FollowsAsking (open_row s event told) was is at (Err e) → IsCause (WasToldNo told) s event e
+follows_cause s event told was is at e follows = caused_by (why (WasToldNo told) s event) tt (open_row s event told) was is at e (open_cause s event told) follows
+
+ended_by : (P : Why) (asking : Asking Row) (was is : SignerAt) (at : Span) (e : Ended) → AllCaused P asking → FollowsAsking asking was is at (Ok (flows.Ended e)) → P.end e
+ended_by P (done row) was is at e cause (same, (adds, next, left)) = subst (λ (n : Next). Caused P n) next cause
+ended_by P (asks asked on) was is at e cause (inl (calls, later, memory, left, adds)) = absurd cc
+ended_by P (asks asked on) was is at e cause (inr (answer, mid, keeps, rest)) = ended_by P (on answer) mid is at e (cause answer) rest
+
+-- it ends for a cause
+pub ended_cause : (s : OpeningState) (event : Event) (told : Told) (was is : SignerAt) (at : Span) (e : Ended) → FollowsAsking (open_row s event told) was is at (Ok (flows.Ended e)) → IsEndCause s event e
+ended_cause s event told was is at e follows = ended_by (why (WasToldNo told) s event) (open_row s event told) was is at e (open_cause s event told) follows
+
+-- ---- a step with a gate
+
+-- if the gate didn't accept the first exchange, the exchange has no host key, or the gate rejected the key
+no_key : {E : Type 0} (gate : GateAnswers E) (o : Option ExchangeResult) (old mid : Outgoing) (told : Told) (key : Option PublicKeyOrCertificate) → Answered gate o old mid (Ok told) (key_asked key) → told ≢ telling.Went → SaysNoTo gate.judges key
+no_key gate o old mid told None answered never = tt
+no_key gate o old mid told (Some key) (Ok true, judges, (went, adds)) never = absurd (never went)
+no_key gate o old mid told (Some key) (Ok false, judges, said) never = judges
+no_key gate o old mid told (Some key) (Err e, judges, (is, same)) never = absurd cc
+
+said_no : {E : Type 0} (gate : GateAnswers E) (s : OpeningState) (event : Event) (old mid : Outgoing) (told : Told) → s.closed ≡ false → Answered gate (exchange_in event) old mid (Ok told) (asked_of s event) → SaysAlso (WasToldNo told) (GateSaysNo gate) s event
+said_no gate s event old mid told fresh answered = λ x is peer first no.
+    let asked : asked_of s event ≡ key_asked (host_key x.key) = first_asks s event x fresh is peer first in
+    no_key gate (exchange_in event) old mid told (host_key x.key) (subst (λ (asks : Asks). Answered gate (exchange_in event) old mid (Ok told) asks) asked answered) no
+
+-- the rest of a row, with its error as the gate reports it
+pub told_cause : {E : Type 0} (gate : GateAnswers E) (event : Event) (was is : LentGate) (old mid : Outgoing) (told : Told) (answer : Step Error) (result : Step E) →
+    result ≡ map_step gate.told_as answer → was.rest.opening.closed ≡ false → Answered gate (exchange_in event) old mid (Ok told) (asked_of was.rest.opening event) →
+    HasCause told event (record was.rest { outbox = mid }) is.rest answer → HasGateCause gate event was is result
+told_cause gate event was is old mid told steps.Went result same fresh answered reason = rw same tt
+told_cause gate event was is old mid told steps.Opened result same fresh answered reason = rw same tt
+told_cause gate event was is old mid told (steps.Ended x) result same fresh answered reason = rw same reason
+told_cause gate event was is old mid told (steps.Refused e) result same fresh answered reason =
+    rw same (inl (e, refl, cause_also (WasToldNo told) (GateSaysNo gate) was.rest.opening event e (said_no gate was.rest.opening event old mid told fresh answered) reason.0, reason.1))
+told_cause gate event was is old mid told steps.Closed result same fresh answered reason = rw same tt
+
+-- ---- what the gate was asked and what it returned
+
+fits_told : {E : Type 0} (tells : Result (Unit {0}) E → List Record → Type 0) (old mid : Outgoing) (told : Told) → Tells tells old mid (Ok told) → told ≡ telling.Went
+fits_told tells old mid told (went, adds) = went
+
+fits_judged : {E : Type 0} (tells : Result (Unit {0}) E → List Record → Type 0) (old mid : Outgoing) (told : Told) (key : PublicKeyOrCertificate) (verdict : Result Bool E) → Judged tells old mid (Ok told) verdict → FitsAsked (asking.HostKey key) told
+fits_judged tells old mid told key (Ok true) (went, adds) = rw went tt
+fits_judged tells old mid told key (Ok false) (is, same) = let no : told ≡ telling.No = cc in rw no tt
+fits_judged tells old mid told key (Err e) (is, same) = absurd cc
+
+-- what a gate returned fits what it was asked
+pub fits_asked : {E : Type 0} (gate : GateAnswers E) (o : Option ExchangeResult) (old mid : Outgoing) (told : Told) (wanted : Asks) → Answered gate o old mid (Ok told) wanted → FitsAsked wanted told
+fits_asked gate o old mid told asking.Nothing (is, same) = cc
+fits_asked gate o old mid told (asking.HostKey key) (verdict, judges, judged) = fits_judged (told_of gate o) old mid told key verdict judged
+fits_asked gate o old mid told asking.Exchange tells = fits_told (told_of gate o) old mid told tells
+fits_asked gate o old mid told (asking.Banner shown) tells = fits_told (gate.tells_banner shown) old mid told tells

@@ -1,0 +1,140 @@
+-- What each step of the opening satisfies, stated in terms of the session (RFC 4252, section 7; RFC 4253, sections 7, 8
+-- and 10): the first exchange, the session id, what is signed, and whose request is stored. No row of the table is
+-- named, so that an error made both in the table and in the code shows.
+use Rattle.std.specs.Prelude.{◌≡◌, ◌≢◌, ◌⊎◌, ℕ, Bool, true, false, List, [], ◌∷◌, ◌++◌, Option, Some, None, Result, Ok}
+use Rattle.std.specs.List.{AllByRecursion}
+use Rattle.sshc_wire.specs.Records.{IsPayload}
+use Rattle.sshc_wire.specs.declared.auth_record.AuthRecord.TheVariants.{SignRequest, SignRequestCert}
+use Rattle.sshc_wire.specs.declared.hash_alg.HashAlg.{HashAlg}
+use Rattle.sshc_wire.specs.declared.record.Record.{Record}
+use Rattle.sshc_wire.specs.declared.record.Record.TheVariants.{Auth}
+use Rattle.sshc_key.specs.KeyGrammar.{Key, key_text}
+use Rattle.sshc_key.specs.PairCode.{KeyPair}
+use Rattle.sshc_key.specs.Signers.{SignCall}
+use Rattle.sshc_key.specs.declared.identity.PublicKeyOrCertificate.{PublicKeyOrCertificate}
+use Rattle.sshc_key.specs.declared.signer.Asker.TheVariants.{Session}
+use Rattle.sshc_auth_event.specs.HostKey.{host_key}
+use Rattle.sshc_auth_event.specs.declared.event.Event.{Event}
+use Rattle.sshc_auth_event.specs.declared.event.Event.TheVariants as events
+use Rattle.sshc_auth_event.specs.declared.method.Method.{Method}
+use Rattle.sshc_auth_event.specs.declared.method.Method.TheVariants as methods
+use Rattle.sshc_auth_request.specs.RequestTexts.{signed}
+use Rattle.sshc_transport.specs.declared.exchange.ExchangeFlag.TheVariants as flags
+use Rattle.sshc_transport.specs.declared.exchange.ExchangeResult.{ExchangeResult}
+use Rattle.sshc_auth.specs.declared.opening.Phase.{Phase}
+use Rattle.sshc_auth.specs.declared.opening.Phase.TheVariants as phases
+use Rattle.sshc_auth.specs.declared.step.Step.{Step}
+use Rattle.sshc_auth.specs.declared.step.Step.TheVariants as steps
+use Rattle.sshc_auth.specs.OpeningState.{OpeningState}
+use Rattle.sshc_auth.specs.Stepping.{Lent, GateAnswers, gained}
+
+-- ---- records that were added
+
+-- this holds of every record that a step added
+abbrev pub AddsOnly : (Record → Type 0) → Lent → Lent → Type 0
+AddsOnly P was is = (more : List Record) × (is.outbox.records ≡ was.outbox.records ++ more) × AllByRecursion P more
+
+-- a record that isn't for the transport
+abbrev pub IsNoPacket : Record → Type 0
+IsNoPacket said = IsPayload said → ⊥
+
+-- what is kept of the state before the step: its phase, the session id, and the request that is stored
+pub record Kept : Type 0 where
+  pub phase : Phase
+  pub session_id : List ℕ
+  pub user : List ℕ
+  pub method : Option Method
+
+abbrev pub kept_of : OpeningState → Kept
+kept_of s = record { phase = s.phase; session_id = s.session_id; user = s.user; method = s.method }
+
+-- ---- the first exchange
+
+-- the first exchange runs
+pub record IsFirst (s : OpeningState) : Type 0 where
+  pub exchanging : s.phase ≡ phases.Exchanging
+  pub runs : s.flag ≢ flags.Idle
+  pub fresh : s.closed ≡ false
+
+-- it is still running, or the session is over
+abbrev pub GoesOnFirst : {E : Type 0} → OpeningState → Step E → Type 0
+GoesOnFirst s steps.Went = IsFirst s
+GoesOnFirst s steps.Opened = ⊥
+GoesOnFirst s result = s.phase ≡ phases.Exchanging
+
+-- an exchange is done whose host key is there and which the gate accepts, and its hash is the session id from now on
+pub record AcceptsFirst {E : Type 0} (gate : GateAnswers E) (event : Event) (s : OpeningState) : Type 0 where
+  pub exchange : ExchangeResult
+  pub came : event ≡ events.ExchangeDone exchange
+  pub key : PublicKeyOrCertificate
+  pub is_there : host_key exchange.key ≡ Some key
+  pub accepted : gate.judges key (Ok true)
+  pub session_id : s.session_id ≡ exchange.session_hash
+
+-- while the first exchange runs no packet is written, and the session gets past it only with a host key that the gate
+-- accepts
+pub record KeepsFirst {E : Type 0} (gate : GateAnswers E) (event : Event) (was is : Lent) (result : Step E) : Type 0 where
+  pub unwritten : AddsOnly IsNoPacket was is
+  pub behind : GoesOnFirst is.opening result ⊎ AcceptsFirst gate event is.opening
+
+-- after the first exchange the session id stays, and no first exchange comes again
+abbrev pub KeepsSession : Kept → OpeningState → Type 0
+KeepsSession s t = s.phase ≢ phases.Exchanging → (t.session_id ≡ s.session_id) × (t.phase ≢ phases.Exchanging)
+
+-- ---- what is signed
+
+-- the bytes are the signed text of the session id, the user and the key of the stored request, whose pair is local
+abbrev pub SignsStored : Option Method → Kept → KeyPair → Option HashAlg → List ℕ → Type 0
+SignsStored (Some (methods.PublicKey key)) s pair hash bytes = (pair ≡ key.0) × (hash ≡ key.1) × (bytes ≡ signed s.session_id s.user key.0.public.0 key.1)
+SignsStored (Some (methods.OpenSshCertificate key cert)) s pair hash bytes = (pair ≡ key) × (hash ≡ None) × (bytes ≡ signed s.session_id s.user cert None)
+SignsStored method s pair hash bytes = ⊥
+
+-- the same where an outside signer has the pair
+abbrev pub HandsKey : Option Method → Kept → List ℕ → Option HashAlg → List ℕ → Type 0
+HandsKey (Some (methods.FuturePublicKey key own)) s blob hash bytes = (blob ≡ key_text key.0) × (hash ≡ own) × (bytes ≡ signed s.session_id s.user key.0 own)
+HandsKey method s blob hash bytes = ⊥
+
+abbrev pub HandsCertificate : Option Method → Kept → List ℕ → Option HashAlg → List ℕ → Type 0
+HandsCertificate (Some (methods.FutureCertificate cert own)) s blob hash bytes = (blob ≡ key_text cert) × (hash ≡ own) × (bytes ≡ signed s.session_id s.user cert own)
+HandsCertificate method s blob hash bytes = ⊥
+
+-- bytes that are handed out to be signed are those of the stored request
+abbrev pub HandsStored : Kept → Record → Type 0
+HandsStored s (Auth ticket (SignRequest blob hash bytes)) = HandsKey s.method s blob hash bytes
+HandsStored s (Auth ticket (SignRequestCert blob hash bytes)) = HandsCertificate s.method s blob hash bytes
+HandsStored s said = Unit {0}
+
+-- the request isn't stored any more, or the session is over
+abbrev pub IsSettled : OpeningState → Type 0
+IsSettled s = (s.method ≡ None) ⊎ (s.closed ≡ true)
+
+-- no call, or one for the stored request, which is settled by it
+abbrev pub AsksOnce : Kept → OpeningState → List SignCall → Type 0
+AsksOnce s t [] = Unit {0}
+AsksOnce s t (call ∷ []) = (call.by ≡ Session) × SignsStored s.method s call.key call.hash call.bytes × IsSettled t
+AsksOnce s t (call ∷ other ∷ calls) = ⊥
+
+-- ---- whose request is stored
+
+-- the event asks to authenticate, and its request is stored
+abbrev pub Stores : Event → OpeningState → Type 0
+Stores (events.Authenticate ticket user method) t = (t.user ≡ user) × (t.method ≡ Some method)
+Stores event t = ⊥
+
+-- the request stays or is taken out, or that of the event takes its place
+abbrev pub KeepsRequest : Kept → Event → OpeningState → Type 0
+KeepsRequest s event t = ((t.user ≡ s.user) × ((t.method ≡ s.method) ⊎ (t.method ≡ None))) ⊎ Stores event t
+
+-- ---- what a step satisfies
+
+pub record KeepsTo {E : Type 0} (gate : GateAnswers E) (event : Event) (was is : Lent) (result : Step E) : Type 0 where
+  -- no packet before the host key of the first exchange is accepted
+  pub first : IsFirst was.opening → KeepsFirst gate event was is result
+  -- the session id is the first exchange's hash
+  pub session : KeepsSession (kept_of was.opening) is.opening
+  -- the signer is asked once at most, for the signed text of the stored request
+  pub asked : AsksOnce (kept_of was.opening) is.opening (gained was is)
+  -- what an outside signer is handed is the signed text of the stored request
+  pub handed : AddsOnly (HandsStored (kept_of was.opening)) was is
+  -- the request that is stored is that of an event
+  pub request : KeepsRequest (kept_of was.opening) event is.opening

@@ -1,0 +1,158 @@
+//! Global requests of ours, with what their replies are for (RFC 4254, section 4).
+
+ghost use Rattle.std.specs.Prelude.{◌≡◌, IfOk};
+ghost use Rattle.sshc_wire.specs.Outgoing.{listed};
+ghost use Rattle.sshc_client_packets.specs.GlobalRequests.{global_request};
+ghost use Rattle.sshc_client_table.specs.Messages.{awaited_of, queued, request_of, wants_answer};
+ghost use Rattle.sshc_client_state.specs.Asks.{ask_of};
+
+use sshc_client_packets::GlobalRequest;
+use sshc_client_table::{Asked, Awaited};
+use sshc_key::PublicKey;
+use sshc_wire::{List, NoMemory, Ticket};
+use std::alloc::Global;
+
+/// A global request, with whom its answer is for. Ticket 0 means that no answer is wanted.
+#[derive(Clone, Copy)]
+pub enum Ask<'a> {
+    /// To listen on a port; port 0 lets the server choose one (RFC 4254, section 7.1).
+    Forward {
+        ticket: Ticket,
+        address: &'a str,
+        port: u32,
+    },
+    CancelForward {
+        ticket: Ticket,
+        address: &'a str,
+        port: u32,
+    },
+    /// To listen on a socket (OpenSSH's PROTOCOL, section 2.4).
+    ForwardSocket {
+        ticket: Ticket,
+        path: &'a str,
+    },
+    CancelForwardSocket {
+        ticket: Ticket,
+        path: &'a str,
+    },
+    KeepAlive {
+        want_reply: bool,
+    },
+    /// OpenSSH's PROTOCOL, section 2.2.
+    NoMore {
+        want_reply: bool,
+    },
+    /// A keepalive that always wants a reply.
+    Ping {
+        ticket: Ticket,
+    },
+    /// To prove these host keys (OpenSSH's PROTOCOL, section 2.5).
+    Prove {
+        ticket: Ticket,
+        keys: &'a [PublicKey],
+    },
+    /// A request by its name and the bytes after the flag.
+    OwnRequest {
+        ticket: Ticket,
+        name: &'a str,
+        body: &'a [u8],
+    },
+}
+
+impl<'a> Ask<'a> {
+    /// The request as it is written.
+    pub(crate) fn request(&self) -> GlobalRequest<'a>
+        ensures { global_request result ≡ request_of (ask_of self.now) }
+    {
+        match *self {
+            Ask::Forward { address, port, .. } => GlobalRequest::TcpIpForward { address, port },
+            Ask::CancelForward { address, port, .. } => {
+                GlobalRequest::CancelTcpIpForward { address, port }
+            }
+            Ask::ForwardSocket { path, .. } => GlobalRequest::StreamLocalForward {
+                socket_path: path,
+            },
+            Ask::CancelForwardSocket { path, .. } => GlobalRequest::CancelStreamLocalForward {
+                socket_path: path,
+            },
+            Ask::KeepAlive { .. } | Ask::Ping { .. } => GlobalRequest::Keepalive,
+            Ask::NoMore { .. } => GlobalRequest::NoMoreSessions,
+            Ask::Prove { keys, .. } => GlobalRequest::HostKeysProve { keys },
+            Ask::OwnRequest { name, body, .. } => GlobalRequest::Own { name, body },
+        }
+    }
+
+    /// Whether it is written with a reply wanted.
+    pub fn wants_answer(&self) -> bool
+        ensures { result ≡ wants_answer (ask_of self.now) }
+    {
+        match self {
+            Ask::Forward { ticket, .. }
+            | Ask::CancelForward { ticket, .. }
+            | Ask::ForwardSocket { ticket, .. }
+            | Ask::CancelForwardSocket { ticket, .. }
+            | Ask::OwnRequest { ticket, .. } => ticket.0 != 0,
+            Ask::KeepAlive { want_reply } | Ask::NoMore { want_reply } => *want_reply,
+            Ask::Ping { .. } | Ask::Prove { .. } => true,
+        }
+    }
+
+    /// Whom the answer is for.
+    fn ticket(&self) -> Ticket
+        ensures { result ≡ (awaited_of (ask_of self.now)).ticket }
+    {
+        match self {
+            Ask::Forward { ticket, .. }
+            | Ask::CancelForward { ticket, .. }
+            | Ask::ForwardSocket { ticket, .. }
+            | Ask::CancelForwardSocket { ticket, .. }
+            | Ask::Ping { ticket }
+            | Ask::Prove { ticket, .. }
+            | Ask::OwnRequest { ticket, .. } => *ticket,
+            Ask::KeepAlive { .. } | Ask::NoMore { .. } => Ticket(0),
+        }
+    }
+
+    /// What the meaning of the reply depends on.
+    fn asked(&self, alloc: Global) -> Result<Asked, NoMemory>
+        ensures { IfOk result (λ asked. asked ≡ (awaited_of (ask_of self.now)).asked) }
+    {
+        match self {
+            Ask::Forward { .. } => Ok(Asked::Forward),
+            Ask::CancelForward { .. }
+            | Ask::ForwardSocket { .. }
+            | Ask::CancelForwardSocket { .. } => Ok(Asked::Simple),
+            Ask::KeepAlive { .. } => Ok(Asked::Keepalive),
+            Ask::NoMore { .. } => Ok(Asked::NoMoreSessions),
+            Ask::Ping { .. } => Ok(Asked::Ping),
+            Ask::Prove { keys, .. } => Ok(Asked::HostKeys {
+                keys: copied_keys(alloc, keys)?,
+            }),
+            Ask::OwnRequest { .. } => Ok(Asked::Own),
+        }
+    }
+
+    /// Its entry in the queue of requests, if it wants a reply.
+    pub(crate) fn queued(&self, alloc: Global) -> Result<Option<Awaited>, NoMemory>
+        ensures { IfOk result (λ entry. listed entry ≡ queued (ask_of self.now)) }
+    {
+        if !self.wants_answer() {
+            return Ok(None);
+        }
+        let asked = self.asked(alloc)?;
+        Ok(Some(Awaited {
+            asked,
+            ticket: self.ticket(),
+        }))
+    }
+}
+
+fn copied_keys(alloc: Global, keys: &[PublicKey]) -> Result<List<PublicKey>, NoMemory>
+    ensures { IfOk result (λ l. l ≡ keys.now) }
+{
+    let mut copies = List::new(alloc);
+    for key in keys {
+        copies.push(key.copy()?)?;
+    }
+    Ok(copies)
+}

@@ -1,0 +1,506 @@
+-- Each row of an open session that refuses or ends has its cause, and no row leaves or stops the session by a move, or
+-- reports a record of an agent: a law about the table, independent of the code that runs it.
+use Rattle.std.proofs.Common.{◌≡◌, ◌≢◌, ◌<◌, ◌≤◌, ◌+◌, ◌-◌, ◌*◌, ◌^◌, inl, inr, ℕ, zero, suc, Bool, true, false, List, [], ◌∷◌, ◌++◌, length, Option, Some, None, Result, Ok, Err, refl, ap, sym, ◌∙◌, subst, arith}
+use Rattle.std.specs.Prelude.{min, not, ◌==◌, ◌&&◌, nat_lt, is_some, if◌then◌else◌}
+use Rattle.std.specs.Int.{w32}
+use Rattle.std.specs.List.{AllByRecursion}
+use Rattle.std.proofs.lemmas.Bool.Decides.{nat_tests}
+use Rattle.sshc_wire.specs.Reads.{number_at, text_at}
+use Rattle.sshc_wire.specs.Reasons.{disconnect_of}
+use Rattle.sshc_wire.specs.declared.channel_record.ChannelRecord.{ChannelRecord}
+use Rattle.sshc_wire.specs.declared.channel_record.ChannelRecord.TheVariants as happened
+use Rattle.sshc_wire.specs.declared.channel_record.ServerOpen.{ServerOpen}
+use Rattle.sshc_wire.specs.declared.channel_record.ServerOpen.TheVariants.{Unknown}
+use Rattle.sshc_wire.specs.declared.disconnect.Disconnect.{Disconnect}
+use Rattle.sshc_wire.specs.declared.error.WireError.{WireError}
+use Rattle.sshc_wire.specs.declared.msg.TheConstants.{DISCONNECT, GLOBAL_REQUEST, REQUEST_SUCCESS, REQUEST_FAILURE, CHANNEL_OPEN, CHANNEL_OPEN_CONFIRMATION, CHANNEL_OPEN_FAILURE, CHANNEL_WINDOW_ADJUST, CHANNEL_DATA, CHANNEL_EXTENDED_DATA, CHANNEL_EOF, CHANNEL_CLOSE, CHANNEL_REQUEST, CHANNEL_SUCCESS, CHANNEL_FAILURE}
+use Rattle.sshc_wire.specs.declared.ticket.Ticket.{Ticket}
+use Rattle.sshc_key.specs.KeyGrammar.{Key}
+use Rattle.sshc_auth_event.specs.declared.channel_msg.ChannelMsg.{ChannelMsg}
+use Rattle.sshc_auth_event.specs.declared.channel_msg.ChannelMsg.TheVariants as msgs
+use Rattle.sshc_auth_event.specs.declared.event.Event.{Event}
+use Rattle.sshc_auth_event.specs.declared.event.Event.TheVariants as events
+use Rattle.sshc_transport.specs.declared.exchange.ExchangeFlag.{ExchangeFlag}
+use Rattle.sshc_transport.specs.declared.exchange.ExchangeFlag.TheVariants as flags
+use Rattle.sshc_transport.specs.declared.exchange.ExchangeResult.{ExchangeResult}
+use Rattle.sshc_wire.specs.declared.channel_open_failure.ChannelOpenFailure.{ChannelOpenFailure}
+use Rattle.sshc_auth.specs.Causes.{Breaks, BreaksBehind, IsEarly, IsEndCause, ReadsTexts, Part, Why, rest_of, text}
+use Rattle.sshc_auth.specs.OpeningState.{is_awaiting}
+use Rattle.sshc_auth.specs.OpeningTable.Packets.{is_ignored, is_too_much, waits_for_exchange}
+use Rattle.sshc_auth.specs.OpeningTable.User.{is_seen}
+use Rattle.sshc_auth.specs.declared.ended.Ended.TheVariants.{RemoteDisconnect}
+use Rattle.sshc_auth.specs.declared.ended.RemoteDisconnectInfo.{RemoteDisconnectInfo}
+use Rattle.sshc_auth.specs.declared.error.Error.TheVariants as errors
+use Rattle.sshc_auth.specs.declared.opening.Phase.{Phase}
+use Rattle.sshc_auth.specs.declared.opening.Phase.TheVariants as phases
+use Rattle.sshc_mux.specs.ChannelTable.{adjusted_at, is_established}
+use Rattle.sshc_mux.specs.ChannelTable.Opens.{awaited, next_number, unsettled_at}
+use Rattle.sshc_client_packets.specs.HostKeyProof.{Accepts}
+use Rattle.sshc_client_packets.specs.declared.channel_open.Confirmation.{Confirmation}
+use Rattle.sshc_client_packets.specs.declared.channel_open.Sender.{Sender}
+use Rattle.sshc_client_packets.specs.declared.error.PacketError.{PacketError}
+use Rattle.sshc_client_packets.specs.declared.peer_global.PeerGlobal.{PeerGlobal}
+use Rattle.sshc_client_packets.specs.declared.peer_global.PeerGlobal.TheVariants as globals
+use Rattle.sshc_client_packets.specs.declared.peer_request.PeerRequest.{PeerRequest}
+use Rattle.sshc_client_packets.specs.declared.peer_request.PeerRequest.TheVariants as requests
+use Rattle.sshc_client_packets.specs.ChannelPackets.{Refusal, RequestHead, channel_of, confirmation_of, data_of, extended_data_of, refusal_of, request_head_of, window_adjust_of}
+use Rattle.sshc_client_packets.specs.PeerGlobals.{peer_global_of}
+use Rattle.sshc_client_packets.specs.PeerOpens.{PeerOpen, peer_open_of, server_open_of}
+use Rattle.sshc_client_packets.specs.PeerRequests.{peer_request_of}
+use Rattle.sshc_client_packets.specs.Replies.{nothing_of}
+use Rattle.sshc_client_table.specs.declared.awaited.Asked.{Asked}
+use Rattle.sshc_client_table.specs.declared.awaited.Asked.TheVariants as asked
+use Rattle.sshc_client_table.specs.declared.awaited.Awaited.{Awaited}
+use Rattle.sshc_client_table.specs.declared.open_answer.OpenAnswer.{OpenAnswer}
+use Rattle.sshc_client_table.specs.declared.open_answer.OpenAnswer.TheVariants as answers
+use Rattle.sshc_client_table.specs.ListLaws.{onto-append}
+use Rattle.sshc_client_table.specs.Moves.{Counts, Hears, Move, onto}
+use Rattle.sshc_client_table.specs.SessionState.{SessionState, exchanging, is_open, is_running, own_window}
+use Rattle.sshc_client_table.specs.SessionRow.{Next, Opinions, SessionRow, asking, behind_moves, ends, established_row, goes, plain_row, refuses, reports, with_kept, with_read}
+use Rattle.sshc_client_table.specs.SessionTable.{disconnect_row, heard, held_row, numbered_row, packet_row, payload_row, reason_row, session_row}
+use Rattle.sshc_client_table.specs.SessionTable.Exchanges.{exchange_done_row, peer_kexinit_row}
+use Rattle.sshc_client_table.specs.SessionTable.Opens.{channel_open_row, confirmed_row, failed_row, numbered_open_row, open_confirmation_row, open_failure_row, served_row, serving_row, settled}
+use Rattle.sshc_client_table.specs.SessionTable.Replies.{failure_for, request_failure_row, request_success_row, success_for, success_of}
+use Rattle.sshc_client_table.specs.SessionTable.Requests.{asked_row as global_row, channel_request_row, global_request_row, if_wanted, requested_row}
+use Rattle.sshc_client_table.specs.SessionTable.Streams.{channel_close_row, channel_data_row, channel_extended_data_row, channel_report_row, received_row, retargets, window_adjust_row}
+use Rattle.sshc_client_table.specs.SessionTable.Timers.{are_too_many, inactivity_timer_row, keepalive_row, keepalive_timer_row}
+use Rattle.sshc_client_table.specs.SessionTable.Users.{asked_row, channel_moves, extension_moves, forward_moves, forwarded_moves, global_moves, open_moves, program_moves, prove_moves, reply_moves, settled_by, terminal_moves, user_moves, user_row}
+use Rattle.sshc_client_table.specs.KeptByMoves.{KeepsSession}
+use Rattle.sshc_client_table.specs.OpenCauses.{Fails, FirstIsBare, IsBare, IsBroken, IsOpenCause, OpenFails, RequestFails, adjustment, bytes, confirmation, disconnection, extended_bytes, failure, global, number_alone, opening, refusal, request, success}
+
+-- ---- what the law says
+
+-- why an open session refuses an event, and why it ends
+abbrev pub open_why : SessionState → Event → Why
+open_why s event = record { refusal = λ e. IsOpenCause s event e; end = λ e. IsEndCause s.opening event e }
+
+abbrev pub NextCaused : Why → Next → Type 0
+NextCaused P goes = Unit {0}
+NextCaused P (ends e) = P.end e
+NextCaused P (refuses e) = P.refusal e
+
+abbrev pub AllKeep : List Move → Type 0
+AllKeep moves = AllByRecursion KeepsSession moves
+
+-- the row continues, or has its cause, and none of its moves leaves or stops the session or reports a record of an
+-- agent, whatever a handler returns
+pub record RowHolds (P : Why) (row : SessionRow) : Type 0 where
+  pub caused : NextCaused P row.next
+  pub front : AllKeep row.front
+  pub back : (answer : OpenAnswer) → AllKeep (row.back answer)
+
+-- ---- parts of rows
+
+plain_holds : (P : Why) (moves : List Move) → AllKeep moves → RowHolds P (plain_row moves)
+plain_holds P moves all = record { caused = tt; front = all; back = λ answer. tt }
+
+pub two_keep : (a b : List Move) → AllKeep a → AllKeep b → AllKeep (a ++ b)
+two_keep [] b one other = other
+two_keep (m ∷ a) b one other = (one.0, two_keep a b one.1 other)
+
+behind_holds : (P : Why) (moves : List Move) (row : SessionRow) → AllKeep moves → RowHolds P row → RowHolds P (behind_moves moves row)
+behind_holds P moves row all holds = record { caused = holds.caused; front = two_keep moves row.front all holds.front; back = holds.back }
+
+read_holds : {A : Type 0} (P : Why) (r : Result A WireError) (on : A → SessionRow) → (Fails r → P.refusal errors.SshEncoding) → ((x : A) → r ≡ Ok x → RowHolds P (on x)) → RowHolds P (with_read r on)
+read_holds P (Ok x) on broken each = each x refl
+read_holds P (Err e) on broken each = record { caused = broken tt; front = tt; back = λ answer. tt }
+
+kept_holds : {A : Type 0} (P : Why) (r : Result A PacketError) (on : A → SessionRow) → (Fails r → P.refusal errors.SshEncoding) → ((x : A) → r ≡ Ok x → RowHolds P (on x)) → RowHolds P (with_kept r on)
+kept_holds P (Ok x) on broken each = each x refl
+kept_holds P (Err e) on broken each = record { caused = broken tt; front = tt; back = λ answer. tt }
+
+established_holds : (P : Why) (b : Bool) (row : SessionRow) → RowHolds P row → RowHolds P (established_row b row)
+established_holds P true row holds = holds
+established_holds P false row holds = plain_holds P [] tt
+
+cond_holds : (P : Why) (b : Bool) (x y : SessionRow) → (b ≡ true → RowHolds P x) → (b ≡ false → RowHolds P y) → RowHolds P (if b then x else y)
+cond_holds P true x y one other = one refl
+cond_holds P false x y one other = other refl
+
+moves_by : (b : Bool) (x y : List Move) → AllKeep x → AllKeep y → AllKeep (if b then x else y)
+moves_by true x y one other = one
+moves_by false x y one other = other
+
+wanted_keep : (b : Bool) (m : Move) → KeepsSession m → AllKeep (if_wanted b m)
+wanted_keep true m keeps = (keeps, tt)
+wanted_keep false m keeps = tt
+
+same_number : (n m : ℕ) → (n == m) ≡ true → n ≡ m
+same_number n m is = grind (arith, nat_tests)
+
+reports_holds : (P : Why) (front : List Move) (id : ℕ) (said : ChannelRecord) (back : List Move) → AllKeep front → AllKeep back → RowHolds P (reports front id said back)
+unfolding asking
+reports_holds P front id said back all others = record { caused = tt; front = all; back = λ answer. (tt, others) }
+
+-- a part that can't be read breaks the packet; else what follows it may break it
+part_holds : {A : Type 0} (P : Why) (parts : List Part) (r : Result (A × List ℕ) WireError) (on : A × List ℕ → SessionRow) → (BreaksBehind (λ rest. Breaks parts rest) (rest_of r) → P.refusal errors.SshEncoding) →
+    ((x : A × List ℕ) → r ≡ Ok x → (Breaks parts x.1 → P.refusal errors.SshEncoding) → RowHolds P (on x)) → RowHolds P (with_read r on)
+part_holds P parts (Ok x) on breaks each = each x refl breaks
+part_holds P parts (Err e) on breaks each = record { caused = breaks tt; front = tt; back = λ answer. tt }
+
+-- ---- packets
+
+module _ (accepts : Accepts) (o : Opinions) (s : SessionState) (n : ℕ) (body : List ℕ) where
+  abbrev P : Why
+  P = open_why s (events.Payload (n ∷ body))
+
+  -- 1
+  reason_holds : (reason : Option Disconnect) (rest : List ℕ) → (Breaks (text ∷ text ∷ []) rest → P.refusal errors.SshEncoding) → (reason ≡ None → P.refusal errors.InvalidDisconnect) →
+      ((info : RemoteDisconnectInfo) → reason ≡ Some info.reason_code → ReadsTexts info rest → P.end (RemoteDisconnect info)) → RowHolds P (reason_row reason rest)
+  reason_holds None rest breaks invalid leaves = record { caused = invalid refl; front = tt; back = λ answer. tt }
+  reason_holds (Some reason) rest breaks invalid leaves =
+      part_holds P (text ∷ []) (text_at rest) _ breaks (λ message read breaks.
+      part_holds P [] (text_at message.1) _ breaks (λ language read' breaks. record {
+        caused = leaves (record { reason_code = reason; message = message.0; lang_tag = language.0 }) refl (message.1, language.1, read, read');
+        front = tt;
+        back = λ answer. tt;
+      }))
+
+  disconnect_holds : n ≡ DISCONNECT → RowHolds P (disconnect_row body)
+  unfolding disconnect_row
+  disconnect_holds is =
+      part_holds P (text ∷ text ∷ []) (number_at w32 body) _ (λ broken. disconnection is broken) (λ code read breaks.
+      reason_holds (disconnect_of code.0) code.1 breaks (λ none. (is, rw read none)) (λ info same texts. (is, (code.0, code.1, read, same, texts))))
+
+  -- 80
+  global_holds_so : (g : PeerGlobal) → RowHolds P (global_row g)
+  unfolding asking
+  global_holds_so (globals.Keepalive want_reply) = plain_holds P _ (wanted_keep want_reply _ tt)
+  global_holds_so (globals.HostKeys keys) = record { caused = tt; front = (tt, tt); back = λ answer. (tt, tt) }
+  global_holds_so (globals.Unknown want_reply) = plain_holds P _ (wanted_keep want_reply _ tt)
+
+  global_holds : n ≡ GLOBAL_REQUEST → RowHolds P (global_request_row body)
+  unfolding global_request_row
+  global_holds is = kept_holds P (peer_global_of body) _ (λ broken. global is broken) (λ g read. global_holds_so g)
+
+  -- 81
+  bare_first : (replies : List Awaited) (first : Awaited) (rest : List Awaited) → replies ≡ first ∷ rest → IsBare first.asked → FirstIsBare replies
+  bare_first replies first rest is bare = rw is bare
+
+  asked_success : (first : Awaited) (rest : List Awaited) (what : Asked) → s.replies ≡ first ∷ rest → first.asked ≡ what → n ≡ REQUEST_SUCCESS → RowHolds P (success_of accepts s.opening.session_id what body)
+  asked_success first rest asked.Forward is same number_is = plain_holds P _ (tt, tt)
+  asked_success first rest asked.Simple is same number_is = read_holds P (nothing_of body) _ (λ broken. success number_is (bare_first s.replies first rest is (rw same tt)) broken) (λ u read. plain_holds P _ (tt, tt))
+  asked_success first rest asked.Ping is same number_is = read_holds P (nothing_of body) _ (λ broken. success number_is (bare_first s.replies first rest is (rw same tt)) broken) (λ u read. plain_holds P _ (tt, tt))
+  asked_success first rest asked.Keepalive is same number_is = read_holds P (nothing_of body) _ (λ broken. success number_is (bare_first s.replies first rest is (rw same tt)) broken) (λ u read. plain_holds P _ (tt, tt))
+  asked_success first rest asked.NoMoreSessions is same number_is = read_holds P (nothing_of body) _ (λ broken. success number_is (bare_first s.replies first rest is (rw same tt)) broken) (λ u read. plain_holds P _ (tt, tt))
+  asked_success first rest (asked.HostKeys keys) is same number_is = plain_holds P _ (tt, tt)
+  asked_success first rest asked.Own is same number_is = plain_holds P _ (tt, tt)
+
+  success_holds_so : (replies : List Awaited) → s.replies ≡ replies → n ≡ REQUEST_SUCCESS → RowHolds P (success_for accepts s.opening.session_id replies body)
+  success_holds_so [] is number_is = plain_holds P [] tt
+  success_holds_so (first ∷ rest) is number_is = asked_success first rest first.asked is refl number_is
+
+  success_holds : n ≡ REQUEST_SUCCESS → RowHolds P (request_success_row accepts s body)
+  unfolding request_success_row
+  success_holds is = success_holds_so s.replies refl is
+
+  -- 82
+  failure_holds_so : (replies : List Awaited) → RowHolds P (failure_for replies)
+  failure_holds_so [] = plain_holds P [] tt
+  failure_holds_so (first ∷ rest) = plain_holds P _ (tt, tt)
+
+  failure_holds : n ≡ REQUEST_FAILURE → RowHolds P (request_failure_row s body)
+  unfolding request_failure_row
+  failure_holds is = read_holds P (nothing_of body) _ (λ broken. failure is broken) (λ u read. failure_holds_so s.replies)
+
+  -- 90
+  settled_keep : (id : ℕ) (answer : OpenAnswer) → AllKeep (settled id answer)
+  settled_keep id answers.Accept = (tt, (tt, tt))
+  settled_keep id (answers.Reject reason) = (tt, tt)
+  settled_keep id answers.Later = tt
+
+  serving_holds : (sender : Sender) (id : ℕ) (opened : ServerOpen) → RowHolds P (serving_row sender id opened)
+  serving_holds sender id opened = record { caused = tt; front = (tt, tt); back = λ answer. (tt, settled_keep id answer) }
+
+  served_holds : (takes_unknown : Bool) (sender : Sender) (id : ℕ) (opened : ServerOpen) → RowHolds P (served_row takes_unknown sender id opened)
+  served_holds false sender id Unknown = plain_holds P _ (tt, (tt, tt))
+  served_holds takes_unknown sender id opened = serving_holds sender id opened
+
+  numbered_open_holds : (id : Option ℕ) (sender : Sender) (opened : ServerOpen) → RowHolds P (numbered_open_row o id sender opened)
+  numbered_open_holds None sender opened = record { caused = tt; front = tt; back = λ answer. tt }
+  numbered_open_holds (Some id) sender opened = served_holds o.takes_unknown sender id opened
+
+  head_fails : (r : Result PeerOpen WireError) → Fails r → OpenFails r
+  head_fails (Ok head) never = absurd never
+  head_fails (Err e) broken = tt
+
+  open_holds : n ≡ CHANNEL_OPEN → RowHolds P (channel_open_row o s body)
+  unfolding channel_open_row
+  open_holds is =
+      read_holds P (peer_open_of body) _ (λ broken. opening is (head_fails (peer_open_of body) broken)) (λ head read.
+      kept_holds P (server_open_of head.kind head.rest) _ (λ broken. opening is (rw read broken)) (λ opened read'.
+      numbered_open_holds (next_number s.table) head.sender opened))
+
+  -- 91
+  confirmed_holds : (waits : Option (Option Ticket)) (c : Confirmation) → awaited c.recipient s.table ≡ waits → confirmation_of body ≡ Ok c → n ≡ CHANNEL_OPEN_CONFIRMATION → RowHolds P (confirmed_row waits c)
+  confirmed_holds None c none read is = record { caused = inr (is, rw read none); front = tt; back = λ answer. tt }
+  confirmed_holds (Some ticket) c waits read is = reports_holds P _ _ _ _ (tt, tt) (tt, tt)
+
+  confirmation_holds : n ≡ CHANNEL_OPEN_CONFIRMATION → RowHolds P (open_confirmation_row s body)
+  unfolding open_confirmation_row
+  confirmation_holds is = read_holds P (confirmation_of body) _ (λ broken. confirmation is broken) (λ c read. confirmed_holds (awaited c.recipient s.table) c refl read is)
+
+  -- 92
+  failed_holds : (waits : Option (Option Ticket)) (r : Refusal) → RowHolds P (failed_row waits r)
+  failed_holds None r = plain_holds P [] tt
+  failed_holds (Some ticket) r = reports_holds P _ _ _ _ (tt, tt) tt
+
+  refusal_holds : n ≡ CHANNEL_OPEN_FAILURE → RowHolds P (open_failure_row s body)
+  unfolding open_failure_row
+  refusal_holds is = read_holds P (refusal_of body) _ (λ broken. refusal is broken) (λ r read. failed_holds (awaited r.id.0 s.table) r)
+
+  -- 93 to 97, 99 and 100
+  adjust_holds : n ≡ CHANNEL_WINDOW_ADJUST → RowHolds P (window_adjust_row s body)
+  unfolding window_adjust_row
+  adjust_holds is = read_holds P (window_adjust_of body) _ (λ broken. adjustment is broken) (λ a read. established_holds P (is_established a.id.0 s.table) _ (reports_holds P _ _ _ _ (tt, tt) tt))
+
+  retargets_keep : (id len : ℕ) → AllKeep (retargets o s id len)
+  retargets_keep id len = moves_by (adjusted_at id len (own_window s) s.table && nat_lt 0 o.window_target) _ _ (tt, tt) tt
+
+  received_holds : (id len : ℕ) (said : ChannelRecord) → RowHolds P (received_row o s id len said)
+  received_holds id len said = established_holds P (is_established id s.table) _ (reports_holds P _ _ _ _ (tt, retargets_keep id len) tt)
+
+  data_holds : n ≡ CHANNEL_DATA → RowHolds P (channel_data_row o s body)
+  unfolding channel_data_row
+  data_holds is = read_holds P (data_of body) _ (λ broken. bytes is broken) (λ d read. received_holds d.id.0 (length d.body) (happened.Data d.body))
+
+  extended_holds : n ≡ CHANNEL_EXTENDED_DATA → RowHolds P (channel_extended_data_row o s body)
+  unfolding channel_extended_data_row
+  extended_holds is = read_holds P (extended_data_of body) _ (λ broken. extended_bytes is broken) (λ d read. received_holds d.id.0 (length d.body) (happened.ExtendedData d.ext d.body))
+
+  report_holds : (said : ChannelRecord) → (Fails (channel_of body) → IsBroken s n body) → RowHolds P (channel_report_row s said body)
+  unfolding channel_report_row
+  report_holds said breaks = read_holds P (channel_of body) _ breaks (λ id read. established_holds P (is_established id.0 s.table) _ (reports_holds P _ _ _ _ tt tt))
+
+  close_holds : n ≡ CHANNEL_CLOSE → RowHolds P (channel_close_row s body)
+  unfolding channel_close_row
+  close_holds is = read_holds P (channel_of body) _ (λ broken. number_alone (inr (inl is)) broken) (λ id read. established_holds P (is_established id.0 s.table) _ (reports_holds P _ _ _ _ (tt, tt) tt))
+
+  -- 98
+  requested_holds : (id : ℕ) (asked : PeerRequest) → RowHolds P (requested_row id asked)
+  requested_holds id (requests.XonXoff can_do) = reports_holds P _ _ _ _ tt tt
+  requested_holds id (requests.ExitStatus status) = reports_holds P _ _ _ _ tt tt
+  requested_holds id (requests.ExitSignal signal dumped message language) = reports_holds P _ _ _ _ tt tt
+  requested_holds id (requests.Keepalive want_reply) = plain_holds P _ (wanted_keep want_reply _ tt)
+  requested_holds id (requests.Unknown want_reply) = plain_holds P _ (wanted_keep want_reply _ tt)
+
+  request_fails : (r : Result RequestHead WireError) → Fails r → RequestFails r
+  request_fails (Ok head) never = absurd never
+  request_fails (Err e) broken = tt
+
+  request_holds : n ≡ CHANNEL_REQUEST → RowHolds P (channel_request_row s body)
+  unfolding channel_request_row
+  request_holds is =
+      read_holds P (request_head_of body) _ (λ broken. request is (request_fails (request_head_of body) broken)) (λ head read.
+      established_holds P (is_established head.id.0 s.table) _
+      (kept_holds P (peer_request_of head.name head.rest) _ (λ broken. request is (rw read broken)) (λ asked read'. requested_holds head.id.0 asked)))
+
+  -- by the number
+  numbered_holds : RowHolds P (numbered_row accepts o s n body)
+  unfolding numbered_row
+  numbered_holds =
+      cond_holds P (n == GLOBAL_REQUEST) _ _ (λ is. global_holds (same_number n GLOBAL_REQUEST is)) (λ other.
+      cond_holds P (n == REQUEST_SUCCESS) _ _ (λ is. success_holds (same_number n REQUEST_SUCCESS is)) (λ other.
+      cond_holds P (n == REQUEST_FAILURE) _ _ (λ is. failure_holds (same_number n REQUEST_FAILURE is)) (λ other.
+      cond_holds P (n == CHANNEL_OPEN) _ _ (λ is. open_holds (same_number n CHANNEL_OPEN is)) (λ other.
+      cond_holds P (n == CHANNEL_OPEN_CONFIRMATION) _ _ (λ is. confirmation_holds (same_number n CHANNEL_OPEN_CONFIRMATION is)) (λ other.
+      cond_holds P (n == CHANNEL_OPEN_FAILURE) _ _ (λ is. refusal_holds (same_number n CHANNEL_OPEN_FAILURE is)) (λ other.
+      cond_holds P (n == CHANNEL_WINDOW_ADJUST) _ _ (λ is. adjust_holds (same_number n CHANNEL_WINDOW_ADJUST is)) (λ other.
+      cond_holds P (n == CHANNEL_DATA) _ _ (λ is. data_holds (same_number n CHANNEL_DATA is)) (λ other.
+      cond_holds P (n == CHANNEL_EXTENDED_DATA) _ _ (λ is. extended_holds (same_number n CHANNEL_EXTENDED_DATA is)) (λ other.
+      cond_holds P (n == CHANNEL_EOF) _ _ (λ is. report_holds happened.Eof (λ broken. number_alone (inl (same_number n CHANNEL_EOF is)) broken)) (λ other.
+      cond_holds P (n == CHANNEL_CLOSE) _ _ (λ is. close_holds (same_number n CHANNEL_CLOSE is)) (λ other.
+      cond_holds P (n == CHANNEL_REQUEST) _ _ (λ is. request_holds (same_number n CHANNEL_REQUEST is)) (λ other.
+      cond_holds P (n == CHANNEL_SUCCESS) _ _ (λ is. report_holds happened.Success (λ broken. number_alone (inr (inr (inl (same_number n CHANNEL_SUCCESS is)))) broken)) (λ other.
+      cond_holds P (n == CHANNEL_FAILURE) _ _ (λ is. report_holds happened.Failure (λ broken. number_alone (inr (inr (inr (same_number n CHANNEL_FAILURE is)))) broken)) (λ other.
+      plain_holds P [] tt))))))))))))))
+
+  -- while an exchange runs
+  from_fifty : waits_for_exchange n ≡ true → 50 ≤ n
+  from_fifty is = grind (arith, nat_tests)
+
+  too_much : is_too_much s.opening (length (n ∷ body)) ≡ true → 2 * s.opening.settings.window_size < min (s.opening.counted + length (n ∷ body)) (2 ^ 64 - 1)
+  too_much is = grind (arith, nat_tests)
+
+  held_holds : (flag : ExchangeFlag) → s.opening.flag ≡ flag → waits_for_exchange n ≡ true → RowHolds P (held_row flag s (length (n ∷ body)) (numbered_row accepts o s n body))
+  held_holds flags.Idle is waits = numbered_holds
+  held_holds flags.Ours is waits =
+      cond_holds P (is_too_much s.opening (length (n ∷ body))) _ _ (λ much. record { caused = (is, too_much much); front = tt; back = λ answer. tt })
+      (λ few. behind_holds P (Counts (length (n ∷ body)) ∷ []) (numbered_row accepts o s n body) (tt, tt) numbered_holds)
+  held_holds flags.Peer is waits = record { caused = inl (is, from_fifty waits); front = tt; back = λ answer. tt }
+
+  packet_holds : RowHolds P (packet_row accepts o s (length (n ∷ body)) n body)
+  packet_holds =
+      cond_holds P (is_ignored n) _ _ (λ ignored. plain_holds P [] tt) (λ heeded.
+      cond_holds P (waits_for_exchange n) _ _ (λ waits. held_holds s.opening.flag refl waits) (λ goes_on. numbered_holds))
+
+  some_packet_holds : RowHolds P (payload_row accepts o s (n ∷ body))
+  unfolding payload_row
+  some_packet_holds =
+      cond_holds P (n == DISCONNECT) _ _ (λ is. disconnect_holds (same_number n DISCONNECT is)) (λ other.
+      behind_holds P (heard n) (packet_row accepts o s (length (n ∷ body)) n body) (moves_by (n == GLOBAL_REQUEST) [] (Hears ∷ []) tt (tt, tt)) packet_holds)
+
+payload_holds : (accepts : Accepts) (o : Opinions) (s : SessionState) (packet : List ℕ) → RowHolds (open_why s (events.Payload packet)) (payload_row accepts o s packet)
+unfolding payload_row
+payload_holds accepts o s [] = plain_holds (open_why s (events.Payload [])) [] tt
+payload_holds accepts o s (n ∷ body) = some_packet_holds accepts o s n body
+
+-- ---- exchanges and timers
+
+kexinit_holds : (s : SessionState) (flag : ExchangeFlag) → s.opening.flag ≡ flag → RowHolds (open_why s events.PeerKexinit) (peer_kexinit_row flag)
+kexinit_holds s flags.Idle is = plain_holds (open_why s events.PeerKexinit) _ (tt, tt)
+kexinit_holds s flags.Ours is = plain_holds (open_why s events.PeerKexinit) _ (tt, tt)
+kexinit_holds s flags.Peer is = record { caused = is; front = tt; back = λ answer. tt }
+
+exchange_holds : (s : SessionState) (x : ExchangeResult) (flag : ExchangeFlag) → s.opening.flag ≡ flag → RowHolds (open_why s (events.ExchangeDone x)) (exchange_done_row flag x)
+unfolding asking
+exchange_holds s x flags.Idle is = record { caused = λ peer. let clash : flags.Idle ≡ flags.Peer = sym is ∙ peer in absurd cc; front = tt; back = λ answer. tt }
+exchange_holds s x flags.Ours is = record { caused = λ peer. let clash : flags.Ours ≡ flags.Peer = sym is ∙ peer in absurd cc; front = tt; back = λ answer. tt }
+exchange_holds s x flags.Peer is = record { caused = tt; front = tt; back = λ answer. (tt, (tt, tt)) }
+
+not_none : (most count : ℕ) → are_too_many most count ≡ true → most ≢ 0
+not_none zero count is = absurd cc
+not_none (suc most) count is = λ none. absurd cc
+
+passed_by : (b : Bool) (most count : ℕ) → (b && nat_lt most count) ≡ true → most < count
+passed_by true most count is = grind (arith, nat_tests)
+passed_by false most count is = absurd cc
+
+no_bound : (most count : ℕ) → are_too_many most count ≡ true → (most ≢ 0) × (most < count)
+no_bound most count is = (not_none most count is, passed_by (not (most == 0)) most count is)
+
+keepalive_holds : (s : SessionState) (interval : Option ℕ) → s.settings.keepalive_interval ≡ interval → RowHolds (open_why s events.KeepaliveTimer) (keepalive_row interval s)
+keepalive_holds s None is = plain_holds (open_why s events.KeepaliveTimer) [] tt
+keepalive_holds s (Some interval) is =
+    cond_holds (open_why s events.KeepaliveTimer) (are_too_many s.settings.keepalive_max (min (s.keepalives + 1) (2 ^ 64 - 1))) _ _
+    (λ many. let so = no_bound s.settings.keepalive_max (min (s.keepalives + 1) (2 ^ 64 - 1)) many in
+    record { caused = (refl, record { set = ap is_some is; bound = so.0; passed = so.1 }); front = (tt, tt); back = λ answer. tt })
+    (λ few. plain_holds (open_why s events.KeepaliveTimer) _ (tt, (tt, tt)))
+
+inactivity_holds : (s : SessionState) → RowHolds (open_why s events.InactivityTimer) (inactivity_timer_row s)
+inactivity_holds s =
+    cond_holds (open_why s events.InactivityTimer) s.opening.settings.inactivity _ _ (λ set. record { caused = (refl, set); front = tt; back = λ answer. tt })
+    (λ none. plain_holds (open_why s events.InactivityTimer) [] tt)
+
+-- ---- users
+
+program_keep : (id : ℕ) (msg : ChannelMsg) → AllKeep (program_moves id msg)
+unfolding program_moves
+program_keep id (msgs.SetEnv want_reply name value) = (tt, tt)
+program_keep id (msgs.RequestShell want_reply) = (tt, tt)
+program_keep id (msgs.Exec want_reply command) = (tt, tt)
+program_keep id (msgs.Signal signal) = (tt, tt)
+program_keep id (msgs.RequestSubsystem want_reply name) = (tt, tt)
+program_keep id msg = tt
+
+forwarded_keep : (id : ℕ) (msg : ChannelMsg) → AllKeep (forwarded_moves id msg)
+unfolding forwarded_moves
+forwarded_keep id (msgs.RequestX11 want_reply single protocol cookie screen) = (tt, tt)
+forwarded_keep id (msgs.AgentForward want_reply) = (tt, tt)
+forwarded_keep id msg = program_keep id msg
+
+terminal_keep : (id : ℕ) (msg : ChannelMsg) → AllKeep (terminal_moves id msg)
+unfolding terminal_moves
+terminal_keep id (msgs.RequestPty want_reply term columns rows width height modes) = (tt, tt)
+terminal_keep id (msgs.WindowChange columns rows width height) = (tt, tt)
+terminal_keep id msg = forwarded_keep id msg
+
+channel_keep : (id : ℕ) (msg : ChannelMsg) → AllKeep (channel_moves id msg)
+unfolding channel_moves
+channel_keep id (msgs.Data body) = (tt, tt)
+channel_keep id (msgs.ExtendedData ext body) = (tt, tt)
+channel_keep id msgs.Eof = (tt, tt)
+channel_keep id msgs.Close = (tt, tt)
+channel_keep id msg = terminal_keep id msg
+
+settled_by_keep : (id : ℕ) (result : Result (Unit {0}) ChannelOpenFailure) → AllKeep (settled_by id result)
+settled_by_keep id (Ok u) = (tt, (tt, tt))
+settled_by_keep id (Err reason) = (tt, tt)
+
+reply_keep : (s : SessionState) (id : ℕ) (result : Result (Unit {0}) ChannelOpenFailure) → AllKeep (reply_moves s id result)
+reply_keep s id result = moves_by (is_some (unsettled_at id s.table)) _ _ (settled_by_keep id result) tt
+
+prove_keep : (ticket : Ticket) (keys : List (Key × List ℕ)) → AllKeep (prove_moves ticket keys)
+prove_keep ticket [] = (tt, tt)
+prove_keep ticket (key ∷ keys) = (tt, tt)
+
+extension_keep : (seen : Bool) (ticket : Ticket) → AllKeep (extension_moves seen ticket)
+extension_keep true ticket = (tt, tt)
+extension_keep false ticket = (tt, tt)
+
+global_keep : (event : Event) → AllKeep (global_moves event)
+unfolding global_moves
+global_keep (events.Keepalive want_reply) = (tt, tt)
+global_keep (events.Ping ticket) = (tt, tt)
+global_keep (events.NoMoreSessions want_reply) = (tt, tt)
+global_keep (events.SendGlobalRequest ticket name body) = (tt, tt)
+global_keep event = tt
+
+forward_keep : (event : Event) → AllKeep (forward_moves event)
+unfolding forward_moves
+forward_keep (events.TcpIpForward ticket address port) = (tt, tt)
+forward_keep (events.CancelTcpIpForward ticket address port) = (tt, tt)
+forward_keep (events.StreamLocalForward ticket path) = (tt, tt)
+forward_keep (events.CancelStreamLocalForward ticket path) = (tt, tt)
+forward_keep event = global_keep event
+
+opens_keep : (event : Event) → AllKeep (open_moves event)
+unfolding open_moves
+opens_keep (events.ChannelOpenSession ticket) = (tt, tt)
+opens_keep (events.ChannelOpenX11 ticket originator port) = (tt, tt)
+opens_keep (events.ChannelOpenDirectTcpIp ticket host port originator originator_port) = (tt, tt)
+opens_keep (events.ChannelOpenDirectStreamLocal ticket path) = (tt, tt)
+opens_keep event = forward_keep event
+
+users_keep : (s : SessionState) (event : Event) → AllKeep (user_moves s event)
+unfolding user_moves
+users_keep s (events.Authenticate ticket user method) = (tt, tt)
+users_keep s (events.Close id) = (tt, tt)
+users_keep s (events.Channel id msg) = channel_keep id.0 msg
+users_keep s (events.ServerChannelOpenReply id result) = reply_keep s id.0 result
+users_keep s events.Rekey = (tt, tt)
+users_keep s (events.AwaitExtensionInfo ticket name) = extension_keep (is_seen s.opening.seen name) ticket
+users_keep s (events.GetServerSigAlgs ticket) = (tt, tt)
+users_keep s (events.HostKeysProve ticket keys) = prove_keep ticket keys
+users_keep s event = opens_keep event
+
+-- no answer is awaited in an open session
+awaits_none : (phase : Phase) → is_open phase ≡ true → is_awaiting phase ≡ false
+awaits_none phases.Open is = refl
+awaits_none phase is = absurd cc
+
+asked_holds : (s : SessionState) (event : Event) → is_open s.opening.phase ≡ true → RowHolds (open_why s event) (asked_row s event)
+unfolding asked_row
+asked_holds s (events.Disconnect reason description language) is = record { caused = tt; front = (tt, tt); back = λ answer. tt }
+asked_holds s events.Gone is = record { caused = (refl, awaits_none s.opening.phase is); front = tt; back = λ answer. tt }
+asked_holds s event is = plain_holds (open_why s event) (user_moves s event) (users_keep s event)
+
+not_idle : (flag : ExchangeFlag) → is_running flag ≡ true → flag ≢ flags.Idle
+not_idle flags.Idle is = absurd cc
+not_idle flags.Ours is = λ same. absurd cc
+not_idle flags.Peer is = λ same. absurd cc
+
+user_holds : (s : SessionState) (event : Event) → is_open s.opening.phase ≡ true → (s.opening.flag ≢ flags.Idle → IsEarly s.opening.flag event) → RowHolds (open_why s event) (user_row s event)
+unfolding user_row
+user_holds s event is early =
+    cond_holds (open_why s event) (exchanging s) _ _ (λ running. record { caused = early (not_idle s.opening.flag running); front = tt; back = λ answer. tt })
+    (λ idle. asked_holds s event is)
+
+-- ---- any event
+
+-- this holds of each row of an open session
+pub session_holds : (accepts : Accepts) (o : Opinions) (s : SessionState) (event : Event) → is_open s.opening.phase ≡ true → RowHolds (open_why s event) (session_row accepts o s event)
+unfolding session_row keepalive_timer_row
+session_holds accepts o s events.PeerKexinit is = kexinit_holds s s.opening.flag refl
+session_holds accepts o s (events.ExchangeDone x) is = exchange_holds s x s.opening.flag refl
+session_holds accepts o s (events.Payload packet) is = payload_holds accepts o s packet
+session_holds accepts o s events.TransportFailed is = record { caused = refl; front = tt; back = λ answer. tt }
+session_holds accepts o s events.RekeyLimit is = plain_holds (open_why s events.RekeyLimit) _ (tt, tt)
+session_holds accepts o s events.KeepaliveTimer is = keepalive_holds s s.settings.keepalive_interval refl
+session_holds accepts o s events.InactivityTimer is = inactivity_holds s
+session_holds accepts o s event is = user_holds s event is (λ running. running)
+
+-- none of all the moves of a row, with those after one answer of a handler, leaves or stops the session
+pub all_keep : (P : Why) (row : SessionRow) (answer : OpenAnswer) → RowHolds P row → AllKeep (onto row.front (row.back answer))
+all_keep P row answer holds =
+    subst (λ (moves : List Move). AllKeep moves) (sym (onto-append row.front (row.back answer))) (two_keep row.front (row.back answer) holds.front (holds.back answer))

@@ -1,4 +1,0 @@
-pub mod Blocks
-pub mod Draws
-pub mod Events
-pub mod Login

@@ -1,0 +1,11 @@
+//! A session for programs with threads: its tickets, the records held for them, and how an answer is read.
+#![tactic(auto)]
+
+mod answers;
+mod tickets;
+
+pub use answers::{
+    algs_answer, auth_answer, done_answer, open_answer, port_answer, prompt_answer, reply_answer,
+};
+pub use sshc_auth::{AuthResult, KeyboardInteractiveAuthResponse};
+pub use tickets::Tickets;

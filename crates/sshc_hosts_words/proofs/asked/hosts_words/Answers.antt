@@ -1,0 +1,16 @@
+use Rattle.std.proofs.Common.{◌≤◌, ◌∙◌, length, sym, arith}
+use Rattle.sshc_hosts_words.specs.WordLaws.{same_word, at_place}
+use Rattle.sshc_hosts_words.proofs.WordLists.{five_words}
+use Rattle.sshc_hosts_words.proofs.Parts.{asks_by}
+use Rattle.sshc_hosts_words.proofs.asked.hosts_words.Goals as goal
+
+pub returns-in-Some-clause-some : goal.returns-in-Some-clause-some
+returns-in-Some-clause-some c =
+    let many : 5 ≤ length c.args.words.now = omega (arith, c.if-words-lt5.false) in
+    asks_by c.with_verb.result c.args.words.now _ c.as_str-2.result.now _ _
+    (five_words c.args.words.now _ _ _ _ _ many
+    (at_place c.args.words.now 0 _ _ c.index-words-0.is (sym c.as_str.ensures.same ∙ same_word _ _ c.if-ne.ensures))
+    (at_place c.args.words.now 1 _ _ c.index-words-1.is (sym c.as_str-in-Some.ensures.same))
+    (at_place c.args.words.now 2 _ _ c.index-words-2.is (sym c.as_str-in-Some-2.ensures.same))
+    (at_place c.args.words.now 3 _ _ c.index-words-3.is (sym c.as_str-2.ensures.same))
+    (at_place c.args.words.now 4 _ _ c.index-words-4.is (sym c.as_str-in-Some-3.ensures.same))) c.in-Some.ensures.some c.with_verb.ensures.some

@@ -1,6 +1,0 @@
--- No event of an agent ends a run.
-use Rattle.sshc_run.specs.SessionPart.{IsAgentCause}
-use Rattle.sshc_run.proofs.OpeningFirsts.{EndsNone}
-
-pub agent_ends_none : EndsNone IsAgentCause
-agent_ends_none frame e (x, read, is) = cc

@@ -1,0 +1,12 @@
+pub mod EventKinds
+pub mod MethodSorts
+pub mod ChannelSorts
+pub mod EventParts
+pub mod EventFields
+pub mod EventReading
+pub mod Gives
+pub mod Script
+pub mod Reading
+pub mod FrontLaws
+pub mod KindLaw
+pub mod ScriptGrammar

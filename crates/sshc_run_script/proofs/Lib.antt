@@ -1,0 +1,47 @@
+-- Facts that the proofs of the functions cite.
+pub mod Lines
+pub mod AnsweredQuestions
+pub mod TakenEvents
+pub mod OpeningSteps
+pub mod OpeningCauses
+pub mod UnopenedTurns
+pub mod SessionSteps
+pub mod SettingsKept
+pub mod TurnCauses
+pub mod RunReplies
+pub mod RunChannels
+pub mod RunOpenCounts
+pub mod RunOpens
+pub mod RunUnfold
+pub mod RunLoop
+pub mod RunEqualsFold
+pub mod OpeningContinues
+pub mod RunLaws
+pub mod PartRuns
+pub mod Products
+pub mod ProductGate
+pub mod ProductTurns
+pub mod OpeningFirsts
+pub mod SessionAsks
+pub mod AgentsTurns
+pub mod SessionPart
+pub mod AgentEnds
+pub mod EventTurns
+pub mod ProductRuns
+pub mod AskersLaws
+pub mod HostKeyGate
+pub mod RunHistories
+pub mod Promises
+pub mod RunCauses
+pub mod ScriptExtension
+pub mod StandardFacts
+pub mod StandardEvents
+pub mod StandardLogin
+pub mod StandardLearned
+pub mod StandardRows
+mod ShortUsers
+mod RunPasswords
+mod RunSigned
+mod RunCalls
+mod OpenedKeys
+pub mod KeptPromises

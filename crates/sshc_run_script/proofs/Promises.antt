@@ -1,0 +1,166 @@
+-- The guarantees of a run by its table.
+use Rattle.std.proofs.Common.{◌≡◌, ℕ, List, [], ◌++◌, length, drop, Option, Some, None, Result, Ok, Err, refl, ap, sym, ◌∙◌, subst, inl, inr, arith}
+use Rattle.std.proofs.Math.Path.{fun_ext}
+use Rattle.std.proofs.Math.Seq.{drop-append_seam}
+use Rattle.std.proofs.lemmas.List.{append-nil}
+use Rattle.sshc_wire.specs.Contents.{prepend, append, WroteFront, prepend-nothing}
+use Rattle.sshc_wire.specs.Faults.{Rose}
+use Rattle.sshc_key.specs.Signers.{SignCall, since}
+use Rattle.sshc_key.specs.Asking.{Answer}
+use Rattle.sshc_auth.specs.declared.ended.Ended.{Ended}
+use Rattle.sshc_client_packets.specs.HostKeyProof.{Accepts}
+use Rattle.sshc_run_script.specs.declared.error.RunError.{RunError}
+use Rattle.sshc_run_script.specs.declared.error.RunError.TheVariants as errors
+use Rattle.sshc_run_script.specs.Headline.{IsGated, IsPrefix, IsDone, KeptBy, IsKept, IsComplete}
+use Rattle.sshc_run_script.specs.KnownHosts.{Hosts}
+use Rattle.sshc_run_script.specs.Machine.{ended, refused, Machine}
+use Rattle.sshc_run_script.specs.Outcome.{Streams, Ending, told, cut, unread, ending_of, IsExact, EndsAs, EndsBy, Ends, HasEarlier, HasWritten}
+use Rattle.sshc_run_script.specs.RecordLines.{lines}
+use Rattle.sshc_run_reader.specs.Script.{taken, stop_of}
+use Rattle.sshc_run_script.specs.ScriptRun.{Run, at_first, run, script_run, answers_of, answers_since}
+use Rattle.sshc_run_script.specs.Configured.{RunSettings}
+use Rattle.sshc_run_script.specs.RunTurn.{run_machine}
+use Rattle.sshc_run_script.proofs.HostKeyGate.{gated}
+use Rattle.sshc_run_script.proofs.RunUnfold.{not_nothing, run_nothing, nothing_held}
+use Rattle.sshc_run_script.proofs.RunEqualsFold.{joined}
+use Rattle.sshc_run_script.proofs.Lines.{wrote_all, wrote_nothing}
+use Rattle.sshc_run_script.proofs.ScriptExtension.{begins, wrote_longer}
+
+-- the calls that were added since
+pub since_is : (old new gained : List SignCall) → new ≡ old ++ gained → since old new ≡ gained
+since_is old new gained is = ap (drop (length old)) is ∙ drop-append_seam old gained
+
+-- by a table that is the same for all answers and bytes
+ends_same : (n place last : ℕ) (table table' : List Answer → List ℕ → Run) (before now : Streams) (a : Result Ended RunError) → ((answers : List Answer) (bytes : List ℕ) → table answers bytes ≡ table' answers bytes) →
+    Ends n place last table before now a → Ends n place last table' before now a
+ends_same n place last table table' before now a same ends =
+    subst (λ (t : List Answer → List ℕ → Run). Ends n place last t before now a) (fun_ext (λ (answers : List Answer). fun_ext (same answers))) ends
+
+-- in each case a prefix of the lines is written
+wrote_some : (ending : Ending) (table : List Answer → List ℕ → Run) (given : List ℕ) (gained : List SignCall) (before now : Streams) (a : Result Ended RunError) → EndsAs ending table given gained before now a →
+    WroteFront before.held now.held (lines (table (answers_of gained) given).records)
+wrote_some told table given gained before now a by = wrote_all before.held now.held (lines (table (answers_of gained) given).records) by.all
+wrote_some cut table given gained before now a by = by
+wrote_some unread table given gained before now a by = wrote_all before.held now.held (lines (table (answers_of gained) given).records) by
+
+module _ {S : Type 0} (m : Machine S) (max : ℕ) where
+  -- the recursion over bytes is the run of the script
+  joined_at : (answers : List Answer) (bytes : List ℕ) → run m.turn max (at_first m.first) answers bytes ≡ script_run m max answers bytes
+  joined_at answers bytes = joined m.turn max (at_first m.first) answers bytes
+
+  pub by_events : (before now : Streams) (a : Result Ended RunError) → Ends max 0 0 (run m.turn max (at_first m.first)) before now a → Ends max 0 0 (script_run m max) before now a
+  by_events before now a ends = ends_same max 0 0 (run m.turn max (at_first m.first)) (script_run m max) before now a joined_at ends
+
+  -- if memory ran out before the first event was read
+  pub none_ran : (before : Streams) → Ends max 0 0 (script_run m max) before before (Err errors.NoMemory)
+  none_ran before = (
+    [],
+    [],
+    record {
+      read = sym (prepend-nothing before.left);
+      asked = sym (append-nil before.calls);
+      made = ap (λ (r : Run). r.calls) (sym (joined_at [] []) ∙ run_nothing m.turn max (at_first m.first) []);
+      by = wrote_nothing before.held _;
+      early = λ later front b more is. absurd (not_nothing front b more is);
+      count = omega arith;
+      few = nothing_held max 0 0;
+    },
+  )
+
+  prefix_by : (given bytes : List ℕ) (answers : List Answer) (left held written : Option (List ℕ)) → prepend given left ≡ Some bytes → WroteFront held written (lines (run m.turn max (at_first m.first) answers given).records) →
+      (later : List Answer) → WroteFront held written (lines (run m.turn max (at_first m.first) (answers ++ later) bytes).records)
+  prefix_by given bytes answers None held written read wrote later = absurd cc
+  prefix_by given bytes answers (Some more) held written read wrote later =
+      let same : given ++ more ≡ bytes = cc in
+      rw (sym same) (wrote_longer held written _ _ (begins m.turn max (at_first m.first) answers later given more).0 wrote)
+
+  -- the bytes that were written are a prefix of the whole script's records' lines, whatever the signer would answer
+  -- then
+  pub prefix_later : (before now : Streams) (a : Result Ended RunError) → Ends max 0 0 (script_run m max) before now a → (later : List Answer) → IsPrefix (script_run m max (answers_since before.calls now.calls ++ later)) before.left before.held now.held
+  prefix_later before now a (given, gained, end) later = λ bytes said.
+      let here : WroteFront before.held now.held (lines (script_run m max (answers_of gained) given).records) = wrote_some (ending_of a) (script_run m max) given gained before now a end.by in
+      let gained_is : gained ≡ since before.calls now.calls = sym (since_is before.calls now.calls gained end.asked) in
+      subst (λ (calls : List SignCall). WroteFront before.held now.held (lines (script_run m max (answers_of calls ++ later) bytes).records)) gained_is
+      (subst (λ (r : Run). WroteFront before.held now.held (lines r.records)) (joined_at (answers_of gained ++ later) bytes)
+      (prefix_by given bytes (answers_of gained) now.left before.held now.held (sym end.read ∙ said)
+      (subst (λ (r : Run). WroteFront before.held now.held (lines r.records)) (sym (joined_at (answers_of gained) given)) here) later))
+
+  pub prefix_of : (before now : Streams) (a : Result Ended RunError) → Ends max 0 0 (script_run m max) before now a → IsPrefix (script_run m max (answers_since before.calls now.calls)) before.left before.held now.held
+  prefix_of before now a ends =
+      subst (λ (answers : List Answer). IsPrefix (script_run m max answers) before.left before.held now.held) (append-nil (answers_since before.calls now.calls)) (prefix_later before now a ends [])
+
+pub gate_of : (hosts : Hosts) (accepts : Accepts) (settings : RunSettings) (max : ℕ) (before now : Streams) (a : Result Ended RunError) → Ends max 0 0 (script_run (run_machine hosts accepts settings) max) before now a → IsGated hosts max before.left now.left before.held now.held
+gate_of hosts accepts settings max before now a (given, gained, end) = (
+  given,
+  end.read,
+  λ no. (
+    (script_run (run_machine hosts accepts settings) max (answers_of gained) given).records,
+    gated hosts accepts (taken max given) (run_machine hosts accepts settings).first (stop_of max given) (answers_of gained) (record { exchanging = refl; runs = λ same. absurd cc; fresh = refl }) no,
+    wrote_some (ending_of a) (script_run (run_machine hosts accepts settings) max) given gained before now a end.by,
+  ),
+)
+
+-- ---- over any table
+
+-- the table over the whole script is the one over the bytes that were read
+same_by : (table : List Answer → List ℕ → Run) (given bytes : List ℕ) (gained : List SignCall) (before now : Streams) (left : Option (List ℕ)) (a : Result Ended RunError) → now.left ≡ left → prepend given left ≡ Some bytes → IsExact table given gained before now a →
+    table (answers_of gained) bytes ≡ table (answers_of gained) given
+same_by table given bytes gained before now None a is read exact = absurd cc
+same_by table given bytes gained before now (Some more) a is read exact =
+    let same : bytes ≡ given ++ more = cc in
+    ap (table (answers_of gained)) same ∙ ap (λ (answers : List Answer). table answers (given ++ more)) (sym (append-nil (answers_of gained))) ∙ exact.rest [] more is
+
+pub same_table : (table : List Answer → List ℕ → Run) (given bytes : List ℕ) (gained : List SignCall) (before now : Streams) (a : Result Ended RunError) → before.left ≡ prepend given now.left → before.left ≡ Some bytes → IsExact table given gained before now a →
+    table (answers_of gained) bytes ≡ table (answers_of gained) given
+same_table table given bytes gained before now a read said exact = same_by table given bytes gained before now now.left a refl (sym read ∙ said) exact
+
+-- the answers are those of the calls
+pub with_answers : (P : List Answer → Type 0) (before now : Streams) (gained : List SignCall) → now.calls ≡ before.calls ++ gained → P (answers_of gained) → P (answers_since before.calls now.calls)
+with_answers P before now gained asked holds = subst (λ (calls : List SignCall). P (answers_of calls)) (sym (since_is before.calls now.calls gained asked)) holds
+
+pub done_of : (max : ℕ) (table : List Answer → List ℕ → Run) (before now : Streams) (a : Result Ended RunError) → Ends max 0 0 table before now a → IsDone (table (answers_since before.calls now.calls)) before.left now.left before.held now.held a
+done_of max table before now (Err e) ends = tt
+done_of max table before now (Ok e) (given, gained, end) =
+    with_answers (λ (answers : List Answer). IsDone (table answers) before.left now.left before.held now.held (Ok e)) before now gained end.asked (
+      λ last. end.by.whole (ap Ok last),
+      λ bytes said.
+          (let same : table (answers_of gained) bytes ≡ table (answers_of gained) given = same_table table given bytes gained before now (Ok e) end.read said end.by in
+          (ap (λ (r : Run). r.stop) same ∙ end.by.stop, end.by.all ∙ ap (λ (r : Run). append before.held (lines r.records)) (sym same))),
+    )
+
+kept_as : (ending : Ending) (table : List Answer → List ℕ → Run) (given : List ℕ) (gained : List SignCall) (before now : Streams) (e : RunError) → EndsAs ending table given gained before now (Err e) → HasEarlier table given gained before.held now.held → KeptBy ending (table (answers_of gained)) given before.held now.held e
+kept_as told table given gained before now e by early = (by.stop, by.all)
+kept_as cut table given gained before now e by early = λ front b more is.
+    subst (λ (answers : List Answer). HasWritten before.held now.held (lines (table answers front).records)) (append-nil (answers_of gained)) (early [] front b more is)
+kept_as unread table given gained before now e by early = by
+
+pub kept_of : (max : ℕ) (table : List Answer → List ℕ → Run) (before now : Streams) (a : Result Ended RunError) → Ends max 0 0 table before now a → IsKept (table (answers_since before.calls now.calls)) before.left now.left before.held now.held a
+kept_of max table before now (Ok e) ends = tt
+kept_of max table before now (Err e) (given, gained, end) =
+    with_answers (λ (answers : List Answer). IsKept (table answers) before.left now.left before.held now.held (Err e)) before now gained end.asked (given, end.read, kept_as (ending_of (Err e)) table given gained before now e end.by end.early)
+
+refused_not : (table : List Answer → List ℕ → Run) (given bytes : List ℕ) (gained : List SignCall) (before now : Streams) (e : Ended) (x : RunError) → before.left ≡ prepend given now.left → before.left ≡ Some bytes → (table (answers_of gained) bytes).stop ≡ ended e →
+    IsExact table given gained before now (Err x) → ⊥
+refused_not table given bytes gained before now e x read said good exact =
+    let same : table (answers_of gained) bytes ≡ table (answers_of gained) given = same_table table given bytes gained before now (Err x) read said exact in
+    let clash : ended e ≡ refused x = sym good ∙ ap (λ (r : Run). r.stop) same ∙ exact.stop in
+    cc
+
+ended_same : (x y : Ended) → ended x ≡ ended y → x ≡ y
+ended_same x y h = cc
+
+complete_by : (max : ℕ) (table : List Answer → List ℕ → Run) (before now : Streams) (reads reads' writes writes' : ℕ) (a : Result Ended RunError) (given : List ℕ) (gained : List SignCall) → EndsBy max 0 0 table before now a given gained →
+    (a ≡ Err errors.ReadFault → Rose reads reads') → (a ≡ Err errors.WriteFault → Rose writes writes') → IsComplete (table (answers_of gained)) before.left reads reads' writes writes' a
+complete_by max table before now reads reads' writes writes' (Ok x) given gained end r w = λ bytes e said good quiet still.
+    let same : table (answers_of gained) bytes ≡ table (answers_of gained) given = same_table table given bytes gained before now (Ok x) end.read said end.by in
+    let ends : ended x ≡ ended e = sym end.by.stop ∙ ap (λ (t : Run). t.stop) (sym same) ∙ good in
+    inl (ap Ok (ended_same x e ends))
+complete_by max table before now reads reads' writes writes' (Err errors.NoMemory) given gained end r w = λ bytes e said good quiet still. inr refl
+complete_by max table before now reads reads' writes writes' (Err errors.ReadFault) given gained end r w = λ bytes e said good quiet still. absurd (quiet (r refl))
+complete_by max table before now reads reads' writes writes' (Err errors.WriteFault) given gained end r w = λ bytes e said good quiet still. absurd (still (w refl))
+complete_by max table before now reads reads' writes writes' (Err x) given gained end r w = λ bytes e said good quiet still. absurd (refused_not table given bytes gained before now e x end.read said good end.by)
+
+pub complete_of : (max : ℕ) (table : List Answer → List ℕ → Run) (before now : Streams) (reads reads' writes writes' : ℕ) (a : Result Ended RunError) → Ends max 0 0 table before now a →
+    (a ≡ Err errors.ReadFault → Rose reads reads') → (a ≡ Err errors.WriteFault → Rose writes writes') → IsComplete (table (answers_since before.calls now.calls)) before.left reads reads' writes writes' a
+complete_of max table before now reads reads' writes writes' a (given, gained, end) r w =
+    with_answers (λ (answers : List Answer). IsComplete (table answers) before.left reads reads' writes writes' a) before now gained end.asked (complete_by max table before now reads reads' writes writes' a given gained end r w)

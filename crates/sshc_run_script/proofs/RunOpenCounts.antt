@@ -1,0 +1,337 @@
+-- Over a whole run no more opens are answered than were asked for. The count along the way is that of the answers and
+-- of the opens that still wait, below a number that is above all those that are answered.
+use Rattle.std.proofs.Common.{◌≡◌, ◌⊎◌, inl, inr, ℕ, zero, suc, ◌+◌, ◌<◌, ◌≤◌, Bool, true, false, if◌then◌else◌, ◌==◌, List, [], ◌∷◌, ◌++◌, length, drop, Option, Some, None, Result, Ok, Err, is_some, refl, ap, sym, subst, arith}
+use Rattle.std.specs.List.{AllByRecursion}
+use Rattle.std.proofs.lemmas.Bool.{eqb-true}
+use Rattle.std.proofs.lemmas.Bool.Decides.{nat_tests}
+use Rattle.sshc_wire.specs.declared.record.Record.{Record}
+use Rattle.sshc_wire.specs.declared.record.Record.TheVariants.{Resolved}
+use Rattle.sshc_wire.specs.declared.resolution.Resolution.{Resolution}
+use Rattle.sshc_wire.specs.declared.resolution.Resolution.TheVariants.{ChannelOpened, ChannelOpenFailed}
+use Rattle.sshc_wire.specs.declared.ticket.Ticket.{Ticket}
+use Rattle.sshc_wire.specs.Outgoing.{listed}
+use Rattle.sshc_key.specs.Asking.{Answer, Always}
+use Rattle.sshc_key.specs.AskingLaws.{always_any, always_makes}
+use Rattle.sshc_auth_event.specs.declared.event.Event.{Event}
+use Rattle.sshc_auth.specs.OpeningTable.{asked_of}
+use Rattle.sshc_mux.specs.ChannelState.{TableState}
+use Rattle.sshc_mux.specs.ChannelTable.{Said, records_of}
+use Rattle.sshc_mux.specs.ChannelTable.Opens.{awaited, next_number}
+use Rattle.sshc_mux.specs.ChannelAccount.{Call, IsLegal, LegalStays, OpenUser, no_channels}
+use Rattle.sshc_client_packets.specs.HostKeyProof.{Accepts}
+use Rattle.sshc_client_table.specs.Moves.{Move, after, calls_in, calls_of, deed_of, did, onto, done as when_done}
+use Rattle.sshc_client_table.specs.OpensOnce.{AnswersOne, NoOpenAnswer, OpensAreAnsweredOnce, call_opens, is_number}
+use Rattle.sshc_client_table.specs.SessionState.{SessionState, is_open}
+use Rattle.sshc_client_table.specs.SessionTable.{session_row}
+use Rattle.sshc_client_state.specs.Start.{new_session}
+use Rattle.sshc_client.specs.Follows.{all_moves, default_opinions}
+use Rattle.sshc_run_reader.specs.declared.error.EventError.{EventError}
+use Rattle.sshc_run_reader.specs.declared.error.EventError.TheVariants as reads
+use Rattle.sshc_run_reader.specs.EventReading.{event_of}
+use Rattle.sshc_run_reader.specs.Script.{Frame, taken}
+use Rattle.sshc_run_script.specs.ChannelRuns.{ComesCalling, calls_at, calls_by, row_calls, said_open}
+use Rattle.sshc_run_script.specs.Configured.{RunSettings}
+use Rattle.sshc_run_script.specs.KnownHosts.{Hosts}
+use Rattle.sshc_run_script.specs.Machine.{stop_next}
+use Rattle.sshc_run_script.specs.OpenCounts.{OpensAreCounted, is_open_answer, opens_answered, opens_asked}
+use Rattle.sshc_run_script.specs.Part.{own_events}
+use Rattle.sshc_run_script.specs.SessionPart.{session_own}
+use Rattle.sshc_run_script.specs.SessionTurn.{SessionTurn, in_session, read_turn, said_by, session_turn, step_turn}
+use Rattle.sshc_run_script.specs.Turn.{asked_turn}
+
+-- ---- sums below a number
+
+abbrev sum : (ℕ → ℕ) → ℕ → ℕ
+sum f zero = 0
+sum f (suc n) = f n + sum f n
+
+sum_le : (f a g o : ℕ → ℕ) → ((n : ℕ) → f n + a n ≤ g n + o n) → (m : ℕ) → sum f m + sum a m ≤ sum g m + sum o m
+sum_le f a g o each zero = omega arith
+sum_le f a g o each (suc n) = let here = each n in let rest = sum_le f a g o each n in omega (arith, here, rest)
+
+sum_zero : (m : ℕ) → sum (λ n. 0) m ≡ 0
+sum_zero zero = refl
+sum_zero (suc n) = let rest = sum_zero n in omega (arith, rest)
+
+-- 1 if a test succeeds
+abbrev bit : Bool → ℕ
+bit true = 1
+bit false = 0
+
+-- 1 at one number
+abbrev one_at : ℕ → ℕ → ℕ
+one_at id n = bit (id == n)
+
+one_below_at : (id n : ℕ) (b : Bool) → (id == n) ≡ b → suc n ≤ id → bit b ≡ 0
+one_below_at id n true is le = let same : id ≡ n = eqb-true id n is in absurd (omega (arith, same, le))
+one_below_at id n false is le = refl
+
+one_below : (id m : ℕ) → m ≤ id → sum (one_at id) m ≡ 0
+one_below id zero le = refl
+one_below id (suc n) le =
+    let here : one_at id n ≡ 0 = one_below_at id n (id == n) refl le in
+    let rest : sum (one_at id) n ≡ 0 = one_below id n (omega (arith, le)) in
+    omega (arith, here, rest)
+
+one_most_at : (id n : ℕ) (b : Bool) → (id == n) ≡ b → sum (one_at id) n ≤ 1 → bit b + sum (one_at id) n ≤ 1
+one_most_at id n true is rest = let same : id ≡ n = eqb-true id n is in let none : sum (one_at id) n ≡ 0 = one_below id n (omega (arith, same)) in omega (arith, none)
+one_most_at id n false is rest = omega (arith, rest)
+
+one_most : (id m : ℕ) → sum (one_at id) m ≤ 1
+one_most id zero = omega arith
+one_most id (suc n) = one_most_at id n (id == n) refl (one_most id n)
+
+other_below : (id n : ℕ) → (id == n) ≡ false → id < suc n → id < n
+other_below id n isnt lt = grind (arith, nat_tests, isnt, lt)
+
+one_there_at : (id n : ℕ) (b : Bool) → (id == n) ≡ b → id < suc n → (id < n → 1 ≤ sum (one_at id) n) → 1 ≤ bit b + sum (one_at id) n
+one_there_at id n true is lt rest = omega arith
+one_there_at id n false is lt rest = let there = rest (other_below id n is lt) in omega (arith, there)
+
+one_there : (id m : ℕ) → id < m → 1 ≤ sum (one_at id) m
+one_there id zero lt = absurd (omega (arith, lt))
+one_there id (suc n) lt = one_there_at id n (id == n) refl lt (one_there id n)
+
+-- ---- answers among records
+
+answered_two : (a b : List Record) → opens_answered (a ++ b) ≡ opens_answered a + opens_answered b
+answered_two [] b = omega arith
+answered_two (r ∷ a) b = let rest = answered_two a b in omega (arith, rest)
+
+answered_onto : (a b : List Record) → opens_answered (onto a b) ≡ opens_answered a + opens_answered b
+answered_onto a [] = omega arith
+answered_onto a (r ∷ b) = answered_two a (r ∷ b)
+
+silent_one : (r : Record) → NoOpenAnswer r → is_open_answer r ≡ false
+silent_one (Resolved ticket (ChannelOpened id)) none = absurd none
+silent_one (Resolved ticket (ChannelOpenFailed reason)) none = absurd none
+silent_one r none = refl
+
+silent : (rs : List Record) → AllByRecursion NoOpenAnswer rs → opens_answered rs ≡ 0
+silent [] none = refl
+silent (r ∷ rs) (here, rest) = let one : is_open_answer r ≡ false = silent_one r here in let more = silent rs rest in rw one (omega (arith, more))
+
+packets_silent : (said : List Said) → opens_answered (records_of said) ≡ 0
+packets_silent [] = refl
+packets_silent (s ∷ said) = let rest = packets_silent said in omega (arith, rest)
+
+one_answer : (b : Bool) → (if b then 1 else 0) + 0 ≤ 1
+one_answer true = omega arith
+one_answer false = omega arith
+
+resolved_most : (b : Bool) (ticket : Ticket) (resolution : Resolution) → opens_answered (if b then [] else Resolved ticket resolution ∷ []) ≤ 1
+resolved_most true ticket resolution = omega arith
+resolved_most false ticket resolution = one_answer (is_open_answer (Resolved ticket resolution))
+
+-- ---- opens that wait
+
+abbrev waits : TableState → ℕ → ℕ
+waits t n = bit (is_some (awaited n t))
+
+abbrev waiting : ℕ → TableState → ℕ
+waiting m t = sum (waits t) m
+
+abbrev opens_at : Option Call → TableState → ℕ → ℕ
+opens_at call t n = bit (call_opens n call t)
+
+opened_at : (m : ℕ) (number : Option ℕ) → sum (λ n. bit (is_number n number)) m ≤ 1
+opened_at m None = let none = sum_zero m in omega (arith, none)
+opened_at m (Some id) = one_most id m
+
+-- a call opens at most one
+opened_most : (m : ℕ) (call : Option Call) (t : TableState) → sum (opens_at call t) m ≤ opens_asked (listed call)
+opened_most m None t = let none = sum_zero m in omega (arith, none)
+opened_most m (Some (OpenUser window packet ticket)) t = let most = opened_at m (next_number t) in omega (arith, most)
+opened_most m (Some call) t = let none = sum_zero m in omega (arith, none)
+
+-- ---- one move
+
+waits_most : (b : Bool) → bit b ≤ 1
+waits_most true = omega arith
+waits_most false = omega arith
+
+none_waits : (t : TableState) (n : ℕ) → awaited n t ≡ None → waits t n ≡ 0
+none_waits t n none = ap (λ (o : Option (Option Ticket)). bit (is_some o)) none
+
+some_waits : (t : TableState) (n : ℕ) (ticket : Option Ticket) → awaited n t ≡ Some ticket → waits t n ≡ 1
+some_waits t n ticket some = ap (λ (o : Option (Option Ticket)). bit (is_some o)) some
+
+module _ (opens : OpensAreAnsweredOnce) (stays : LegalStays) where
+  -- under each number: an open that waits after a move did so before, or the move opens it
+  keeps_by : (m : Move) (s : SessionState) → IsLegal s.table → (n : ℕ) (o : Option (Option Ticket)) (b : Bool) → awaited n s.table ≡ o → call_opens n (deed_of m s).call s.table ≡ b →
+      waits (after m s).table n ≤ waits s.table n + bit b
+  keeps_by m s legal n (Some ticket) b is opening =
+      let one : waits s.table n ≡ 1 = some_waits s.table n ticket is in
+      let most = waits_most (is_some (awaited n (after m s).table)) in
+      omega (arith, one, most)
+  keeps_by m s legal n None true is opening = let most = waits_most (is_some (awaited n (after m s).table)) in omega (arith, most)
+  keeps_by m s legal n None false is opening = let none : waits (after m s).table n ≡ 0 = none_waits (after m s).table n (opens.stays n m s legal is opening) in omega (arith, none)
+
+  keeps_at : (m : Move) (s : SessionState) → IsLegal s.table → (n : ℕ) → waits (after m s).table n ≤ waits s.table n + opens_at (deed_of m s).call s.table n
+  keeps_at m s legal n = keeps_by m s legal n (awaited n s.table) (call_opens n (deed_of m s).call s.table) refl refl
+
+  -- the same if one is answered
+  answers_by : (m : Move) (s : SessionState) → IsLegal s.table → (one : AnswersOne s (after m s) (deed_of m s).says) (n : ℕ) (b : Bool) → (one.id == n) ≡ b →
+      waits (after m s).table n + bit b ≤ waits s.table n + opens_at (deed_of m s).call s.table n
+  answers_by m s legal one n true is =
+      let same : one.id ≡ n = eqb-true one.id n is in
+      let before : waits s.table n ≡ 1 = subst (λ (k : ℕ). waits s.table k ≡ 1) same (some_waits s.table one.id one.ticket one.waited) in
+      let behind : waits (after m s).table n ≡ 0 = subst (λ (k : ℕ). waits (after m s).table k ≡ 0) same (none_waits (after m s).table one.id one.waits) in
+      omega (arith, before, behind)
+  answers_by m s legal one n false is = let kept = keeps_at m s legal n in omega (arith, kept)
+
+  -- the answers of a move, and the opens that wait after it, are no more than those that waited before and those that
+  -- it opens; below each number above the one that it answers
+  record Counts (most : ℕ) (answered asked : ℕ) (old new : TableState) : Type 0 where
+    pub below : (m : ℕ) → most ≤ m → answered + waiting m new ≤ waiting m old + asked
+
+  says_by : (m : Move) (s : SessionState) → IsLegal s.table → AllByRecursion NoOpenAnswer (deed_of m s).says ⊎ AnswersOne s (after m s) (deed_of m s).says →
+      (most : ℕ) × Counts most (opens_answered (deed_of m s).says) (opens_asked (calls_of m s)) s.table (after m s).table
+  says_by m s legal (inl none) = (
+    0,
+    record {
+      below = λ k le.
+          let no : opens_answered (deed_of m s).says ≡ 0 = silent (deed_of m s).says none in
+          let parts = sum_le (waits (after m s).table) (λ n. 0) (waits s.table) (opens_at (deed_of m s).call s.table) (λ n. let kept = keeps_at m s legal n in omega (arith, kept)) k in
+          let opened = opened_most k (deed_of m s).call s.table in
+          omega (arith, no, parts, opened);
+    },
+  )
+  says_by m s legal (inr one) = (
+    one.id + 1,
+    record {
+      below = λ k le.
+          let few : opens_answered (deed_of m s).says ≤ 1 = subst (λ (rs : List Record). opens_answered rs ≤ 1) (sym one.says_so) (resolved_most _ _ _) in
+          let there = one_there one.id k (omega (arith, le)) in
+          let parts = sum_le (waits (after m s).table) (one_at one.id) (waits s.table) (opens_at (deed_of m s).call s.table) (λ n. answers_by m s legal one n (one.id == n) refl) k in
+          let opened = opened_most k (deed_of m s).call s.table in
+          omega (arith, few, there, parts, opened);
+    },
+  )
+
+  move_counts : (m : Move) (s : SessionState) → IsLegal s.table → (most : ℕ) × Counts most (opens_answered (deed_of m s).says) (opens_asked (calls_of m s)) s.table (after m s).table
+  move_counts m s legal = says_by m s legal (opens.waits m s legal)
+
+  -- ---- many moves
+
+  called_legal : (call : Option Call) (t : TableState) → IsLegal t → IsLegal (did call t).table
+  called_legal None t legal = legal
+  called_legal (Some call) t legal = stays.1 call t legal
+
+  after_legal : (m : Move) (s : SessionState) → IsLegal s.table → IsLegal (after m s).table
+  unfolding after
+  after_legal m s legal = called_legal (deed_of m s).call s.table legal
+
+  -- of what a move adds to the records, the packets of its call are no answers
+  after_answered : (m : Move) (s : SessionState) → opens_answered (after m s).records ≡ opens_answered s.records + opens_answered (deed_of m s).says
+  unfolding after
+  after_answered m s =
+      let packets : opens_answered (records_of (did (deed_of m s).call s.table).said) ≡ 0 = packets_silent (did (deed_of m s).call s.table).said in
+      let inner = answered_onto s.records (records_of (did (deed_of m s).call s.table).said) in
+      let outer = answered_onto (onto s.records (records_of (did (deed_of m s).call s.table).said)) (deed_of m s).says in
+      omega (arith, packets, inner, outer)
+
+  asked_two : (a b : List Call) → opens_asked (a ++ b) ≡ opens_asked a + opens_asked b
+  asked_two [] b = omega arith
+  asked_two (OpenUser window packet ticket ∷ a) b = let rest = asked_two a b in omega (arith, rest)
+  asked_two (call ∷ a) b = asked_two a b
+
+  moves_count : (moves : List Move) (s : SessionState) → IsLegal s.table →
+      IsLegal (when_done moves s).table
+      × ((most : ℕ) × ((k : ℕ) → most ≤ k → opens_answered (when_done moves s).records + waiting k (when_done moves s).table ≤ opens_answered s.records + waiting k s.table + opens_asked (calls_in moves s)))
+  moves_count [] s legal = (legal, (0, λ k le. omega arith))
+  moves_count (m ∷ moves) s legal =
+      let (one, here) = move_counts m s legal in
+      let (end, (more, rest)) = moves_count moves (after m s) (after_legal m s legal) in (
+        end,
+        (
+          one + more,
+          λ k le.
+              let a = here.below k (omega (arith, le)) in
+              let b = rest k (omega (arith, le)) in
+              let said = after_answered m s in
+              let asked = asked_two (calls_of m s) (calls_in moves (after m s)) in
+              omega (arith, a, b, said, asked),
+        ),
+      )
+
+  -- ---- from one state of a run to another
+
+  record Counted (s t : SessionState) (calls : List Call) (said : List Record) : Type 0 where
+    pub legal : IsLegal t.table
+    pub none : t.records ≡ []
+    pub most : ℕ
+    pub below : (k : ℕ) → most ≤ k → opens_answered said + waiting k t.table ≤ waiting k s.table + opens_asked calls
+
+  counted_two : (s t u : SessionState) (a b : List Call) (x y : List Record) → Counted s t a x → Counted t u b y → Counted s u (a ++ b) (x ++ y)
+  counted_two s t u a b x y one other = record {
+    legal = other.legal;
+    none = other.none;
+    most = one.most + other.most;
+    below = λ k le.
+        let first = one.below k (omega (arith, le)) in
+        let second = other.below k (omega (arith, le)) in
+        let said = answered_two x y in
+        let asked = asked_two a b in
+        omega (arith, first, second, said, asked);
+  }
+
+  module _ (hosts : Hosts) (accepts : Accepts) where
+    -- a turn from which the run continues
+    abbrev GoesSo : SessionState → Bool → List Call → SessionTurn → Type 0
+    GoesSo s opened calls t = stop_next t.next ≡ None → Counted s t.state calls (said_open opened t.records)
+
+    row_counts : (moves : List Move) (s : SessionState) → IsLegal s.table → s.records ≡ [] →
+        IsLegal (when_done moves s).table
+        × ((most : ℕ) × ((k : ℕ) → most ≤ k → opens_answered (said_by moves s) + waiting k (when_done moves s).table ≤ waiting k s.table + opens_asked (calls_in moves s)))
+    row_counts moves s legal none =
+        let (end, (most, rest)) = moves_count moves s legal in (
+          end,
+          (
+            most,
+            λ k le.
+                let all = rest k le in
+                let no : opens_answered s.records ≡ 0 = ap opens_answered none in
+                let said : opens_answered (said_by moves s) ≡ opens_answered (when_done moves s).records = ap (λ (rs : List Record). opens_answered (drop (length rs) (when_done moves s).records)) none in
+                omega (arith, all, no, said),
+          ),
+        )
+
+    step_counts : (b : Bool) (s : SessionState) (place : ℕ) (event : Event) → IsLegal s.table → s.records ≡ [] → Always (GoesSo s b (row_calls b accepts s event)) (step_turn b hosts accepts place s event)
+    step_counts true s place event legal none = λ goes.
+        (let (end, (most, rest)) = row_counts (all_moves (session_row accepts (default_opinions s) s event)) s legal none in
+        record { legal = end; none = refl; most = most; below = rest })
+    step_counts false s place event legal none =
+        always_any (GoesSo s false []) (in_session s) (asked_turn hosts place s.opening event (asked_of s.opening event)) (λ t. λ goes. record { legal = legal; none = none; most = 0; below = λ k le. omega arith })
+
+    read_counts : (s : SessionState) (place : ℕ) (read : Result Event EventError) → IsLegal s.table → s.records ≡ [] → Always (GoesSo s (is_open s.opening.phase) (calls_by accepts s read)) (read_turn hosts accepts place s read)
+    read_counts s place (Ok event) legal none = step_counts (is_open s.opening.phase) s place event legal none
+    read_counts s place (Err reads.Bad) legal none = λ goes. absurd cc
+    read_counts s place (Err reads.NoMemory) legal none = λ goes. absurd cc
+
+    turn_counts : (s : SessionState) (frame : Frame) → IsLegal s.table → s.records ≡ [] → Always (GoesSo s (is_open s.opening.phase) (calls_at accepts s frame)) (session_turn hosts accepts s frame)
+    unfolding session_turn
+    turn_counts s frame legal none = read_counts s frame.place (event_of frame.kind frame.fields) legal none
+
+    comes_counted : (frames : List Frame) (s : SessionState) (answers : List Answer) (calls : List Call) (said : List Record) (s' : SessionState) (frame' : Frame) → IsLegal s.table → s.records ≡ [] →
+        ComesCalling hosts accepts s frames answers calls said s' frame' → Counted s s' calls said
+    comes_counted [] s answers calls said s' frame' legal none never = absurd never
+    comes_counted (frame ∷ frames) s answers calls said s' frame' legal none (inl (same, next, no_calls, quiet)) =
+        subst (λ (x : SessionState). Counted s x calls said) same
+        (rw (no_calls, quiet) (record { legal = legal; none = none; most = 0; below = λ k le. omega arith }))
+    comes_counted (frame ∷ frames) s answers calls said s' frame' legal none (inr (t, gained, left, later, more, makes, given, goes, all, says, comes)) =
+        let here : Counted s t.state (calls_at accepts s frame) (said_open (is_open s.opening.phase) t.records) =
+        always_makes (GoesSo s (is_open s.opening.phase) (calls_at accepts s frame)) (session_turn hosts accepts s frame) gained t (turn_counts s frame legal none) makes goes in
+        rw (all, says) (counted_two s t.state s' (calls_at accepts s frame) later (said_open (is_open s.opening.phase) t.records) more here (comes_counted frames t.state left later more s' frame' here.legal here.none comes))
+
+    none_wait : (last k : ℕ) → waiting k (no_channels last) ≡ 0
+    none_wait last zero = refl
+    none_wait last (suc k) = let rest = none_wait last k in omega (arith, rest)
+
+    -- at each state that the session comes to
+    pub counted : (settings : RunSettings) (max : ℕ) (answers : List Answer) (script : Option (List ℕ)) → OpensAreCounted hosts accepts settings max answers script
+    counted settings max answers script = λ bytes is s frame calls said comes.
+        let so = comes_counted (own_events session_own (taken max bytes)) (new_session settings.session settings.opening) answers calls said s frame (stays.0 0) refl comes in
+        let all = so.below so.most (omega arith) in
+        let none = none_wait 0 so.most in
+        omega (arith, all, none)

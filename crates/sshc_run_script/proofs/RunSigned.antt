@@ -1,0 +1,310 @@
+-- Along a run the session signs what it was asked for: what each step guarantees, joined over the events.
+use Rattle.std.proofs.Common.{◌≡◌, ◌≢◌, ◌⊎◌, inl, inr, ℕ, Bool, true, false, List, [], ◌∷◌, Option, Some, None, Result, Ok, Err, refl, ap, sym, ◌∙◌, subst}
+use Rattle.std.specs.Prelude.{if◌then◌else◌}
+use Rattle.std.specs.List.{AllByRecursion}
+use Rattle.sshc_key.specs.Signers.{SignCall}
+use Rattle.sshc_key.specs.Asking.{Answer, Asking, Always, Makes, done, asks, asked_on}
+use Rattle.sshc_key.specs.AskingLaws.{always_makes}
+use Rattle.sshc_auth_event.specs.declared.event.Event.{Event}
+use Rattle.sshc_auth_event.specs.declared.event.Event.TheVariants as events
+use Rattle.sshc_transport.specs.declared.exchange.ExchangeResult.{ExchangeResult}
+use Rattle.sshc_auth.specs.declared.opening.Phase.{Phase}
+use Rattle.sshc_auth.specs.declared.opening.Phase.TheVariants as phases
+use Rattle.sshc_auth.specs.declared.step.Asks.{Asks}
+use Rattle.sshc_auth.specs.declared.step.Asks.TheVariants as asking
+use Rattle.sshc_auth.specs.declared.step.Told.{Told}
+use Rattle.sshc_auth.specs.declared.step.Told.TheVariants as telling
+use Rattle.sshc_auth.specs.GateLaw.{FirstNext, IsNoExchange, StaysFirst, first_law}
+use Rattle.sshc_auth.specs.KeepLaws.{Keeps, KeepsAsked, KeepsAsking, KeepsNext, KeepsState, open_keeps}
+use Rattle.sshc_auth.specs.OpeningState.{OpeningState, is_awaiting, shut}
+use Rattle.sshc_auth.specs.OpeningTable.{asked_of, open_row, plain_row, turn_row}
+use Rattle.sshc_auth.specs.OpeningTable.Exchange.{accepted_row, exchange_done_row, exchange_row_in}
+use Rattle.sshc_auth.specs.OpeningTable.Order.{is_out_of_turn}
+use Rattle.sshc_auth.specs.Row.{Next, Row, ends, opens, refuses, stays}
+use Rattle.sshc_auth.specs.SessionWords.{AsksOnce, IsFirst, Kept, SignsStored, kept_of}
+use Rattle.sshc_auth.specs.SignedRuns.{IsAskedFor, IsHandedFor, IsSignedFor, asked_next, calls_for, handed_for}
+use Rattle.sshc_client_packets.specs.HostKeyProof.{Accepts}
+use Rattle.sshc_client_table.specs.SessionState.{SessionState, is_open}
+use Rattle.sshc_client_table.specs.SessionTable.{session_row}
+use Rattle.sshc_client.specs.Follows.{all_moves, default_opinions}
+use Rattle.sshc_client_state.specs.Start.{new_session}
+use Rattle.sshc_client_table.specs.NoRequests.{IsSameRequest, moves_request}
+use Rattle.sshc_run_reader.specs.declared.error.EventError.{EventError}
+use Rattle.sshc_run_reader.specs.declared.error.EventError.TheVariants as reads
+use Rattle.sshc_run_reader.specs.EventReading.{event_of}
+use Rattle.sshc_run_reader.specs.Script.{Frame, taken}
+use Rattle.sshc_run_agent.specs.TurnLaws.{on_made}
+use Rattle.sshc_run_script.specs.Configured.{RunSettings}
+use Rattle.sshc_run_script.specs.declared.known_hosts_handler.HandlerError.{HandlerError}
+use Rattle.sshc_run_script.specs.KnownHosts.{Hosts, verdict}
+use Rattle.sshc_run_script.specs.Machine.{TurnOf, stop_next}
+use Rattle.sshc_run_script.specs.Part.{own_events}
+use Rattle.sshc_run_script.specs.SessionPart.{session_own}
+use Rattle.sshc_run_script.specs.SessionTurn.{SessionTurn, in_session, read_turn, session_turn, step_turn}
+use Rattle.sshc_run_script.specs.SignedRequests.{AreSigned, ComesBehind, behind, first_hash, or_hash}
+use Rattle.sshc_run_script.specs.Turn.{asked_turn, judged_turn, next_turn, row_turn}
+
+-- ---- what is true of a state, with the events before it
+
+record SignedSo (past : List Event) (o : OpeningState) : Type 0 where
+  -- while the first exchange runs, no exchange was done
+  first : o.phase ≡ phases.Exchanging → IsFirst o × (first_hash past ≡ None)
+  session_id : o.phase ≢ phases.Exchanging → first_hash past ≡ Some o.session_id
+  asked : IsAskedFor past o.user o.method
+
+-- which phase it is
+data Stage (phase : Phase) : Type 0 where
+  Early : phase ≡ phases.Exchanging → Stage phase
+  Later : phase ≢ phases.Exchanging → Stage phase
+
+stage_of : (phase : Phase) → Stage phase
+stage_of phases.Exchanging = Early refl
+stage_of phase = Later (λ same. absurd cc)
+
+-- ---- a row
+
+-- the calls that a row makes are of the stored request
+record MadeSo (k : Kept) (event : Event) (calls : List SignCall) (row : Row) : Type 0 where
+  keeps : Keeps k event row
+  once : (t : OpeningState) → t.closed ≡ true → AsksOnce k t calls
+
+by_answer : (k : Kept) (event : Event) (asked : Asking Row) (calls : List SignCall) (row : Row) → KeepsAsked k event asked → Makes asked calls row → (calls ≡ []) × Keeps k event row
+by_answer k event (done to) [] row keeps is = (refl, subst (Keeps k event) is keeps.0)
+by_answer k event (done to) (call ∷ calls) row keeps never = absurd never
+by_answer k event (asks asked on) calls row never is = absurd never
+
+made_so : (k : Kept) (event : Event) (asked : Asking Row) (calls : List SignCall) (row : Row) → KeepsAsking k event asked → Makes asked calls row → MadeSo k event calls row
+made_so k event (done to) [] row keeps is = record { keeps = subst (Keeps k event) is keeps; once = λ t over. tt }
+made_so k event (done to) (call ∷ calls) row keeps never = absurd never
+made_so k event (asks asked on) [] row keeps never = absurd never
+made_so k event (asks asked on) (call ∷ calls) row (by, signs, each) (is, makes) =
+    let rest = by_answer k event (on call.answer) calls row (each call.answer) makes in
+    record {
+      keeps = rest.1;
+      once = λ t over. rw rest.0 (ap (λ (c : SignCall). c.by) is ∙ by, subst (λ (c : SignCall). SignsStored k.method k c.key c.hash c.bytes) (sym is) signs, inr over);
+    }
+
+-- ---- the first exchange
+
+-- after an exchange that is done while the first one runs the session continues only if it is accepted, with its hash
+-- as the session id
+abbrev TakesNext : ExchangeResult → Next → Type 0
+TakesNext x (stays t) = (t.session_id ≡ x.session_hash) × (t.phase ≢ phases.Exchanging)
+TakesNext x (opens t) = (t.session_id ≡ x.session_hash) × (t.phase ≢ phases.Exchanging)
+TakesNext x next = Unit {0}
+
+abbrev TakesRow : ExchangeResult → Row → Type 0
+TakesRow x row = TakesNext x row.next
+
+cond_takes : (x : ExchangeResult) (b : Bool) (one other : Asking Row) → Always (TakesRow x) one → Always (TakesRow x) other → Always (TakesRow x) (if b then one else other)
+cond_takes x true one other a b = a
+cond_takes x false one other a b = b
+
+accepted_takes : (s : OpeningState) (x : ExchangeResult) (anonymous : Bool) → TakesRow x (accepted_row anonymous s x)
+accepted_takes s x false = (refl, λ same. absurd cc)
+accepted_takes s x true = (refl, λ same. absurd cc)
+
+exchange_takes : (s : OpeningState) (x : ExchangeResult) (told : Told) (phase : Phase) → phase ≡ phases.Exchanging → TakesRow x (exchange_row_in phase s x told)
+exchange_takes s x telling.Went phases.Exchanging is = accepted_takes s x s.settings.anonymous
+exchange_takes s x told phases.Exchanging is = tt
+exchange_takes s x told phase is = absurd cc
+
+calm : (phase : Phase) → phase ≡ phases.Exchanging → is_awaiting phase ≡ false
+calm phase is = rw is refl
+
+turn_takes : (s : OpeningState) (x : ExchangeResult) (told : Told) (awaits : Bool) → is_awaiting s.phase ≡ awaits → s.phase ≡ phases.Exchanging → Always (TakesRow x) (turn_row awaits s (events.ExchangeDone x) told)
+unfolding plain_row exchange_done_row
+turn_takes s x told true is first = let clash : true ≡ false = sym is ∙ calm s.phase first in absurd cc
+turn_takes s x told false is first = exchange_takes s x told s.phase first
+
+done_takes : (s : OpeningState) (x : ExchangeResult) (told : Told) → s.phase ≡ phases.Exchanging → Always (TakesRow x) (open_row s (events.ExchangeDone x) told)
+unfolding open_row
+done_takes s x told first = cond_takes x (is_out_of_turn s (events.ExchangeDone x)) _ _ tt (turn_takes s x told (is_awaiting s.phase) refl first)
+
+no_hash : (event : Event) → IsNoExchange event → or_hash None event ≡ None
+no_hash (events.ExchangeDone x) never = absurd never
+no_hash event none = refl
+
+-- the opening's next state while the first exchange runs
+first_next : (past : List Event) (s : OpeningState) (event : Event) (told : Told) (calls : List SignCall) (row : Row) (t : OpeningState) → IsFirst s → first_hash past ≡ None → Makes (open_row s event told) calls row →
+    (row.next ≡ stays t) ⊎ (row.next ≡ opens t) → (t.phase ≡ phases.Exchanging → IsFirst t × (first_hash (event ∷ past) ≡ None)) × (t.phase ≢ phases.Exchanging → first_hash (event ∷ past) ≡ Some t.session_id)
+first_next past s (events.ExchangeDone x) told calls row t first none makes next = by next
+  where
+    takes : TakesRow x row
+    takes = always_makes (TakesRow x) (open_row s (events.ExchangeDone x) told) calls row (done_takes s x told first.exchanging) makes
+
+    found : or_hash (first_hash past) (events.ExchangeDone x) ≡ Some x.session_hash
+    found = rw none refl
+
+    so : (t.session_id ≡ x.session_hash) × (t.phase ≢ phases.Exchanging) → (t.phase ≡ phases.Exchanging → IsFirst t × (first_hash (events.ExchangeDone x ∷ past) ≡ None)) × (t.phase ≢ phases.Exchanging → first_hash (events.ExchangeDone x ∷ past) ≡ Some t.session_id)
+    so taken = ((λ same. absurd (taken.1 same)), λ other. found ∙ ap (λ (h : List ℕ). Some h) (sym taken.0))
+
+    by : (row.next ≡ stays t) ⊎ (row.next ≡ opens t) → (t.phase ≡ phases.Exchanging → IsFirst t × (first_hash (events.ExchangeDone x ∷ past) ≡ None)) × (t.phase ≢ phases.Exchanging → first_hash (events.ExchangeDone x ∷ past) ≡ Some t.session_id)
+    by (inl is) = so (subst (TakesNext x) is takes)
+    by (inr is) = so (subst (TakesNext x) is takes)
+first_next past s event told calls row t first none makes next = by next (always_makes (StaysFirst event) (open_row s event told) calls row (first_law s event told first (λ never. never)) makes).1
+  where
+    goes : IsFirst t × IsNoExchange event → (t.phase ≡ phases.Exchanging → IsFirst t × (first_hash (event ∷ past) ≡ None)) × (t.phase ≢ phases.Exchanging → first_hash (event ∷ past) ≡ Some t.session_id)
+    goes on = ((λ same. (on.0, ap (λ (h : Option (List ℕ)). or_hash h event) none ∙ no_hash event on.1)), λ other. absurd (other on.0.exchanging))
+
+    by : (row.next ≡ stays t) ⊎ (row.next ≡ opens t) → FirstNext event row.next → (t.phase ≡ phases.Exchanging → IsFirst t × (first_hash (event ∷ past) ≡ None)) × (t.phase ≢ phases.Exchanging → first_hash (event ∷ past) ≡ Some t.session_id)
+    by (inl is) on = goes (subst (FirstNext event) is on)
+    by (inr is) on = absurd (subst (FirstNext event) is on)
+
+early_opens : (s : OpeningState) (event : Event) (told : Told) (calls : List SignCall) (row : Row) (t : OpeningState) → IsFirst s → Makes (open_row s event told) calls row → row.next ≡ opens t → t.phase ≢ phases.Exchanging
+early_opens s (events.ExchangeDone x) told calls row t first makes is = (subst (TakesNext x) is (always_makes (TakesRow x) (open_row s (events.ExchangeDone x) told) calls row (done_takes s x told first.exchanging) makes)).1
+early_opens s event told calls row t first makes is = absurd (subst (FirstNext event) is (always_makes (StaysFirst event) (open_row s event told) calls row (first_law s event told first (λ never. never)) makes).1)
+
+-- ---- a turn of the opening
+
+-- if the run continues, it is true after the event too
+abbrev GoesSo : List Event → Event → TurnOf OpeningState → Type 0
+GoesSo past event t = stop_next t.next ≡ None → SignedSo (event ∷ past) t.state
+
+module _ (past : List Event) (s : OpeningState) (event : Event) (so : SignedSo past s) where
+  next_state : (told : Told) (calls : List SignCall) (row : Row) (t : OpeningState) → Makes (open_row s event told) calls row → (row.next ≡ stays t) ⊎ (row.next ≡ opens t) → KeepsState (kept_of s) event t → SignedSo (event ∷ past) t
+  next_state told calls row t makes next keeps = by (stage_of s.phase)
+    where
+      asked : IsAskedFor (event ∷ past) t.user t.method
+      asked = asked_next s event past t so.asked keeps.1
+
+      by : Stage s.phase → SignedSo (event ∷ past) t
+      by (Early early) =
+          let here = so.first early in
+          let on = first_next past s event told calls row t here.0 here.1 makes next in
+          record { first = on.0; session_id = on.1; asked = asked }
+      by (Later later) =
+          let kept = keeps.0 later in
+          record {
+            first = λ same. absurd (kept.1 same);
+            session_id = λ other. ap (λ (h : Option (List ℕ)). or_hash h event) (so.session_id later) ∙ ap (λ (h : List ℕ). Some h) (sym kept.0);
+            asked = asked;
+          }
+
+  shut_so : (t : OpeningState) → t.phase ≢ phases.Exchanging → SignedSo (event ∷ past) t → SignedSo (event ∷ past) (shut t)
+  shut_so t later signed = record { first = λ same. absurd (later same); session_id = signed.session_id; asked = signed.asked }
+
+  opens_later : (told : Told) (calls : List SignCall) (row : Row) (t : OpeningState) → Makes (open_row s event told) calls row → row.next ≡ opens t → KeepsState (kept_of s) event t → t.phase ≢ phases.Exchanging
+  opens_later told calls row t makes is keeps = by (stage_of s.phase)
+    where
+      by : Stage s.phase → t.phase ≢ phases.Exchanging
+      by (Early early) = early_opens s event told calls row t (so.first early).0 makes is
+      by (Later later) = (keeps.0 later).1
+
+  by_next : (place : ℕ) (told : Told) (calls : List SignCall) (row : Row) (next : Next) → row.next ≡ next → Makes (open_row s event told) calls row → KeepsNext (kept_of s) event next → GoesSo past event (next_turn place s row next)
+  by_next place told calls row (stays t) is makes keeps = λ goes. next_state told calls row t makes (inl is) keeps
+  by_next place told calls row (opens t) is makes keeps = λ goes. shut_so t (opens_later told calls row t makes is keeps) (next_state told calls row t makes (inr is) keeps)
+  by_next place told calls row (ends e) is makes keeps = λ goes. absurd cc
+  by_next place told calls row (refuses e) is makes keeps = λ goes. absurd cc
+
+  -- a turn's calls and records, and the state from which it continues
+  record TurnSo (calls : List SignCall) (t : TurnOf OpeningState) : Type 0 where
+    goes : GoesSo past event t
+    asked : AllByRecursion (IsSignedFor s.session_id past) calls
+    handed : AllByRecursion (IsHandedFor s.session_id past) t.records
+
+  said_in : (place : ℕ) (row : Row) (next : Next) → (next_turn place s row next).records ≡ row.records
+  said_in place row (stays t) = refl
+  said_in place row (opens t) = refl
+  said_in place row (ends e) = refl
+  said_in place row (refuses e) = refl
+
+  table_so : (place : ℕ) (told : Told) (calls : List SignCall) (t : TurnOf OpeningState) → Makes (asked_on (row_turn place s) (open_row s event told)) calls t → TurnSo calls t
+  table_so place told calls t makes =
+      let row = on_made (row_turn place s) (open_row s event told) calls t makes in
+      let made = made_so (kept_of s) event (open_row s event told) calls row.0 (open_keeps s event told) row.1 in
+      let handed = handed_for s.session_id past (kept_of s) row.0.records refl so.asked made.keeps.0 in
+      subst (TurnSo calls) row.2
+      (record {
+        goes = by_next place told calls row.0 row.0.next refl row.1 made.keeps.1;
+        asked = calls_for s.session_id past (kept_of s) (shut s) calls refl so.asked (made.once (shut s) refl);
+        handed = subst (AllByRecursion (IsHandedFor s.session_id past)) (sym (said_in place row.0 row.0.next)) handed;
+      })
+
+  stops_so : (t t' : TurnOf OpeningState) (calls : List SignCall) → (stop_next t.next ≡ None → ⊥) → t.records ≡ [] → Makes (done t) calls t' → TurnSo calls t'
+  stops_so t t' [] never none is = subst (TurnSo []) is (record { goes = λ goes. absurd (never goes); asked = tt; handed = rw none tt })
+  stops_so t t' (call ∷ calls) never none makes = absurd makes
+
+  judged_so : (place : ℕ) (said : Result Bool HandlerError) (calls : List SignCall) (t : TurnOf OpeningState) → Makes (judged_turn place s event said) calls t → TurnSo calls t
+  judged_so place (Ok true) calls t makes = table_so place telling.Went calls t makes
+  judged_so place (Ok false) calls t makes = table_so place telling.No calls t makes
+  judged_so place (Err e) calls t makes = stops_so _ t calls (λ goes. absurd cc) refl makes
+
+  asked_so : (hosts : Hosts) (place : ℕ) (wanted : Asks) (calls : List SignCall) (t : TurnOf OpeningState) → Makes (asked_turn hosts place s event wanted) calls t → TurnSo calls t
+  asked_so hosts place asking.Nothing calls t makes = table_so place telling.NotAsked calls t makes
+  asked_so hosts place (asking.HostKey key) calls t makes = judged_so place (verdict hosts key) calls t makes
+  asked_so hosts place asking.Exchange calls t makes = table_so place telling.Went calls t makes
+  asked_so hosts place (asking.Banner text) calls t makes = table_so place telling.Went calls t makes
+
+-- ---- a turn of the session
+
+record StepSo (past : List Event) (read : Result Event EventError) (s : SessionState) (calls : List SignCall) (t : SessionTurn) : Type 0 where
+  goes : stop_next t.next ≡ None → SignedSo (behind read past) t.state.opening
+  asked : AllByRecursion (IsSignedFor s.opening.session_id past) calls
+  handed : is_open s.opening.phase ≡ false → AllByRecursion (IsHandedFor s.opening.session_id past) t.records
+
+open_later : (phase : Phase) → is_open phase ≡ true → phase ≢ phases.Exchanging
+open_later phases.Exchanging is = absurd cc
+open_later phase is = λ same. absurd cc
+
+-- moves of an open session don't change it
+moved_so : (past : List Event) (event : Event) (old new : OpeningState) → old.phase ≢ phases.Exchanging → SignedSo past old → IsSameRequest old new → SignedSo (event ∷ past) new
+moved_so past event old new later so same = record {
+  first = λ first. absurd (later (sym same.phase ∙ first));
+  session_id = λ other. ap (λ (h : Option (List ℕ)). or_hash h event) (so.session_id later) ∙ ap (λ (h : List ℕ). Some h) (sym same.session_id);
+  asked = asked_next old event past new so.asked (inl (same.user, inl same.method));
+}
+
+step_so : (open_now : Bool) (hosts : Hosts) (accepts : Accepts) (place : ℕ) (past : List Event) (s : SessionState) (event : Event) (calls : List SignCall) (t : SessionTurn) → is_open s.opening.phase ≡ open_now → SignedSo past s.opening →
+    Makes (step_turn open_now hosts accepts place s event) calls t → StepSo past (Ok event) s calls t
+step_so false hosts accepts place past s event calls t is so makes =
+    let turn = on_made (in_session s) (asked_turn hosts place s.opening event (asked_of s.opening event)) calls t makes in
+    let done_so = asked_so past s.opening event so hosts place (asked_of s.opening event) calls turn.0 turn.1 in
+    subst (StepSo past (Ok event) s calls) turn.2 (record { goes = done_so.goes; asked = done_so.asked; handed = λ unopened. done_so.handed })
+step_so true hosts accepts place past s event [] t is so makes =
+    let moves = all_moves (session_row accepts (default_opinions s) s event) in
+    subst (StepSo past (Ok event) s []) makes
+    (record {
+      goes = λ goes. moved_so past event s.opening _ (open_later s.opening.phase is) so (moves_request moves s);
+      asked = tt;
+      handed = λ unopened. let clash : true ≡ false = sym is ∙ unopened in absurd cc;
+    })
+step_so true hosts accepts place past s event (call ∷ calls) t is so never = absurd never
+
+stopped_so : (past : List Event) (read : Result Event EventError) (s : SessionState) (t t' : SessionTurn) (calls : List SignCall) → (stop_next t.next ≡ None → ⊥) → t.records ≡ [] → Makes (done t) calls t' → StepSo past read s calls t'
+stopped_so past read s t t' [] never none is = subst (StepSo past read s []) is (record { goes = λ goes. absurd (never goes); asked = tt; handed = λ unopened. rw none tt })
+stopped_so past read s t t' (call ∷ calls) never none makes = absurd makes
+
+read_so : (hosts : Hosts) (accepts : Accepts) (place : ℕ) (past : List Event) (s : SessionState) (read : Result Event EventError) (calls : List SignCall) (t : SessionTurn) → SignedSo past s.opening → Makes (read_turn hosts accepts place s read) calls t → StepSo past read s calls t
+read_so hosts accepts place past s (Ok event) calls t so makes = step_so (is_open s.opening.phase) hosts accepts place past s event calls t refl so makes
+read_so hosts accepts place past s (Err reads.Bad) calls t so makes = stopped_so past (Err reads.Bad) s _ t calls (λ goes. absurd cc) refl makes
+read_so hosts accepts place past s (Err reads.NoMemory) calls t so makes = stopped_so past (Err reads.NoMemory) s _ t calls (λ goes. absurd cc) refl makes
+
+turn_so : (hosts : Hosts) (accepts : Accepts) (past : List Event) (s : SessionState) (frame : Frame) (calls : List SignCall) (t : SessionTurn) → SignedSo past s.opening → Makes (session_turn hosts accepts s frame) calls t → StepSo past (event_of frame.kind frame.fields) s calls t
+unfolding session_turn
+turn_so hosts accepts past s frame calls t so makes = read_so hosts accepts frame.place past s (event_of frame.kind frame.fields) calls t so makes
+
+-- ---- the run
+
+comes_so : (hosts : Hosts) (accepts : Accepts) (frames : List Frame) (past : List Event) (s : SessionState) (answers : List Answer) (past' : List Event) (s' : SessionState) (frame' : Frame) → SignedSo past s.opening →
+    ComesBehind hosts accepts past s frames answers past' s' frame' → SignedSo past' s'.opening
+comes_so hosts accepts [] past s answers past' s' frame' so never = absurd never
+comes_so hosts accepts (frame ∷ frames) past s answers past' s' frame' so (inl (same, next, events_are)) =
+    subst (λ (x : SessionState). SignedSo past' x.opening) same (subst (λ (p : List Event). SignedSo p s.opening) events_are so)
+comes_so hosts accepts (frame ∷ frames) past s answers past' s' frame' so (inr (t, gained, left, makes, is, goes, later)) =
+    comes_so hosts accepts frames (behind (event_of frame.kind frame.fields) past) t.state left past' s' frame' ((turn_so hosts accepts past s frame gained t so makes).goes goes) later
+
+-- along a run the session signs what it was asked for
+pub signed_along : (hosts : Hosts) (accepts : Accepts) (settings : RunSettings) (max : ℕ) (answers : List Answer) (script : Option (List ℕ)) → AreSigned hosts accepts settings max answers script
+signed_along hosts accepts settings max answers script = λ bytes is past s frame comes.
+    let begins : SignedSo [] (new_session settings.session settings.opening).opening = record {
+      first = λ same. (record { exchanging = refl; runs = λ idle. absurd cc; fresh = refl }, refl);
+      session_id = λ other. absurd (other refl);
+      asked = tt;
+    } in
+    let so = comes_so hosts accepts (own_events session_own (taken max bytes)) [] (new_session settings.session settings.opening) answers past s frame begins comes in
+    record {
+      session_id = so.session_id;
+      asked = λ gained t makes. (turn_so hosts accepts past s frame gained t so makes).asked;
+      handed = λ gained t unopened makes. (turn_so hosts accepts past s frame gained t so makes).handed unopened;
+    }

@@ -1,0 +1,490 @@
+-- A run by its first event, of any machine.
+use Rattle.std.proofs.Common.{◌≡◌, ℕ, zero, suc, ◌+◌, ◌≤◌, List, [], ◌∷◌, ◌++◌, length, Option, Some, None, Result, Ok, Err, refl, ap, sym, ◌∙◌, inl, inr, append_assoc, arith}
+use Rattle.std.specs.Option.{IfNone}
+use Rattle.std.proofs.lemmas.List.{append-nil}
+use Rattle.std.proofs.lemmas.List.Concat.{flat_map-append}
+use Rattle.sshc_wire.specs.Contents.{append, prepend, WroteFront, IsAtEnd, append-nothing, prepend-nothing}
+use Rattle.sshc_wire.specs.declared.record.Record.{Record}
+use Rattle.sshc_key.specs.Signers.{SignCall}
+use Rattle.sshc_key.specs.Asking.{Answer, Makes, MakesFirst}
+use Rattle.sshc_key.specs.AskingLaws.{always_makes, none_first, all_first}
+use Rattle.sshc_auth.specs.declared.ended.Ended.{Ended}
+use Rattle.sshc_auth.specs.declared.ended.Ended.TheVariants as ends
+use Rattle.sshc_run_script.specs.declared.error.RunError.{RunError}
+use Rattle.sshc_run_script.specs.declared.error.RunError.TheVariants as errors
+use Rattle.sshc_run_reader.specs.declared.error.NextError.{NextError}
+use Rattle.sshc_run_reader.specs.declared.error.NextError.TheVariants as nexts
+use Rattle.sshc_run_script.specs.Machine.{Onward, goes_on, opened, stopped, RunStop, ended, refused, unanswered_stop, TurnOf, Turns, stop_next, IsNoEnd, NeverAtEnd}
+use Rattle.sshc_run_script.specs.Outcome.{Streams, Ending, told, cut, unread, ending_of, stop_as, IsCut, IsExact, EndsAs, HasEarlier, HasWritten, HoldsAtMost, Ends}
+use Rattle.sshc_run_reader.specs.Reading.{IsNoEvent, IsOneAtMost, IsBad, IsWhole, Gave, ReadFor, NextGives}
+use Rattle.sshc_run_script.specs.RecordLines.{line, lines}
+use Rattle.sshc_run_reader.specs.Script.{Head, Front, End, Bad, Whole, front, frame_at, size_of, stop_at_most, events}
+use Rattle.sshc_run_script.specs.ScriptRun.{Run, Spot, spot_after, run, run_on, at_end, after, stopped_with, asked_run, answers_of}
+use Rattle.sshc_run_script.specs.TurnContracts.{StopsBy, CutBy, TakeAs, TakeGives, BringsOn, TurnGives, LimitGives}
+use Rattle.sshc_run_script.proofs.AnsweredQuestions.{asked_made, asked_first}
+use Rattle.sshc_run_reader.specs.FrontLaws.{none_more, front_short}
+use Rattle.sshc_run_script.proofs.ScriptExtension.{front_more}
+use Rattle.sshc_run_script.proofs.Lines.{wrote_nothing}
+
+front_nothing : (last : ℕ) → front last [] ≡ End
+unfolding front
+front_nothing last = refl
+
+pub not_nothing : (part : List ℕ) (b : ℕ) (more : List ℕ) → [] ≡ part ++ b ∷ more → ⊥
+not_nothing [] b more is = cc
+not_nothing (c ∷ part) b more is = cc
+
+-- ---- prefixes of an event's bytes
+
+-- a shorter prefix of a whole event's bytes isn't an event
+shorter_by : (last : ℕ) (head : Head) (bytes part : List ℕ) (b : ℕ) (more : List ℕ) (f : Front) → front last part ≡ f → IsWhole last head bytes → bytes ≡ part ++ b ∷ more → IsNoEvent last part
+shorter_by last head bytes part b more End f whole is = inl f
+shorter_by last head bytes part b more Bad f whole is = inr f
+shorter_by last head bytes part b more (Whole h rest) f whole is =
+    let longer : Whole head [] ≡ Whole h (rest ++ b ∷ more) = sym (whole.is []) ∙ ap (front last) (append-nil bytes ∙ is) ∙ front_more last part (b ∷ more) h rest f in
+    let nothing : [] ≡ rest ++ b ∷ more = cc in
+    absurd (not_nothing rest b more nothing)
+
+no_shorter : (last : ℕ) (head : Head) (bytes part : List ℕ) (b : ℕ) (more : List ℕ) → IsWhole last head bytes → bytes ≡ part ++ b ∷ more → IsNoEvent last part
+no_shorter last head bytes part b more whole is = shorter_by last head bytes part b more (front last part) refl whole is
+
+-- nor is a prefix of bytes that aren't an event
+none_by : (last : ℕ) (bytes part : List ℕ) (b : ℕ) (more : List ℕ) (f : Front) → front last part ≡ f → front last bytes ≡ Bad → bytes ≡ part ++ b ∷ more → IsNoEvent last part
+none_by last bytes part b more End f bad is = inl f
+none_by last bytes part b more Bad f bad is = inr f
+none_by last bytes part b more (Whole h rest) f bad is =
+    let clash : Bad ≡ Whole h (rest ++ b ∷ more) = sym bad ∙ ap (front last) is ∙ front_more last part (b ∷ more) h rest f in absurd cc
+
+no_front : (last : ℕ) (bytes part : List ℕ) (b : ℕ) (more : List ℕ) → front last bytes ≡ Bad → bytes ≡ part ++ b ∷ more → IsNoEvent last part
+no_front last bytes part b more bad is = none_by last bytes part b more (front last part) refl bad is
+
+-- nor is one of bytes on which the script ends
+end_by : (last : ℕ) (bytes part : List ℕ) (b : ℕ) (more : List ℕ) (f : Front) → front last part ≡ f → front last bytes ≡ End → bytes ≡ part ++ b ∷ more → IsNoEvent last part
+end_by last bytes part b more End f nothing is = inl f
+end_by last bytes part b more Bad f nothing is = inr f
+end_by last bytes part b more (Whole h rest) f nothing is =
+    let clash : End ≡ Whole h (rest ++ b ∷ more) = sym nothing ∙ ap (front last) is ∙ front_more last part (b ∷ more) h rest f in absurd cc
+
+-- nor is a shorter one of one event
+one_by : (last : ℕ) (bytes part : List ℕ) (b : ℕ) (more : List ℕ) (head : Head) (f : Front) → front last part ≡ f → front last bytes ≡ Whole head [] → bytes ≡ part ++ b ∷ more → IsNoEvent last part
+one_by last bytes part b more head End f one is = inl f
+one_by last bytes part b more head Bad f one is = inr f
+one_by last bytes part b more head (Whole h rest) f one is =
+    let longer : Whole head [] ≡ Whole h (rest ++ b ∷ more) = sym one ∙ ap (front last) is ∙ front_more last part (b ∷ more) h rest f in
+    let nothing : [] ≡ rest ++ b ∷ more = cc in
+    absurd (not_nothing rest b more nothing)
+
+-- a shorter prefix of bytes that are at most one event isn't an event
+none_shorter : (last : ℕ) (bytes part : List ℕ) (b : ℕ) (more : List ℕ) → IsOneAtMost last bytes → bytes ≡ part ++ b ∷ more → IsNoEvent last part
+none_shorter last bytes part b more (inl (inl nothing)) is = end_by last bytes part b more (front last part) refl nothing is
+none_shorter last bytes part b more (inl (inr bad)) is = no_front last bytes part b more bad is
+none_shorter last bytes part b more (inr (head, one)) is = one_by last bytes part b more head (front last part) refl one is
+
+-- ---- how many events some bytes hold
+
+none_held : (n place last : ℕ) (bytes : List ℕ) → IsNoEvent last bytes → HoldsAtMost n place last bytes
+unfolding events
+none_held n place last bytes (inl nothing) = rw (nothing, events) (omega arith)
+none_held n place last bytes (inr bad) = rw (bad, events) (omega arith)
+
+events_nothing : (n place last : ℕ) → events n place last [] ≡ []
+unfolding events
+events_nothing zero place last = refl
+events_nothing (suc n) place last = rw (front_nothing last, events) refl
+
+-- the empty list holds no event
+pub nothing_held : (n place last : ℕ) → HoldsAtMost n place last []
+nothing_held n place last = none_held n place last [] (inl (front_nothing last))
+
+event_counted : (n place last : ℕ) (bytes : List ℕ) (head : Head) (rest : List ℕ) → front last bytes ≡ Whole head rest → length (events (suc n) place last bytes) ≡ suc (length (events n (place + size_of head) head.0 rest))
+unfolding events
+event_counted n place last bytes head rest is = rw (is, events) refl
+
+one_held : (n place last : ℕ) (bytes : List ℕ) → IsOneAtMost last bytes → HoldsAtMost (suc n) place last bytes
+one_held n place last bytes (inl none) = none_held (suc n) place last bytes none
+one_held n place last bytes (inr (head, is)) =
+    let one = event_counted (suc n) place last bytes head [] is in
+    let nothing = ap length (events_nothing (suc n) (place + size_of head) head.0) in
+    omega (arith, one, nothing)
+
+whole_held : (n place last : ℕ) (head : Head) (bytes : List ℕ) → IsWhole last head bytes → HoldsAtMost (suc n) place last bytes
+whole_held n place last head bytes whole = one_held n place last bytes (inr (head, ap (front last) (sym (append-nil bytes)) ∙ whole.is []))
+
+-- if there are no records, nothing remains to be written
+said_none : (held now : Option (List ℕ)) (records : List Record) (part : List ℕ) → records ≡ [] → now ≡ append held part → HasWritten held now (lines records)
+said_none held now records part none wrote = (part, wrote ∙ ap (λ (r : List Record). append held (lines r ++ part)) (sym none))
+
+-- ---- any machine
+
+module _ {S : Type 0} (turn : Turns S) where
+  pub run_end : (n : ℕ) (at : Spot S) (answers : List Answer) (bytes : List ℕ) → front at.last bytes ≡ End → run turn (suc n) at answers bytes ≡ stopped_with [] (ended ends.ScriptEnd)
+  unfolding run
+  run_end n at answers bytes h = rw (h, run) refl
+
+  pub run_bad : (n : ℕ) (at : Spot S) (answers : List Answer) (bytes : List ℕ) → front at.last bytes ≡ Bad → run turn (suc n) at answers bytes ≡ stopped_with [] (refused (errors.BadEvent at.place))
+  unfolding run
+  run_bad n at answers bytes h = rw (h, run) refl
+
+  -- after a turn
+  abbrev behind : ℕ → Spot S → Head → List ℕ → TurnOf S → List Answer → Run
+  behind n at head rest t left = run_on t t.next (run turn n (spot_after at head t.state) left rest)
+
+  pub run_whole : (n : ℕ) (at : Spot S) (answers : List Answer) (bytes : List ℕ) (head : Head) (rest : List ℕ) → front at.last bytes ≡ Whole head rest →
+      run turn (suc n) at answers bytes ≡ asked_run unanswered_stop (turn at.state (frame_at at.place head)) answers (behind n at head rest)
+  unfolding run
+  run_whole n at answers bytes head rest h = rw (h, run) refl
+
+  -- a turn after which the run continues, and one that stops it
+  going_by : (t : TurnOf S) (next : Onward) (r : Run) → stop_next next ≡ None → run_on t next r ≡ after t.records [] r
+  going_by t goes_on r h = refl
+  going_by t opened r h = refl
+  going_by t (stopped stop) r h = absurd cc
+
+  stopping_by : (t : TurnOf S) (next : Onward) (r : Run) (stop : RunStop) → stop_next next ≡ Some stop → run_on t next r ≡ stopped_with t.records stop
+  stopping_by t goes_on r stop h = absurd cc
+  stopping_by t opened r stop h = absurd cc
+  stopping_by t (stopped x) r stop h = let same : x ≡ stop = cc in ap (λ (y : RunStop). stopped_with t.records y) same
+
+  -- on no bytes the run is at the script's end
+  pub run_nothing : (n : ℕ) (at : Spot S) (answers : List Answer) → run turn n at answers [] ≡ stopped_with [] (ended ends.ScriptEnd)
+  unfolding run
+  run_nothing zero at answers = refl
+  run_nothing (suc n) at answers = run_end n at answers [] (front_nothing at.last)
+
+  -- after a turn no call is made on no bytes
+  quiet : (n : ℕ) (at : Spot S) (head : Head) (t : TurnOf S) (next : Onward) → (run_on t next (run turn n (spot_after at head t.state) [] [])).calls ≡ []
+  quiet n at head t goes_on = ap (λ (r : Run). r.calls) (run_nothing n (spot_after at head t.state) [])
+  quiet n at head t opened = ap (λ (r : Run). r.calls) (run_nothing n (spot_after at head t.state) [])
+  quiet n at head t (stopped stop) = refl
+
+  -- if the bytes hold no whole event, there are no records and no calls, and the run comes to the end
+  none_is : (n : ℕ) (at : Spot S) (answers : List Answer) (bytes : List ℕ) → IsNoEvent at.last bytes → (stop : RunStop) × (run turn (suc n) at answers bytes ≡ stopped_with [] stop) × IsCut stop
+  none_is n at answers bytes (inl nothing) = (ended ends.ScriptEnd, run_end n at answers bytes nothing, inl refl)
+  none_is n at answers bytes (inr bad) = (refused (errors.BadEvent at.place), run_bad n at answers bytes bad, inr (at.place, refl))
+
+  none_cut : (n : ℕ) (at : Spot S) (answers : List Answer) (bytes : List ℕ) → IsNoEvent at.last bytes → IsCut (run turn (suc n) at answers bytes).stop
+  none_cut n at answers bytes none = let is = none_is n at answers bytes none in rw is.1 is.2
+
+  none_said : (n : ℕ) (at : Spot S) (answers : List Answer) (bytes : List ℕ) → IsNoEvent at.last bytes → (run turn (suc n) at answers bytes).records ≡ []
+  none_said n at answers bytes none = let is = none_is n at answers bytes none in ap (λ (r : Run). r.records) is.1
+
+  -- before the one event that was read there is none
+  early_one : (n : ℕ) (at : Spot S) (gained : List SignCall) (bytes : List ℕ) (held now : Option (List ℕ)) (part : List ℕ) → IsOneAtMost at.last bytes → now ≡ append held part → HasEarlier (run turn (suc n) at) bytes gained held now
+  early_one n at gained bytes held now part one wrote = λ later front b more is.
+      said_none held now _ part (none_said n at (answers_of gained ++ later) front (none_shorter at.last bytes front b more one is)) wrote
+
+  -- ---- a read that returns no event
+
+  -- the script ends
+  pub end_ends : (at : Spot S) (before : Streams) (left : Option (List ℕ)) (reads : ℕ) → before.left ≡ left → IsAtEnd left → reads ≤ before.reads + 1 →
+      (n : ℕ) → Ends (suc n) at.place at.last (run turn (suc n) at) before (record before { left = left; reads = reads }) (Ok ends.ScriptEnd)
+  end_ends at before left reads same end count n =
+      let none : (answers : List Answer) → run turn (suc n) at answers [] ≡ stopped_with [] (ended ends.ScriptEnd) = λ answers. run_nothing (suc n) at answers in (
+        [],
+        [],
+        record {
+          read = same ∙ sym (prepend-nothing left);
+          asked = sym (append-nil before.calls);
+          made = rw (none []) refl;
+          by = record {
+            all = rw (none []) (sym (append-nothing before.held));
+            stop = rw (none []) refl;
+            rest = λ later more e. ap (run turn (suc n) at later) (none_more left more e end) ∙ none later ∙ sym (none []);
+            just = λ later part b more is. absurd (not_nothing part b more is);
+            whole = λ done. end;
+          };
+          early = early_one n at [] [] before.held before.held [] (inl (inl (front_nothing at.last))) (sym (append-nothing before.held));
+          count = omega (arith, count);
+          few = none_held (suc n) at.place at.last [] (inl (front_nothing at.last));
+        },
+      )
+
+  -- an event that can't be read
+  bad_ends : (at : Spot S) (before now : Streams) (bytes : List ℕ) → now.held ≡ before.held → IsBad at.last now.left bytes → (n : ℕ) → IsExact (run turn (suc n) at) bytes [] before now (Err (errors.BadEvent at.place))
+  bad_ends at before now bytes held bad n =
+      let none : (answers : List Answer) → run turn (suc n) at answers bytes ≡ stopped_with [] (refused (errors.BadEvent at.place)) = λ answers. run_bad n at answers bytes bad.given in
+      record {
+        all = rw (none []) (held ∙ sym (append-nothing before.held));
+        stop = rw (none []) refl;
+        rest = λ later more e. run_bad n at later (bytes ++ more) (bad.all more e) ∙ sym (none []);
+        just = λ later part b more is. none_cut n at later part (no_front at.last bytes part b more bad.given is);
+        whole = λ done. absurd cc;
+      }
+
+  -- whose bytes aren't an event, or are one that no turn took
+  unread_ends : (at : Spot S) (before : Streams) (left : Option (List ℕ)) (reads : ℕ) (bytes : List ℕ) → before.left ≡ prepend bytes left → IsNoEvent at.last bytes → ReadFor before.reads reads bytes →
+      (a : Result Ended RunError) (n : ℕ) → EndsAs (ending_of a) (run turn (suc n) at) bytes [] before (record before { left = left; reads = reads }) a →
+      Ends (suc n) at.place at.last (run turn (suc n) at) before (record before { left = left; reads = reads }) a
+  unread_ends at before left reads bytes given none count a n by =
+      let is = none_is n at [] bytes none in (
+        bytes,
+        [],
+        record {
+          read = given;
+          asked = sym (append-nil before.calls);
+          made = rw is.1 refl;
+          by = by;
+          early = early_one n at [] bytes before.held before.held [] (inl none) (sym (append-nothing before.held));
+          count = count;
+          few = none_held (suc n) at.place at.last bytes none;
+        },
+      )
+
+  -- what an error of the read means for the run
+  pub next_ends : (at : Spot S) (before : Streams) (left : Option (List ℕ)) (reads : ℕ) (x : NextError) (e : RunError) → NextGives at.last before.left left before.reads reads (Err x) →
+      e ≡ (elim x [ nexts.NoMemory ↦ errors.NoMemory | nexts.ReadFault ↦ errors.ReadFault | nexts.Bad ↦ errors.BadEvent at.place ]) →
+      (n : ℕ) → Ends (suc n) at.place at.last (run turn (suc n) at) before (record before { left = left; reads = reads }) (Err e)
+  next_ends at before left reads nexts.NoMemory e (bytes, given, (inl none, count)) is n = rw is (unread_ends at before left reads bytes given none count (Err errors.NoMemory) n (wrote_nothing before.held _))
+  next_ends at before left reads nexts.NoMemory e (bytes, given, (inr (head, one), count)) is n =
+      rw is (
+        bytes,
+        [],
+        record {
+          read = given;
+          asked = sym (append-nil before.calls);
+          made = rw (run_whole n at [] bytes head [] one) (asked_first unanswered_stop (turn at.state (frame_at at.place head)) [] (behind n at head []) (λ t. quiet n at head t t.next) (none_first _));
+          by = wrote_nothing before.held _;
+          early = early_one n at [] bytes before.held before.held [] (inr (head, one)) (sym (append-nothing before.held));
+          count = count;
+          few = one_held n at.place at.last bytes (inr (head, one));
+        },
+      )
+  next_ends at before left reads nexts.ReadFault e (bytes, given, (none, count)) is n =
+      let nothing = none_is n at [] bytes none in
+      rw is (unread_ends at before left reads bytes given none count (Err errors.ReadFault) n (rw nothing.1 (sym (append-nothing before.held))))
+  next_ends at before left reads nexts.Bad e (bytes, given, (bad, count)) is n =
+      rw is (unread_ends at before left reads bytes given (inr bad.given) count (Err (errors.BadEvent at.place)) n (bad_ends at before (record before { left = left; reads = reads }) bytes refl bad n))
+
+  -- ---- an event that is taken
+
+  -- a turn that stops the run
+  stop_is : (next : Onward) (stop : RunStop) → stop_next next ≡ Some stop → next ≡ stopped stop
+  stop_is goes_on stop is = absurd cc
+  stop_is opened stop is = absurd cc
+  stop_is (stopped x) stop is = let same : x ≡ stop = cc in ap stopped same
+
+  -- the spot after an event
+  spot_is : (at at' : Spot S) (head : Head) (s : S) → at'.place ≡ at.place + size_of head → at'.last ≡ head.0 → at'.state ≡ s → at' ≡ spot_after at head s
+  spot_is at at' head s place last state =
+      ap (λ (p : ℕ). record at' { place = p }) place ∙ ap (λ (l : ℕ). record at' { place = at.place + size_of head; last = l }) last
+      ∙ ap (λ (x : S). record { place = at.place + size_of head; last = head.0; state = x }) state
+
+  -- the bytes of an event whose turn continues bring the run on
+  brings : (at at' : Spot S) (head : Head) (t : TurnOf S) (gained : List SignCall) (bytes : List ℕ) → Makes (turn at.state (frame_at at.place head)) gained t → stop_next t.next ≡ None → at' ≡ spot_after at head t.state →
+      IsWhole at.last head bytes → BringsOn (run turn) at at' bytes gained t.records
+  brings at at' head t gained bytes makes on same whole =
+      let place : at'.place ≡ at.place + size_of head = ap (λ (x : Spot S). x.place) same in
+      record {
+        within = omega (arith, place, whole.within);
+        on = λ n later more.
+            run_whole n at (answers_of gained ++ later) (bytes ++ more) head more (whole.is more)
+            ∙ asked_made unanswered_stop (turn at.state (frame_at at.place head)) gained t later (behind n at head more) makes
+            ∙ ap (λ (r : Run). after [] gained r) (going_by t t.next _ on ∙ ap (λ (x : Spot S). after t.records [] (run turn n x later more)) (sym same));
+        counts = λ n more. event_counted n at.place at.last (bytes ++ more) head more (whole.is more) ∙ ap (λ (x : Spot S). suc (length (events n x.place x.last more))) (sym same);
+        quiet = λ n answers part b more parts. none_said n at answers part (no_shorter at.last head bytes part b more whole parts);
+        just = λ n answers part b more parts. none_cut n at answers part (no_shorter at.last head bytes part b more whole parts);
+      }
+
+  -- the event alone, with its own calls alone
+  alone : (n : ℕ) (at : Spot S) (head : Head) (gained : List SignCall) (bytes : List ℕ) → IsWhole at.last head bytes →
+      run turn (suc n) at (answers_of gained) bytes ≡ asked_run unanswered_stop (turn at.state (frame_at at.place head)) (answers_of gained) (behind n at head [])
+  alone n at head gained bytes whole = run_whole n at (answers_of gained) bytes head [] (ap (front at.last) (sym (append-nil bytes)) ∙ whole.is [])
+
+  -- the same if all its calls were made
+  made_alone : (n : ℕ) (at : Spot S) (head : Head) (t : TurnOf S) (gained : List SignCall) (bytes : List ℕ) → Makes (turn at.state (frame_at at.place head)) gained t → IsWhole at.last head bytes →
+      run turn (suc n) at (answers_of gained) bytes ≡ after [] gained (behind n at head [] t [])
+  made_alone n at head t gained bytes makes whole =
+      alone n at head gained bytes whole
+      ∙ ap (λ (answers : List Answer). asked_run unanswered_stop (turn at.state (frame_at at.place head)) answers (behind n at head [])) (sym (append-nil (answers_of gained)))
+      ∙ asked_made unanswered_stop (turn at.state (frame_at at.place head)) gained t [] (behind n at head []) makes
+
+  -- whichever of its calls were made, the run has them
+  taken_made : (n : ℕ) (at : Spot S) (head : Head) (gained : List SignCall) (bytes : List ℕ) → MakesFirst (turn at.state (frame_at at.place head)) gained → IsWhole at.last head bytes → (run turn (suc n) at (answers_of gained) bytes).calls ≡ gained
+  taken_made n at head gained bytes first whole =
+      ap (λ (r : Run). r.calls) (alone n at head gained bytes whole)
+      ∙ asked_first unanswered_stop (turn at.state (frame_at at.place head)) gained (behind n at head []) (λ t. quiet n at head t t.next) first
+
+  -- if the run stops with an event
+  stops_exact : NeverAtEnd turn → (at : Spot S) (head : Head) (before now : Streams) (gained : List SignCall) (bytes : List ℕ) (a : Result Ended RunError) → IsWhole at.last head bytes →
+      StopsBy (turn at.state (frame_at at.place head)) gained before.held now.held a → (n : ℕ) → IsExact (run turn (suc n) at) bytes gained before now a
+  stops_exact never at head before now gained bytes a whole (t, makes, stops, wrote) n =
+      let stopped_so : (later : List Answer) (more : List ℕ) → run turn (suc n) at (answers_of gained ++ later) (bytes ++ more) ≡ after [] gained (stopped_with t.records (stop_as a)) = λ later more.
+      run_whole n at (answers_of gained ++ later) (bytes ++ more) head more (whole.is more)
+      ∙ asked_made unanswered_stop (turn at.state (frame_at at.place head)) gained t later (behind n at head more) makes
+      ∙ ap (λ (r : Run). after [] gained r) (stopping_by t t.next _ (stop_as a) stops)
+      in
+      let here : run turn (suc n) at (answers_of gained) bytes ≡ after [] gained (stopped_with t.records (stop_as a)) =
+      made_alone n at head t gained bytes makes whole ∙ ap (λ (r : Run). after [] gained r) (stopping_by t t.next _ (stop_as a) stops)
+      in
+      record {
+        all = rw here wrote;
+        stop = rw here refl;
+        rest = λ later more e. stopped_so later more ∙ sym here;
+        just = λ later part b more parts. none_cut n at (answers_of gained ++ later) part (no_shorter at.last head bytes part b more whole parts);
+        whole = λ done.
+            absurd (always_makes IsNoEnd (turn at.state (frame_at at.place head)) gained t (never at.state (frame_at at.place head)) makes
+            (stop_is t.next (stop_as a) stops ∙ ap (λ (x : Result Ended RunError). stopped (stop_as x)) done));
+      }
+
+  -- the records of a turn are the first of its run's
+  first_by : (t : TurnOf S) (next : Onward) (r : Run) → (rest : List Record) × ((run_on t next r).records ≡ t.records ++ rest)
+  first_by t goes_on r = (r.records, refl)
+  first_by t opened r = (r.records, refl)
+  first_by t (stopped stop) r = ([], sym (append-nil t.records))
+
+  -- if a prefix of its records was written
+  stops_cut : (at : Spot S) (head : Head) (held now : Option (List ℕ)) (gained : List SignCall) (bytes : List ℕ) → IsWhole at.last head bytes → CutBy (turn at.state (frame_at at.place head)) gained held now →
+      (n : ℕ) → WroteFront held now (lines (run turn (suc n) at (answers_of gained) bytes).records)
+  stops_cut at head held now gained bytes whole (inl (first, same)) n = rw same (wrote_nothing held _)
+  stops_cut at head held now gained bytes whole (inr (t, makes, (part, others, due, wrote))) n =
+      let first = first_by t t.next (run turn n (spot_after at head t.state) [] []) in (
+        part,
+        others ++ lines first.0,
+        ap (λ (r : Run). lines r.records) (made_alone n at head t gained bytes makes whole)
+            ∙ ap lines first.1 ∙ flat_map-append line t.records first.0 ∙ ap (λ (x : List ℕ). x ++ lines first.0) due ∙ append_assoc part others (lines first.0),
+        wrote,
+      )
+
+  -- the calls are the first of the turn's
+  cut_first : (at : Spot S) (head : Head) (held now : Option (List ℕ)) (gained : List SignCall) → CutBy (turn at.state (frame_at at.place head)) gained held now → MakesFirst (turn at.state (frame_at at.place head)) gained
+  cut_first at head held now gained (inl (first, same)) = first
+  cut_first at head held now gained (inr (t, makes, wrote)) = all_first (turn at.state (frame_at at.place head)) gained t makes
+
+  take_first : (ending : Ending) (at : Spot S) (head : Head) (held now : Option (List ℕ)) (gained : List SignCall) (a : Result Ended RunError) → TakeAs ending (turn at.state (frame_at at.place head)) gained held now a →
+      MakesFirst (turn at.state (frame_at at.place head)) gained
+  take_first told at head held now gained a (t, makes, stops, wrote) = all_first (turn at.state (frame_at at.place head)) gained t makes
+  take_first cut at head held now gained a gives = cut_first at head held now gained gives
+  take_first unread at head held now gained a (t, makes, stops, wrote) = all_first (turn at.state (frame_at at.place head)) gained t makes
+
+  -- what was written of it
+  take_wrote : (ending : Ending) (at : Spot S) (head : Head) (held now : Option (List ℕ)) (gained : List SignCall) (a : Result Ended RunError) → TakeAs ending (turn at.state (frame_at at.place head)) gained held now a → (part : List ℕ) × (now ≡ append held part)
+  take_wrote told at head held now gained a (t, makes, stops, wrote) = (lines t.records, wrote)
+  take_wrote cut at head held now gained a (inl (first, same)) = ([], same ∙ sym (append-nothing held))
+  take_wrote cut at head held now gained a (inr (t, makes, (part, others, due, wrote))) = (part, wrote)
+  take_wrote unread at head held now gained a (t, makes, stops, wrote) = (lines t.records, wrote)
+
+  -- the event's bytes are one event
+  one_is : (at : Spot S) (head : Head) (bytes : List ℕ) → IsWhole at.last head bytes → IsOneAtMost at.last bytes
+  one_is at head bytes whole = inr (head, ap (front at.last) (sym (append-nil bytes)) ∙ whole.is [])
+
+  taken_ends : NeverAtEnd turn → (ending : Ending) (at : Spot S) (head : Head) (before now : Streams) (gained : List SignCall) (bytes : List ℕ) (a : Result Ended RunError) → IsWhole at.last head bytes →
+      TakeAs ending (turn at.state (frame_at at.place head)) gained before.held now.held a → (n : ℕ) → EndsAs ending (run turn (suc n) at) bytes gained before now a
+  taken_ends never told at head before now gained bytes a whole gives n = stops_exact never at head before now gained bytes a whole gives n
+  taken_ends never cut at head before now gained bytes a whole gives n = stops_cut at head before.held now.held gained bytes whole gives n
+  taken_ends never unread at head before now gained bytes a whole gives n = (stops_exact never at head before now gained bytes a whole gives n).all
+
+  -- one event, in each case
+  pub taken_gives : NeverAtEnd turn → (at at' : Spot S) (head : Head) (before now : Streams) (gained : List SignCall) (o : Option (Result Ended RunError)) → now.calls ≡ before.calls ++ gained →
+      Gave before.left now.left (λ bytes. IsWhole at.last head bytes × (now.reads ≤ before.reads + length bytes)) → TakeGives (turn at.state (frame_at at.place head)) gained at'.state before.held now.held o →
+      IfNone o ((at'.place ≡ at.place + size_of head) × (at'.last ≡ head.0)) → TurnGives (run turn) at at' before now o
+  taken_gives never at at' head before now gained None asked (bytes, given, (whole, count)) (t, makes, on, all, state) moved = (
+    bytes,
+    gained,
+    t.records,
+    record { read = given; asked = asked; wrote = all; count = count },
+    brings at at' head t gained bytes makes on (spot_is at at' head t.state moved.0 moved.1 state) whole,
+  )
+  taken_gives never at at' head before now gained (Some a) asked (bytes, given, (whole, count)) gives moved = λ n. (
+    bytes,
+    gained,
+    record {
+      read = given;
+      asked = asked;
+      made = taken_made n at head gained bytes (take_first (ending_of a) at head before.held now.held gained a gives) whole;
+      by = taken_ends never (ending_of a) at head before now gained bytes a whole gives n;
+      early =
+          (let wrote = take_wrote (ending_of a) at head before.held now.held gained a gives in
+          early_one n at gained bytes before.held now.held wrote.0 (one_is at head bytes whole) wrote.1);
+      count = omega (arith, count);
+      few = whole_held n at.place at.last head bytes whole;
+    },
+  )
+
+  -- ---- the limit
+
+  pub run_limit : (at : Spot S) (answers : List Answer) (bytes : List ℕ) → run turn 0 at answers bytes ≡ stopped_with [] (at_end (stop_at_most bytes))
+  unfolding run
+  run_limit at answers bytes = refl
+
+  -- a shorter prefix of one byte is empty
+  limit_front : (at : Spot S) (answers : List Answer) (b : ℕ) (part : List ℕ) (c : ℕ) (more : List ℕ) → b ∷ [] ≡ part ++ c ∷ more → IsCut (run turn 0 at answers part).stop
+  limit_front at answers b [] c more is = inl (ap (λ (r : Run). r.stop) (run_limit at answers []))
+  limit_front at answers b (x ∷ part) c more is = let nothing : [] ≡ part ++ c ∷ more = cc in absurd (not_nothing part c more nothing)
+
+  -- there are no records there
+  early_limit : (at : Spot S) (gained : List SignCall) (given : List ℕ) (held : Option (List ℕ)) → HasEarlier (run turn 0 at) given gained held held
+  early_limit at gained given held = λ later front b more is.
+      said_none held held _ [] (ap (λ (r : Run). r.records) (run_limit at (answers_of gained ++ later) front)) (sym (append-nothing held))
+
+  -- at the limit
+  pub limit_ends : (at : Spot S) (before : Streams) (left : Option (List ℕ)) (reads : ℕ) (a : Result Ended RunError) → LimitGives before.left left a → reads ≤ before.reads + 1 →
+      Ends 0 at.place at.last (run turn 0 at) before (record before { left = left; reads = reads }) a
+  unfolding run
+  limit_ends at before left reads (Ok ends.ScriptEnd) (same, end) count = (
+    [],
+    [],
+    record {
+      read = same ∙ sym (prepend-nothing left);
+      asked = sym (append-nil before.calls);
+      made = refl;
+      by = record {
+        all = sym (append-nothing before.held);
+        stop = refl;
+        rest = λ later more e. ap (run turn 0 at later) (none_more left more e end);
+        just = λ later part b more is. absurd (not_nothing part b more is);
+        whole = λ done. end;
+      };
+      early = early_limit at [] [] before.held;
+      count = omega (arith, count);
+      few = none_held 0 at.place at.last [] (inl (front_nothing at.last));
+    },
+  )
+  limit_ends at before left reads (Ok ends.Disconnected) h count = absurd h
+  limit_ends at before left reads (Ok ends.Closed) h count = absurd h
+  limit_ends at before left reads (Ok (ends.RemoteDisconnect info)) h count = absurd h
+  limit_ends at before left reads (Err errors.ScriptTooLong) (b, given) count = (
+    b ∷ [],
+    [],
+    record {
+      read = given;
+      asked = sym (append-nil before.calls);
+      made = refl;
+      by = record {
+        all = sym (append-nothing before.held);
+        stop = refl;
+        rest = λ later more e. refl;
+        just = λ later part c more is. limit_front at later b part c more is;
+        whole = λ done. absurd cc;
+      };
+      early = early_limit at [] (b ∷ []) before.held;
+      count = omega (arith, count);
+      few = none_held 0 at.place at.last (b ∷ []) (front_short at.last (b ∷ []) (omega arith));
+    },
+  )
+  limit_ends at before left reads (Err errors.ReadFault) same count = (
+    [],
+    [],
+    record {
+      read = same ∙ sym (prepend-nothing left);
+      asked = sym (append-nil before.calls);
+      made = refl;
+      by = sym (append-nothing before.held);
+      early = early_limit at [] [] before.held;
+      count = omega (arith, count);
+      few = none_held 0 at.place at.last [] (inl (front_nothing at.last));
+    },
+  )
+  limit_ends at before left reads (Err errors.NoMemory) same count = (
+    [],
+    [],
+    record {
+      read = same ∙ sym (prepend-nothing left);
+      asked = sym (append-nil before.calls);
+      made = refl;
+      by = wrote_nothing before.held [];
+      early = early_limit at [] [] before.held;
+      count = omega (arith, count);
+      few = none_held 0 at.place at.last [] (inl (front_nothing at.last));
+    },
+  )
+  limit_ends at before left reads (Err e) h count = absurd h

@@ -1,0 +1,36 @@
+-- The same run where each call takes the next answer with its asker. If the answers are those of the run's own calls,
+-- it is the run that takes them in order.
+use Rattle.std.specs.Prelude.{Bool, true, false, List, [], ◌∷◌, Option, Some, None, ◌==◌, if◌then◌else◌}
+use Rattle.std.specs.Option.{option_map}
+use Rattle.sshc_key.specs.Signers.{SignCall}
+use Rattle.sshc_key.specs.declared.signer.Asker.{Asker}
+use Rattle.sshc_key.specs.declared.signer.Asker.TheVariants.{Session, Agent}
+use Rattle.sshc_key.specs.Asking.{SignRequest, Answer, Asking, done, asks, call_of}
+use Rattle.sshc_run_script.specs.Machine.{unanswered_stop, Turns}
+use Rattle.sshc_run_reader.specs.Script.{Frame, ScriptStop}
+use Rattle.sshc_run_script.specs.ScriptRun.{Run, stopped_with, after, at_end, run_on}
+
+abbrev pub same_asker : Asker → Asker → Bool
+same_asker Session Session = true
+same_asker Session (Agent b) = false
+same_asker (Agent a) Session = false
+same_asker (Agent a) (Agent b) = a == b
+
+-- the next answer with this asker, and the calls without it
+abbrev pub next_by : Asker → List SignCall → Option (Answer × List SignCall)
+next_by by [] = None
+next_by by (call ∷ calls) =
+    if same_asker by call.by then Some (call.answer, calls)
+    else option_map (λ (found : Answer × List SignCall). (found.0, call ∷ found.1)) (next_by by calls)
+
+abbrev pub with_next : SignRequest → Option (Answer × List SignCall) → (Answer → List SignCall → Run) → Run
+with_next asked None later = stopped_with [] unanswered_stop
+with_next asked (Some (answer, left)) later = after [] (call_of asked answer ∷ []) (later answer left)
+
+abbrev pub asked_by : {A : Type 0} → Asking A → List SignCall → (A → List SignCall → Run) → Run
+asked_by (done x) said later = later x said
+asked_by (asks asked on) said later = with_next asked (next_by asked.by said) (λ answer left. asked_by (on answer) left later)
+
+unfoldable pub events_by : {S : Type 0} → Turns S → S → List Frame → ScriptStop → List SignCall → Run
+events_by turn s [] st said = stopped_with [] (at_end st)
+events_by turn s (frame ∷ frames) st said = asked_by (turn s frame) said (λ t left. run_on t t.next (events_by turn t.state frames st left))

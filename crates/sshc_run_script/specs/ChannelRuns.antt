@@ -1,0 +1,82 @@
+-- Over a whole run each channel has its account (RFC 4254, sections 5.2 and 5.3): the channels are the result of the
+-- calls of the channel table that the rows of the run's events make, in order, and the packets of channels among all
+-- records of the open session are those that these calls write. So what the channel table guarantees for every list of
+-- calls is true of the run. The code keeps one table.
+use Rattle.std.specs.Prelude.{◌≡◌, ◌⊎◌, ℕ, Bool, true, false, List, [], ◌∷◌, ◌++◌, Option, Some, None, Result, Ok, Err}
+use Rattle.sshc_wire.specs.declared.record.Record.{Record}
+use Rattle.sshc_key.specs.Signers.{SignCall}
+use Rattle.sshc_key.specs.Asking.{Answer, Makes}
+use Rattle.sshc_auth_event.specs.declared.event.Event.{Event}
+use Rattle.sshc_mux.specs.ChannelState.{channel_of}
+use Rattle.sshc_mux.specs.ChannelAccount.{Account, Call, Life, born, called, no_channels, ran}
+use Rattle.sshc_client_packets.specs.HostKeyProof.{Accepts}
+use Rattle.sshc_client_table.specs.Moves.{calls_in}
+use Rattle.sshc_client_table.specs.SessionAccount.{channel_packets, said_packets}
+use Rattle.sshc_client_table.specs.SessionState.{SessionState, is_open}
+use Rattle.sshc_client_table.specs.SessionTable.{session_row}
+use Rattle.sshc_client_state.specs.Start.{new_session}
+use Rattle.sshc_client.specs.Follows.{all_moves, default_opinions}
+use Rattle.sshc_run_reader.specs.declared.error.EventError.{EventError}
+use Rattle.sshc_run_reader.specs.EventReading.{event_of}
+use Rattle.sshc_run_reader.specs.Script.{Frame, taken}
+use Rattle.sshc_run_script.specs.Configured.{RunSettings}
+use Rattle.sshc_run_script.specs.KnownHosts.{Hosts}
+use Rattle.sshc_run_script.specs.Machine.{stop_next}
+use Rattle.sshc_run_script.specs.Part.{own_events}
+use Rattle.sshc_run_script.specs.ScriptRun.{answers_of}
+use Rattle.sshc_run_script.specs.SessionPart.{session_own}
+use Rattle.sshc_run_script.specs.SessionTurn.{SessionTurn, session_turn}
+
+-- ---- one event
+
+-- the calls of the channel table that the event's row makes; before the session is open there are none
+abbrev pub row_calls : Bool → Accepts → SessionState → Event → List Call
+row_calls false accepts s event = []
+row_calls true accepts s event = calls_in (all_moves (session_row accepts (default_opinions s) s event)) s
+
+abbrev pub calls_by : Accepts → SessionState → Result Event EventError → List Call
+calls_by accepts s (Ok event) = row_calls (is_open s.opening.phase) accepts s event
+calls_by accepts s (Err e) = []
+
+abbrev pub calls_at : Accepts → SessionState → Frame → List Call
+calls_at accepts s frame = calls_by accepts s (event_of frame.kind frame.fields)
+
+-- the records of the open session
+abbrev pub said_open : Bool → List Record → List Record
+said_open true records = records
+said_open false records = []
+
+-- ---- over a run
+
+-- these events, by the signer's answers in order, bring the run from the one state to the other, where that event is
+-- the next; their rows make these calls, and these are the records of the open session, in order
+abbrev pub ComesCalling : Hosts → Accepts → SessionState → List Frame → List Answer → List Call → List Record → SessionState → Frame → Type 0
+ComesCalling hosts accepts s [] answers calls said s' frame' = ⊥
+ComesCalling hosts accepts s (frame ∷ frames) answers calls said s' frame' =
+    ((s ≡ s') × (frame ≡ frame') × (calls ≡ []) × (said ≡ []))
+    ⊎ ((t : SessionTurn) × (gained : List SignCall) × (left : List Answer) × (later : List Call) × (more : List Record) × Makes (session_turn hosts accepts s frame) gained t
+    × (answers ≡ answers_of gained ++ left) × (stop_next t.next ≡ None) × (calls ≡ calls_at accepts s frame ++ later) × (said ≡ said_open (is_open s.opening.phase) t.records ++ more)
+    × ComesCalling hosts accepts t.state frames left later more s' frame')
+
+-- the calls are a life of the number n: one that makes the channel, and the life's own calls
+pub record IsLife (calls : List Call) (n : ℕ) (l : Life n) : Type 0 where
+  pub opener : Call
+  pub first : l.last ≡ 0
+  pub all : calls ≡ l.before ++ opener ∷ l.calls
+  pub opens : (called opener (ran l.before (no_channels l.last)).table).table ≡ born n l
+
+-- the session has the channel as its life ends, and the life has its account
+pub record HasAccount (s : SessionState) (n : ℕ) (l : Life n) : Type 0 where
+  pub end : channel_of n s.table.channels ≡ Some l.end
+  pub account : Account n l
+
+pub record IsAccounted (s : SessionState) (calls : List Call) (said : List Record) : Type 0 where
+  pub table : s.table ≡ (ran calls (no_channels 0)).table
+  pub packets : channel_packets said ≡ said_packets (ran calls (no_channels 0)).said
+  pub lives : (n : ℕ) (l : Life n) → IsLife calls n l → HasAccount s n l
+
+-- each state that the session comes to, by its own events and answers, is accounted for
+abbrev pub AreAccounted : Hosts → Accepts → RunSettings → ℕ → List Answer → Option (List ℕ) → Type 0
+AreAccounted hosts accepts settings max answers script =
+    (bytes : List ℕ) → script ≡ Some bytes → (s : SessionState) (frame : Frame) (calls : List Call) (said : List Record) →
+    ComesCalling hosts accepts (new_session settings.session settings.opening) (own_events session_own (taken max bytes)) answers calls said s frame → IsAccounted s calls said

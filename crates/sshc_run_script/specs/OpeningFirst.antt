@@ -1,0 +1,68 @@
+-- The relation between the opening table and a run of a larger machine that begins as the opening, and that takes
+-- events of others in between: the records of the session's own are a prefix of the opening's or, once it opens the
+-- session, all of them followed by more.
+use Rattle.std.specs.Prelude.{◌≡◌, ◌⊎◌, ℕ, List, [], Option, Some, Result, Ok, Err}
+use Rattle.sshc_wire.specs.Contents.{WroteFront, append}
+use Rattle.sshc_wire.specs.Faults.{Rose}
+use Rattle.sshc_wire.specs.declared.record.Record.{Record}
+use Rattle.sshc_key.specs.Signers.{SignCall}
+use Rattle.sshc_auth.specs.declared.ended.Ended.{Ended}
+use Rattle.sshc_auth.specs.declared.ended.Ended.TheVariants.{ScriptEnd}
+use Rattle.sshc_run_script.specs.declared.error.RunError.{RunError}
+use Rattle.sshc_run_script.specs.declared.error.RunError.TheVariants as errors
+use Rattle.sshc_run_script.specs.Prefixes.{IsFront}
+use Rattle.sshc_run_script.specs.Machine.{RunStop, ended, Machine}
+use Rattle.sshc_run_script.specs.OpeningRun.{OpeningRun, OpeningStop, opens_before, stops_with, through, opening}
+use Rattle.sshc_run_script.specs.Part.{Own, own_events, own_records, own_calls, own_answers, StoppedByOther}
+use Rattle.sshc_run_script.specs.RecordLines.{lines}
+use Rattle.sshc_run_reader.specs.Script.{Frame, ScriptStop, whole, taken, stop_of}
+
+-- the opening run over a script's session events, with the answers of the session's own calls
+abbrev pub opening_of : {S : Type 0} → Machine S → Own → ℕ → List SignCall → List ℕ → OpeningRun S
+opening_of m own max calls script = opening m.turn m.first (own_events own (taken max script)) (own_answers own calls)
+
+-- these are a prefix of the opening's records or, once it opens the session, all of them followed by more
+abbrev pub BeginsAs : {S : Type 0} {X : Type 0} → List X → OpeningStop S → List X → Type 0
+BeginsAs outputs (opens_before s frames left) said = IsFront said outputs ⊎ IsFront outputs said
+BeginsAs outputs (stops_with stop) said = IsFront said outputs
+BeginsAs outputs through said = IsFront said outputs
+
+-- these are all of the opening's records and it ends in this way, or it opens the session and these follow them
+abbrev pub ConcludesAs : {S : Type 0} → List Record → OpeningStop S → List Record → Ended → Type 0
+ConcludesAs outputs (opens_before s frames left) said e = IsFront outputs said
+ConcludesAs outputs (stops_with stop) said e = (said ≡ outputs) × (stop ≡ ended e)
+ConcludesAs outputs through said e = (said ≡ outputs) × (e ≡ ScriptEnd)
+
+-- ---- the guarantees of a whole run
+
+-- the bytes that are written are a prefix of the lines of some records; the session's records among these begin as the
+-- opening's, and so do the session's calls of the signer, however the run ends
+abbrev pub IsOpeningFirst : {S : Type 0} → Machine S → Own → ℕ → List SignCall → Option (List ℕ) → Option (List ℕ) → Option (List ℕ) → Type 0
+IsOpeningFirst m own max calls script held written =
+    (bytes : List ℕ) → script ≡ Some bytes →
+    (records : List Record) × WroteFront held written (lines records)
+    × BeginsAs (opening_of m own max calls bytes).records (opening_of m own max calls bytes).stop (own_records own records)
+    × BeginsAs (opening_of m own max calls bytes).calls (opening_of m own max calls bytes).stop (own_calls own calls)
+
+-- with Ok all lines of some records are written; the session's records among these are the opening's, and it ends in
+-- this way, or they follow its opening
+abbrev pub IsOpeningDone : {S : Type 0} → Machine S → Own → ℕ → List SignCall → Option (List ℕ) → Option (List ℕ) → Option (List ℕ) → Result Ended RunError → Type 0
+IsOpeningDone m own max calls script held written (Ok e) =
+    (bytes : List ℕ) → script ≡ Some bytes →
+    (records : List Record) × (written ≡ append held (lines records))
+    × ConcludesAs (opening_of m own max calls bytes).records (opening_of m own max calls bytes).stop (own_records own records) e
+IsOpeningDone m own max calls script held written (Err e) = Unit {0}
+
+-- a script is valid if the opening stops at an end, or at the whole script's end, or opens the session with no session
+-- event after that
+abbrev pub IsValidBy : {S : Type 0} → ScriptStop → OpeningStop S → Ended → Type 0
+IsValidBy st (opens_before s frames left) e = (frames ≡ []) × (st ≡ whole) × (e ≡ ScriptEnd)
+IsValidBy st (stops_with stop) e = stop ≡ ended e
+IsValidBy st through e = (st ≡ whole) × (e ≡ ScriptEnd)
+
+-- for a valid script, if none of its other events stops the run, the result is its end or out of memory, if no count
+-- rises
+abbrev pub IsOpeningComplete : {S : Type 0} → Machine S → Own → (Frame → RunStop → Type 0) → ℕ → List SignCall → Option (List ℕ) → ℕ → ℕ → ℕ → ℕ → Result Ended RunError → Type 0
+IsOpeningComplete m own Cause max calls script reads reads' writes writes' answer =
+    (bytes : List ℕ) (e : Ended) → script ≡ Some bytes → IsValidBy (stop_of max bytes) (opening_of m own max calls bytes).stop e →
+    ((stop : RunStop) → StoppedByOther own Cause (taken max bytes) stop → ⊥) → (Rose reads reads' → ⊥) → (Rose writes writes' → ⊥) → (answer ≡ Ok e) ⊎ (answer ≡ Err errors.NoMemory)

@@ -1,0 +1,93 @@
+-- What a session asks the signer along a run, and what it outputs to be signed (RFC 4252, section 7; RFC 4253, section
+-- 7.2): the signed text of the first exchange's hash and of a request that an earlier event asked for. Stated of each
+-- state that the session comes to, with the events before it; the code keeps no list of them.
+use Rattle.std.specs.Prelude.{◌≡◌, ◌≢◌, ◌⊎◌, ◌≤◌, ◌+◌, ℕ, false, List, [], ◌∷◌, ◌++◌, length, Option, Some, None, Result, Ok, Err}
+use Rattle.std.specs.List.{AllByRecursion}
+use Rattle.sshc_key.specs.Signers.{SignCall}
+use Rattle.sshc_key.specs.Asking.{Answer, Makes}
+use Rattle.sshc_auth_event.specs.declared.event.Event.{Event}
+use Rattle.sshc_auth_event.specs.declared.event.Event.TheVariants as events
+use Rattle.sshc_auth_event.specs.declared.method.Method.{Method}
+use Rattle.sshc_auth_event.specs.declared.method.Method.TheVariants as methods
+use Rattle.sshc_auth.specs.declared.opening.Phase.TheVariants as phases
+use Rattle.sshc_auth.specs.SignedRuns.{IsHandedFor, IsSignedFor}
+use Rattle.sshc_client_packets.specs.HostKeyProof.{Accepts}
+use Rattle.sshc_client_table.specs.SessionState.{SessionState, is_open}
+use Rattle.sshc_client_state.specs.Start.{new_session}
+use Rattle.sshc_run_reader.specs.declared.error.EventError.{EventError}
+use Rattle.sshc_run_reader.specs.EventReading.{event_of}
+use Rattle.sshc_run_reader.specs.Script.{Frame, taken}
+use Rattle.sshc_run_script.specs.Configured.{RunSettings}
+use Rattle.sshc_run_script.specs.KnownHosts.{Hosts}
+use Rattle.sshc_run_script.specs.Machine.{stop_next}
+use Rattle.sshc_run_script.specs.Part.{own_calls, own_events}
+use Rattle.sshc_run_script.specs.ScriptRun.{Run, answers_of}
+use Rattle.sshc_run_script.specs.SessionPart.{session_own}
+use Rattle.sshc_run_script.specs.SessionTurn.{SessionTurn, session_turn}
+
+-- ---- the events before a state, the latest first
+
+abbrev pub behind : Result Event EventError → List Event → List Event
+behind (Ok event) past = event ∷ past
+behind (Err e) past = past
+
+-- the hash of the first exchange that was done among them
+abbrev pub or_hash : Option (List ℕ) → Event → Option (List ℕ)
+or_hash (Some hash) event = Some hash
+or_hash None (events.ExchangeDone x) = Some x.session_hash
+or_hash None event = None
+
+abbrev pub first_hash : List Event → Option (List ℕ)
+first_hash [] = None
+first_hash (event ∷ past) = or_hash (first_hash past) event
+
+-- ---- over a run
+
+-- these events, by the signer's answers in order, bring the session from the one state to the other, where that event
+-- is the next; the events taken until then precede those of the past in the list
+abbrev pub ComesBehind : Hosts → Accepts → List Event → SessionState → List Frame → List Answer → List Event → SessionState → Frame → Type 0
+ComesBehind hosts accepts past s [] answers past' s' frame' = ⊥
+ComesBehind hosts accepts past s (frame ∷ frames) answers past' s' frame' =
+    ((s ≡ s') × (frame ≡ frame') × (past ≡ past'))
+    ⊎ ((t : SessionTurn) × (gained : List SignCall) × (left : List Answer) × Makes (session_turn hosts accepts s frame) gained t × (answers ≡ answers_of gained ++ left)
+    × (stop_next t.next ≡ None) × ComesBehind hosts accepts (behind (event_of frame.kind frame.fields) past) t.state frames left past' s' frame')
+
+pub record IsSignedAt (hosts : Hosts) (accepts : Accepts) (past : List Event) (s : SessionState) (frame : Frame) : Type 0 where
+  -- after the first exchange its hash is the session id
+  pub session_id : s.opening.phase ≢ phases.Exchanging → first_hash past ≡ Some s.opening.session_id
+  -- the signer is asked for the signed text of the session id and of a request among the events
+  pub asked : (gained : List SignCall) (t : SessionTurn) → Makes (session_turn hosts accepts s frame) gained t → AllByRecursion (IsSignedFor s.opening.session_id past) gained
+  -- the bytes that are output to be signed, until the session is open, are such a text too
+  pub handed : (gained : List SignCall) (t : SessionTurn) → is_open s.opening.phase ≡ false → Makes (session_turn hosts accepts s frame) gained t → AllByRecursion (IsHandedFor s.opening.session_id past) t.records
+
+-- at each state that the session comes to
+abbrev pub AreSigned : Hosts → Accepts → RunSettings → ℕ → List Answer → Option (List ℕ) → Type 0
+AreSigned hosts accepts settings max answers script =
+    (bytes : List ℕ) → script ≡ Some bytes → (past : List Event) (s : SessionState) (frame : Frame) →
+    ComesBehind hosts accepts [] (new_session settings.session settings.opening) (own_events session_own (taken max bytes)) answers past s frame → IsSignedAt hosts accepts past s frame
+
+-- ---- how often
+
+-- 1 for a request by a key of which the pair is available
+abbrev pub by_pair : Method → ℕ
+by_pair (methods.PublicKey key) = 1
+by_pair (methods.OpenSshCertificate key cert) = 1
+by_pair method = 0
+
+abbrev pub pair_request : Event → ℕ
+pair_request (events.Authenticate ticket user method) = by_pair method
+pair_request event = 0
+
+abbrev pub pair_request_by : Result Event EventError → ℕ
+pair_request_by (Ok event) = pair_request event
+pair_request_by (Err e) = 0
+
+-- how many of the events ask to authenticate in this way
+abbrev pub pair_requests : List Frame → ℕ
+pair_requests [] = 0
+pair_requests (frame ∷ frames) = pair_request_by (event_of frame.kind frame.fields) + pair_requests frames
+
+-- the session asks the signer at most as often as its events ask to authenticate by such a key
+abbrev pub CallsAreCounted : ℕ → (List ℕ → Run) → Option (List ℕ) → Type 0
+CallsAreCounted max table script =
+    (bytes : List ℕ) → script ≡ Some bytes → length (own_calls session_own (table bytes).calls) ≤ pair_requests (own_events session_own (taken max bytes))

@@ -1,4 +1,0 @@
-mod WordLists
-mod TextLines
-mod GeneratedRuns
-mod ScriptArguments

@@ -1,4 +1,0 @@
-use Rattle.sshc_run_words.proofs.words.run_other_words.Goals as goal
-
-pub returns-in-None-clause-hosts : goal.returns-in-None-clause-hosts
-returns-in-None-clause-hosts g c = λ asked asks. absurd (c.in-None.ensures.hosts asked asks)

@@ -1,6 +1,0 @@
-use Rattle.std.proofs.Common.{sym, ◌∙◌}
-use Rattle.sshc_script.proofs.Fronts.{head_is}
-use Rattle.sshc_script.proofs.script.moment_and_kind.Goals as goal
-
-pub returns : goal.returns
-returns c = rw c.new-c.ensures at (head_is _ _ _ _ _ _ _ (c.in_ok-moment.ensures) (c.in_ok-number.ensures) (sym c.from_u8.ensures ∙ c.in-Some.is) c.if-moment-last.false)

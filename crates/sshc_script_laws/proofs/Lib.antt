@@ -1,2 +1,0 @@
-mod EventTexts
-mod Longest

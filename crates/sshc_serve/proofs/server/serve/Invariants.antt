@@ -1,8 +1,0 @@
-use Rattle.std.specs.Prelude.{true}
-use Rattle.sshc_serve.proofs.server.serve.Given as goal
-
-abbrev pub ghosts-serve_by-L-Settings : goal.ghosts-serve_by-L-Settings
-ghosts-serve_by-L-Settings g a = record { asks = true; limit = a.journal_limit }
-
-abbrev pub ghosts-serve_by-L-Ledger : goal.ghosts-serve_by-L-Ledger
-ghosts-serve_by-L-Ledger g a = record { name = a.blank.name; parts = a.blank.parts }

@@ -1,5 +1,0 @@
-use Rattle.sshc_agent.specs.LocksHold.{locks_hold}
-use Rattle.sshc_shared.proofs.state.AgentState.close.Goals as goal
-
-pub returns-in-Ok-None-clause-locks : goal.returns-in-Ok-None-clause-locks
-returns-in-Ok-None-clause-locks g c = locks_hold _

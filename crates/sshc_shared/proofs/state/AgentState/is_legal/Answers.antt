@@ -1,4 +1,0 @@
-use Rattle.sshc_shared.proofs.state.AgentState.is_legal.Goals as goal
-
-pub returns : goal.returns
-returns g c = rw (← c.self.view_is) c.self.invariant.history

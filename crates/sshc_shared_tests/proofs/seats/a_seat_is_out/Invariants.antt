@@ -1,8 +1,0 @@
-use Rattle.std.specs.Prelude.{false}
-use Rattle.sshc_shared_tests.proofs.seats.a_seat_is_out.Given as goal
-
-abbrev pub ghosts-seat_out-L-Settings : goal.ghosts-seat_out-L-Settings
-ghosts-seat_out-L-Settings g a = record { asks = false; limit = 1000000 }
-
-abbrev pub ghosts-seat_out-L-Ledger : goal.ghosts-seat_out-L-Ledger
-ghosts-seat_out-L-Ledger g a = record { name = a.blank.name; parts = a.blank.parts }

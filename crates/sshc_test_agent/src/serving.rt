@@ -1,0 +1,6 @@
+//! An agent that is shared by threads, and its server.
+
+mod flags;
+mod listener;
+mod locking;
+mod threads;

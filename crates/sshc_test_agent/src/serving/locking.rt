@@ -1,0 +1,144 @@
+//! A lock on one connection while another waits for its user.
+
+ghost use Rattle.std.specs.Prelude.{None};
+
+use crate::calls::{bytes_of, calls_of, let_go};
+use crate::frames::{LOCKS, SIGNS, adds_with};
+use crate::serving::flags::Flags;
+use crate::serving::listener::{FlagStream, Streams, stream};
+use sshc_agent::{Clock, serve};
+use sshc_agent_core::Entry;
+use sshc_agent_shared::CloseError;
+use sshc_agent_words::FreshSigner;
+use sshc_wire::{NoMemory, put_bytes};
+use std::alloc::Global;
+use std::sync::Wait;
+use std::test::*;
+use std::thread::Threads;
+
+/// A clock that always returns the same moment.
+#[derive(Clone, Copy, Drop)]
+struct Standstill;
+
+impl Clock for Standstill {
+    ghost told = { λ s. None };
+
+    fn now(&mut self) -> u64 {
+        0
+    }
+}
+
+/// Appends a frame with its length.
+fn put_frame(out: &mut Vec<u8>, frame: &[u8]) -> Result<(), NoMemory> {
+    if frame.len() < 1_000 {
+        put_bytes(out, frame)?;
+    }
+    Ok(())
+}
+
+/// Serves these streams, with a clock that doesn't move.
+fn served<R: Threads + Wait + Sync>(
+    rt: &R,
+    alloc: Global,
+    mut streams: Streams<'_>,
+    flags: &Flags,
+) -> Result<Vec<Entry>, CloseError> {
+    serve(
+        rt,
+        alloc,
+        &mut streams,
+        &(),
+        &FreshSigner::new(alloc),
+        flags,
+        &Standstill,
+        1_000_000,
+    )
+}
+
+/// Connection 1, which adds a key that must be confirmed and asks it for a signature, and connection 2, which locks.
+fn two_streams<'a>(alloc: Global, flags: &'a Flags) -> Result<Vec<FlagStream<'a>>, NoMemory> {
+    let mut first = Vec::new(alloc);
+    put_frame(&mut first, adds_with(alloc, &[2])?.as_slice())?;
+    put_frame(&mut first, SIGNS)?;
+    let mut second = Vec::new(alloc);
+    put_frame(&mut second, LOCKS)?;
+    let mut streams = Vec::new(alloc);
+    streams.push(stream(alloc, second, Some(&flags.answered)))?;
+    streams.push(stream(alloc, first, None))?;
+    Ok(streams)
+}
+
+/// A connection, the number of a call of it, and the answer.
+const ANSWERS: [(u32, u32, &[u8]); 3] = [
+    (1, 1, b"\0\0\0\x01\x06"),
+    (2, 1, b"\0\0\0\x01\x06"),
+    (1, 4, b"\0\0\0\x01\x05"),
+];
+
+/// Whether the call of a connection has this answer.
+fn has_answer(history: &[Entry], conn: u32, number: u32, answer: &[u8]) -> bool {
+    for entry in history {
+        if entry.conn == conn && entry.number == number {
+            return bytes_of(entry) == answer;
+        }
+    }
+    false
+}
+
+/// Whether connection 1 has six calls and connection 2 three, and the lock came before the waiting answer.
+fn is_locked_first(history: &[Entry]) -> bool {
+    for (conn, number, answer) in ANSWERS {
+        if !has_answer(history, conn, number, answer) {
+            return false;
+        }
+    }
+    history.len() == 9 && calls_of(history, 1) == 6 && calls_of(history, 2) == 3
+}
+
+/// How serving ends, in one word or with what its history shows.
+#[derive(Clone, Copy, PartialEq, Eq)]
+enum Outcome {
+    /// Whether the lock came first.
+    LockedFirst(bool),
+    NoMemory,
+    /// Not closed, for another reason.
+    NotClosed,
+}
+
+fn told(answer: Result<Vec<Entry>, CloseError>) -> Outcome {
+    match answer {
+        Ok(history) => Outcome::LockedFirst(is_locked_first(&history)),
+        Err(CloseError::NoMemory) => Outcome::NoMemory,
+        Err(why) => {
+            let_go(why);
+            Outcome::NotClosed
+        }
+    }
+}
+
+#[test]
+fn a_lock_comes_before_the_waiting_answer(rt: HostRuntime) -> Result<(), Fail> {
+    let flags = Flags::new();
+    let streams = Streams::new(two_streams(rt.alloc(), &flags)?, false);
+    let outcome = told(served(&rt, rt.alloc(), streams, &flags));
+    assert!(rt; !flags.is_late() && outcome == Outcome::LockedFirst(true));
+    Ok(())
+}
+
+/// A connection that locks.
+fn one_stream<'a>(alloc: Global) -> Result<Vec<FlagStream<'a>>, NoMemory> {
+    let mut bytes = Vec::new(alloc);
+    put_frame(&mut bytes, LOCKS)?;
+    let mut streams = Vec::new(alloc);
+    streams.push(stream(alloc, bytes, None))?;
+    Ok(streams)
+}
+
+#[test]
+fn a_listener_that_finds_no_memory_ends_without_a_history(rt: HostRuntime) -> Result<(), Fail> {
+    let flags = Flags::new();
+    let streams = Streams::new(one_stream(rt.alloc())?, true);
+    let outcome = told(served(&rt, rt.alloc(), streams, &flags));
+    assert!(rt; outcome == Outcome::NoMemory);
+    Ok(())
+}

@@ -1,0 +1,7 @@
+//! An agent by itself, step by step.
+
+mod inputs;
+mod locking;
+mod pieces;
+mod signer;
+mod steps;
