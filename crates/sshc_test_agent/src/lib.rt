@@ -6,6 +6,8 @@ mod calls;
 #[cfg(test)]
 mod frames;
 #[cfg(test)]
+mod joined;
+#[cfg(test)]
 mod serving;
 #[cfg(test)]
 mod sharing;

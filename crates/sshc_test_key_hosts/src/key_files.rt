@@ -29,6 +29,12 @@ const LOADED: &[Loaded] = &[
         line: "ssh-ed25519 AAAAC3NzaC1lZDI1NTE5AAAAIK2pr+Bfus1hvPof4Wb/plZCzSbqadHH0u+/f4ODtKnE my comment",
     },
     Loaded {
+        name: "no comment",
+        text: "ssh-ed25519 AAAAC3NzaC1lZDI1NTE5AAAAIK2pr+Bfus1hvPof4Wb/plZCzSbqadHH0u+/f4ODtKnE\n",
+        comment: "",
+        line: "ssh-ed25519 AAAAC3NzaC1lZDI1NTE5AAAAIK2pr+Bfus1hvPof4Wb/plZCzSbqadHH0u+/f4ODtKnE",
+    },
+    Loaded {
         name: "behind a comment line",
         text: "# a comment line\r\n\r\nssh-ed25519\tAAAAC3NzaC1lZDI1NTE5AAAAIK2pr+Bfus1hvPof4Wb/plZCzSbqadHH0u+/f4ODtKnE  tabs and crlf \r\n",
         comment: "tabs and crlf",

@@ -5,10 +5,10 @@ use super::row::bytes_of;
 use crate::files::let_go;
 use sshc_ask::{AgentClient, Duplex};
 use sshc_key::{
-    AgentIdentity, AgentSessionBinding, Constraint, Error, HashAlg, PrivateKey, PublicKey,
-    Signature, Signer, parse_public_key_base64, read_key_pair,
+    AgentIdentity, AgentSessionBinding, Constraint, Error, HashAlg, KeyData, KeyRef, PrivateKey,
+    PublicKey, Signature, Signer, parse_public_key_base64, read_key_pair,
 };
-use sshc_wire::{Cursor, Octets};
+use sshc_wire::{Cursor, NoMemory, Octets};
 use std::alloc::Global;
 
 /// A client over memory.
@@ -92,16 +92,48 @@ fn binding_of(alloc: Global, words: Words<'_>) -> Result<AgentSessionBinding, Er
     ))
 }
 
-/// How many keys there are, and the kind and comment of each.
+/// Whether a copy is the identity again.
+fn is_copied(identity: &AgentIdentity) -> Result<bool, NoMemory> {
+    Ok(identity.copy()? == *identity)
+}
+
+/// Whether a listed key lends itself, and a certificate gives the key that it speaks of.
+fn has_key(identity: &AgentIdentity) -> Result<bool, NoMemory> {
+    let found = identity.public_key()?;
+    Ok(match (identity, &found) {
+        (AgentIdentity::PublicKey { key, .. }, KeyRef::Borrowed(lent)) => *lent == key,
+        (AgentIdentity::Certificate { certificate, .. }, KeyRef::Owned(made)) => {
+            made.key == certificate.public_key && made.comment.as_str().is_empty()
+        }
+        _ => false,
+    })
+}
+
+/// The kind and comment of a listed identity, and of a certificate its identifier.
+fn put_identity(text: &mut String, identity: &AgentIdentity) -> Result<(), NoMemory> {
+    match identity {
+        AgentIdentity::PublicKey { .. } => {
+            text.push_str(" key:")?;
+            text.push_str(identity.comment())?;
+        }
+        AgentIdentity::Certificate { certificate, .. } => {
+            text.push_str(" certificate:")?;
+            text.push_str(identity.comment())?;
+            text.push_str(":")?;
+            text.push_str(certificate.key_id.as_str())?;
+        }
+    }
+    Ok(())
+}
+
+/// How many keys there are, and each. An identity whose copy or whose key is another one is wrong.
 fn list_text(alloc: Global, found: &[AgentIdentity]) -> Result<String, Error> {
     let mut text = format!(in alloc; "{}", found.len())?;
     for identity in found {
-        let sort = match identity {
-            AgentIdentity::PublicKey { .. } => " key:",
-            AgentIdentity::Certificate { .. } => " certificate:",
-        };
-        text.push_str(sort)?;
-        text.push_str(identity.comment())?;
+        put_identity(&mut text, identity)?;
+        if !is_copied(identity)? || !has_key(identity)? {
+            text.push_str(" WRONG")?;
+        }
     }
     Ok(text)
 }
@@ -137,10 +169,19 @@ fn signature(alloc: Global, client: &mut Client, words: Words<'_>) -> Result<Str
     text
 }
 
+/// A key or certificate as an agent would list it.
+fn identity_of(alloc: Global, word: &str) -> Result<AgentIdentity, Error> {
+    let PublicKey { key, comment } = key_of(alloc, word)?;
+    Ok(match key {
+        KeyData::Certificate(certificate) => AgentIdentity::from(Box::into_inner(certificate)),
+        key => AgentIdentity::from(PublicKey { key, comment }),
+    })
+}
+
 /// A signature by a key or certificate as an agent would list it.
 fn signed(alloc: Global, client: &mut Client, words: Words<'_>) -> Result<Vec<u8>, Error> {
     let body = Vec::from_slice(alloc, words.third.as_bytes())?;
-    let identity = AgentIdentity::from(key_of(alloc, words.first)?);
+    let identity = identity_of(alloc, words.first)?;
     let answer = if words.command == "auth-sign" {
         client.auth_sign(&identity, hash_of(words.second), body)
     } else {
