@@ -94,19 +94,33 @@ fn binding_of(alloc: Global, words: Words<'_>) -> Result<AgentSessionBinding, Er
 
 /// Whether a copy is the identity again.
 fn is_copied(identity: &AgentIdentity) -> Result<bool, NoMemory> {
-    Ok(identity.copy()? == *identity)
+    let copy = identity.copy()?;
+    let is_same = copy == *identity;
+    let_go(copy);
+    Ok(is_same)
 }
 
-/// Whether a listed key lends itself, and a certificate gives the key that it speaks of.
+/// Whether a listed key lent itself, or a certificate gave the key that it speaks of.
+fn is_key_of(identity: &AgentIdentity, found: &KeyRef<'_>) -> bool {
+    match identity {
+        AgentIdentity::PublicKey { key, .. } => match found {
+            KeyRef::Borrowed(lent) => *lent == key,
+            KeyRef::Owned(_) => false,
+        },
+        AgentIdentity::Certificate { certificate, .. } => match found {
+            KeyRef::Owned(made) => {
+                made.key == certificate.public_key && made.comment.as_str().is_empty()
+            }
+            KeyRef::Borrowed(_) => false,
+        },
+    }
+}
+
 fn has_key(identity: &AgentIdentity) -> Result<bool, NoMemory> {
     let found = identity.public_key()?;
-    Ok(match (identity, &found) {
-        (AgentIdentity::PublicKey { key, .. }, KeyRef::Borrowed(lent)) => *lent == key,
-        (AgentIdentity::Certificate { certificate, .. }, KeyRef::Owned(made)) => {
-            made.key == certificate.public_key && made.comment.as_str().is_empty()
-        }
-        _ => false,
-    })
+    let is_right = is_key_of(identity, &found);
+    let_go(found);
+    Ok(is_right)
 }
 
 /// The kind and comment of a listed identity, and of a certificate its identifier.
