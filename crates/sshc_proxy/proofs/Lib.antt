@@ -1,0 +1,13 @@
+mod Moved
+mod AllowedLaws
+mod RowLemmas
+mod HistoryLemmas
+mod ReadingLemmas
+mod PolicyLemmas
+mod ListingLemmas
+mod FrameLemmas
+mod TransferLemmas
+mod RelayLemmas
+mod AskingLemmas
+mod TakingLemmas
+mod ListingLaws

@@ -1,0 +1,9 @@
+pub mod Policy
+pub mod Listing
+pub mod Binding
+pub mod ProxyTable
+pub mod ProxyHistory
+pub mod Frames
+pub mod ProxyRun
+pub mod Relaying
+pub mod ProxyWords

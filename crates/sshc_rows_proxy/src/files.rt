@@ -1,0 +1,17 @@
+//! Files.
+
+use sshc_proxy::{Policy, PolicyError, parse_policy};
+use sshc_wire::{Files, Found, StdFiles, Text};
+
+/// The text of a file; empty if it can't be read.
+pub fn text_of(rt: &HostRuntime, path: &str) -> Text {
+    match StdFiles::new(rt).read_text(path) {
+        Ok(Found::Text(text)) => text,
+        _ => Text::new(rt.alloc()),
+    }
+}
+
+/// The policy in a file.
+pub fn policy_of(rt: &HostRuntime, path: &str) -> Result<Policy, PolicyError> {
+    parse_policy(rt.alloc(), text_of(rt, path).as_str())
+}
