@@ -1,0 +1,12 @@
+mod MapLemmas
+mod StoredLemmas
+mod PlaceLemmas
+mod TurnLaws
+mod OrderLaws
+mod LegalLemmas
+mod LegalLaw
+mod NamingLemmas
+mod MovedLaw
+mod LifeLaw
+mod AccountLaw
+mod ServedLaw

@@ -1,0 +1,5 @@
+mod EventFronts
+mod LineLemmas
+mod RunLemmas
+mod ExactRun
+mod TellingLemmas
