@@ -86,10 +86,9 @@ fn event_of(alloc: Global, kind: u8, fields: &[u8]) -> Result<FwdEvent, EventFau
             let (stream, channel) = two_numbers(fields)?;
             Ok(FwdEvent::Opened { stream, channel })
         }
-        3 => {
-            let stream = one_number(fields)?;
-            Ok(FwdEvent::OpenFailed { stream })
-        }
+        3 => Ok(FwdEvent::OpenFailed {
+            stream: one_number(fields)?,
+        }),
         4 => {
             let (channel, stream) = two_numbers(fields)?;
             Ok(FwdEvent::Incoming { channel, stream })
@@ -98,26 +97,22 @@ fn event_of(alloc: Global, kind: u8, fields: &[u8]) -> Result<FwdEvent, EventFau
             let (stream, bytes) = number_and_bytes(alloc, fields)?;
             Ok(FwdEvent::Bytes { stream, bytes })
         }
-        6 => {
-            let stream = one_number(fields)?;
-            Ok(FwdEvent::StreamEnd { stream })
-        }
+        6 => Ok(FwdEvent::StreamEnd {
+            stream: one_number(fields)?,
+        }),
         7 => {
             let (channel, bytes) = number_and_bytes(alloc, fields)?;
             Ok(FwdEvent::Data { channel, bytes })
         }
-        8 => {
-            let channel = one_number(fields)?;
-            Ok(FwdEvent::ChannelEof { channel })
-        }
-        9 => {
-            let channel = one_number(fields)?;
-            Ok(FwdEvent::ChannelClose { channel })
-        }
-        10 => {
-            let stream = one_number(fields)?;
-            Ok(FwdEvent::StreamFailed { stream })
-        }
+        8 => Ok(FwdEvent::ChannelEof {
+            channel: one_number(fields)?,
+        }),
+        9 => Ok(FwdEvent::ChannelClose {
+            channel: one_number(fields)?,
+        }),
+        10 => Ok(FwdEvent::StreamFailed {
+            stream: one_number(fields)?,
+        }),
         _ => Err(EventFault::Bad),
     }
 }
