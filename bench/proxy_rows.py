@@ -259,4 +259,5 @@ def main():
         file.write(b"# \xff\n")
 
 
-main()
+if __name__ == "__main__":
+    main()

@@ -12,6 +12,7 @@ import socket
 import socketserver
 import sys
 import threading
+import time
 
 sys.path.insert(0, str(pathlib.Path(__file__).resolve().parent.parent / "real_login"))
 
@@ -21,7 +22,9 @@ from server import USER, Server  # noqa: E402
 from transport import Transport, string  # noqa: E402
 
 CONNECTIONS = 100
-SIZE = 200_000
+SIZE = 1 << 20
+# a run of `sshc script` takes at most 8,192 events, so the connections are shared out among sessions
+SESSIONS = 5
 
 
 class Echo(socketserver.BaseRequestHandler):
@@ -65,17 +68,42 @@ class User:
         return self.error is None and self.came == self.body
 
 
-def serve(session, port):
-    """Serves the users' connections until all of them have ended and every pair is gone."""
-    users = [User(number, port) for number in range(CONNECTIONS)]
-    for user in users:
-        user.thread.start()
-    session.wait(lambda: session.numbers == CONNECTIONS and not session.streams)
-    for user in users:
-        user.thread.join()
-    right = sum(user.is_right() for user in users)
-    print(f"  {right} of {CONNECTIONS} connections got their own bytes back, {sum(len(user.came) for user in users)} in all")
-    print(f"  {session.most_at_once} pairs at once at most")
+class Side(threading.Thread):
+    """A session with its program of forwards, and its share of the users; it ends once all of its pairs are gone."""
+
+    def __init__(self, session, port, numbers):
+        super().__init__()
+        self.session, self.users = session, [User(number, port) for number in numbers]
+        self.last_lines, self.error = None, None
+
+    def run(self):
+        try:
+            for user in self.users:
+                user.thread.start()
+            self.session.wait(lambda: self.session.numbers == len(self.users) and not self.session.streams)
+            for user in self.users:
+                user.thread.join()
+            self.last_lines = (self.session.close_forwards(), self.session.leave())
+        except Exception as error:  # a thread's error is told by `report`
+            self.error = error
+
+
+def report(sides):
+    """Serves all sides beside one another, and prints what became of them."""
+    began = time.monotonic()
+    for side in sides:
+        side.start()
+    for side in sides:
+        side.join()
+    users = [user for side in sides for user in side.users]
+    right, came = sum(user.is_right() for user in users), sum(len(user.came) for user in users)
+    print(f"  {right} of {len(users)} connections got their own bytes back, {came} in all, in {time.monotonic() - began:.0f} seconds")
+    print(f"  pairs at once at most, by session: {', '.join(str(side.session.most_at_once) for side in sides)}")
+    for side in sides:
+        if side.error:
+            print(f"  a session stopped: {side.error!r}")
+    for forwards, session in sorted({side.last_lines for side in sides if side.last_lines}):
+        print(f"  the programs of forwards: {forwards}; the sessions: {session}")
 
 
 def login(programs, server):
@@ -91,14 +119,17 @@ def main():
     programs = sys.argv[1:3]
     with Server() as server, EchoServer(("127.0.0.1", 0), Echo) as echo:
         threading.Thread(target=echo.serve_forever, daemon=True).start()
-        print("A local port forwarded to an echo server:")
-        session = login(programs, server)
-        serve(session, session.forward_local(("127.0.0.1", echo.server_address[1])))
-        print(f"  the program of forwards: {session.close_forwards()}; the session: {session.leave()}")
-        print("A port of the server forwarded back to it:")
-        session = login(programs, server)
-        serve(session, session.forward_remote(("127.0.0.1", echo.server_address[1])))
-        print(f"  the program of forwards: {session.close_forwards()}; the session: {session.leave()}")
+        target = ("127.0.0.1", echo.server_address[1])
+        for what, forward in (
+            ("Local ports forwarded to an echo server:", Forwards.forward_local),
+            ("Ports of the server forwarded back to it:", Forwards.forward_remote),
+        ):
+            print(what, flush=True)
+            sides = []
+            for number in range(SESSIONS):
+                session = login(programs, server)
+                sides.append(Side(session, forward(session, target), range(number, CONNECTIONS, SESSIONS)))
+            report(sides)
         echo.shutdown()
 
 

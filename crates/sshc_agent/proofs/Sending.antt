@@ -10,19 +10,9 @@ use Rattle.std.proofs.Crossing.{crosses, sync}
 use Rattle.std.proofs.MapsCrossing as maps
 use Rattle.std.proofs.sync.ledger.Book.TheSendSync as book
 use Rattle.std.proofs.sync.ledger.Share.TheSendSync as share
-use Rattle.sshc_wire.proofs.octets.Octets.TheSendSync as octets
-use Rattle.sshc_wire.proofs.text.Text.TheSendSync as text
-use Rattle.sshc_key.proofs.pair.PairData.TheSendSync as pair_data
-use Rattle.sshc_key.proofs.signature.Signature.TheSendSync as signature
-use Rattle.sshc_key.proofs.key_data.Certificate.TheLaws.TheKnot as knot
-use Rattle.sshc_key.specs.contracts.key_data.KeyData as KeyData
-use Rattle.sshc_key.specs.contracts.public_key.PublicKey as PublicKey
 use Rattle.sshc_key.specs.contracts.pair.PrivateKey as PrivateKey
-use Rattle.sshc_agent_core.proofs.connections.Connections.TheSendSync as connections
+use Rattle.sshc_agent_core.proofs.Sending as core
 use Rattle.sshc_agent_core.proofs.entry.Entry.TheSendSync as entry
-use Rattle.sshc_agent_core.specs.contracts.key_list.HeldKey as HeldKey
-use Rattle.sshc_agent_core.specs.contracts.key_list.KeyList as KeyList
-use Rattle.sshc_agent_core.specs.contracts.agent_core.AgentCore as AgentCore
 use Rattle.sshc_agent_shared.specs.contracts.state.AgentState as AgentState
 use Rattle.sshc_agent_shared.specs.contracts.shared.AgentShared as AgentShared
 use Rattle.sshc_agent_shared.specs.contracts.seat.Seat as Seat
@@ -32,30 +22,16 @@ use Rattle.sshc_agent.specs.contracts.seats.Seats as Seats
 use Rattle.sshc_agent.specs.contracts.server.Server as Server
 use Rattle.sshc_agent.specs.contracts.server.Connection as Connection
 
-key_send : IsSend (KeyData.the_field).row
-key_send = search (octets.the_send, text.the_send, signature.the_send, knot.crosses, sendable, crosses, maps.crosses) depth 30 fits 20000
-
-public_send : IsSend PublicKey.the_row
-public_send = let k = key_send in search (text.the_send, sendable, crosses) depth 20 fits 20000
-
+-- for the crate of the command-line arguments, which has a signer of its own
 pub private_send : IsSend PrivateKey.the_row
-private_send = let p = public_send in search (pair_data.the_field_send, sendable, crosses) depth 20 fits 20000
-
-held_send : IsSend (HeldKey.the_field).row
-held_send = let p = private_send in search (octets.the_send, sendable, crosses) depth 20 fits 20000
-
-keys_send : IsSend KeyList.the_row
-keys_send = let h = held_send in search (sendable, crosses) depth 20 fits 20000
-
-core_send : IsSend AgentCore.the_row
-core_send = let k = keys_send in search (connections.the_send, octets.the_send, sendable, crosses) depth 20 fits 20000
+private_send = core.private_send
 
 rooms_send : IsSend (Rooms.the_field).row
 rooms_send = search (sendable, crosses) depth 20 fits 20000
 
 module _ (L : RattleType) (n : Named L.Denot) (g : Ghosts L.Denot) (l : IsSend L) where
   state_send : IsSend (AgentState.the_row L n g)
-  state_send = let c = core_send in let r = rooms_send in search (book.the_send, share.the_send, entry.the_field_send, sendable, crosses, maps.crosses) depth 24 fits 20000
+  state_send = let c = core.core_send in let r = rooms_send in search (book.the_send, share.the_send, entry.the_field_send, sendable, crosses, maps.crosses) depth 24 fits 20000
 
   pub shared_sync : IsSync (AgentShared.the_row L n g)
   shared_sync = let s = state_send in search (sendable, crosses) depth 20 fits 20000

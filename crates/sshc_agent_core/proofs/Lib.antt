@@ -5,3 +5,8 @@ mod Stepped
 mod Fronts
 pub mod Listable
 mod Short
+mod StoredLemmas
+mod DueLists
+mod DueLemmas
+mod DueCuts
+pub mod Sending

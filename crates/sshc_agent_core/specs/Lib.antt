@@ -1,6 +1,8 @@
 pub mod Messages
 pub mod SignerLists
 pub mod KeyList
+pub mod Stored
+pub mod Deadlines
 pub mod Connections
 pub mod AgentList
 pub mod Turn

@@ -1,7 +1,10 @@
 //! The agent's core: one step for each moment, connection and input.
 
 ghost use Rattle.std.specs.Prelude.{◌≡◌, IfOk};
+ghost use Rattle.std.specs.BTreeMap.{get};
 ghost use Rattle.std.specs.Option.{is_some};
+ghost use Rattle.std.specs.Ordering.{nat_cmp};
+ghost use Rattle.sshc_agent_core.specs.Deadlines.{Agree, AreApart};
 ghost use Rattle.sshc_agent_core.specs.AgentList.{aged, empty_list};
 ghost use Rattle.sshc_agent_core.specs.AgentTable.{asked_turn, frame_turn, is_refused, key_answer_turn, message_turn, request_answer_turn, tested_turn};
 ghost use Rattle.sshc_agent_core.specs.KeyList.{AreListable, listing};
@@ -14,8 +17,9 @@ use crate::input::AgentOutput;
 use crate::key_list::KeyList;
 use crate::message::message_type;
 use sshc_key::agent_msg;
-use sshc_wire::{MessageType, NoMemory, Octets};
+use sshc_wire::{List, MessageType, NoMemory, Octets};
 use std::alloc::Global;
+use std::collections::BTreeMap;
 use std::marker::Model;
 
 mod add;
@@ -67,6 +71,14 @@ impl AgentCore {
             passphrase: None,
             conns: Connections::new(alloc),
         }
+    }
+
+    /// The blobs of the held keys that have a deadline, by their deadlines, in milliseconds. Takes no memory.
+    pub fn deadlines(&self) -> &BTreeMap<u64, List<Octets>>
+        ensures agree { Agree self.now.keys (get nat_cmp result.now) }
+        ensures apart { AreApart self.now.keys }
+    {
+        self.keys.deadlines()
     }
 
     /// Whether a question is open on the connection.

@@ -1,15 +1,22 @@
 //! The keys that an agent holds, in the order in which they were added.
 
 ghost use Rattle.std.specs.Prelude.{◌≡◌, ◌<◌, [], IfOk, MatchOption, None, OnOk, OnErr, Some, length, option_copied, slice_get};
+ghost use Rattle.std.specs.BTreeMap.{get};
+ghost use Rattle.std.specs.Ordering.{nat_cmp};
 ghost use Rattle.sshc_wire.specs.Wire.{string_text};
+ghost use Rattle.sshc_agent_core.specs.Deadlines.{Agree, AreApart};
 
 use crate::constraints::Constraints;
-use holding::{fits, found_place, framed_listing, is_past, put_key};
+use due::cut_due;
+use holding::{drop_key, drop_past, find_key, find_place, fits, framed_listing, key_at, put_key};
+use indexmap::IndexMap;
 use sshc_key::PrivateKey;
-use sshc_wire::{NoMemory, Octets};
+use sshc_wire::{List, NoMemory, Octets};
 use std::alloc::Global;
+use std::collections::BTreeMap;
 use std::marker::Model;
 
+mod due;
 mod holding;
 
 /// A key pair that the agent holds.
@@ -23,41 +30,64 @@ pub struct HeldKey {
     pub constraints: Constraints,
 }
 
-/// Keys in the order in which they were added, which contracts see as a list.
+/// Keys in the order in which they were added, which contracts see as a list. Their deadlines are kept beside them, and
+/// agree with them.
 #[derive(Drop)]
 pub(crate) struct KeyList {
-    keys: Vec<HeldKey>,
+    alloc: Global,
+    /// Each key by its blob.
+    keys: IndexMap<Vec<u8>, HeldKey>,
+    /// The blobs of the keys at each deadline.
+    due: BTreeMap<u64, List<Octets>>,
 }
 
 impl Model for KeyList {
-    ghost use Rattle.std.specs.Prelude.{List};
+    ghost use Rattle.std.specs.Prelude.{List as Items};
+    ghost use Rattle.std.specs.BTreeMap.{get};
     ghost use Rattle.std.specs.Coded.{codes};
+    ghost use Rattle.std.specs.Ordering.{nat_cmp};
+    ghost use Rattle.indexmap.specs.IndexMap.{values};
     ghost use Rattle.sshc_key.specs.PairCode.{key_pair_code};
     ghost use Rattle.sshc_agent_core.specs.declared.key_list.HeldKey.{HeldKey as Held};
+    ghost use Rattle.sshc_agent_core.specs.Deadlines.{Agree, AreApart};
+    ghost use Rattle.sshc_agent_core.specs.Stored.{AreKeyed};
 
-    ghost Value = { List Held };
+    ghost Value = { Items Held };
 
     ghost coded = { Prim.hlevel (codes, key_pair_code) };
 
-    ghost view = { λ k. k.keys.items };
+    ghost view = { λ k. values k.keys };
+
+    ghost invariant = { λ k. AreKeyed k.keys.entries × AreApart (values k.keys) × Agree (values k.keys) (get nat_cmp k.due) };
 }
 
 impl KeyList {
     ghost use Rattle.sshc_agent_core.specs.KeyList.{has_room, held, listing, unexpired, with_key, without_key};
 
+    #[tactic(auto, using(crate::proofs::DueLemmas::none_agree, crate::proofs::DueLemmas::none_apart))]
     pub(crate) fn new(alloc: Global) -> KeyList
         ensures { result ≡ [] }
     {
         KeyList {
-            keys: Vec::new(alloc),
+            alloc,
+            keys: IndexMap::new(alloc),
+            due: BTreeMap::new(alloc),
         }
+    }
+
+    /// The blobs of the keys at each deadline.
+    pub(crate) fn deadlines(&self) -> &BTreeMap<u64, List<Octets>>
+        ensures agree { Agree self.now (get nat_cmp result.now) }
+        ensures apart { AreApart self.now }
+    {
+        &self.due
     }
 
     /// The key with this blob.
     pub(crate) fn find(&self, blob: &[u8]) -> Option<&HeldKey>
         ensures { option_copied result ≡ held self.now blob.now }
     {
-        self.keys.iter().find(|key| key.blob.as_slice() == blob)
+        find_key(&self.keys, blob)
     }
 
     /// The index of the key with this blob.
@@ -65,7 +95,7 @@ impl KeyList {
         ensures { MatchOption result (held self.now blob.now ≡ None)
             (λ at. (at < length self.now) × (held self.now blob.now ≡ slice_get self.now at)) }
     {
-        found_place(self.keys.as_slice(), blob)
+        find_place(&self.keys, blob)
     }
 
     /// The key at this index.
@@ -73,27 +103,34 @@ impl KeyList {
         requires { at < length self.now }
         ensures { slice_get self.now at ≡ Some result.now }
     {
-        &self.keys[at]
+        key_at(&self.keys, at)
     }
 
-    /// Drops the keys whose deadline has come.
+    /// Drops the keys whose deadline has come. Takes no memory.
+    #[tactic(auto, using(crate::proofs::DueCuts::cut_agree, crate::proofs::DueLemmas::kept_apart, crate::proofs::DueCuts::none_past, crate::proofs::DueCuts::none_cut, crate::proofs::DueLemmas::same_agree))]
     pub(crate) fn expire(&mut self, now: u64)
         ensures { self.new ≡ unexpired now self.old }
     {
-        self.keys.retain(|key| !is_past(key.deadline, now));
+        if cut_due(&mut self.due, now) {
+            drop_past(&mut self.keys, now);
+        }
     }
 
+    /// Drops all keys. Takes no memory.
+    #[tactic(auto, using(crate::proofs::DueLemmas::none_agree, crate::proofs::DueLemmas::none_apart))]
     pub(crate) fn clear(&mut self)
         ensures { self.new ≡ [] }
     {
         self.keys.clear();
+        self.due.clear();
     }
 
-    /// Drops the key with this blob.
-    pub(crate) fn remove(&mut self, blob: &[u8])
-        ensures { self.new ≡ without_key self.old blob.now }
+    /// Drops the key with this blob, or changes nothing. Takes memory only where other keys have its deadline.
+    pub(crate) fn remove(&mut self, blob: &[u8]) -> Result<(), NoMemory>
+        ensures ok { OnOk result (self.new ≡ without_key self.old blob.now) }
+        ensures err { OnErr result (self.new ≡ self.old) }
     {
-        self.keys.retain(|key| key.blob.as_slice() != blob);
+        drop_key(self.alloc, &mut self.keys, &mut self.due, blob)
     }
 
     /// Whether the listing with a key of this blob in it still fits in a frame.
@@ -105,21 +142,21 @@ impl KeyList {
         } else {
             blob.as_slice().len() + 13
         };
-        fits(self.keys.as_slice(), start)
+        fits(&self.keys, start)
     }
 
-    /// Replaces the key with the same blob, or appends the key.
+    /// Replaces the key with the same blob, or appends the key; or changes nothing.
     pub(crate) fn put(&mut self, key: HeldKey) -> Result<(), NoMemory>
         ensures ok { OnOk result (self.new ≡ with_key self.old key) }
         ensures err { OnErr result (self.new ≡ self.old) }
     {
-        put_key(&mut self.keys, key)
+        put_key(self.alloc, &mut self.keys, &mut self.due, key)
     }
 
     /// The answer that lists the keys, as a whole frame.
     pub(crate) fn listing(&self, alloc: Global) -> Result<Octets, NoMemory>
         ensures { IfOk result (λ o. o ≡ string_text (listing self.now)) }
     {
-        framed_listing(alloc, self.keys.as_slice())
+        framed_listing(alloc, &self.keys)
     }
 }

@@ -206,8 +206,7 @@ pub lent_with : {E : Type 0} (told_as : Error → E) (judges : PublicKeyOrCertif
 lent_with told_as judges accepts event s t calls calls2 refusals refusals2 r r2 setting setting2 result said keeps step = record {
   opening = step.opening;
   said = step.said;
-  room = step.room;
-  stepped = stepped_with told_as judges accepts event (lent s.opening (outbox_of s step.room) calls refusals) (lent step.opening step.said calls2 refusals2) r r2 setting setting2 result said keeps step.stepped;
+  stepped = stepped_with told_as judges accepts event (lent s.opening (outbox_of s) calls refusals) (lent step.opening step.said calls2 refusals2) r r2 setting setting2 result said keeps step.stepped;
   rest = step.rest;
 }
 

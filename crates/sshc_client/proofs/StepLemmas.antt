@@ -140,16 +140,15 @@ nobody_left : (b : Bool) (life : Life) → life ≡ Runs → b && has_left (life
 nobody_left true life is = ap has_left is
 nobody_left false life is = refl
 
-muted_of : (s : SessionState) (room : ℕ) → s.life ≡ Runs → outbox_of s room ≡ outgoing s room
-muted_of s room is = ap (λ (life : Life). record { records = s.records; room = room; muted = not (runs life) }) is
+muted_of : (s : SessionState) → s.life ≡ Runs → outbox_of s ≡ outgoing s
+muted_of s is = ap (λ (life : Life). record { records = s.records; muted = not (runs life) }) is
 
 lent_so : {E : Type 0} (gate : GateAnswers E) (event : Event) (was is : Lent) (result : Step E) → was.session.life ≡ Runs → StepsLent gate event was is result → StepsOpening gate event was is result
 lent_so gate event was is result life s = record {
   opening = s.opening;
   said = s.said;
-  room = s.room;
   stepped = subst (λ (out : Outgoing). Stepped gate event (with_gate (lent was.session.opening out was.calls was.signer_refusals) was.gate_refusals was.setting) (with_gate (lent s.opening s.said is.calls is.signer_refusals) is.gate_refusals is.setting) result)
-      (muted_of was.session s.room life) s.stepped;
+      (muted_of was.session life) s.stepped;
   rest = s.rest ∙ ap (λ (l : Life). record (was.session) { opening = s.opening; records = s.said.records; life = l }) (behind_if (goes_on result) was.session.life life);
 }
 
@@ -194,14 +193,13 @@ shut_stepped gate event s out calls calls2 x r r2 setting setting2 e fresh same 
 }
 
 shut_so : {E : Type 0} (gate : GateAnswers E) (event : Event) (s : SessionState) (calls calls2 : List SignCall) (x r r2 : ℕ) (setting setting2 : List (List ℕ)) (e : E) → s.opening.closed ≡ false → calls2 ≡ calls → GateKeeps r r2 setting setting2 →
-    StepsBy gate event (lent s.opening (outgoing s 0) calls x) (lent (shut s.opening) (outgoing s 0) calls2 x) (steps.Refused e) →
-    HasGateCause gate event (with_gate (lent s.opening (outgoing s 0) calls x) r setting) (with_gate (lent (shut s.opening) (outgoing s 0) calls2 x) r2 setting2) (steps.Refused e) →
+    StepsBy gate event (lent s.opening (outgoing s) calls x) (lent (shut s.opening) (outgoing s) calls2 x) (steps.Refused e) →
+    HasGateCause gate event (with_gate (lent s.opening (outgoing s) calls x) r setting) (with_gate (lent (shut s.opening) (outgoing s) calls2 x) r2 setting2) (steps.Refused e) →
     StepsOpening gate event (lent_session s calls x r setting) (lent_session (shut_session s) calls2 x r2 setting2) (steps.Refused e)
 shut_so gate event s calls calls2 x r r2 setting setting2 e fresh same keeps row cause = record {
   opening = shut s.opening;
-  said = outgoing s 0;
-  room = 0;
-  stepped = shut_stepped gate event s.opening (outgoing s 0) calls calls2 x r r2 setting setting2 e fresh same keeps row cause;
+  said = outgoing s;
+  stepped = shut_stepped gate event s.opening (outgoing s) calls calls2 x r r2 setting setting2 e fresh same keeps row cause;
   rest = refl;
 }
 
@@ -216,7 +214,7 @@ why_so {E = E} defaults gate event s mid calls calls2 x r r2 setting setting2 t 
     (shut_so gate event s calls calls2 x r r2 setting setting2 (gate.told_as NoMemory) fresh same keeps (inl (refl, refl, refl, same)) (inl (NoMemory, refl, tt, tt))))
 why_so defaults gate event s mid calls calls2 x r r2 setting setting2 t e plain fresh same keeps is (inr (inl (key, asked, says, still, rose))) =
     rw (is, still) (shut_so gate event s calls calls2 x r r2 setting setting2 e fresh same keeps
-    (inr (Err e, outgoing s 0, refuses_key gate (exchange_in event) (outgoing s 0) key e (asked_of s.opening event) asked says, (refl, refl, refl, same)))
+    (inr (Err e, outgoing s, refuses_key gate (exchange_in event) (outgoing s) key e (asked_of s.opening event) asked says, (refl, refl, refl, same)))
     (inr rose))
 why_so defaults gate event s mid calls calls2 x r r2 setting setting2 t e plain fresh same keeps is (inr (inr (rose, own_body))) = absurd (own_body plain)
 

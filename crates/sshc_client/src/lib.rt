@@ -19,5 +19,5 @@ pub use sshc_auth::{
     ChannelMsg, Ended, Error, Event, KeyboardInteractiveAuthResponse, Method, RemoteDisconnectInfo,
     Settings, Step,
 };
-pub use sshc_client_table::{OpenAnswer, SessionSettings};
+pub use sshc_client_table::{OpenAnswer, ReplyEntry, ReplyKind, SessionSettings};
 pub use sshc_wire::{Outbox, Prompt, Record, Resolution, Ticket};

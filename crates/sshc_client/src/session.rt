@@ -1,14 +1,15 @@
 //! The session.
 
-ghost use Rattle.std.specs.Prelude.{◌≡◌, []};
+ghost use Rattle.std.specs.Prelude.{◌≡◌, [], IfOk};
 ghost use Rattle.sshc_auth.specs.OpeningState.{is_awaiting};
 ghost use Rattle.sshc_client_state.specs.Start.{new_session};
 ghost use Rattle.sshc_client.specs.Asking.{wants_user_events};
 
+use circular_buffer::HeapCircularBuffer;
 use sshc_auth::Settings;
 use sshc_client_state::Connection;
-use sshc_client_table::{Life, SessionSettings};
-use sshc_wire::Outbox;
+use sshc_client_table::{Life, ReplyEntry, SessionSettings};
+use sshc_wire::{NoMemory, Outbox};
 use std::alloc::Global;
 use std::marker::Model;
 
@@ -46,13 +47,17 @@ impl Model for Session {
 
 impl Session {
     /// The session at the start of its connection.
-    pub fn new(alloc: Global, settings: SessionSettings, opening: Settings) -> Session
-        ensures { result ≡ new_session settings opening }
+    pub fn new(
+        alloc: Global,
+        settings: SessionSettings,
+        opening: Settings,
+    ) -> Result<Session, NoMemory>
+        ensures { IfOk result (λ s. s ≡ new_session settings opening) }
     {
-        Session {
-            connection: Connection::new(alloc, settings, opening),
+        Ok(Session {
+            connection: Connection::new(alloc, settings, opening)?,
             alloc,
-        }
+        })
     }
 
     /// The records since they were last taken or cleared, in order.
@@ -60,6 +65,13 @@ impl Session {
         ensures { result.now.records ≡ self.now.records }
     {
         self.connection.records()
+    }
+
+    /// The global requests that wait for their replies, the oldest first (RFC 4254, section 4). Takes no memory.
+    pub fn reply_queue(&self) -> &HeapCircularBuffer<ReplyEntry>
+        ensures { result.now.items ≡ self.now.replies }
+    {
+        self.connection.reply_queue()
     }
 
     /// Lets the records go: with `records` the way to pass them on without taking memory for each event. Their memory is

@@ -9,7 +9,7 @@ use crate::flow::Flow;
 use sshc_auth::Error;
 use sshc_client_packets::{forward_port, judge_host_key_proof, read_nothing};
 use sshc_client_state::Connection;
-use sshc_client_table::Asked;
+use sshc_client_table::{ReplyEntry, ReplyKind};
 use sshc_key::{PublicKey, Verifier};
 use sshc_wire::{List, NoMemory, Octets, Resolution};
 use std::alloc::Global;
@@ -25,13 +25,13 @@ fn port_answer(port: Option<u32>) -> Resolution
 }
 
 /// The answer to a request that the server refused.
-fn failure_of(asked: &Asked) -> Option<Resolution>
-    ensures { result ≡ failure_of asked.now }
+fn failure_of(kind: ReplyKind) -> Option<Resolution>
+    ensures { result ≡ failure_of kind }
 {
-    match asked {
-        Asked::Ping => Some(Resolution::Pong),
-        Asked::Keepalive => None,
-        Asked::NoMoreSessions => None,
+    match kind {
+        ReplyKind::Ping => Some(Resolution::Pong),
+        ReplyKind::Keepalive => None,
+        ReplyKind::NoMoreSessions => None,
         _ => Some(Resolution::Denied),
     }
 }
@@ -73,7 +73,7 @@ fn failed(session: &mut Connection) -> Result<Flow, Error>
     ensures row { Follows (failure_for session.old.replies) session.old session.new result }
 {
     let answer = match session.first_reply() {
-        Some(first) => failure_of(&first.asked),
+        Some(first) => failure_of(first.kind),
         None => return Ok(Flow::Went),
     };
     replied(session, answer)
@@ -94,7 +94,7 @@ pub fn request_success<V: Verifier>(
             session.alloc(),
             verifier,
             session.opening().session_id(),
-            &first.asked,
+            first,
             body,
         ),
         None => return Ok(Flow::Went),
@@ -110,21 +110,19 @@ fn success_of<V: Verifier>(
     alloc: Global,
     verifier: &V,
     session_id: &[u8],
-    asked: &Asked,
+    first: &ReplyEntry,
     body: &[u8],
 ) -> Result<Option<Resolution>, Error>
-    ensures { Succeeds (success_of (V.accepts verifier.now) session_id.now asked.now body.now) result }
+    ensures { Succeeds (success_of (V.accepts verifier.now) session_id.now first.now.kind first.now.keys body.now) result }
 {
-    match asked {
-        Asked::Forward => Ok(Some(port_answer(forward_port(body)))),
-        Asked::Simple => bare_answer(body, Some(Resolution::Done)),
-        Asked::Ping => bare_answer(body, Some(Resolution::Pong)),
-        Asked::Keepalive => bare_answer(body, None),
-        Asked::NoMoreSessions => bare_answer(body, None),
-        Asked::HostKeys { keys } => Ok(Some(proof_answer(
-            alloc, verifier, session_id, keys, body,
-        )?)),
-        Asked::Own => Ok(Some(Resolution::GlobalReply {
+    match first.kind {
+        ReplyKind::Forward => Ok(Some(port_answer(forward_port(body)))),
+        ReplyKind::Done => bare_answer(body, Some(Resolution::Done)),
+        ReplyKind::Ping => bare_answer(body, Some(Resolution::Pong)),
+        ReplyKind::Keepalive => bare_answer(body, None),
+        ReplyKind::NoMoreSessions => bare_answer(body, None),
+        ReplyKind::Proof => Ok(Some(proof_answer(alloc, verifier, session_id, &first.keys, body)?)),
+        ReplyKind::Own => Ok(Some(Resolution::GlobalReply {
             body: Octets::from_slice(alloc, body)?,
         })),
     }

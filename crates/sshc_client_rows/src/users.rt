@@ -4,7 +4,7 @@ ghost use Rattle.std.specs.Prelude.{◌≡◌, [], ◌∷◌, true};
 ghost use Rattle.sshc_client_table.specs.Moves.{Asks, Does, Opens, Resolves};
 ghost use Rattle.sshc_client_table.specs.Messages.{CancelForward, Forward};
 ghost use Rattle.sshc_client_table.specs.SessionState.{is_live};
-ghost use Rattle.sshc_client_table.specs.SessionTable.Users.{asked_row, asked_ticket, extension_moves, forward_moves, global_moves, open_moves, opens, prove_moves, reply_moves, user_moves, user_row};
+ghost use Rattle.sshc_client_table.specs.SessionTable.Users.{asked_row, extension_moves, forward_moves, global_moves, open_moves, opens, prove_moves, reply_moves, user_moves, user_row};
 ghost use Rattle.sshc_auth.specs.OpeningTable.User.{is_seen, sig_algs_answer};
 ghost use Rattle.sshc_client_packets.specs.ChannelOpens.{DirectStreamLocal, channel_open};
 ghost use Rattle.sshc_client_state.specs.Asks.{ask_of};
@@ -14,16 +14,9 @@ use crate::asked_of_channel::channel_moves;
 use crate::flow::Flow;
 use sshc_auth::{Ended, Error, Event};
 use sshc_client_packets::ChannelOpen;
-use sshc_client_state::{Ask, Connection};
+use sshc_client_state::{Ask, Connection, asked_ticket};
 use sshc_key::PublicKey;
 use sshc_wire::{ChannelId, ChannelOpenFailure, Disconnect, NoMemory, Resolution, Text, Ticket};
-
-/// Ticket 0 means no ticket.
-fn asked_ticket(ticket: Ticket) -> Option<Ticket>
-    ensures { result ≡ asked_ticket ticket }
-{
-    if ticket.0 == 0 { None } else { Some(ticket) }
-}
 
 /// What the user asks; while an exchange runs it is out of turn.
 #[tactic(auto, unfolding(sshc_client_table::specs::SessionTable::Users::user_row))]

@@ -1,12 +1,8 @@
 -- The state after each move of a live session, in the form in which the calls that do it need it.
-use Rattle.std.proofs.Common.{◌≡◌, ℕ, ◌+◌, ◌≤◌, Bool, true, false, List, [], ◌++◌, length, drop, Option, Some, None, refl, ap, ◌∙◌, arith, length-append, if◌then◌else◌}
-use Rattle.sshc_wire.specs.Reasons.{open_failure_code}
-use Rattle.sshc_wire.specs.Records.{record_text, resolution_text}
-use Rattle.sshc_wire.specs.Wire.{u32_text}
+use Rattle.std.proofs.Common.{◌≡◌, ℕ, Bool, true, false, List, [], ◌++◌, drop, Option, Some, None, refl, ap, ◌∙◌, if◌then◌else◌}
 use Rattle.sshc_wire.specs.declared.channel_id.ChannelId.{ChannelId}
 use Rattle.sshc_wire.specs.declared.channel_open_failure.ChannelOpenFailure.{ChannelOpenFailure}
 use Rattle.sshc_wire.specs.declared.record.Record.{Record}
-use Rattle.sshc_wire.specs.declared.record.Record.TheVariants.{Resolved}
 use Rattle.sshc_wire.specs.declared.resolution.Resolution.{Resolution}
 use Rattle.sshc_wire.specs.declared.resolution.Resolution.TheVariants.{ChannelOpened, ChannelOpenFailed, Denied}
 use Rattle.sshc_wire.specs.declared.ticket.Ticket.{Ticket}
@@ -20,7 +16,7 @@ use Rattle.sshc_mux.specs.ChannelAccount.{AskClose, AskEof, Bytes, Call, Confirm
 use Rattle.sshc_client_packets.specs.declared.channel_open.Confirmation.{Confirmation}
 use Rattle.sshc_client_packets.specs.declared.channel_open.Sender.{Sender}
 use Rattle.sshc_client_packets.specs.ChannelOpens.{ChannelOpen}
-use Rattle.sshc_client_table.specs.declared.awaited.Awaited.{Awaited}
+use Rattle.sshc_client_table.specs.declared.reply_entry.ReplyEntry.{ReplyEntry}
 use Rattle.sshc_client_table.specs.ListLaws.{onto-append}
 use Rattle.sshc_client_table.specs.Messages.{Ask, asking_message, queued, sent}
 use Rattle.sshc_client_table.specs.Moves.{Accepts, Asks, Closes, Confirms, DeniesTicket, EndsBytes, Fails, Grants, Opens, PeerCloses, Receives, Rejects, Replied, Reserves, Resolves, Resumes, Sends, Tells, accept_packet, after, calls_and_says, calls_table, direct_answer, onto, open_answer, open_packet, our_side, reject_packet, reply_answer, told, with_deed, with_flag}
@@ -148,24 +144,11 @@ after_rejects id reason s live =
     is_done (Rejects id reason) s live
     ∙ quietly (SettleServer id false) (reject_packet (unsettled_at id s.table) reason) s (settled_quietly id false s.table)
 
--- ---- numbers and room
+-- ---- numbers
 
 -- two numbers that are the same optional number are equal
 pub same_number : (next : Option ℕ) (m n : ℕ) → next ≡ Some m → next ≡ Some n → m ≡ n
 same_number next m n first second = cc
-
-four_bytes : (n : ℕ) → length (u32_text n) ≡ 4
-unfolding u32_text
-four_bytes n = refl
-
--- an answer to an open has ten bytes
-pub opened_fits : (ticket : Ticket) (id : ChannelId) → length (record_text (Resolved ticket (ChannelOpened id))) ≤ 16
-opened_fits ticket id =
-    omega (arith, length-append (u32_text ticket.0) (resolution_text (ChannelOpened id)), four_bytes ticket.0, four_bytes id.0)
-
-pub failed_fits : (ticket : Ticket) (reason : ChannelOpenFailure) → length (record_text (Resolved ticket (ChannelOpenFailed reason))) ≤ 16
-failed_fits ticket reason =
-    omega (arith, length-append (u32_text ticket.0) (resolution_text (ChannelOpenFailed reason)), four_bytes ticket.0, four_bytes (open_failure_code reason))
 
 -- ---- records
 
@@ -173,7 +156,7 @@ pub after_asks : (ask : Ask) (s : SessionState) → is_live s ≡ true →
     after (Asks ask) s ≡ record s { replies = s.replies ++ queued ask; records = s.records ++ sent (asking_message ask) }
 after_asks ask s live =
     is_done (Asks ask) s live
-    ∙ ap (λ (ws : List Awaited). record s { replies = ws; records = s.records ++ sent (asking_message ask) }) (onto-append s.replies (queued ask))
+    ∙ ap (λ (ws : List ReplyEntry). record s { replies = ws; records = s.records ++ sent (asking_message ask) }) (onto-append s.replies (queued ask))
 
 pub after_tells : (said : Record) (s : SessionState) → may_tell s ≡ true →
     after (Tells said) s ≡ record s { records = s.records ++ told said }

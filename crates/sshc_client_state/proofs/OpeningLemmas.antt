@@ -83,13 +83,13 @@ keeps_muted gate event was is result stepped =
 
 -- ---- a step of the opening is a step of the session
 
-abbrev outbox : List Record → ℕ → Bool → Outgoing
-outbox records room muted = record { records = records; room = room; muted = muted }
+abbrev outbox : List Record → Bool → Outgoing
+outbox records muted = record { records = records; muted = muted }
 
-same_outbox : (s : SessionState) (old : Outgoing) → old.records ≡ s.records → old.muted ≡ not (runs s.life) → old ≡ outbox_of s old.room
+same_outbox : (s : SessionState) (old : Outgoing) → old.records ≡ s.records → old.muted ≡ not (runs s.life) → old ≡ outbox_of s
 same_outbox s old records_are muted_is =
-    ap (λ (records : List Record). outbox records old.room old.muted) records_are
-    ∙ ap (λ (muted : Bool). outbox s.records old.room muted) muted_is
+    ap (λ (records : List Record). outbox records old.muted) records_are
+    ∙ ap (λ (muted : Bool). outbox s.records muted) muted_is
 
 pub steps_lent : {E : Type 0} (gate : GateAnswers E) (event : Event) (s t : SessionState) (before after : OpeningState) (old new : Outgoing) (calls calls2 : List SignCall) (refusals refusals2 gate_refusals gate_refusals2 : ℕ) (setting setting2 : List (List ℕ)) (result : Step E) →
     Stepped gate event (with_gate (lent before old calls refusals) gate_refusals setting) (with_gate (lent after new calls2 refusals2) gate_refusals2 setting2) result →
@@ -99,9 +99,8 @@ pub steps_lent : {E : Type 0} (gate : GateAnswers E) (event : Event) (s t : Sess
 steps_lent gate event s t before after old new calls calls2 refusals refusals2 gate_refusals gate_refusals2 setting setting2 result stepped opening_is records_are muted_is rest_is = record {
   opening = after;
   said = new;
-  room = old.room;
   stepped =
-      subst (λ (o : OpeningState). Stepped gate event (with_gate (lent o (outbox_of s old.room) calls refusals) gate_refusals setting) (with_gate (lent after new calls2 refusals2) gate_refusals2 setting2) result)
+      subst (λ (o : OpeningState). Stepped gate event (with_gate (lent o (outbox_of s) calls refusals) gate_refusals setting) (with_gate (lent after new calls2 refusals2) gate_refusals2 setting2) result)
       (sym opening_is)
       (subst (λ (out : Outgoing). Stepped gate event (with_gate (lent before out calls refusals) gate_refusals setting) (with_gate (lent after new calls2 refusals2) gate_refusals2 setting2) result)
       (same_outbox s old records_are muted_is) stepped);

@@ -3,11 +3,12 @@
 ghost use Rattle.std.specs.Prelude.{◌≡◌, IfOk};
 ghost use Rattle.sshc_wire.specs.Outgoing.{listed};
 ghost use Rattle.sshc_client_packets.specs.GlobalRequests.{global_request};
-ghost use Rattle.sshc_client_table.specs.Messages.{awaited_of, queued, request_of, wants_answer};
+ghost use Rattle.sshc_client_table.specs.Messages.{asked_ticket, entry_of, queued, request_of, wants_answer};
+ghost use Rattle.sshc_client_table.specs.Moves.{or_none};
 ghost use Rattle.sshc_client_state.specs.Asks.{ask_of};
 
 use sshc_client_packets::GlobalRequest;
-use sshc_client_table::{Asked, Awaited};
+use sshc_client_table::{ReplyEntry, ReplyKind};
 use sshc_key::PublicKey;
 use sshc_wire::{List, NoMemory, Ticket};
 use std::alloc::Global;
@@ -98,8 +99,8 @@ impl<'a> Ask<'a> {
     }
 
     /// Whom the answer is for.
-    fn ticket(&self) -> Ticket
-        ensures { result ≡ (awaited_of (ask_of self.now)).ticket }
+    fn ticket(&self) -> Option<Ticket>
+        ensures { result ≡ (entry_of (ask_of self.now)).ticket }
     {
         match self {
             Ask::Forward { ticket, .. }
@@ -108,42 +109,67 @@ impl<'a> Ask<'a> {
             | Ask::CancelForwardSocket { ticket, .. }
             | Ask::Ping { ticket }
             | Ask::Prove { ticket, .. }
-            | Ask::OwnRequest { ticket, .. } => *ticket,
-            Ask::KeepAlive { .. } | Ask::NoMore { .. } => Ticket(0),
+            | Ask::OwnRequest { ticket, .. } => asked_ticket(*ticket),
+            Ask::KeepAlive { .. } | Ask::NoMore { .. } => None,
         }
     }
 
     /// What the meaning of the reply depends on.
-    fn asked(&self, alloc: Global) -> Result<Asked, NoMemory>
-        ensures { IfOk result (λ asked. asked ≡ (awaited_of (ask_of self.now)).asked) }
+    fn kind(&self) -> ReplyKind
+        ensures { result ≡ (entry_of (ask_of self.now)).kind }
     {
         match self {
-            Ask::Forward { .. } => Ok(Asked::Forward),
+            Ask::Forward { .. } => ReplyKind::Forward,
             Ask::CancelForward { .. }
             | Ask::ForwardSocket { .. }
-            | Ask::CancelForwardSocket { .. } => Ok(Asked::Simple),
-            Ask::KeepAlive { .. } => Ok(Asked::Keepalive),
-            Ask::NoMore { .. } => Ok(Asked::NoMoreSessions),
-            Ask::Ping { .. } => Ok(Asked::Ping),
-            Ask::Prove { keys, .. } => Ok(Asked::HostKeys {
-                keys: copied_keys(alloc, keys)?,
-            }),
-            Ask::OwnRequest { .. } => Ok(Asked::Own),
+            | Ask::CancelForwardSocket { .. } => ReplyKind::Done,
+            Ask::KeepAlive { .. } => ReplyKind::Keepalive,
+            Ask::NoMore { .. } => ReplyKind::NoMoreSessions,
+            Ask::Ping { .. } => ReplyKind::Ping,
+            Ask::Prove { .. } => ReplyKind::Proof,
+            Ask::OwnRequest { .. } => ReplyKind::Own,
+        }
+    }
+
+    /// Copies of the host keys that are to be proved.
+    fn keys(&self, alloc: Global) -> Result<List<PublicKey>, NoMemory>
+        ensures { IfOk result (λ keys. keys ≡ (entry_of (ask_of self.now)).keys) }
+    {
+        match self {
+            Ask::Prove { keys, .. } => copied_keys(alloc, keys),
+            _ => Ok(List::new(alloc)),
         }
     }
 
     /// Its entry in the queue of requests, if it wants a reply.
-    pub(crate) fn queued(&self, alloc: Global) -> Result<Option<Awaited>, NoMemory>
+    pub(crate) fn queued(&self, alloc: Global) -> Result<Option<ReplyEntry>, NoMemory>
         ensures { IfOk result (λ entry. listed entry ≡ queued (ask_of self.now)) }
     {
         if !self.wants_answer() {
             return Ok(None);
         }
-        let asked = self.asked(alloc)?;
-        Ok(Some(Awaited {
-            asked,
+        Ok(Some(ReplyEntry {
+            kind: self.kind(),
             ticket: self.ticket(),
+            keys: self.keys(alloc)?,
         }))
+    }
+}
+
+/// `None` for ticket 0, which means no ticket.
+pub fn asked_ticket(ticket: Ticket) -> Option<Ticket>
+    ensures { result ≡ asked_ticket ticket }
+{
+    if ticket.0 == 0 { None } else { Some(ticket) }
+}
+
+/// The ticket, or ticket 0 for `None`.
+pub fn ticket_or_none(ticket: Option<Ticket>) -> Ticket
+    ensures { result ≡ or_none ticket }
+{
+    match ticket {
+        Some(ticket) => ticket,
+        None => Ticket(0),
     }
 }
 

@@ -1,15 +1,15 @@
 //! The state of a session between two events.
 
-ghost use Rattle.std.specs.Prelude.{◌≡◌, [], option_copied};
+ghost use Rattle.std.specs.Prelude.{◌≡◌, [], IfOk, option_copied};
 ghost use Rattle.sshc_client_table.specs.SessionState.{exchanging, is_live, may_tell, opens_later};
 ghost use Rattle.sshc_client_state.specs.Start.{first_of, new_session};
 
+use circular_buffer::HeapCircularBuffer;
 use sshc_auth::{ExchangeFlag, Opening, Phase, Settings};
-use sshc_client_table::{Awaited, Life, SessionSettings};
+use sshc_client_table::{Life, ReplyEntry, SessionSettings};
 use sshc_mux::ChannelTable;
-use sshc_wire::Outbox;
+use sshc_wire::{NoMemory, Outbox};
 use std::alloc::Global;
-use std::collections::VecDeque;
 use std::marker::Model;
 
 mod asking;
@@ -30,7 +30,8 @@ pub struct Connection {
     settings: SessionSettings,
     opening: Opening,
     table: ChannelTable,
-    replies: VecDeque<Awaited>,
+    /// The requests that wait for their replies, the oldest first.
+    replies: HeapCircularBuffer<ReplyEntry>,
     keepalives: u64,
     window_target: u32,
     /// Muted once the session doesn't run any more: no packet is added from then on.
@@ -63,10 +64,15 @@ impl Model for Connection {
 
 impl Connection {
     /// The session at the start of its connection.
-    pub fn new(alloc: Global, settings: SessionSettings, opening: Settings) -> Connection
-        ensures { result ≡ new_session settings opening }
+    pub fn new(
+        alloc: Global,
+        settings: SessionSettings,
+        opening: Settings,
+    ) -> Result<Connection, NoMemory>
+        ensures { IfOk result (λ c. c ≡ new_session settings opening) }
     {
-        Connection {
+        let replies = HeapCircularBuffer::with_capacity(alloc, 0)?;
+        Ok(Connection {
             alloc,
             settings,
             opening: Opening::new(
@@ -76,12 +82,12 @@ impl Connection {
                 opening.inactivity,
             ),
             table: ChannelTable::new(alloc),
-            replies: VecDeque::new(alloc),
+            replies,
             keepalives: 0,
             window_target: opening.window_size,
             outbox: Outbox::new(alloc),
             life: Life::Runs,
-        }
+        })
     }
 
     /// The records that were added since they were last taken or cleared, in order.
@@ -139,8 +145,15 @@ impl Connection {
         &self.table
     }
 
+    /// The requests that wait for their replies, the oldest first. Takes no memory.
+    pub fn reply_queue(&self) -> &HeapCircularBuffer<ReplyEntry>
+        ensures { result.now.items ≡ self.now.replies }
+    {
+        &self.replies
+    }
+
     /// The oldest of the requests that wait for their replies.
-    pub fn first_reply(&self) -> Option<&Awaited>
+    pub fn first_reply(&self) -> Option<&ReplyEntry>
         ensures { option_copied result ≡ first_of self.now.replies }
     {
         self.replies.front()

@@ -3,6 +3,7 @@
 
 mod ask;
 mod connection;
+mod ring;
 
-pub use ask::Ask;
+pub use ask::{Ask, asked_ticket, ticket_or_none};
 pub use connection::Connection;

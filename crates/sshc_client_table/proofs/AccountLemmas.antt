@@ -23,7 +23,7 @@ use Rattle.sshc_client_packets.specs.GlobalRequests.{global_request_text}
 use Rattle.sshc_client_packets.specs.ChannelOpens.{ChannelOpen, channel_open_text, confirmation_text, open_failure_text}
 use Rattle.sshc_client_packets.specs.ChannelRequests.{channel_request_text}
 use Rattle.sshc_client_packets.specs.Messages.{Message, Requests, Grants, Denies, Opens, Confirms, Refuses, RequestsOn, GrantsOn, DeniesOn}
-use Rattle.sshc_client_table.specs.declared.awaited.Awaited.{Awaited}
+use Rattle.sshc_client_table.specs.declared.reply_entry.ReplyEntry.{ReplyEntry}
 use Rattle.sshc_mux.specs.ChannelTable.Opens.{awaited}
 use Rattle.sshc_client_table.specs.Messages.{asking_message, disconnection, sent}
 use Rattle.sshc_client_table.specs.SessionState.{SessionState}
@@ -117,12 +117,12 @@ plain_addressed : (o : Option ℕ) (message : ℕ → Message) → IsPlain (m.ad
 plain_addressed None message = refl
 plain_addressed (Some recipient) message = plain_message (message recipient)
 
-plain_reply : (replies : List Awaited) (resolution : Option Resolution) → IsPlain (m.reply_answer replies resolution)
+plain_reply : (replies : List ReplyEntry) (resolution : Option Resolution) → IsPlain (m.reply_answer replies resolution)
 plain_reply [] resolution = refl
 plain_reply (first ∷ replies) None = refl
 plain_reply (first ∷ replies) (Some (ChannelOpened id)) = refl
 plain_reply (first ∷ replies) (Some (ChannelOpenFailed reason)) = refl
-plain_reply (first ∷ replies) (Some resolution) = plain_answer first.ticket resolution
+plain_reply (first ∷ replies) (Some resolution) = plain_answer (m.or_none first.ticket) resolution
 
 plain_direct : (ticket : Ticket) (resolution : Resolution) → IsPlain (m.direct_answer ticket resolution)
 plain_direct ticket Dropped = plain_answer ticket Dropped

@@ -20,7 +20,7 @@ use Rattle.sshc_client_packets.specs.declared.channel_open.Confirmation.{Confirm
 use Rattle.sshc_client_packets.specs.declared.channel_open.Sender.{Sender}
 use Rattle.sshc_client_packets.specs.ChannelOpens.{ChannelOpen}
 use Rattle.sshc_client_packets.specs.Messages.{Message}
-use Rattle.sshc_client_table.specs.declared.awaited.Awaited.{Awaited}
+use Rattle.sshc_client_table.specs.declared.reply_entry.ReplyEntry.{ReplyEntry}
 use Rattle.sshc_client_table.specs.SessionState.{SessionState, is_live}
 use Rattle.sshc_client_table.specs.Moves as m
 use Rattle.sshc_client_table.specs.Moves.{Deed, Move, after, deed, deed_of, did, done_if, may_go, still, with_deed}
@@ -67,12 +67,12 @@ none_begin : (flag : ExchangeFlag) → None_ (m.peer_begin_says flag)
 none_begin Idle = (tt, tt)
 none_begin flag = tt
 
-none_reply : (replies : List Awaited) (resolution : Option Resolution) → None_ (m.reply_answer replies resolution)
+none_reply : (replies : List ReplyEntry) (resolution : Option Resolution) → None_ (m.reply_answer replies resolution)
 none_reply [] resolution = tt
 none_reply (first ∷ replies) None = tt
 none_reply (first ∷ replies) (Some (ChannelOpened id)) = tt
 none_reply (first ∷ replies) (Some (ChannelOpenFailed reason)) = tt
-none_reply (first ∷ replies) (Some resolution) = none_if (eqb first.ticket.0 0) first.ticket resolution tt
+none_reply (first ∷ replies) (Some resolution) = none_if (eqb (m.or_none first.ticket).0 0) (m.or_none first.ticket) resolution tt
 
 -- ---- where an open is answered
 

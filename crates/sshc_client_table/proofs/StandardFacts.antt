@@ -21,7 +21,7 @@ use Rattle.sshc_client_packets.specs.ChannelOpens.{Session, channel_open_text}
 use Rattle.sshc_client_packets.specs.ChannelRequests.{Exec, channel_request_text}
 use Rattle.sshc_client_packets.specs.declared.channel_open.Sender.{Sender}
 use Rattle.sshc_client_packets.specs.HostKeyProof.{Accepts, proof_judged}
-use Rattle.sshc_client_table.specs.declared.awaited.Asked.TheVariants as asked
+use Rattle.sshc_client_table.specs.declared.reply_entry.ReplyKind.TheVariants as kinds
 use Rattle.sshc_client_table.specs.declared.life.Life.TheVariants.{Runs}
 use Rattle.sshc_client_table.specs.Messages.{KeepAlive, Ping, queued, waits_for}
 use Rattle.sshc_client_table.specs.SessionState.{SessionState}
@@ -40,7 +40,7 @@ ticket n = record { 0 = n }
 unanswered : queued (KeepAlive false) ≡ []
 unanswered = refl
 
-pinged : queued (Ping (ticket 3)) ≡ waits_for asked.Ping (ticket 3) ∷ []
+pinged : queued (Ping (ticket 3)) ≡ waits_for kinds.Ping (ticket 3) ∷ []
 pinged = refl
 
 -- at most one keepalive may stay unanswered: the second is one too many
@@ -61,14 +61,14 @@ unknown_open : numbered_open_row (record { takes_unknown = false; window_target 
 unknown_open = refl
 
 -- the port of a forward; a malformed one is a denial, and the session continues
-forwarded : (accepts : Accepts) → success_for accepts [] (waits_for asked.Forward (ticket 3) ∷ []) (0 ∷ 0 ∷ 0x1f ∷ 0x90 ∷ []) ≡ plain_row (Replied (Some (ForwardPort 8080)) ∷ [])
+forwarded : (accepts : Accepts) → success_for accepts [] (waits_for kinds.Forward (ticket 3) ∷ []) (0 ∷ 0 ∷ 0x1f ∷ 0x90 ∷ []) ≡ plain_row (Replied (Some (ForwardPort 8080)) ∷ [])
 forwarded accepts = refl
 
-malformed : (accepts : Accepts) → success_for accepts [] (waits_for asked.Forward (ticket 3) ∷ []) (1 ∷ []) ≡ plain_row (Replied (Some Denied) ∷ [])
+malformed : (accepts : Accepts) → success_for accepts [] (waits_for kinds.Forward (ticket 3) ∷ []) (1 ∷ []) ≡ plain_row (Replied (Some Denied) ∷ [])
 malformed accepts = refl
 
 -- a byte after a keepalive's reply is refused
-too_long : (accepts : Accepts) → success_for accepts [] (waits_for asked.Keepalive (ticket 0) ∷ []) (0 ∷ []) ≡ refused SshEncoding
+too_long : (accepts : Accepts) → success_for accepts [] (waits_for kinds.Keepalive (ticket 0) ∷ []) (0 ∷ []) ≡ refused SshEncoding
 too_long accepts = refl
 
 -- if no request waits, the reply isn't read
@@ -76,7 +76,7 @@ none_waits : (accepts : Accepts) → success_for accepts [] [] (0 ∷ []) ≡ pa
 none_waits accepts = refl
 
 -- a ping that is refused still counts as answered
-ping_refused : failure_for (waits_for asked.Ping (ticket 3) ∷ []) ≡ plain_row (Replied (Some Pong) ∷ [])
+ping_refused : failure_for (waits_for kinds.Ping (ticket 3) ∷ []) ≡ plain_row (Replied (Some Pong) ∷ [])
 ping_refused = refl
 
 -- a key remains and no bytes do: the key's part is short

@@ -16,7 +16,7 @@ use Rattle.sshc_client_packets.specs.declared.channel_open.Sender.{Sender}
 use Rattle.sshc_client_packets.specs.ChannelOpens.{ChannelOpen}
 use Rattle.sshc_client_packets.specs.Messages.{Message}
 use Rattle.std.proofs.Common.{ℕ}
-use Rattle.sshc_client_table.specs.declared.awaited.Awaited.{Awaited}
+use Rattle.sshc_client_table.specs.declared.reply_entry.ReplyEntry.{ReplyEntry}
 use Rattle.sshc_client_table.specs.declared.life.Life.TheVariants.{Left}
 use Rattle.sshc_client_table.specs.SessionState.{SessionState, exchanging, is_live, is_open, is_running, opens_later, runs}
 use Rattle.sshc_client_table.specs.Moves as m
@@ -94,14 +94,14 @@ no_call_table o t is = ap (λ (c : Option Call). (did c t).table) is
 no_call_said : (o : Option Call) (t : TableState) → o ≡ None → records_of (did o t).said ≡ []
 no_call_said o t is = ap (λ (c : Option Call). records_of (did c t).said) is
 
-none_left : (b : Bool) (replies : List Awaited) → b ≡ false → m.left_of b replies ≡ replies
+none_left : (b : Bool) (replies : List ReplyEntry) → b ≡ false → m.left_of b replies ≡ replies
 none_left b replies is = ap (λ (x : Bool). m.left_of x replies) is
 
 keeps_deed : (d : Deed) (s : SessionState) → Good d s → Keeps s (with_deed d s)
 keeps_deed d s good =
     let said : List Record = records_of (did d.call s.table).said in
     let replies : (with_deed d s).replies ≡ s.replies ++ d.asks =
-    onto-append (m.left_of d.answers s.replies) d.asks ∙ ap (λ (ws : List Awaited). ws ++ d.asks) (none_left d.answers s.replies good.answers) in
+    onto-append (m.left_of d.answers s.replies) d.asks ∙ ap (λ (ws : List ReplyEntry). ws ++ d.asks) (none_left d.answers s.replies good.answers) in
     record {
       settings = refl;
       opening = good.opening;
@@ -109,7 +109,7 @@ keeps_deed d s good =
       window_target = good.window_target;
       ended = λ e. absurd (true_false (runs s.life) good.running e);
       closed = λ e. let c = good.closed e in
-          (c.opening, no_call_table d.call s.table c.call, replies ∙ ap (λ (ws : List Awaited). s.replies ++ ws) c.asks ∙ append-nil s.replies);
+          (c.opening, no_call_table d.call s.table c.call, replies ∙ ap (λ (ws : List ReplyEntry). s.replies ++ ws) c.asks ∙ append-nil s.replies);
       records = (
         said ++ d.says,
         onto-two s.records said d.says,
@@ -238,7 +238,7 @@ keeps_then old mid new first second =
         all-append MayBeAdded more more2 added added2,
         λ e. all-append IsDenial more more2 (denials e) (denials2 (phase ∙ e)),
       );
-      replies = (waits ++ waits2, asked2 ∙ ap (λ (ws : List Awaited). ws ++ waits2) asked ∙ append_assoc old.replies waits waits2);
+      replies = (waits ++ waits2, asked2 ∙ ap (λ (ws : List ReplyEntry). ws ++ waits2) asked ∙ append_assoc old.replies waits waits2);
     }
 
 keeps_moves : (moves : List Move) (s : SessionState) → AllByRecursion May moves → Keeps s (done moves s)

@@ -7,7 +7,7 @@ use Rattle.sshc_wire.specs.declared.record.Record.TheVariants.{Payload, BeginExc
 use Rattle.sshc_wire.specs.declared.resolution.Resolution.TheVariants.{Denied}
 use Rattle.sshc_transport.specs.declared.exchange.ExchangeFlag.TheVariants.{Idle, Ours}
 use Rattle.sshc_auth.specs.OpeningState.{OpeningState}
-use Rattle.sshc_client_table.specs.declared.awaited.Awaited.{Awaited}
+use Rattle.sshc_client_table.specs.declared.reply_entry.ReplyEntry.{ReplyEntry}
 use Rattle.sshc_client_table.specs.SessionState.{SessionState, is_open, runs}
 use Rattle.sshc_client_table.specs.Moves.{with_flag}
 use Rattle.sshc_client_table.specs.Grown.{Grown}
@@ -40,7 +40,7 @@ pub record Keeps (old new : SessionState) : Type 0 where
   -- records are added after those that are there; before the session is open they are denials
   pub records : (more : List Record) × (new.records ≡ old.records ++ more) × AllByRecursion MayBeAdded more × (is_open old.opening.phase ≡ false → AllByRecursion IsDenial more)
   -- requests are added after those that wait
-  pub replies : (more : List Awaited) × (new.replies ≡ old.replies ++ more)
+  pub replies : (more : List ReplyEntry) × (new.replies ≡ old.replies ++ more)
 
 abbrev pub GrownSessionsKeep : Type 0
 GrownSessionsKeep = (old new : SessionState) → Grown old new → Keeps old new

@@ -17,7 +17,7 @@ use Rattle.sshc_mux.specs.ChannelTable.Opens.{awaited, next_number, unsettled_at
 use Rattle.sshc_client_packets.specs.declared.channel_open.Sender.{Sender}
 use Rattle.sshc_client_packets.specs.ChannelOpens.{ChannelOpen}
 use Rattle.sshc_client_packets.specs.Messages.{Message}
-use Rattle.sshc_client_table.specs.declared.awaited.Awaited.{Awaited}
+use Rattle.sshc_client_table.specs.declared.reply_entry.ReplyEntry.{ReplyEntry}
 use Rattle.sshc_client_table.specs.ListLaws.{onto-two}
 use Rattle.sshc_client_table.specs.Moves.{Accepts, Answers, AnswersOn, Asks, Begins, Confirms, Deed, DeniesTicket, Disconnects, Fails, Fronts, Leaves, Move, Opens, PeerBegins, Rejects, Replied, RequestsOn, Resolves, Stops, Tells, accept_packet, addressed, after, answer_on, askable_at, deed, did, direct_answer, done, done_if, may_go, open_answer, open_packet, or_none, our_side, peer_begin_says, peer_begins, recipient_at, reject_packet, reply_answer, told}
 use Rattle.sshc_client_table.specs.SessionState.{SessionState}
@@ -127,12 +127,12 @@ addressed_session : (recipient : Option ℕ) (message : ℕ → Message) → Are
 addressed_session None message = tt
 addressed_session (Some recipient) message = (refl, tt)
 
-reply_session : (replies : List Awaited) (resolution : Option Resolution) → AreSessions (reply_answer replies resolution)
+reply_session : (replies : List ReplyEntry) (resolution : Option Resolution) → AreSessions (reply_answer replies resolution)
 reply_session [] resolution = tt
 reply_session (first ∷ replies) None = tt
 reply_session (first ∷ replies) (Some (ChannelOpened id)) = tt
 reply_session (first ∷ replies) (Some (ChannelOpenFailed reason)) = tt
-reply_session (first ∷ replies) (Some resolution) = resolved_session first.ticket resolution
+reply_session (first ∷ replies) (Some resolution) = resolved_session (or_none first.ticket) resolution
 
 direct_session : (ticket : Ticket) (resolution : Resolution) → AreSessions (direct_answer ticket resolution)
 direct_session ticket Dropped = resolved_session ticket Dropped

@@ -1,6 +1,6 @@
 -- Global requests as a session makes them, each with what its reply is for (RFC 4254, section 4), and the records that
 -- carry packets. A reply to a forward is wanted if there is a ticket for it, and a reply to a ping or a proof always.
-use Rattle.std.specs.Prelude.{ℕ, Bool, true, false, not, List, [], ◌∷◌, ◌==◌, if◌then◌else◌}
+use Rattle.std.specs.Prelude.{ℕ, Bool, true, false, not, List, [], ◌∷◌, Option, Some, None, ◌==◌, if◌then◌else◌}
 use Rattle.sshc_wire.specs.declared.disconnect.Disconnect.{Disconnect}
 use Rattle.sshc_wire.specs.declared.record.Record.{Record}
 use Rattle.sshc_wire.specs.declared.record.Record.TheVariants.{Payload}
@@ -10,9 +10,9 @@ use Rattle.sshc_auth.specs.OpeningState.{no_ticket}
 use Rattle.sshc_auth_request.specs.RequestTexts.{disconnect}
 use Rattle.sshc_client_packets.specs.GlobalRequests.{GlobalRequest, TcpIpForward, CancelTcpIpForward, StreamLocalForward, CancelStreamLocalForward, Keepalive, NoMoreSessions, HostKeysProve, Own}
 use Rattle.sshc_client_packets.specs.Messages.{Message, Requests, message_text}
-use Rattle.sshc_client_table.specs.declared.awaited.Asked.{Asked}
-use Rattle.sshc_client_table.specs.declared.awaited.Asked.TheVariants as asked
-use Rattle.sshc_client_table.specs.declared.awaited.Awaited.{Awaited}
+use Rattle.sshc_client_table.specs.declared.reply_entry.ReplyKind.{ReplyKind}
+use Rattle.sshc_client_table.specs.declared.reply_entry.ReplyKind.TheVariants as kinds
+use Rattle.sshc_client_table.specs.declared.reply_entry.ReplyEntry.{ReplyEntry}
 
 -- what is asked of the server, and by whom
 pub data Ask : Type 0 where
@@ -51,24 +51,28 @@ wants_answer (Ping ticket) = true
 wants_answer (Prove ticket keys) = true
 wants_answer (OwnRequest ticket name body) = is_ticket ticket
 
-abbrev pub waits_for : Asked → Ticket → Awaited
-waits_for what ticket = record { asked = what; ticket = ticket }
+-- ticket 0 means no ticket
+abbrev pub asked_ticket : Ticket → Option Ticket
+asked_ticket ticket = if ticket.0 == 0 then None else Some ticket
+
+abbrev pub waits_for : ReplyKind → Ticket → ReplyEntry
+waits_for kind ticket = record { kind = kind; ticket = asked_ticket ticket; keys = [] }
 
 -- the entry of the queue
-abbrev pub awaited_of : Ask → Awaited
-awaited_of (Forward ticket address port) = waits_for asked.Forward ticket
-awaited_of (CancelForward ticket address port) = waits_for asked.Simple ticket
-awaited_of (ForwardSocket ticket path) = waits_for asked.Simple ticket
-awaited_of (CancelForwardSocket ticket path) = waits_for asked.Simple ticket
-awaited_of (KeepAlive want_reply) = waits_for asked.Keepalive no_ticket
-awaited_of (NoMore want_reply) = waits_for asked.NoMoreSessions no_ticket
-awaited_of (Ping ticket) = waits_for asked.Ping ticket
-awaited_of (Prove ticket keys) = waits_for (asked.HostKeys keys) ticket
-awaited_of (OwnRequest ticket name body) = waits_for asked.Own ticket
+abbrev pub entry_of : Ask → ReplyEntry
+entry_of (Forward ticket address port) = waits_for kinds.Forward ticket
+entry_of (CancelForward ticket address port) = waits_for kinds.Done ticket
+entry_of (ForwardSocket ticket path) = waits_for kinds.Done ticket
+entry_of (CancelForwardSocket ticket path) = waits_for kinds.Done ticket
+entry_of (KeepAlive want_reply) = waits_for kinds.Keepalive no_ticket
+entry_of (NoMore want_reply) = waits_for kinds.NoMoreSessions no_ticket
+entry_of (Ping ticket) = waits_for kinds.Ping ticket
+entry_of (Prove ticket keys) = record { kind = kinds.Proof; ticket = asked_ticket ticket; keys = keys }
+entry_of (OwnRequest ticket name body) = waits_for kinds.Own ticket
 
 -- exactly the requests that want a reply wait for one
-abbrev pub queued : Ask → List Awaited
-queued ask = if wants_answer ask then awaited_of ask ∷ [] else []
+abbrev pub queued : Ask → List ReplyEntry
+queued ask = if wants_answer ask then entry_of ask ∷ [] else []
 
 -- a message as a record for the transport
 abbrev pub sent : Message → List Record

@@ -27,7 +27,7 @@ use Rattle.sshc_client_packets.specs.declared.channel_open.Sender.{Sender}
 use Rattle.sshc_client_packets.specs.ChannelOpens.{ChannelOpen}
 use Rattle.sshc_client_packets.specs.ChannelRequests.{ChannelRequest}
 use Rattle.sshc_client_packets.specs.Messages.{Message, Grants as Grant81, Denies as Deny82, Opens as OpenMessage, Confirms as ConfirmMessage, Refuses, RequestsOn as RequestMessage, GrantsOn, DeniesOn}
-use Rattle.sshc_client_table.specs.declared.awaited.Awaited.{Awaited}
+use Rattle.sshc_client_table.specs.declared.reply_entry.ReplyEntry.{ReplyEntry}
 use Rattle.sshc_client_table.specs.declared.life.Life.{Life}
 use Rattle.sshc_client_table.specs.declared.life.Life.TheVariants.{Left, Over}
 use Rattle.sshc_client_table.specs.Messages.{Ask, asking_message, disconnection, queued, sent}
@@ -77,7 +77,7 @@ pub record Deed : Type 0 where
   pub call : Option Call  -- of the channel table
   pub says : List Record  -- records after the packets that the call writes
   pub answers : Bool  -- the oldest request is answered
-  pub asks : List Awaited  -- requests whose replies are awaited
+  pub asks : List ReplyEntry  -- requests whose replies are awaited
   pub opening : OpeningState
   pub keepalives : ℕ
   pub window_target : ℕ
@@ -155,12 +155,12 @@ answer_to_all true = Grant81
 answer_to_all false = Deny82
 
 -- the oldest request's ticket is resolved, but never as an answer to an open
-abbrev pub reply_answer : List Awaited → Option Resolution → List Record
+abbrev pub reply_answer : List ReplyEntry → Option Resolution → List Record
 reply_answer [] resolution = []
 reply_answer (first ∷ replies) None = []
 reply_answer (first ∷ replies) (Some (ChannelOpened id)) = []
 reply_answer (first ∷ replies) (Some (ChannelOpenFailed reason)) = []
-reply_answer (first ∷ replies) (Some resolution) = resolved first.ticket resolution
+reply_answer (first ∷ replies) (Some resolution) = resolved (or_none first.ticket) resolution
 
 -- a resolution that no packet of the peer's brings
 abbrev pub direct_answer : Ticket → Resolution → List Record
@@ -251,7 +251,7 @@ abbrev pub deed_of : Move → SessionState → Deed
 deed_of m s = done_if (may_go m s) (deed m s) s
 
 -- the requests that remain
-abbrev pub left_of : Bool → List Awaited → List Awaited
+abbrev pub left_of : Bool → List ReplyEntry → List ReplyEntry
 left_of true replies = drop 1 replies
 left_of false replies = replies
 

@@ -29,7 +29,7 @@ use Rattle.sshc_client_packets.specs.ChannelRequests.{channel_request_text}
 use Rattle.sshc_client_packets.specs.GlobalRequests.{global_request_text}
 use Rattle.sshc_client_packets.specs.Messages.{Message, message_text}
 use Rattle.sshc_client_packets.specs.Messages.{Requests, Grants, Denies, Opens as OpensWith, Confirms as ConfirmsWith, Refuses, RequestsOn as AsksOn, GrantsOn, DeniesOn}
-use Rattle.sshc_client_table.specs.declared.awaited.Awaited.{Awaited}
+use Rattle.sshc_client_table.specs.declared.reply_entry.ReplyEntry.{ReplyEntry}
 use Rattle.sshc_client_table.specs.ListLaws.{onto-two}
 use Rattle.sshc_client_table.specs.Messages.{asking_message, disconnection, sent}
 use Rattle.sshc_client_table.specs.Moves.{Accepts, Answers, AnswersOn, Asks, Begins, Confirms, Deed, DeniesTicket, Disconnects, Fails, Move, Opens, PeerBegins, Rejects, Replied, RequestsOn, Resolves, Stops, Tells, accept_packet, addressed, after, answer_on, answer_to_all, askable_at, deed, did, direct_answer, done, done_if, may_go, open_answer, open_packet, or_none, our_side, peer_begin_says, peer_begins, recipient_at, reject_packet, reply_answer, told}
@@ -102,12 +102,12 @@ addressed_none : (recipient : Option ℕ) (message : ℕ → Message) → Writes
 addressed_none None message = λ rest. refl
 addressed_none (Some recipient) message = message_none (message recipient)
 
-reply_none : (replies : List Awaited) (resolution : Option Resolution) → WritesNone (reply_answer replies resolution)
+reply_none : (replies : List ReplyEntry) (resolution : Option Resolution) → WritesNone (reply_answer replies resolution)
 reply_none [] resolution = λ rest. refl
 reply_none (first ∷ replies) None = λ rest. refl
 reply_none (first ∷ replies) (Some (ChannelOpened id)) = λ rest. refl
 reply_none (first ∷ replies) (Some (ChannelOpenFailed reason)) = λ rest. refl
-reply_none (first ∷ replies) (Some resolution) = none_resolved first.ticket resolution
+reply_none (first ∷ replies) (Some resolution) = none_resolved (or_none first.ticket) resolution
 
 direct_none : (ticket : Ticket) (resolution : Resolution) → WritesNone (direct_answer ticket resolution)
 direct_none ticket Dropped = none_resolved ticket Dropped

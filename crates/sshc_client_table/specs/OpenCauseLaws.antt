@@ -48,9 +48,9 @@ use Rattle.sshc_client_packets.specs.PeerGlobals.{peer_global_of}
 use Rattle.sshc_client_packets.specs.PeerOpens.{PeerOpen, peer_open_of, server_open_of}
 use Rattle.sshc_client_packets.specs.PeerRequests.{peer_request_of}
 use Rattle.sshc_client_packets.specs.Replies.{nothing_of}
-use Rattle.sshc_client_table.specs.declared.awaited.Asked.{Asked}
-use Rattle.sshc_client_table.specs.declared.awaited.Asked.TheVariants as asked
-use Rattle.sshc_client_table.specs.declared.awaited.Awaited.{Awaited}
+use Rattle.sshc_client_table.specs.declared.reply_entry.ReplyKind.{ReplyKind}
+use Rattle.sshc_client_table.specs.declared.reply_entry.ReplyKind.TheVariants as kinds
+use Rattle.sshc_client_table.specs.declared.reply_entry.ReplyEntry.{ReplyEntry}
 use Rattle.sshc_client_table.specs.declared.open_answer.OpenAnswer.{OpenAnswer}
 use Rattle.sshc_client_table.specs.declared.open_answer.OpenAnswer.TheVariants as answers
 use Rattle.sshc_client_table.specs.ListLaws.{onto-append}
@@ -174,28 +174,28 @@ module _ (accepts : Accepts) (o : Opinions) (s : SessionState) (n : ℕ) (body :
   global_holds is = kept_holds P (peer_global_of body) _ (λ broken. global is broken) (λ g read. global_holds_so g)
 
   -- 81
-  bare_first : (replies : List Awaited) (first : Awaited) (rest : List Awaited) → replies ≡ first ∷ rest → IsBare first.asked → FirstIsBare replies
+  bare_first : (replies : List ReplyEntry) (first : ReplyEntry) (rest : List ReplyEntry) → replies ≡ first ∷ rest → IsBare first.kind → FirstIsBare replies
   bare_first replies first rest is bare = rw is bare
 
-  asked_success : (first : Awaited) (rest : List Awaited) (what : Asked) → s.replies ≡ first ∷ rest → first.asked ≡ what → n ≡ REQUEST_SUCCESS → RowHolds P (success_of accepts s.opening.session_id what body)
-  asked_success first rest asked.Forward is same number_is = plain_holds P _ (tt, tt)
-  asked_success first rest asked.Simple is same number_is = read_holds P (nothing_of body) _ (λ broken. success number_is (bare_first s.replies first rest is (rw same tt)) broken) (λ u read. plain_holds P _ (tt, tt))
-  asked_success first rest asked.Ping is same number_is = read_holds P (nothing_of body) _ (λ broken. success number_is (bare_first s.replies first rest is (rw same tt)) broken) (λ u read. plain_holds P _ (tt, tt))
-  asked_success first rest asked.Keepalive is same number_is = read_holds P (nothing_of body) _ (λ broken. success number_is (bare_first s.replies first rest is (rw same tt)) broken) (λ u read. plain_holds P _ (tt, tt))
-  asked_success first rest asked.NoMoreSessions is same number_is = read_holds P (nothing_of body) _ (λ broken. success number_is (bare_first s.replies first rest is (rw same tt)) broken) (λ u read. plain_holds P _ (tt, tt))
-  asked_success first rest (asked.HostKeys keys) is same number_is = plain_holds P _ (tt, tt)
-  asked_success first rest asked.Own is same number_is = plain_holds P _ (tt, tt)
+  asked_success : (first : ReplyEntry) (rest : List ReplyEntry) (kind : ReplyKind) → s.replies ≡ first ∷ rest → first.kind ≡ kind → n ≡ REQUEST_SUCCESS → RowHolds P (success_of accepts s.opening.session_id kind first.keys body)
+  asked_success first rest kinds.Forward is same number_is = plain_holds P _ (tt, tt)
+  asked_success first rest kinds.Done is same number_is = read_holds P (nothing_of body) _ (λ broken. success number_is (bare_first s.replies first rest is (rw same tt)) broken) (λ u read. plain_holds P _ (tt, tt))
+  asked_success first rest kinds.Ping is same number_is = read_holds P (nothing_of body) _ (λ broken. success number_is (bare_first s.replies first rest is (rw same tt)) broken) (λ u read. plain_holds P _ (tt, tt))
+  asked_success first rest kinds.Keepalive is same number_is = read_holds P (nothing_of body) _ (λ broken. success number_is (bare_first s.replies first rest is (rw same tt)) broken) (λ u read. plain_holds P _ (tt, tt))
+  asked_success first rest kinds.NoMoreSessions is same number_is = read_holds P (nothing_of body) _ (λ broken. success number_is (bare_first s.replies first rest is (rw same tt)) broken) (λ u read. plain_holds P _ (tt, tt))
+  asked_success first rest kinds.Proof is same number_is = plain_holds P _ (tt, tt)
+  asked_success first rest kinds.Own is same number_is = plain_holds P _ (tt, tt)
 
-  success_holds_so : (replies : List Awaited) → s.replies ≡ replies → n ≡ REQUEST_SUCCESS → RowHolds P (success_for accepts s.opening.session_id replies body)
+  success_holds_so : (replies : List ReplyEntry) → s.replies ≡ replies → n ≡ REQUEST_SUCCESS → RowHolds P (success_for accepts s.opening.session_id replies body)
   success_holds_so [] is number_is = plain_holds P [] tt
-  success_holds_so (first ∷ rest) is number_is = asked_success first rest first.asked is refl number_is
+  success_holds_so (first ∷ rest) is number_is = asked_success first rest first.kind is refl number_is
 
   success_holds : n ≡ REQUEST_SUCCESS → RowHolds P (request_success_row accepts s body)
   unfolding request_success_row
   success_holds is = success_holds_so s.replies refl is
 
   -- 82
-  failure_holds_so : (replies : List Awaited) → RowHolds P (failure_for replies)
+  failure_holds_so : (replies : List ReplyEntry) → RowHolds P (failure_for replies)
   failure_holds_so [] = plain_holds P [] tt
   failure_holds_so (first ∷ rest) = plain_holds P _ (tt, tt)
 

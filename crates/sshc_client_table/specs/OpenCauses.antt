@@ -18,9 +18,9 @@ use Rattle.sshc_client_packets.specs.PeerGlobals.{peer_global_of}
 use Rattle.sshc_client_packets.specs.PeerOpens.{PeerOpen, peer_open_of, server_open_of}
 use Rattle.sshc_client_packets.specs.PeerRequests.{peer_request_of}
 use Rattle.sshc_client_packets.specs.Replies.{nothing_of}
-use Rattle.sshc_client_table.specs.declared.awaited.Asked.{Asked}
-use Rattle.sshc_client_table.specs.declared.awaited.Asked.TheVariants as asked
-use Rattle.sshc_client_table.specs.declared.awaited.Awaited.{Awaited}
+use Rattle.sshc_client_table.specs.declared.reply_entry.ReplyKind.{ReplyKind}
+use Rattle.sshc_client_table.specs.declared.reply_entry.ReplyKind.TheVariants as kinds
+use Rattle.sshc_client_table.specs.declared.reply_entry.ReplyEntry.{ReplyEntry}
 use Rattle.sshc_client_table.specs.SessionState.{SessionState, is_open}
 
 -- ---- packets that can't be read
@@ -31,16 +31,16 @@ Fails (Ok x) = ⊥
 Fails (Err e) = Unit {0}
 
 -- the reply to the oldest request must be empty
-abbrev pub IsBare : Asked → Type 0
-IsBare asked.Simple = Unit {0}
-IsBare asked.Ping = Unit {0}
-IsBare asked.Keepalive = Unit {0}
-IsBare asked.NoMoreSessions = Unit {0}
-IsBare what = ⊥
+abbrev pub IsBare : ReplyKind → Type 0
+IsBare kinds.Done = Unit {0}
+IsBare kinds.Ping = Unit {0}
+IsBare kinds.Keepalive = Unit {0}
+IsBare kinds.NoMoreSessions = Unit {0}
+IsBare kind = ⊥
 
-abbrev pub FirstIsBare : List Awaited → Type 0
+abbrev pub FirstIsBare : List ReplyEntry → Type 0
 FirstIsBare [] = ⊥
-FirstIsBare (first ∷ replies) = IsBare first.asked
+FirstIsBare (first ∷ replies) = IsBare first.kind
 
 -- after the head of a request on a channel
 abbrev pub RequestFails : Result RequestHead WireError → Type 0

@@ -8,7 +8,7 @@ use Rattle.sshc_auth.specs.declared.opening.Phase.{Phase}
 use Rattle.sshc_auth.specs.declared.opening.Phase.TheVariants.{Open}
 use Rattle.sshc_auth.specs.OpeningState.{OpeningState}
 use Rattle.sshc_mux.specs.ChannelState.{TableState}
-use Rattle.sshc_client_table.specs.declared.awaited.Awaited.{Awaited}
+use Rattle.sshc_client_table.specs.declared.reply_entry.ReplyEntry.{ReplyEntry}
 use Rattle.sshc_client_table.specs.declared.life.Life.{Life}
 use Rattle.sshc_client_table.specs.declared.life.Life.TheVariants.{Runs, Over}
 use Rattle.sshc_client_table.specs.declared.settings.SessionSettings.{SessionSettings}
@@ -17,7 +17,7 @@ pub record SessionState : Type 0 where
   pub settings : SessionSettings
   pub opening : OpeningState  -- in an open session its flag says whose exchange runs
   pub table : TableState
-  pub replies : List Awaited  -- the requests that were written with a reply wanted, the oldest first
+  pub replies : List ReplyEntry  -- the requests that were written with a reply wanted, the oldest first
   pub keepalives : ℕ  -- how many keepalives in a row were sent since the peer was last heard
   pub window_target : ℕ  -- the window that the handler is passed
   pub records : List Record  -- the records that were not yet taken

@@ -2,16 +2,16 @@
 //! that hold of them.
 #![tactic(auto)]
 
-mod awaited;
 mod law;
 mod life;
 mod open_answer;
+mod reply_entry;
 mod rows;
 mod settings;
 
-pub use awaited::{Asked, Awaited};
 pub use law::session_laws;
 pub use life::Life;
 pub use open_answer::OpenAnswer;
+pub use reply_entry::{ReplyEntry, ReplyKind};
 pub use rows::row_laws;
 pub use settings::SessionSettings;

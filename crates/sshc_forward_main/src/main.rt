@@ -3,17 +3,24 @@
 
 use sshc_forward_run::forward_words;
 use sshc_wire::{NoMemory, StdSink, StdSource, Text};
+use std::io::ErrorKind;
 use std::process::ExitCode;
 use std::{env, io};
 
 /// The status if memory ran out.
 const NO_MEMORY: u8 = 20;
 
-/// The command-line arguments after the program's name; empty if they can't be read.
+/// The command-line arguments after the program's name; empty if one of them isn't text.
 fn words_of(rt: &HostRuntime) -> Result<Vec<Text>, NoMemory> {
     let mut words = Vec::new(rt.alloc());
-    let Ok(mut given) = env::args(rt) else {
-        return Ok(words);
+    let mut given = match env::args(rt) {
+        Ok(given) => given,
+        Err(error) => {
+            return match error.kind() {
+                ErrorKind::OutOfMemory => Err(NoMemory),
+                _ => Ok(words),
+            };
+        }
     };
     let _program = given.next();
     for word in given {

@@ -1,8 +1,8 @@
 -- Outputs as lines: a byte of kind and the fields, as lower-case hexadecimal digits, and a line feed.
 -- A map over the whole list; the code writes each line as it comes.
-use Rattle.std.specs.Prelude.{ℕ, List, [], ◌∷◌, ◌++◌}
+use Rattle.std.specs.Prelude.{ℕ, List, ◌∷◌, ◌++◌}
 use Rattle.std.specs.List.{flat_map}
-use Rattle.hex.specs.Hex.{encode_lower}
+use Rattle.sshc_wire.specs.DigitLines.{text_line}
 use Rattle.sshc_wire.specs.Wire.{u32_text, string_text}
 use Rattle.sshc_forward_core.specs.declared.output.FwdOutput.{FwdOutput}
 use Rattle.sshc_forward_core.specs.declared.output.FwdOutput.TheVariants.{OpenChannel, SendData, SendEof, WriteBytes, EndWriting, CloseStream, CloseChannel}
@@ -16,9 +16,6 @@ output_text (WriteBytes stream bytes) = 132 ∷ (u32_text stream ++ string_text 
 output_text (EndWriting stream) = 133 ∷ u32_text stream
 output_text (CloseStream stream) = 134 ∷ u32_text stream
 output_text (CloseChannel channel) = 135 ∷ u32_text channel
-
-abbrev pub text_line : List ℕ → List ℕ
-text_line text = encode_lower text ++ 10 ∷ []
 
 abbrev pub line : FwdOutput → List ℕ
 line o = text_line (output_text o)

@@ -4,10 +4,12 @@ ghost use Rattle.std.specs.Prelude.{◌≡◌, ◌∷◌, ◌++◌, OnOk, OnErr}
 ghost use Rattle.sshc_wire.specs.Contents.{append, WroteFront};
 ghost use Rattle.sshc_wire.specs.Faults.{HasCause};
 ghost use Rattle.sshc_wire.specs.Wire.{u32_text, string_text};
-ghost use Rattle.sshc_forward_run.specs.OutputLines.{output_text, text_line, line, lines};
+ghost use Rattle.sshc_forward_run.specs.OutputLines.{output_text, line, lines};
 
 use sshc_forward_core::FwdOutput;
-use sshc_wire::{Failed, NoMemory, Octets, Sink, Text, put_bytes, put_text, put_u32, write_whole};
+use sshc_wire::{
+    Failed, NoMemory, Octets, Sink, Text, put_bytes, put_digit_line, put_text, put_u32, write_whole,
+};
 use std::alloc::Global;
 
 /// Where lines are made: an output's bytes and its line. The memory is kept from one line to the next.
@@ -76,26 +78,13 @@ fn put_output(out: &mut Vec<u8>, output: &FwdOutput) -> Result<(), NoMemory>
     }
 }
 
-/// Replaces the line by the bytes as lower-case hexadecimal digits, followed by a line feed.
-fn put_digits(line: &mut Vec<u8>, bytes: &[u8]) -> Result<(), NoMemory>
-    ensures { OnOk result (line.new.items ≡ text_line bytes.now) }
-{
-    line.resize(2 * bytes.len(), b'0')?;
-    match hex::encode_to_slice(bytes, line.as_mut_slice()) {
-        Ok(()) => {}
-        Err(_) => unreachable!(),
-    }
-    line.push(b'\n')?;
-    Ok(())
-}
-
 /// Makes the line of an output.
 fn make_line(buffer: &mut LineBuffer, output: &FwdOutput) -> Result<(), NoMemory>
     ensures { OnOk result (buffer.new.line.items ≡ line output.now) }
 {
     buffer.bytes.clear();
     put_output(&mut buffer.bytes, output)?;
-    put_digits(&mut buffer.line, buffer.bytes.as_slice())
+    put_digit_line(&mut buffer.line, buffer.bytes.as_slice())
 }
 
 /// Writes the line of an output, or a front of the line.

@@ -3,6 +3,7 @@
 use denote.RattleType.{RattleType}
 use denote.Param.Send.{IsSend, IsSync, sendable}
 use Rattle.std.proofs.Crossing.{crosses}
+use Rattle.circular_buffer.proofs.heap.HeapCircularBuffer.TheSendSync as ring
 use Rattle.sshc_wire.proofs.octets.Octets.TheSendSync as octets
 use Rattle.sshc_wire.proofs.text.Text.TheSendSync as text
 use Rattle.sshc_wire.proofs.outbox.Outbox.TheSendSync as outbox
@@ -27,8 +28,8 @@ use Rattle.sshc_auth.proofs.opening.Phase.TheSendSync as phase
 use Rattle.sshc_auth.proofs.opening.Class.TheSendSync as class
 use Rattle.sshc_auth.proofs.opening.Waiter.TheSendSync as waiter
 use Rattle.sshc_mux.proofs.table.ChannelTable.TheSendSync as table
-use Rattle.sshc_client_table.specs.contracts.awaited.Asked as Asked
-use Rattle.sshc_client_table.specs.contracts.awaited.Awaited as Awaited
+use Rattle.sshc_client_table.proofs.reply_entry.ReplyKind.TheSendSync as reply_kind
+use Rattle.sshc_client_table.specs.contracts.reply_entry.ReplyEntry as ReplyEntry
 use Rattle.sshc_client_table.proofs.settings.SessionSettings.TheSendSync as session_settings
 use Rattle.sshc_client_state.specs.contracts.connection.Connection as Connection
 use Rattle.sshc_client.specs.contracts.session.Session as Session
@@ -68,16 +69,13 @@ opening_send =
     let m = stored_send in
     search (octets.the_send, text.the_send, settings.the_field_send, phase.the_field_send, class.the_field_send, waiter.the_field_send, pending.the_send, sendable, crosses) depth 60 fits 60000
 
-asked_send : IsSend (Asked.the_field).row
-asked_send = let k = public_send in search (sendable, crosses) depth 60 fits 60000
-
-awaited_send : IsSend (Awaited.the_field).row
-awaited_send = let a = asked_send in search (sendable, crosses) depth 60 fits 60000
+entry_send : IsSend (ReplyEntry.the_field).row
+entry_send = let k = public_send in search (reply_kind.the_field_send, sendable, crosses) depth 60 fits 60000
 
 connection_send : IsSend Connection.the_row
 connection_send =
-    let o = opening_send in let a = awaited_send in
-    search (table.the_send, outbox.the_send, session_settings.the_field_send, sendable, crosses) depth 60 fits 60000
+    let o = opening_send in let a = entry_send in
+    search (table.the_send, ring.the_send, outbox.the_send, session_settings.the_field_send, sendable, crosses) depth 60 fits 60000
 
 session_send : IsSend Session.the_row
 session_send = let c = connection_send in search (sendable, crosses) depth 60 fits 60000

@@ -1,19 +1,19 @@
 -- Lemmas on what is done with records: one more after those that were dealt with.
-use Rattle.std.proofs.Common.{◌≡◌, refl, ℕ, ◌+◌, ◌-◌, ◌^◌, ◌<◌, ◌≤◌, min, arith, Bool, true, false, List, [], ◌∷◌, ◌++◌, length, Option, Some, None, Result, Ok, Err, sym, ap, ◌∙◌, subst, append_assoc}
+use Rattle.std.proofs.Common.{◌≡◌, refl, ℕ, ◌<◌, ◌≤◌, arith, Bool, true, false, List, [], ◌∷◌, ◌++◌, length, drop, slice_get, Option, Some, None, Result, Ok, Err, sym, ap, ◌∙◌, subst, append_assoc}
 use Rattle.std.specs.Prelude.{IsErr, IsErrOf, OnErr, OnOk}
-use Rattle.std.specs.List.{flat_map}
 use Rattle.std.proofs.lemmas.List.{append-nil}
 use Rattle.std.proofs.lemmas.Grind.{flat_map-append}
 use Rattle.sshc_wire.specs.Faults.{HasCause, Rose}
+use Rattle.sshc_wire.specs.Outgoing.{packet_in}
 use Rattle.sshc_wire.specs.declared.record.Record.{Record}
 use Rattle.sshc_wire.specs.declared.record.Record.TheVariants.{BeginExchange, Payload}
 use Rattle.sshc_wire.specs.declared.error.NoMemory.{NoMemory as RanOut}
 use Rattle.sshc_wire.specs.declared.source.Failed.{Failed}
 use Rattle.sshc_wire.specs.declared.source.Failed.TheVariants.{Fault}
-use Rattle.sshc_transport.specs.Transports.{Answer, Handing, exchange_begun, payload}
+use Rattle.sshc_transport.specs.Transports.{Handing, exchange_begun, payload}
 use Rattle.sshc_handle_tickets.specs.Tickets.{TicketState}
-use Rattle.sshc_handle_state.specs.Picking.{LinkAt, link_at}
-use Rattle.sshc_handle_state.specs.Dealing.{Deals, DealsBy, DealsFront, Hands, HandsOn, gains_all, handing_of, handings, told, told_all}
+use Rattle.sshc_handle_state.specs.Picking.{LinkAt}
+use Rattle.sshc_handle_state.specs.Dealing.{Deals, DealsBy, DealsFirst, DealsFront, Hands, HandsOn, gains_all, handing_of, handings, told, told_all}
 
 -- ---- calls of the transport
 
@@ -164,14 +164,6 @@ dealt_front all left first second third s t u a b c so deals = record {
   deals = subst (λ (xs : List Record). Deals xs first third s u a c) (append-nil so.front) (deals_more so.front [] first second third s t u a b c so.deals deals);
 }
 
-pub dealt_cut : (all left : List Record) (first second : Bool) (s t : TicketState) (a b : LinkAt) → DealtSo all left first second s t a b → DealsFront all first second s t a b
-dealt_cut all left first second s t a b so = record { front = so.front; rest = left; parts = so.parts; deals = so.deals }
-
-pub dealt_all : (all left : List Record) (first second : Bool) (s t : TicketState) (a b : LinkAt) → left ≡ [] → DealtSo all left first second s t a b → Deals all first second s t a b
-dealt_all all left first second s t a b none so =
-    let whole : all ≡ so.front = so.parts ∙ (ap (λ (xs : List Record). so.front ++ xs) none ∙ append-nil so.front) in
-    subst (λ (xs : List Record). Deals xs first second s t a b) (sym whole) so.deals
-
 -- a fact about one result from one about another
 pub on_ok : {A E P Q : Type 0} (r : Result A E) → (P → Q) → OnOk r P → OnOk r Q
 on_ok (Ok x) f h = f h
@@ -185,3 +177,36 @@ pub by_err : (all : List Record) (first second : Bool) (s t : TicketState) (a b 
     → DealsFront all first second s t a b → DealsBy all first second s t a b r
 by_err all first second s t a b (Ok u) err front = cc err
 by_err all first second s t a b (Err e) err front = front
+
+-- a packet that is lent is that of the first record
+pub packet_first : (records : List Record) (packet : List ℕ) → Some packet ≡ packet_in (slice_get records 0) → records ≡ Payload packet ∷ drop 1 records
+packet_first [] packet lent = absurd cc
+packet_first (Payload p ∷ records) packet lent = let same : packet ≡ p = cc in ap (λ (x : List ℕ). Payload x ∷ records) (sym same)
+packet_first (said ∷ records) packet lent = absurd cc
+
+pub first_packet : (records left : List Record) (packet : List ℕ) (first second : Bool) (t : TicketState) (was is : LinkAt) → Some packet ≡ packet_in (slice_get records 0)
+    → left ≡ drop 1 records → Hands (payload packet ∷ []) first second was is → DealsFirst records left first second t t was is (Ok true)
+first_packet records left packet first second t was is lent gone hands =
+    (Payload packet, packet_first records packet lent ∙ ap (λ (xs : List Record). Payload packet ∷ xs) (sym gone), deals_payload _ _ _ _ _ _ _ refl hands)
+
+pub first_err : (records left : List Record) (first second : Bool) (s t : TicketState) (a b : LinkAt) (r : Result Bool RanOut) → IsErr r
+    → Deals [] first second s t a b → DealsFirst records left first second s t a b r
+first_err records left first second s t a b (Ok more) err deals = cc err
+first_err records left first second s t a b (Err e) err deals = deals
+
+-- the records so far are dealt with, and the first of the others
+pub dealt_first : (all records left : List Record) (first second third : Bool) (s t u : TicketState) (a b c : LinkAt)
+    → DealtSo all records first second s t a b → DealsFirst records left second third t u b c (Ok true) → DealtSo all left first third s u a c
+dealt_first all records left first second third s t u a b c so (said, taken, deals) = dealt_more all records left said first second third s t u a b c taken so deals
+
+-- and there is no other
+pub dealt_last : (all records left : List Record) (first second third : Bool) (s t u : TicketState) (a b c : LinkAt)
+    → DealtSo all records first second s t a b → DealsFirst records left second third t u b c (Ok false) → Deals all first third s u a c
+dealt_last all records left first second third s t u a b c so (none, deals) =
+    let whole : all ≡ so.front = so.parts ∙ (ap (λ (xs : List Record). so.front ++ xs) none ∙ append-nil so.front) in
+    subst (λ (xs : List Record). Deals xs first third s u a c) (append-nil so.front ∙ sym whole)
+    (deals_more so.front [] first second third s t u a b c so.deals deals)
+
+-- one record is left less
+pub fewer_left : (records left : List Record) (first second : Bool) (s t : TicketState) (a b : LinkAt) → DealsFirst records left first second s t a b (Ok true) → length left < length records
+fewer_left records left first second s t a b (said, taken, deals) = omega (arith, ap (λ (xs : List Record). length xs) taken)

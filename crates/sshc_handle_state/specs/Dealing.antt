@@ -1,7 +1,7 @@
 -- What is done with the records of a step: packets are passed to the transport and exchanges begun in their order;
 -- answers, and what happened on channels, are held. Once a call of the transport has failed nothing more is passed to
 -- it. The code takes one record after the other.
-use Rattle.std.specs.Prelude.{◌≡◌, ◌≤◌, ℕ, Bool, true, false, List, [], ◌∷◌, ◌++◌, Option, Some, None, Result, Ok, Err}
+use Rattle.std.specs.Prelude.{◌≡◌, ◌≤◌, Bool, true, false, List, [], ◌∷◌, ◌++◌, Option, Result, Ok, Err}
 use Rattle.std.specs.List.{flat_map}
 use Rattle.std.specs.Option.{option_map}
 use Rattle.sshc_wire.specs.Faults.{Rose}
@@ -75,3 +75,10 @@ pub record DealsFront (records : List Record) (failed_before failed_now : Bool) 
 abbrev pub DealsBy : List Record → Bool → Bool → TicketState → TicketState → LinkAt → LinkAt → Result (Unit {0}) RanOut → Type 0
 DealsBy records failed_before failed_now old new was is (Ok u) = Deals records failed_before failed_now old new was is
 DealsBy records failed_before failed_now old new was is (Err e) = DealsFront records failed_before failed_now old new was is
+
+-- of the first record, which is let go; nothing where there is none, or where memory ran out
+abbrev pub DealsFirst : List Record → List Record → Bool → Bool → TicketState → TicketState → LinkAt → LinkAt → Result Bool RanOut → Type 0
+DealsFirst records left failed_before failed_now old new was is (Ok true) =
+    (said : Record) × (records ≡ said ∷ left) × Deals (said ∷ []) failed_before failed_now old new was is
+DealsFirst records left failed_before failed_now old new was is (Ok false) = (records ≡ []) × Deals [] failed_before failed_now old new was is
+DealsFirst records left failed_before failed_now old new was is (Err e) = Deals [] failed_before failed_now old new was is

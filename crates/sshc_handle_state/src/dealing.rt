@@ -2,7 +2,7 @@
 
 ghost use Rattle.std.specs.Prelude.{◌≡◌, ◌∷◌, [], OnErr, OnOk, length};
 ghost use Rattle.sshc_transport.specs.Transports.{exchange_begun, payload};
-ghost use Rattle.sshc_handle_state.specs.Dealing.{Deals, DealsBy, Hands, handing_of, told};
+ghost use Rattle.sshc_handle_state.specs.Dealing.{Deals, DealsBy, DealsFirst, Hands, handing_of, told};
 ghost use Rattle.sshc_handle_state.specs.Picking.{link_at};
 
 use sshc_handle_tickets::Tickets;
@@ -91,6 +91,32 @@ fn deal_one<T: Transport>(
     }
 }
 
+/// What is done with the first record, which is let go; a packet is lent to the transport where it lies. Returns false if
+/// there is no record.
+fn deal_first<T: Transport>(
+    said: &mut Outbox,
+    transport: &mut T,
+    tickets: &mut Tickets,
+    failed: &mut bool,
+) -> Result<bool, NoMemory>
+    ensures { DealsFirst said.old.records said.new.records failed.old failed.new tickets.old tickets.new
+        (link_at (T.answers transport.old) (T.handed transport.old) (T.faults transport.old))
+        (link_at (T.answers transport.new) (T.handed transport.new) (T.faults transport.new)) result }
+{
+    if let Some(packet) = said.packet(0) {
+        hand(transport, packet, failed)?;
+        said.drop_first();
+        return Ok(true);
+    }
+    match said.take_first()? {
+        Some(record) => {
+            deal_one(record, transport, tickets, failed)?;
+            Ok(true)
+        }
+        None => Ok(false),
+    }
+}
+
 /// Passes on and holds each record, in their order.
 pub(crate) fn deal<T: Transport>(
     said: &mut Outbox,
@@ -102,8 +128,6 @@ pub(crate) fn deal<T: Transport>(
         (link_at (T.answers transport.old) (T.handed transport.old) (T.faults transport.old))
         (link_at (T.answers transport.new) (T.handed transport.new) (T.faults transport.new)) result }
 {
-    while let Some(record) = said.take_first()? {
-        deal_one(record, transport, tickets, failed)?;
-    }
+    'records: while deal_first(said, transport, tickets, failed)? {}
     Ok(())
 }

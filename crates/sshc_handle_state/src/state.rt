@@ -101,7 +101,7 @@ impl<H: Handler> HandleState<H> {
     ) -> Result<HandleState<H>, NoMemory>
         ensures { IfOk result (λ s. s ≡ new_handle config remote_sshid) }
     {
-        let session = Session::new(alloc, config.session_settings(), config.opening_settings());
+        let session = Session::new(alloc, config.session_settings(), config.opening_settings())?;
         let timers = Timers {
             inactivity_timeout: config.inactivity_timeout,
             keepalive_interval: config.keepalive_interval,

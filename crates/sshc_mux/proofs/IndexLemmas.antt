@@ -33,6 +33,15 @@ same_slot : (slots : Slots) (at k : ℕ) (c d : ChannelState) → at ≡ k → g
 same_slot slots at k c d is here there =
     let same : Some c ≡ Some d = sym here ∙ ap (λ (j : ℕ). get_or slots j None) is ∙ there in cc
 
+-- the same look-ups in another order
+
+pub indexed_reordered : (index index2 : List (ℕ × ℕ)) (slots : Slots) → length index2 ≡ length index → ((m : ℕ) → lookup (nat_eq m) index2 ≡ lookup (nat_eq m) index) → IsIndexed index slots → IsIndexed index2 slots
+indexed_reordered index index2 slots sized looked indexed =
+    let P : (m : ℕ) → Option ℕ → Type 0 = λ m o. Looked slots m o in record {
+      places = λ m. (subst (P m) (sym (looked m)) (record { is = indexed.places m })).is;
+      sized = sized ∙ indexed.sized;
+    }
+
 -- another channel in the slot of one
 
 length-with : (n : ℕ) (new : ChannelState) (cs : List ChannelState) → length (with_channel n new cs) ≡ length cs

@@ -1,6 +1,7 @@
 -- What the table keeps: the slots with their index and count, and a legal table.
-use Rattle.std.proofs.Common.{◌≡◌, ℕ, ◌+◌, ◌-◌, ◌^◌, ◌<◌, Bool, true, false, not, List, [], ◌∷◌, ◌++◌, length, map, set, eqb, if◌then◌else◌, Option, Some, None, is_some, Result, Ok, Err, refl, ap, sym, subst, ◌∙◌, inl, inr, arith, nat_eq, cond}
+use Rattle.std.proofs.Common.{◌≡◌, ℕ, ◌+◌, ◌-◌, ◌^◌, ◌<◌, Bool, true, false, not, List, [], ◌∷◌, ◌++◌, length, map, set, eqb, if◌then◌else◌, Option, Some, None, is_some, Result, Ok, Err, IsOk, OnOk, IfOk, refl, ap, sym, subst, ◌∙◌, inl, inr, arith, nat_eq, cond}
 use Rattle.std.specs.Map.{lookup}
+use Rattle.std.specs.HashMap.{HashMap, get, hash_map_len, Updates}
 use Rattle.std.proofs.lemmas.Bool.Decides.{eqb_tells}
 use Rattle.sshc_wire.specs.declared.error.NoMemory.{NoMemory}
 use Rattle.sshc_wire.specs.Outgoing.{Outgoing}
@@ -10,7 +11,7 @@ use Rattle.sshc_mux.specs.ChannelAccount.{FlushAll, IsSound, IsLegal, Part, Move
 use Rattle.sshc_mux.specs.Places.{Slots, present, IsPlace, IsIndexed, IsStored, flushed_slot, numbers, has, Apart, waiting_of}
 use Rattle.sshc_mux.proofs.NumbersLemmas.{has_none, number_of, numbers-with, with_same, with_other, without_same, without_other, apart_without, apart_append, append_found}
 use Rattle.sshc_mux.proofs.PlaceLemmas.{present-append}
-use Rattle.sshc_mux.proofs.IndexLemmas.{indexed_set, indexed_push, indexed_flush, free_lookup, present-flushed, waiting-with, waiting-without, waiting-append, waiting_most, length-without, length-present}
+use Rattle.sshc_mux.proofs.IndexLemmas.{indexed_set, indexed_push, indexed_reordered, indexed_flush, free_lookup, present-flushed, waiting-with, waiting-without, waiting-append, waiting_most, length-without, length-present}
 use Rattle.sshc_mux.proofs.ShapeLemmas.{IsTurn}
 use Rattle.sshc_mux.proofs.LegalLemmas.{Fresh, found_new, legal_stays}
 use Rattle.sshc_mux.proofs.TableLemmas.{table_of, Held}
@@ -111,6 +112,14 @@ kept_remove n at last waiting waiting2 index index2 slots slots2 c here stored l
       }),
     )
 
+-- the index in another order
+
+pub kept_reordered : (last waiting : ℕ) (index index2 : List (ℕ × ℕ)) (slots slots2 : Slots) → slots2 ≡ slots →
+    length index2 ≡ length index → ((m : ℕ) → lookup (nat_eq m) index2 ≡ lookup (nat_eq m) index) → Stored index slots waiting last → Stored index2 slots2 waiting last
+kept_reordered last waiting index index2 slots slots2 same sized looked stored =
+    let P : Slots → Type 0 = λ s. Stored index2 s waiting last in
+    subst P (sym same) (record { indexed = indexed_reordered index index2 slots sized looked stored.0.indexed; counted = stored.0.counted }, stored.1)
+
 -- one more channel
 
 appended_sound : (o : Option ChannelState) (n m : ℕ) (cs : List ChannelState) (new c : ChannelState) → channel_of m cs ≡ o → Fresh n new → ((k : ℕ) (d : ChannelState) → channel_of k cs ≡ Some d → IsSound d) → channel_of m (cs ++ new ∷ []) ≡ Some c → IsSound c
@@ -145,6 +154,15 @@ kept_push last waiting n at index index2 slice slots base longer c new old store
         sound = λ m d found. appended_sound (channel_of m (present slots)) n m (present slots) c d refl fresh_so stored.1.sound found;
       }),
     )
+
+-- one more channel, for which the index had room
+pub kept_put : {S E : Type 0} (last waiting n at : ℕ) (index : List (ℕ × ℕ)) (before after : HashMap ℕ ℕ S) (slice slots base longer : Slots) (c new : ChannelState) (result : Result (Option ℕ) E) → IsOk result → Stored index slots waiting last →
+    length before.entries ≡ length index → ((m : ℕ) → lookup (nat_eq m) before.entries ≡ lookup (nat_eq m) index) → slice ≡ slots → channel_of n (present slice) ≡ None → Fresh n new → c ≡ new → base ≡ slots → at ≡ length slice →
+    OnOk result (Updates nat_eq before after n (Some at)) → IfOk result (λ old. old ≡ get nat_eq before n) → IfOk result (λ old. hash_map_len after ≡ hash_map_len before + (if is_some old then 0 else 1)) →
+    longer ≡ base ++ Some c ∷ [] → Stored after.entries longer waiting n
+kept_put last waiting n at index before after slice slots base longer c new (Ok old) ok stored sized looked same free fresh made_is base_is at_is updates old_is more is =
+    kept_push last waiting n at before.entries after.entries slice slots base longer c new old (kept_reordered last waiting index before.entries slots slots refl sized looked stored) same free fresh made_is base_is at_is updates.0 old_is more is
+kept_put last waiting n at index before after slice slots base longer c new (Err e) ok stored sized looked same free fresh made_is base_is at_is updates old_is more is = absurd (cc)
 
 -- all flushed
 

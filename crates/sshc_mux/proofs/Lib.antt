@@ -22,3 +22,4 @@ mod AccountLaw
 mod ClosingLaw
 mod AddressLemmas
 mod QuietLemmas
+mod PiecesLemmas

@@ -3,3 +3,4 @@ pub mod Places
 pub mod Packets
 pub mod ChannelTable
 pub mod ChannelAccount
+pub mod WaitingPieces

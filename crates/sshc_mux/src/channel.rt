@@ -4,13 +4,15 @@ mod ends;
 mod sending;
 mod windows;
 
-ghost use Rattle.std.specs.Prelude.{◌≡◌, Some};
+ghost use Rattle.std.specs.Prelude.{◌≡◌, Some, option_copied, slice_get};
+ghost use Rattle.sshc_mux.specs.WaitingPieces.{pieces_of_flow};
 ghost use Rattle.sshc_mux.specs.ChannelTable.Opens.{opened_by_user, reserved_by_server, accepted, confirmed, awaited_by, reserved_by};
 ghost use Rattle.sshc_mux.specs.ChannelTable.{waits};
 ghost use Rattle.sshc_mux.specs.ChannelTable.Sending.{done, is_due};
 ghost use Rattle.sshc_mux.specs.ChannelTable.Ends.{asked, is_sent, is_unasked};
 
 use crate::chunk::Chunk;
+use bytes::Bytes;
 use sshc_wire::Ticket;
 use std::alloc::Global;
 use std::collections::VecDeque;
@@ -193,6 +195,16 @@ impl Channel {
         ensures { result ≡ waits self.now }
     {
         self.pending.len() > 0
+    }
+
+    /// The bytes of one call that wait, by the place of the call, from 0.
+    pub(crate) fn waiting(&self, at: usize) -> Option<&Bytes>
+        ensures { option_copied result ≡ slice_get (pieces_of_flow self.now.flow) at }
+    {
+        match self.pending.get(at) {
+            Some(chunk) => Some(chunk.body()),
+            None => None,
+        }
     }
 
     /// Whether our close was sent.

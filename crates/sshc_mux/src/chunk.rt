@@ -2,6 +2,7 @@
 
 ghost use Rattle.std.specs.Prelude.{◌≡◌, ◌<◌, ◌≤◌, ◌-◌, length, take, drop, IfOk};
 
+use bytes::Bytes;
 use sshc_wire::NoMemory;
 use std::alloc::Global;
 use std::marker::Model;
@@ -15,23 +16,19 @@ pub enum Stream {
     Extended(u32),
 }
 
-/// The bytes of one call, of which a front was sent. Contracts see those that wait, with their kind.
+/// The bytes of one call that still wait, with their kind: a part of a block that may have other owners.
 #[derive(Drop)]
 pub(crate) struct Chunk {
     stream: Stream,
-    body: Vec<u8>,
-    sent: usize,
+    body: Bytes,
 }
 
 impl Model for Chunk {
-    ghost use Rattle.std.specs.Prelude.{length, drop, ◌≤◌};
     ghost use Rattle.sshc_mux.specs.ChannelState.{Waiting};
 
     ghost Value = { Waiting };
 
-    ghost view = { λ k. record { stream = k.stream; bytes = drop k.sent k.body.items } };
-
-    ghost invariant = { λ k. k.sent ≤ length k.body.items };
+    ghost view = { λ k. record { stream = k.stream; bytes = k.body } };
 }
 
 impl Chunk {
@@ -41,8 +38,7 @@ impl Chunk {
     {
         Ok(Chunk {
             stream,
-            body: Vec::from_slice(alloc, body)?,
-            sent: 0,
+            body: Bytes::copy_from_slice(alloc, body)?,
         })
     }
 
@@ -56,7 +52,14 @@ impl Chunk {
     pub(crate) fn bytes(&self) -> &[u8]
         ensures { result.now ≡ self.now.bytes }
     {
-        &self.body[self.sent..]
+        self.body.as_slice()
+    }
+
+    /// The same, to be shared.
+    pub(crate) fn body(&self) -> &Bytes
+        ensures { result.now ≡ self.now.bytes }
+    {
+        &self.body
     }
 
     /// Counts bytes at the front as sent.
@@ -64,6 +67,6 @@ impl Chunk {
         requires { count ≤ length self.old.bytes }
         ensures { self.new ≡ record { stream = self.old.stream; bytes = drop count self.old.bytes } }
     {
-        self.sent += count;
+        self.body.advance(count);
     }
 }

@@ -5,15 +5,18 @@ mod opens;
 mod sending;
 mod windows;
 
-ghost use Rattle.std.specs.Prelude.{◌≡◌, ◌≤◌, ◌<◌, ◌+◌, ◌-◌, [], true, false, MatchOption, None, option_copied, if◌then◌else◌};
+ghost use Rattle.std.specs.Prelude.{◌≡◌, ◌≤◌, ◌<◌, ◌+◌, ◌-◌, [], true, false, MatchOption, None, option_copied, slice_get, if◌then◌else◌};
+ghost use Rattle.std.specs.List.{concat};
+ghost use Rattle.sshc_mux.specs.WaitingPieces.{AreFull, bytes_waiting, pieces_in};
 ghost use Rattle.sshc_mux.specs.ChannelState.{channel_of, without};
 ghost use Rattle.sshc_mux.specs.ChannelAccount.{no_channels};
 ghost use Rattle.sshc_mux.specs.ChannelTable.{is_established, waits_in, any_waits, window_in, recipient_in, close_sent_in};
-ghost use Rattle.sshc_mux.specs.ChannelTable.Opens.{unsettled_at};
+ghost use Rattle.sshc_mux.specs.ChannelTable.Opens.{awaited, unsettled_at};
 ghost use Rattle.sshc_mux.specs.Places.{IsPlace, IsIndexed, HasNumbers, Apart, numbers, present};
 
 use crate::channel::Channel;
-use sshc_wire::{ChannelId, Record};
+use bytes::Bytes;
+use sshc_wire::{ChannelId, Record, Ticket};
 use std::alloc::Global;
 use std::collections::HashMap;
 use std::marker::Model;
@@ -90,6 +93,24 @@ impl ChannelTable {
         }
     }
 
+    /// The piece at this place, from 0, of the bytes that wait on the channel: one piece for each call whose bytes wait.
+    /// `None` beyond the last piece, and for a number that no channel has. Takes no memory; a `clone` of the piece shares
+    /// its bytes.
+    #[tactic(auto, using(crate::proofs::PiecesLemmas::filled_in, crate::proofs::PiecesLemmas::joined_in))]
+    pub fn waiting(&self, id: ChannelId, at: usize) -> Option<&Bytes>
+        ensures piece { option_copied result ≡ slice_get (pieces_in (channel_of id.0 self.now.channels)) at }
+        ensures full { AreFull (pieces_in (channel_of id.0 self.now.channels)) }
+        ensures joined { concat (pieces_in (channel_of id.0 self.now.channels))
+            ≡ bytes_waiting (channel_of id.0 self.now.channels) }
+    {
+        // The table's invariant says that no piece is empty.
+        let _last = self.last;
+        match self.find(id.0) {
+            Some(channel) => channel.waiting(at),
+            None => None,
+        }
+    }
+
     /// Whether bytes wait on any channel.
     pub fn has_any_pending_data(&self) -> bool
         ensures { result ≡ any_waits self.now.channels }
@@ -124,6 +145,17 @@ impl ChannelTable {
         match self.find(id.0) {
             Some(channel) if channel.is_reserved() => Some(channel.recipient()),
             _ => None,
+        }
+    }
+
+    /// The ticket of an open of ours that waits for the peer's answer, if it has one. `None` if no open of ours with this
+    /// number waits.
+    pub fn awaited(&self, id: ChannelId) -> Option<Option<Ticket>>
+        ensures { result ≡ awaited id.0 self.now }
+    {
+        match self.find(id.0) {
+            Some(channel) => channel.awaited(),
+            None => None,
         }
     }
 

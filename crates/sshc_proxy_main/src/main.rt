@@ -6,17 +6,24 @@ use sshc_ask::{Duplex, UnixOpener};
 use sshc_proxy::proxy_words;
 use sshc_toy::ToyVerifier;
 use sshc_wire::{NoMemory, StdFiles, StdSink, StdSource, Text};
+use std::io::ErrorKind;
 use std::process::ExitCode;
 use std::{env, io};
 
 /// The status for out of memory.
 const NO_MEMORY: u8 = 20;
 
-/// The arguments after the program's own name; no arguments if they can't be read.
+/// The arguments after the program's own name; no arguments if one of them isn't text.
 fn words_of(rt: &HostRuntime) -> Result<Vec<Text>, NoMemory> {
     let mut words = Vec::new(rt.alloc());
-    let Ok(mut given) = env::args(rt) else {
-        return Ok(words);
+    let mut given = match env::args(rt) {
+        Ok(given) => given,
+        Err(error) => {
+            return match error.kind() {
+                ErrorKind::OutOfMemory => Err(NoMemory),
+                _ => Ok(words),
+            };
+        }
     };
     let _program = given.next();
     for word in given {

@@ -2,7 +2,6 @@
 //! holds if the bytes written, the bytes left to read and the call's result are those of the row.
 
 mod outcome;
-mod pieces;
 mod row;
 
 use crate::files::verdict;

@@ -75,7 +75,7 @@ module _ (laws : SessionLaws) (asked : RunAsked) (before now : RunOutside) (a : 
   }
 
 -- if nothing was touched, no count moved
-still : (before : RunOutside) → CountsMoved before before (Err errors.NoMemory)
+pub still : (before : RunOutside) → CountsMoved before before (Err errors.NoMemory)
 still before = record {
   last_read = omega arith;
   last_write = omega arith;

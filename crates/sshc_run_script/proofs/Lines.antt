@@ -1,11 +1,23 @@
 -- A prefix of a line, after the lines before it.
-use Rattle.std.proofs.Common.{◌≡◌, ℕ, zero, suc, ◌+◌, ◌<◌, List, [], ◌∷◌, ◌++◌, length, take, drop, get_or, slice_get, refl, ap, sym, subst, ◌∙◌, Option, Some, arith}
+use Rattle.std.proofs.Common.{◌≡◌, ℕ, zero, suc, ◌+◌, ◌<◌, List, [], ◌∷◌, ◌++◌, length, take, drop, get_or, slice_get, refl, ap, sym, subst, ◌∙◌, Option, Some, None, arith}
+use Rattle.std.specs.Option.{option_map}
 use Rattle.std.proofs.lemmas.List.{take-append-drop, take_more, append-nil}
 use Rattle.std.proofs.lemmas.List.Concat.{flat_map-append}
 use Rattle.sshc_wire.specs.declared.record.Record.{Record}
+use Rattle.sshc_wire.specs.Records.{record_text}
 use Rattle.sshc_wire.specs.Outgoing.{text_in}
 use Rattle.sshc_wire.specs.Contents.{append, WroteFront, append-append, append-nothing, wrote_more}
-use Rattle.sshc_run_script.specs.RecordLines.{text_line, line, lines}
+use Rattle.sshc_wire.specs.DigitLines.{text_line}
+use Rattle.sshc_run_script.specs.RecordLines.{line, lines}
+
+-- the line of a text that an outbox lends, and of none
+pub lent_line : (o : Option Record) (t made : List ℕ) → Some t ≡ option_map record_text o → made ≡ text_line t → made ≡ text_line (text_in o)
+lent_line None t made lent is = absurd cc
+lent_line (Some r) t made lent is = is ∙ ap text_line (let same : t ≡ record_text r = cc in same)
+
+pub no_line : (o : Option Record) (made : List ℕ) → None ≡ option_map record_text o → made ≡ text_line [] → made ≡ text_line (text_in o)
+no_line None made lent is = is
+no_line (Some r) made lent is = absurd cc
 
 lines_split : (rs : List Record) (i : ℕ) (r : Record) → i < length rs → r ≡ get_or rs i r → lines rs ≡ lines (take i rs) ++ line r ++ lines (drop (i + 1) rs)
 lines_split rs i r lt is =

@@ -6,7 +6,7 @@ use Rattle.sshc_key.specs.AskingLaws.{always_any, always_makes}
 use Rattle.sshc_auth_event.specs.declared.event.Event.{Event}
 use Rattle.sshc_auth.specs.OpeningTable.{asked_of}
 use Rattle.sshc_client_packets.specs.HostKeyProof.{Accepts}
-use Rattle.sshc_client_table.specs.declared.awaited.Awaited.{Awaited}
+use Rattle.sshc_client_table.specs.declared.reply_entry.ReplyEntry.{ReplyEntry}
 use Rattle.sshc_client_table.specs.ReplyQueue.{RepliesAreInOrder}
 use Rattle.sshc_client_table.specs.SessionState.{SessionState, is_open}
 use Rattle.sshc_client_table.specs.SessionTable.{session_row}
@@ -26,19 +26,19 @@ use Rattle.sshc_run_script.specs.Turn.{asked_turn}
 
 -- the requests that were answered, and then those that still wait, are those that waited and then those that were
 -- written
-abbrev InOrder : List Awaited → List Awaited → List Awaited → Type 0
-InOrder waiting asked waiting' = (answered : List Awaited) × (answered ++ waiting' ≡ waiting ++ asked)
+abbrev InOrder : List ReplyEntry → List ReplyEntry → List ReplyEntry → Type 0
+InOrder waiting asked waiting' = (answered : List ReplyEntry) × (answered ++ waiting' ≡ waiting ++ asked)
 
 -- one after the other
-in_order_two : (a b c x y : List Awaited) → InOrder a x b → InOrder b y c → InOrder a (x ++ y) c
+in_order_two : (a b c x y : List ReplyEntry) → InOrder a x b → InOrder b y c → InOrder a (x ++ y) c
 in_order_two a b c x y (answered, is) (more, same) = (
   answered ++ more,
-  append_assoc answered more c ∙ ap (λ (l : List Awaited). answered ++ l) same ∙ sym (append_assoc answered b y) ∙ ap (λ (l : List Awaited). l ++ y) is ∙ append_assoc a x y,
+  append_assoc answered more c ∙ ap (λ (l : List ReplyEntry). answered ++ l) same ∙ sym (append_assoc answered b y) ∙ ap (λ (l : List ReplyEntry). l ++ y) is ∙ append_assoc a x y,
 )
 
 module _ (law : RepliesAreInOrder) (hosts : Hosts) (accepts : Accepts) where
   -- a turn from which the run continues
-  abbrev GoesInOrder : SessionState → List Awaited → SessionTurn → Type 0
+  abbrev GoesInOrder : SessionState → List ReplyEntry → SessionTurn → Type 0
   GoesInOrder s asked t = stop_next t.next ≡ None → InOrder s.replies asked t.state.replies
 
   step_in_order : (b : Bool) (s : SessionState) (place : ℕ) (event : Event) → Always (GoesInOrder s (requests_in b accepts s event)) (step_turn b hosts accepts place s event)
@@ -55,14 +55,14 @@ module _ (law : RepliesAreInOrder) (hosts : Hosts) (accepts : Accepts) where
   unfolding session_turn
   turn_in_order s frame = read_in_order s frame.place (event_of frame.kind frame.fields)
 
-  comes_in_order : (frames : List Frame) (s : SessionState) (answers : List Answer) (asked : List Awaited) (s' : SessionState) (frame' : Frame) → ComesAsking hosts accepts s frames answers asked s' frame' → InOrder s.replies asked s'.replies
+  comes_in_order : (frames : List Frame) (s : SessionState) (answers : List Answer) (asked : List ReplyEntry) (s' : SessionState) (frame' : Frame) → ComesAsking hosts accepts s frames answers asked s' frame' → InOrder s.replies asked s'.replies
   comes_in_order [] s answers asked s' frame' never = absurd never
   comes_in_order (frame ∷ frames) s answers asked s' frame' (inl (same, next, none)) =
-      ([], ap (λ (x : SessionState). x.replies) (sym same) ∙ sym (append-nil s.replies) ∙ ap (λ (l : List Awaited). s.replies ++ l) (sym none))
+      ([], ap (λ (x : SessionState). x.replies) (sym same) ∙ sym (append-nil s.replies) ∙ ap (λ (l : List ReplyEntry). s.replies ++ l) (sym none))
   comes_in_order (frame ∷ frames) s answers asked s' frame' (inr (t, gained, left, later, makes, given, goes, all, comes)) =
       let here : InOrder s.replies (requests_at accepts s frame) t.state.replies =
       always_makes (GoesInOrder s (requests_at accepts s frame)) (session_turn hosts accepts s frame) gained t (turn_in_order s frame) makes goes in
-      subst (λ (l : List Awaited). InOrder s.replies l s'.replies) (sym all)
+      subst (λ (l : List ReplyEntry). InOrder s.replies l s'.replies) (sym all)
       (in_order_two s.replies t.state.replies s'.replies (requests_at accepts s frame) later here (comes_in_order frames t.state left later s' frame' comes))
 
   -- each state that the session comes to

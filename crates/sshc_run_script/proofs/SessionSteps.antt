@@ -130,7 +130,7 @@ module _ (hosts : Hosts) (accepts : Accepts) (place : ℕ) (event : Event) (was 
   unopened_came : Came (step_turn false hosts accepts place was.session event) (since was.calls is.calls) place result (emptied is.session) is.session.records
   unopened_came =
       let so = steps_opening in
-      let before : OpeningLent = lent was.session.opening (outgoing was.session so.room) was.calls was.signer_refusals in
+      let before : OpeningLent = lent was.session.opening (outgoing was.session) was.calls was.signer_refusals in
       let now : OpeningLent = lent so.opening so.said is.calls is.signer_refusals in
       came_from was.session ready place result (since was.calls is.calls) so.opening so.said.records is.session so.rest (asked_turn hosts place was.session.opening event (asked_of was.session.opening event))
       (step_took hosts place event before now result ready.taken refl (so.stepped.row fresh))
@@ -138,7 +138,7 @@ module _ (hosts : Hosts) (accepts : Accepts) (place : ℕ) (event : Event) (was 
   unopened_ready : IsReadyAfter result (emptied is.session)
   unopened_ready =
       let so = steps_opening in
-      let before : OpeningLent = lent was.session.opening (outgoing was.session so.room) was.calls was.signer_refusals in
+      let before : OpeningLent = lent was.session.opening (outgoing was.session) was.calls was.signer_refusals in
       let now : OpeningLent = lent so.opening so.said is.calls is.signer_refusals in
       ready_by was.session ready place result (since was.calls is.calls) so.opening so.said.records is.session so.rest was.session.opening.closed refl fresh result refl
       (step_leaves hosts event before now un result (so.stepped.row fresh))

@@ -1,13 +1,10 @@
 -- Record lines: each record as lower-case hexadecimal digits and a line feed.
 -- A map over a whole list; the code writes each record as it comes.
-use Rattle.std.specs.Prelude.{ℕ, List, [], ◌∷◌, ◌++◌}
+use Rattle.std.specs.Prelude.{ℕ, List}
 use Rattle.std.specs.List.{flat_map}
-use Rattle.hex.specs.Hex.{encode_lower}
+use Rattle.sshc_wire.specs.DigitLines.{text_line}
 use Rattle.sshc_wire.specs.declared.record.Record.{Record}
 use Rattle.sshc_wire.specs.Records.{record_text}
-
-abbrev pub text_line : List ℕ → List ℕ
-text_line text = encode_lower text ++ 10 ∷ []
 
 abbrev pub line : Record → List ℕ
 line said = text_line (record_text said)

@@ -6,7 +6,7 @@ use Rattle.sshc_key.specs.Signers.{SignCall}
 use Rattle.sshc_key.specs.Asking.{Answer, Makes}
 use Rattle.sshc_auth_event.specs.declared.event.Event.{Event}
 use Rattle.sshc_client_packets.specs.HostKeyProof.{Accepts}
-use Rattle.sshc_client_table.specs.declared.awaited.Awaited.{Awaited}
+use Rattle.sshc_client_table.specs.declared.reply_entry.ReplyEntry.{ReplyEntry}
 use Rattle.sshc_client_table.specs.ReplyQueue.{asked_in}
 use Rattle.sshc_client_table.specs.SessionState.{SessionState, is_open}
 use Rattle.sshc_client_table.specs.SessionTable.{session_row}
@@ -26,32 +26,32 @@ use Rattle.sshc_run_script.specs.SessionTurn.{SessionTurn, session_turn}
 -- ---- the requests of one event
 
 -- before the session is open none is written
-abbrev pub requests_in : Bool → Accepts → SessionState → Event → List Awaited
+abbrev pub requests_in : Bool → Accepts → SessionState → Event → List ReplyEntry
 requests_in false accepts s event = []
 requests_in true accepts s event = asked_in (all_moves (session_row accepts (default_opinions s) s event)) s
 
-abbrev pub requests_of : Accepts → SessionState → Result Event EventError → List Awaited
+abbrev pub requests_of : Accepts → SessionState → Result Event EventError → List ReplyEntry
 requests_of accepts s (Ok event) = requests_in (is_open s.opening.phase) accepts s event
 requests_of accepts s (Err e) = []
 
 -- the requests that the event's row writes, with an answer wanted
-abbrev pub requests_at : Accepts → SessionState → Frame → List Awaited
+abbrev pub requests_at : Accepts → SessionState → Frame → List ReplyEntry
 requests_at accepts s frame = requests_of accepts s (event_of frame.kind frame.fields)
 
 -- ---- over a run
 
 -- these events, by the signer's answers in order, bring the run from the one state to the other, where that event is
 -- the next, and their rows write these requests with an answer wanted, in order
-abbrev pub ComesAsking : Hosts → Accepts → SessionState → List Frame → List Answer → List Awaited → SessionState → Frame → Type 0
+abbrev pub ComesAsking : Hosts → Accepts → SessionState → List Frame → List Answer → List ReplyEntry → SessionState → Frame → Type 0
 ComesAsking hosts accepts s [] answers asked s' frame' = ⊥
 ComesAsking hosts accepts s (frame ∷ frames) answers asked s' frame' =
     ((s ≡ s') × (frame ≡ frame') × (asked ≡ []))
-    ⊎ ((t : SessionTurn) × (gained : List SignCall) × (left : List Answer) × (later : List Awaited) × Makes (session_turn hosts accepts s frame) gained t × (answers ≡ answers_of gained ++ left)
+    ⊎ ((t : SessionTurn) × (gained : List SignCall) × (left : List Answer) × (later : List ReplyEntry) × Makes (session_turn hosts accepts s frame) gained t × (answers ≡ answers_of gained ++ left)
     × (stop_next t.next ≡ None) × (asked ≡ requests_at accepts s frame ++ later) × ComesAsking hosts accepts t.state frames left later s' frame')
 
 -- at each state that the session comes to, the requests that were answered are the first of those written, and those
 -- that wait are the others
 abbrev pub AreInOrder : Hosts → Accepts → RunSettings → ℕ → List Answer → Option (List ℕ) → Type 0
 AreInOrder hosts accepts settings max answers script =
-    (bytes : List ℕ) → script ≡ Some bytes → (s : SessionState) (frame : Frame) (asked : List Awaited) →
-    ComesAsking hosts accepts (new_session settings.session settings.opening) (own_events session_own (taken max bytes)) answers asked s frame → (answered : List Awaited) × (asked ≡ answered ++ s.replies)
+    (bytes : List ℕ) → script ≡ Some bytes → (s : SessionState) (frame : Frame) (asked : List ReplyEntry) →
+    ComesAsking hosts accepts (new_session settings.session settings.opening) (own_events session_own (taken max bytes)) answers asked s frame → (answered : List ReplyEntry) × (asked ≡ answered ++ s.replies)

@@ -1,6 +1,6 @@
 //! The state of a run.
 
-ghost use Rattle.std.specs.Prelude.{◌≡◌};
+ghost use Rattle.std.specs.Prelude.{◌≡◌, IfOk};
 ghost use Rattle.sshc_client_state.specs.Start.{new_session};
 ghost use Rattle.sshc_run_agent.specs.AgentTurns.{idle};
 ghost use Rattle.sshc_run_script.specs.Configured.{run_settings_of};
@@ -8,7 +8,7 @@ ghost use Rattle.sshc_run_script.specs.Configured.{run_settings_of};
 use crate::record_lines::LineBuffer;
 use sshc_client::{Config, Session};
 use sshc_run_agent::ServedAgent;
-use sshc_wire::Outbox;
+use sshc_wire::{NoMemory, Outbox};
 use std::alloc::Global;
 
 /// Memory that is kept from one event to the next: of an agent's records, and where lines are made.
@@ -31,15 +31,16 @@ pub struct Point {
 
 impl Point {
     /// The state at the start of a run.
-    pub fn at_start(alloc: Global, config: &Config) -> Point
-        ensures session { result.session
-            ≡ new_session (run_settings_of config.now).session (run_settings_of config.now).opening }
-        ensures agents { result.agents ≡ idle (run_settings_of config.now).agent_asks }
-        ensures place { result.place ≡ 0 }
-        ensures last { result.last ≡ 0 }
+    pub fn at_start(alloc: Global, config: &Config) -> Result<Point, NoMemory>
+        ensures session { IfOk result (λ p. p.session
+            ≡ new_session (run_settings_of config.now).session (run_settings_of config.now).opening) }
+        ensures agents { IfOk result (λ p. p.agents ≡ idle (run_settings_of config.now).agent_asks) }
+        ensures place { IfOk result (λ p. p.place ≡ 0) }
+        ensures last { IfOk result (λ p. p.last ≡ 0) }
     {
-        Point {
-            session: Session::new(alloc, config.session_settings(), config.opening_settings()),
+        let session = Session::new(alloc, config.session_settings(), config.opening_settings())?;
+        Ok(Point {
+            session,
             agents: ServedAgent::new(alloc, config.agent_asks),
             place: 0,
             last: 0,
@@ -47,6 +48,6 @@ impl Point {
                 said: Outbox::new(alloc),
                 lines: LineBuffer::new(alloc),
             },
-        }
+        })
     }
 }

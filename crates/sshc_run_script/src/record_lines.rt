@@ -4,15 +4,15 @@ ghost use Rattle.std.specs.Prelude.{◌≡◌, ◌+◌, ◌≤◌, OnOk, OnErr, 
 ghost use Rattle.sshc_wire.specs.Contents.{append, WroteFront, WritesMove, WritesFor};
 ghost use Rattle.sshc_wire.specs.Outgoing.{text_in};
 ghost use Rattle.sshc_wire.specs.Faults.{HasCause};
-ghost use Rattle.sshc_run_script.specs.RecordLines.{text_line, lines};
+ghost use Rattle.sshc_wire.specs.DigitLines.{text_line};
+ghost use Rattle.sshc_run_script.specs.RecordLines.{lines};
 
-use sshc_wire::{Failed, NoMemory, Outbox, Sink, write_whole};
+use sshc_wire::{Failed, NoMemory, Outbox, Sink, put_digit_line, write_whole};
 use std::alloc::Global;
 
-/// Where lines are made: a record's bytes and its line. The memory is kept from one line to the next.
+/// Where lines are made. The memory is kept from one line to the next.
 #[derive(Drop)]
 pub struct LineBuffer {
-    bytes: Vec<u8>,
     line: Vec<u8>,
 }
 
@@ -20,32 +20,20 @@ impl LineBuffer {
     /// A buffer without memory.
     pub fn new(alloc: Global) -> LineBuffer {
         LineBuffer {
-            bytes: Vec::new(alloc),
             line: Vec::new(alloc),
         }
     }
 }
 
-/// Replaces the line by the bytes as lower-case hexadecimal digits, followed by a line feed.
-fn put_digits(line: &mut Vec<u8>, bytes: &[u8]) -> Result<(), NoMemory>
-    ensures { OnOk result (line.new.items ≡ text_line bytes.now) }
-{
-    line.resize(2 * bytes.len(), b'0')?;
-    match hex::encode_to_slice(bytes, line.as_mut_slice()) {
-        Ok(()) => {}
-        Err(_) => unreachable!(),
-    }
-    line.push(b'\n')?;
-    Ok(())
-}
-
 /// Makes the line of the record at a place: its number and fields in hexadecimal digits, and a line feed.
+#[tactic(auto, using(crate::proofs::Lines::lent_line, crate::proofs::Lines::no_line))]
 fn make_line(buffer: &mut LineBuffer, out: &Outbox, at: usize) -> Result<(), NoMemory>
     ensures { OnOk result (buffer.new.line.items ≡ text_line (text_in (slice_get out.now.records at))) }
 {
-    buffer.bytes.clear();
-    out.put_text(at, &mut buffer.bytes)?;
-    put_digits(&mut buffer.line, buffer.bytes.as_slice())
+    match out.text(at) {
+        Some(text) => put_digit_line(&mut buffer.line, text),
+        None => put_digit_line(&mut buffer.line, &[]),
+    }
 }
 
 /// Writes the line of the record at a place, or a prefix of the line.

@@ -87,19 +87,23 @@ fn run_events<S: Source, G: LocalSigner, V: Verifier, K: Sink>(
         (G.calls signer.new))
         result }
 {
-    let mut at = Point::at_start(alloc, config);
-    let answer = take_turns(
-        alloc,
-        config.max_events,
-        &mut at,
-        gate,
-        source,
-        signer,
-        verifier,
-        sink,
-    );
-    drop(at);
-    answer
+    match Point::at_start(alloc, config) {
+        Ok(mut at) => {
+            let answer = take_turns(
+                alloc,
+                config.max_events,
+                &mut at,
+                gate,
+                source,
+                signer,
+                verifier,
+                sink,
+            );
+            drop(at);
+            answer
+        }
+        Err(NoMemory) => Err(RunError::NoMemory),
+    }
 }
 
 /// Runs a script: takes its events one at a time, judges host keys by the known hosts text, and writes a line for each

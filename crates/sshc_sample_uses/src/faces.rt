@@ -3,9 +3,9 @@
 pub mod wire {
     pub use sshc_wire::{
         AgentStream, ChannelOpenFailure, Clock, Cursor, Disconnect, Failed, Files, Found, List,
-        MemFiles, MemSink, MemSource, MethodKind, MethodSet, Names, NoMemory, Octets, Outbox, Pty,
-        Record, Resolution, Sig, Sink, Source, StdFiles, StdSink, StdSource, Text, Ticket,
-        WireError, msg, put_bytes, put_names, put_text, put_u32,
+        MemFiles, MemSink, MemSource, MethodKind, MethodSet, Names, NoMemory, Octets, Outbox,
+        PieceSink, PieceSource, Pty, Record, Resolution, Sig, Sink, Source, StdFiles, StdSink,
+        StdSource, Text, Ticket, WireError, msg, put_bytes, put_names, put_text, put_u32,
     };
 }
 
@@ -55,7 +55,8 @@ pub mod auth {
 pub mod client {
     pub use sshc_client::{
         ChannelMsg, Config, DisconnectReason, Ended, Error, Event, Handler,
-        KeyboardInteractiveAuthResponse, Msg, OpenAnswer, RemoteDisconnectInfo, Session, Step,
+        KeyboardInteractiveAuthResponse, Msg, OpenAnswer, RemoteDisconnectInfo, ReplyEntry,
+        ReplyKind, Session, Step,
     };
 }
 
@@ -90,5 +91,19 @@ pub mod run {
     pub use sshc_run::{
         Config, KnownHostsHandler, RunError, ToySigner, ToyVerifier, generate, run_script,
         run_words, serve_words,
+    };
+}
+
+pub mod proxy {
+    pub use sshc_proxy::{
+        Policy, PolicyError, ProxyCore, ProxyError, ProxyInput, ProxyOutput, parse_policy,
+        proxy_run, proxy_words,
+    };
+}
+
+pub mod forward {
+    pub use sshc_forward::{
+        ForwardCore, FwdError, FwdEvent, FwdOutput, FwdRefused, Given, PairEvent, Reading,
+        ServedPair, account, forward_words, run_forward, serve_pair,
     };
 }

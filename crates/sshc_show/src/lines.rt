@@ -3,11 +3,10 @@
 use crate::line::Line;
 use crate::packet_table::Asked;
 use crate::part::Stop;
-use crate::parts::LineError;
 use crate::record_line::add_record;
 use crate::record_reader::read_record;
 use anyhow::bail;
-use sshc_wire::Record;
+use sshc_wire::{Record, RecordError};
 use std::alloc::Global;
 use std::io::{BufRead, BufReader};
 
@@ -29,8 +28,8 @@ fn record_line(alloc: Global, asked: &mut Asked, said: &Record) -> Result<Line, 
 fn shown_line(alloc: Global, asked: &mut Asked, line: &[u8]) -> anyhow::Result<Option<Line>> {
     match read_record(alloc, line) {
         Ok(said) => Ok(Some(record_line(alloc, asked, &said)?)),
-        Err(LineError::NotARecord) => Ok(None),
-        Err(LineError::NoMemory) => bail!("out of memory"),
+        Err(RecordError::NotARecord) => Ok(None),
+        Err(RecordError::NoMemory) => bail!("out of memory"),
     }
 }
 

@@ -2,8 +2,6 @@
 #![tactic(auto)]
 
 mod arguments;
-mod auth_reader;
-mod channel_reader;
 mod event_line;
 mod event_table;
 mod line;
@@ -11,10 +9,8 @@ mod lines;
 mod packet;
 mod packet_table;
 mod part;
-mod parts;
 mod record_line;
 mod record_reader;
-mod resolution_reader;
 mod script;
 
 use arguments::{Arguments, Words, arguments_of};

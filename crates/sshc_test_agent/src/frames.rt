@@ -27,6 +27,9 @@ pub(crate) const LISTS: &[u8] = b"\x0b";
 /// A frame that locks with `pw`.
 pub(crate) const LOCKS: &[u8] = b"\x16\0\0\0\x02pw";
 
+/// A frame that unlocks with `pw`.
+pub(crate) const UNLOCKS: &[u8] = b"\x17\0\0\0\x02pw";
+
 /// A frame that adds the pair.
 pub(crate) fn adds(alloc: Global) -> Result<Octets, NoMemory> {
     let mut out = Vec::from_slice(alloc, b"\x11")?;

@@ -1,5 +1,6 @@
 //! An agent by itself, step by step.
 
+mod deadlines;
 mod inputs;
 mod locking;
 mod pieces;

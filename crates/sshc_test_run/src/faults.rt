@@ -1,11 +1,11 @@
 //! The login with a read or a write that fails, and with bytes that are read and written one at a time.
 
-use crate::outside::{SlowSink, SlowSource, StoppingWriter};
+use crate::outside::StoppingWriter;
 use crate::scripts::{
     Ends, KNOWN, LOGIN, after, are_lines, calls, run_over, script_of, whole_events,
 };
 use sshc_run_script::RunError;
-use sshc_wire::{MemSink, MemSource, NoMemory, StdSink};
+use sshc_wire::{MemSink, MemSource, NoMemory, PieceSink, PieceSource, StdSink};
 use std::alloc::Global;
 use std::test::Fail;
 
@@ -68,11 +68,13 @@ fn slow_login_gives(
     ends: Ends,
     written: usize,
 ) -> Result<bool, NoMemory> {
-    let mut source = SlowSource {
+    let mut source = PieceSource {
         source: source_of(alloc, failing)?,
+        is_slow: true,
     };
-    let mut sink = SlowSink {
+    let mut sink = PieceSink {
         sink: sink_of(alloc, failing)?,
+        is_slow: true,
     };
     let came = run_over(alloc, KNOWN, 8192, &mut source, &mut sink);
     Ok(came == ends && are_lines(sink.sink.contents(), written))

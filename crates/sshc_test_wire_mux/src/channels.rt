@@ -1,8 +1,8 @@
-//! Calls on numbers that no channel has, and an outbox that drops packets. Worked channels are rows of `sshc_rows_formats`.
+//! Calls on numbers that no channel has, bytes that wait, and an outbox that drops packets. Worked channels are rows of `sshc_rows_formats`.
 
 use crate::let_go;
 use sshc_mux::{ChannelId, ChannelTable};
-use sshc_wire::{NoMemory, Outbox};
+use sshc_wire::{NoMemory, Octets, Outbox, Ticket};
 
 /// Whether a call finds a channel of this number.
 fn is_named(table: &mut ChannelTable, id: ChannelId, out: &mut Outbox) -> Result<bool, NoMemory> {
@@ -77,4 +77,62 @@ fn a_muted_outbox_drops_packets(rt: HostRuntime) {
     let_go(table);
     let_go(out);
     assert!(rt; are_dropped == Ok(true));
+}
+
+/// Whether an open is made with its packet, waits under its ticket until it is confirmed, and writes its packet once.
+fn is_opened_with(
+    table: &mut ChannelTable,
+    packet: Octets,
+    out: &mut Outbox,
+) -> Result<bool, NoMemory> {
+    let id = table.open_user_with(100, 7, Some(Ticket(9)), packet, out)?;
+    let is_written = out.len() == 1 && out.packet(0) == Some(&[90, 1]);
+    let waits = table.awaited(id) == Some(Some(Ticket(9)));
+    let is_confirmed = table.confirm(id, 5, 4, 9) == Ok(Some(Ticket(9)));
+    let is_settled = table.awaited(id).is_none() && table.awaited(ChannelId(7)).is_none();
+    Ok(id == ChannelId(1) && is_written && waits && is_confirmed && is_settled)
+}
+
+#[test]
+fn an_open_goes_out_with_its_packet(rt: HostRuntime) {
+    let mut table = ChannelTable::new(rt.alloc());
+    let mut out = Outbox::new(rt.alloc());
+    let is_opened = match Octets::from_slice(rt.alloc(), &[90, 1]) {
+        Ok(packet) => is_opened_with(&mut table, packet, &mut out),
+        Err(NoMemory) => Err(NoMemory),
+    };
+    let_go(table);
+    let_go(out);
+    assert!(rt; is_opened == Ok(true));
+}
+
+/// Whether these bytes are the piece at this place.
+fn is_piece(table: &ChannelTable, id: ChannelId, at: usize, bytes: &[u8]) -> bool {
+    match table.waiting(id, at) {
+        Some(piece) => piece.as_slice() == bytes,
+        None => false,
+    }
+}
+
+/// Whether the bytes of two calls wait as two pieces, and a grant cuts what it sends off their front.
+fn are_cut(table: &mut ChannelTable, out: &mut Outbox) -> Result<bool, NoMemory> {
+    let id = table.open_user(100, 7, None)?;
+    let is_confirmed = table.confirm(id, 5, 4, 9) == Ok(None);
+    table.data(id, b"abcdef", false, out)?;
+    table.data(id, b"gh", false, out)?;
+    let are_two = is_piece(table, id, 0, b"ef") && is_piece(table, id, 1, b"gh");
+    let is_end = table.waiting(id, 2).is_none() && table.waiting(ChannelId(7), 0).is_none();
+    let _window = table.grant(id, 3, false, out)?;
+    let is_one = is_piece(table, id, 0, b"h") && table.waiting(id, 1).is_none();
+    Ok(is_confirmed && are_two && is_end && is_one)
+}
+
+#[test]
+fn bytes_that_wait_are_lent_as_pieces(rt: HostRuntime) {
+    let mut table = ChannelTable::new(rt.alloc());
+    let mut out = Outbox::new(rt.alloc());
+    let are_cut = are_cut(&mut table, &mut out);
+    let_go(table);
+    let_go(out);
+    assert!(rt; are_cut == Ok(true));
 }

@@ -1,5 +1,6 @@
 -- Texts that were added to, and cut back to what they were.
-use Rattle.std.proofs.Common.{◌≡◌, ℕ, List, [], ◌++◌, length, take, refl, ap, sym, ◌∙◌, append_assoc}
+use Rattle.std.proofs.Common.{◌≡◌, ℕ, List, [], ◌++◌, length, take, Result, Ok, Err, refl, ap, sym, ◌∙◌, append_assoc}
+use Rattle.std.specs.Prelude.{OnErr}
 use Rattle.std.proofs.lemmas.List.{append-nil, take_at}
 use Rattle.sshc_wire.specs.Extending.{Extends}
 
@@ -18,3 +19,8 @@ extended_on old mid new (more, now) (first, is) = (first ++ more, now ∙ ap (λ
 -- cut back
 pub cut_back : (old mid new : List ℕ) → Extends old mid → new ≡ take (length old) mid → new ≡ old
 cut_back old mid new (added, is) cut = cut ∙ ap (take (length old)) is ∙ take_at old added (length old) refl
+
+-- what holds, holds after an error
+pub after_error : {A E : Type 0} (r : Result A E) (P : Type 0) → P → OnErr r P
+after_error (Ok x) P h = tt
+after_error (Err e) P h = h

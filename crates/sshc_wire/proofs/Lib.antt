@@ -1,6 +1,16 @@
 mod Filed
 mod Pieces
-mod Shown
+mod PackingLemmas
+mod OutboxLemmas
+mod FittingLemmas
+mod ReadingLemmas
+mod TellingParts
+mod ToldNames
+mod ToldResolutions
+mod ToldAuth
+mod ToldChannels
+mod ToldOpens
+mod ToldRecords
 mod Utf8
 mod NamesLemmas
 mod Doubles
@@ -8,3 +18,4 @@ mod Counts
 mod Extended
 mod Ended
 mod StandardFacts
+mod DigitLemmas

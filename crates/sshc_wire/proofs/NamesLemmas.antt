@@ -1,5 +1,5 @@
 -- The first of the names in a list, and names joined by commas.
-use Rattle.std.proofs.Common.{◌≡◌, ℕ, ◌<◌, ◌≤◌, Bool, true, false, cond, ltb, List, [], ◌∷◌, ◌++◌, length, refl, ap, ◌∙◌, append-nil, arith}
+use Rattle.std.proofs.Common.{◌≡◌, ℕ, ◌<◌, ◌≤◌, Bool, true, false, cond, ltb, List, [], ◌∷◌, ◌++◌, length, refl, ap, ◌∙◌, append-nil, append_assoc, arith}
 use Rattle.std.specs.Prelude.{filter}
 use Rattle.std.specs.List.{slice_split, position_or_len, before_first, after_first, onto_first, flat_map, join_with_byte}
 use Rattle.std.proofs.lemmas.Bool.{lt-ltb}
@@ -52,3 +52,8 @@ names_none (b ∷ text) h = absurd (omega (arith, h))
 pub joined_first : (first : List ℕ) (names : List (List ℕ)) → first ++ flat_map behind_comma names ≡ join_with_byte 44 (first ∷ names)
 joined_first first [] = append-nil first
 joined_first first (next ∷ names) = ap (λ (t : List ℕ). first ++ t) (flat_map-cons behind_comma next names ∙ ap (λ (t : List ℕ). 44 ∷ t) (joined_first next names))
+
+-- the first name was added to a text, and then the others
+pub joined_on : (old mid new first : List ℕ) (names : List (List ℕ)) → mid ≡ old ++ first → new ≡ mid ++ flat_map behind_comma names → new ≡ old ++ join_with_byte 44 (first ∷ names)
+joined_on old mid new first names is more =
+    more ∙ ap (λ (m : List ℕ). m ++ flat_map behind_comma names) is ∙ append_assoc old first (flat_map behind_comma names) ∙ ap (λ (t : List ℕ). old ++ t) (joined_first first names)

@@ -1,5 +1,5 @@
 -- Cases of truth values and options that the laws of several crates take.
-use Rattle.std.proofs.Common.{◌≡◌, Bool, true, false, Option, Some, refl}
+use Rattle.std.proofs.Common.{◌≡◌, Bool, true, false, Some, refl}
 use Rattle.std.specs.Prelude.{◌&&◌, ◌||◌, not, if◌then◌else◌}
 
 pub both_true : (a b : Bool) → (a && b) ≡ true → (a ≡ true) × (b ≡ true)

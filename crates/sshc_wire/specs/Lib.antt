@@ -10,6 +10,10 @@ pub mod Beside
 pub mod Faults
 pub mod Contents
 pub mod Records
+pub mod RecordReads
+pub mod Telling
+pub mod Fitting
+pub mod Packing
 pub mod Outgoing
 pub mod Reasons
 pub mod Memory
@@ -19,3 +23,4 @@ pub mod Signals
 pub mod Extending
 pub mod Nested
 pub mod Counted
+pub mod DigitLines

@@ -1,18 +1,18 @@
--- What contracts see of an outbox: the records in order, how long a text one more may have for which room was made, and
--- whether packets are dropped. Plain data; how the records are kept is the code's.
-use Rattle.std.proofs.Common.{◌≡◌, ℕ, Bool, true, false, ◌^◌, nat_lt, if◌then◌else◌, List, [], ◌∷◌, ◌++◌, Option, Some, None, refl, ap, ◌∙◌, sym, append_assoc}
+-- What contracts see of an outbox: the records in order, and whether packets are dropped. Plain data; how the records are kept is the
+-- code's.
+use Rattle.std.proofs.Common.{◌≡◌, ℕ, Bool, true, false, List, [], ◌∷◌, ◌++◌, Option, Some, None, refl, ap, ◌∙◌, sym, append_assoc}
+use Rattle.std.specs.List.{flat_map}
 use Rattle.sshc_wire.specs.Records.{record_text}
 use Rattle.sshc_wire.specs.declared.record.Record.{Record}
 use Rattle.sshc_wire.specs.declared.record.Record.TheVariants.{Payload}
 
 pub record Outgoing : Type 0 where
   pub records : List Record
-  pub room : ℕ
   pub muted : Bool
 
--- the room of an outbox that keeps records one by one: for any text, or for no text
-abbrev pub any_text : ℕ → ℕ → ℕ
-any_text held capacity = if nat_lt held capacity then 2 ^ 64 else 0
+-- the texts of records, joined in order
+abbrev pub texts : List Record → List ℕ
+texts records = flat_map record_text records
 
 -- the text of a record, if there is one
 abbrev pub text_in : Option Record → List ℕ

@@ -1,4 +1,4 @@
-//! Why a part of a packet can't be read, and the error of running out of memory.
+//! Why a part of a packet or a record can't be read, and the error of running out of memory.
 
 ghost use Rattle.std.specs.Prelude.{◌≡◌};
 
@@ -34,4 +34,26 @@ pub enum WireError {
     /// Bytes follow where nothing may.
     #[error("Trailing")]
     Trailing = 3,
+}
+
+/// Why a record isn't read.
+#[derive(Clone, Copy, Debug, PartialEq, Eq, Error)]
+pub enum RecordError {
+    #[error("out of memory")]
+    NoMemory,
+    /// The bytes aren't those of a record.
+    #[error("not a record")]
+    NotARecord,
+}
+
+impl From<NoMemory> for RecordError {
+    fn from(_error: NoMemory) -> RecordError {
+        RecordError::NoMemory
+    }
+}
+
+impl From<WireError> for RecordError {
+    fn from(_error: WireError) -> RecordError {
+        RecordError::NotARecord
+    }
 }

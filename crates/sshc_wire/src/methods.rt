@@ -5,11 +5,13 @@ ghost use Rattle.std.specs.Cmp.{partial_equiv_from_equiv};
 ghost use Rattle.std.specs.Cmp.Lexicographic.{pointwise, lists_equiv};
 ghost use Rattle.std.specs.List.{flat_map, join_with_byte};
 ghost use Rattle.sshc_wire.specs.Names.{behind_comma};
+ghost use Rattle.sshc_wire.specs.Extending.{Extends};
 ghost use Rattle.sshc_wire.specs.Wire.{names_text};
 ghost use Rattle.sshc_wire.specs.Methods.{HasNoDoubles, has_method, is_method, method_equiv, method_name, method_of, with_method};
 
 use crate::error::NoMemory;
-use crate::put::put_bytes;
+use crate::names::put_behind_comma;
+use crate::put::{begin_string, end_string};
 use std::alloc::Global;
 use std::marker::Model;
 
@@ -129,43 +131,56 @@ impl MethodSet {
     }
 }
 
-/// Adds the names of the methods, each behind a comma.
+/// Adds the names of the methods, each behind a comma. Out of memory, a part of them may be added, as with the functions
+/// below.
+#[tactic(auto, using(crate::proofs::Extended::extended, crate::proofs::Extended::extended_on, crate::proofs::Extended::unextended))]
 fn put_rest(out: &mut Vec<u8>, methods: &[MethodKind]) -> Result<(), NoMemory>
-    ensures { OnOk result (out.new.items ≡ out.old.items ++ flat_map behind_comma (map method_name methods.now)) }
+    ensures ok { OnOk result (out.new.items ≡ out.old.items ++ flat_map behind_comma (map method_name methods.now)) }
+    ensures err { OnErr result (Extends out.old.items out.new.items) }
 {
     for method in methods {
-        out.push(b',')?;
-        out.extend_from_slice(method.name().as_bytes())?;
+        put_behind_comma(out, method.name())?;
     }
     Ok(())
 }
 
-#[tactic(auto, using(crate::proofs::NamesLemmas::joined_first))]
-fn joined(alloc: Global, methods: &[MethodKind]) -> Result<Vec<u8>, NoMemory>
-    ensures { IfOk result (λ v. v.items ≡ join_with_byte 44 (map method_name methods.now)) }
+/// Adds the names of the methods, joined by commas.
+#[tactic(auto, using(crate::proofs::NamesLemmas::joined_on, crate::proofs::Extended::extended_on, crate::proofs::Extended::unextended))]
+fn put_joined(out: &mut Vec<u8>, methods: &[MethodKind]) -> Result<(), NoMemory>
+    ensures ok { OnOk result (out.new.items ≡ out.old.items ++ join_with_byte 44 (map method_name methods.now)) }
+    ensures err { OnErr result (Extends out.old.items out.new.items) }
 {
-    let mut out = Vec::new(alloc);
     match methods.split_first() {
-        None => Ok(out),
+        None => Ok(()),
         Some((first, others)) => {
             out.extend_from_slice(first.name().as_bytes())?;
-            put_rest(&mut out, others)?;
-            Ok(out)
+            put_rest(out, others)
         }
     }
 }
 
+#[tactic(auto, unfolding(crate::specs::Wire::names_text), using(crate::specs::Nested::string_ended, crate::proofs::Extended::extended, crate::proofs::Extended::extended_on, crate::proofs::Extended::unextended))]
+fn put_parts(out: &mut Vec<u8>, methods: &[MethodKind]) -> Result<(), NoMemory>
+    ensures ok { OnOk result (out.new.items ≡ out.old.items ++ names_text (map method_name methods.now)) }
+    ensures err { OnErr result (Extends out.old.items out.new.items) }
+{
+    let at = begin_string(out)?;
+    put_joined(out, methods)?;
+    end_string(out, at)
+}
+
 /// Writes the methods' names as a list of names (RFC 4251, section 5).
-#[tactic(auto, unfolding(crate::specs::Wire::names_text))]
+#[tactic(auto, using(crate::proofs::Extended::cut_back))]
 pub fn put_methods(out: &mut Vec<u8>, methods: &MethodSet) -> Result<(), NoMemory>
     ensures ok { OnOk result (out.new.items ≡ out.old.items ++ names_text (map method_name methods.now)) }
     ensures err { OnErr result (out.new.items ≡ out.old.items) }
 {
-    let text = joined(*out.allocator(), methods.as_slice())?;
-    if text.len() >= 1 << 32 {
-        return Err(NoMemory);
+    let before = out.len();
+    let written = put_parts(out, methods.as_slice());
+    if written.is_err() {
+        out.truncate(before);
     }
-    put_bytes(out, &text)
+    written
 }
 
 /// Whether the two lists have the same methods in the same order.

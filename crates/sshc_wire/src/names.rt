@@ -1,15 +1,15 @@
 //! Lists of names, which are parted by commas (RFC 4251, section 5).
 
-ghost use Rattle.std.specs.Prelude.{◌≡◌, ◌<◌, ◌^◌, ◌++◌, ◌∷◌, [], length, MatchOption, IfOk, OnOk, OnErr};
+ghost use Rattle.std.specs.Prelude.{◌≡◌, ◌<◌, ◌^◌, ◌++◌, ◌∷◌, [], length, MatchOption, OnOk, OnErr};
 ghost use Rattle.std.specs.Iterator.{YieldsFirstRef, item_count};
 ghost use Rattle.std.specs.List.{flat_map, join_with_byte, position_or_len, before_first, after_first};
 ghost use Rattle.sshc_wire.specs.Names.{is_comma, names_in, behind_comma};
+ghost use Rattle.sshc_wire.specs.Extending.{Extends};
 ghost use Rattle.sshc_wire.specs.Wire.{names_text};
 
 use crate::error::NoMemory;
-use crate::put::put_bytes;
+use crate::put::{begin_string, end_string};
 use crate::text::Text;
-use std::alloc::Global;
 use std::marker::Model;
 
 /// The names that are still to come from a list, without the empty ones, which contracts see as that list.
@@ -77,41 +77,64 @@ fn first_name(text: &str) -> Option<(&str, &str)>
     None
 }
 
+/// Adds a comma and the name. Out of memory, a part of them may be added, as with the functions below.
+#[tactic(auto, using(crate::proofs::Extended::extended, crate::proofs::Extended::unextended))]
+pub(crate) fn put_behind_comma(out: &mut Vec<u8>, name: &str) -> Result<(), NoMemory>
+    ensures ok { OnOk result (out.new.items ≡ out.old.items ++ behind_comma name.now) }
+    ensures err { OnErr result (Extends out.old.items out.new.items) }
+{
+    out.push(b',')?;
+    out.extend_from_slice(name.as_bytes())?;
+    Ok(())
+}
+
 /// Adds the names, each behind a comma.
+#[tactic(auto, using(crate::proofs::Extended::extended, crate::proofs::Extended::extended_on, crate::proofs::Extended::unextended))]
 fn put_rest(out: &mut Vec<u8>, names: &[Text]) -> Result<(), NoMemory>
-    ensures { OnOk result (out.new.items ≡ out.old.items ++ flat_map behind_comma names.now) }
+    ensures ok { OnOk result (out.new.items ≡ out.old.items ++ flat_map behind_comma names.now) }
+    ensures err { OnErr result (Extends out.old.items out.new.items) }
 {
     for name in names {
-        out.push(b',')?;
-        out.extend_from_slice(name.as_str().as_bytes())?;
+        put_behind_comma(out, name.as_str())?;
     }
     Ok(())
 }
 
-#[tactic(auto, using(crate::proofs::NamesLemmas::joined_first))]
-fn joined(alloc: Global, names: &[Text]) -> Result<Vec<u8>, NoMemory>
-    ensures { IfOk result (λ v. v.items ≡ join_with_byte 44 names.now) }
+/// Adds the names, joined by commas.
+#[tactic(auto, using(crate::proofs::NamesLemmas::joined_on, crate::proofs::Extended::extended_on, crate::proofs::Extended::unextended))]
+fn put_joined(out: &mut Vec<u8>, names: &[Text]) -> Result<(), NoMemory>
+    ensures ok { OnOk result (out.new.items ≡ out.old.items ++ join_with_byte 44 names.now) }
+    ensures err { OnErr result (Extends out.old.items out.new.items) }
 {
-    let mut out = Vec::new(alloc);
     match names.split_first() {
-        None => Ok(out),
+        None => Ok(()),
         Some((first, others)) => {
             out.extend_from_slice(first.as_str().as_bytes())?;
-            put_rest(&mut out, others)?;
-            Ok(out)
+            put_rest(out, others)
         }
     }
 }
 
+#[tactic(auto, unfolding(crate::specs::Wire::names_text), using(crate::specs::Nested::string_ended, crate::proofs::Extended::extended, crate::proofs::Extended::extended_on, crate::proofs::Extended::unextended))]
+fn put_parts(out: &mut Vec<u8>, names: &[Text]) -> Result<(), NoMemory>
+    ensures ok { OnOk result (out.new.items ≡ out.old.items ++ names_text names.now) }
+    ensures err { OnErr result (Extends out.old.items out.new.items) }
+{
+    let at = begin_string(out)?;
+    put_joined(out, names)?;
+    end_string(out, at)
+}
+
 /// Writes a list of names: the names joined by commas, as a string. More than 2^32 - 1 bytes count as out of memory.
-#[tactic(auto, unfolding(crate::specs::Wire::names_text))]
+#[tactic(auto, using(crate::proofs::Extended::cut_back))]
 pub fn put_names(out: &mut Vec<u8>, names: &[Text]) -> Result<(), NoMemory>
     ensures ok { OnOk result (out.new.items ≡ out.old.items ++ names_text names.now) }
     ensures err { OnErr result (out.new.items ≡ out.old.items) }
 {
-    let text = joined(*out.allocator(), names)?;
-    if text.len() >= 1 << 32 {
-        return Err(NoMemory);
+    let before = out.len();
+    let written = put_parts(out, names);
+    if written.is_err() {
+        out.truncate(before);
     }
-    put_bytes(out, &text)
+    written
 }

@@ -1,32 +1,42 @@
-//! The records that a step says, in order.
+//! The records that a step says, in order, as one list of bytes.
 
-ghost use Rattle.std.specs.Prelude.{◌≡◌, ◌+◌, ◌<◌, ◌≤◌, [], ◌∷◌, ◌++◌, length, drop, slice_get, OnOk, OnErr, IfOk, IfSome, IsOk, option_copied, true, false};
-ghost use Rattle.std.specs.VecDeque.{deque_len, deque_capacity};
+ghost use Rattle.std.specs.Prelude.{◌≡◌, ◌<◌, ◌^◌, [], ◌∷◌, ◌++◌, length, map, drop, slice_get, OnOk, OnErr, IfOk, IfSome, IsOk, option_copied, Some, true, false};
+ghost use Rattle.std.specs.Option.{option_map};
 ghost use Rattle.sshc_wire.specs.Wire.{IsBytes};
 ghost use Rattle.sshc_wire.specs.Records.{record_text};
-ghost use Rattle.sshc_wire.specs.Outgoing.{listed, kept, shown, text_in, packet_in, Takes};
+ghost use Rattle.sshc_wire.specs.Outgoing.{listed, kept, shown, text_in, texts, packet_in, Takes};
+ghost use Rattle.sshc_wire.specs.Telling.{AllTold, IsTold, record_of};
 
-use crate::error::NoMemory;
-use crate::octets::Octets;
-use crate::record::{Record, put_record};
+use crate::cursor::Cursor;
+use crate::error::{NoMemory, RecordError};
+use crate::fitting::fits;
+use crate::reading::read_record;
+use crate::record::Record;
+use crate::texts::Texts;
 use std::alloc::Global;
-use std::collections::VecDeque;
 use std::marker::Model;
 
-/// Records in order, which contracts see with the room that was made for one more. A muted outbox drops packets.
+/// Records in order, which contracts see as that list. They are kept as their texts, in one buffer: a record that is
+/// added is written there, and one that is taken is read again. A muted outbox drops packets.
+///
+/// Two records count as out of memory where they are added, since other records have their texts too: a list of signature
+/// algorithms in which a name is empty or has a comma, and a signal of its own under a standard name. No session reports
+/// either.
 #[derive(Drop)]
 pub struct Outbox {
-    records: VecDeque<Record>,
+    texts: Texts,
     is_muted: bool,
 }
 
 impl Model for Outbox {
-    ghost use Rattle.std.specs.VecDeque.{deque_len, deque_capacity};
-    ghost use Rattle.sshc_wire.specs.Outgoing.{Outgoing, any_text};
+    ghost use Rattle.sshc_wire.specs.Outgoing.{Outgoing};
+    ghost use Rattle.sshc_wire.specs.Telling.{AreTold, records_of};
 
     ghost Value = { Outgoing };
 
-    ghost view = { λ o. record { records = o.records.items; room = any_text (deque_len o.records) (deque_capacity o.records); muted = o.is_muted } };
+    ghost view = { λ o. record { records = records_of o.texts; muted = o.is_muted } };
+
+    ghost invariant = { λ o. AreTold o.texts };
 }
 
 impl Outbox {
@@ -36,7 +46,7 @@ impl Outbox {
         ensures open { result.muted ≡ false }
     {
         Outbox {
-            records: VecDeque::new(alloc),
+            texts: Texts::new(alloc),
             is_muted: false,
         }
     }
@@ -53,67 +63,58 @@ impl Outbox {
         ensures empty { self.new.records ≡ [] }
         ensures open { self.new.muted ≡ false }
     {
-        self.records.clear();
+        self.texts.clear();
         self.is_muted = false;
     }
 
     /// How many records are held.
+    #[tactic(auto, using(crate::proofs::OutboxLemmas::records_len))]
     pub fn len(&self) -> usize
         ensures { result ≡ length self.now.records }
     {
-        self.records.len()
+        self.texts.len()
     }
 
-    /// Makes room for one record, whose text has at most so many bytes. Records are kept as values, so that any text fits
-    /// into the room of one.
-    #[tactic(auto, using(crate::proofs::Shown::room_made))]
-    pub fn reserve(&mut self, text: usize) -> Result<(), NoMemory>
-        ensures room { OnOk result (text ≤ self.new.room) }
-        ensures same { (self.new.records ≡ self.old.records) × (self.new.muted ≡ self.old.muted) }
+    /// The texts of the records, joined in order. Takes no memory.
+    #[tactic(auto, using(crate::proofs::OutboxLemmas::told_joined))]
+    pub fn as_bytes(&self) -> &[u8]
+        ensures { result.now ≡ texts self.now.records }
     {
-        let _ = text;
-        self.records.reserve(1)?;
-        Ok(())
-    }
-
-    /// Adds a record for whose text there is room.
-    #[tactic(auto, using(crate::proofs::Shown::room_used))]
-    pub fn push_reserved(&mut self, said: Record)
-        requires { length (record_text said) ≤ self.old.room }
-        ensures added { self.new.records ≡ self.old.records ++ shown self.old.muted (said ∷ []) }
-        ensures same { self.new.muted ≡ self.old.muted }
-    {
-        add(&mut self.records, self.is_muted, said);
+        self.texts.as_bytes()
     }
 
     /// Adds a record, or changes nothing.
+    #[tactic(auto, using(crate::proofs::OutboxLemmas::one_pushed, crate::proofs::OutboxLemmas::more_told))]
     pub fn push(&mut self, said: Record) -> Result<(), NoMemory>
         ensures ok { OnOk result (self.new.records ≡ self.old.records ++ shown self.old.muted (said ∷ [])) }
         ensures err { OnErr result (self.new.records ≡ self.old.records) }
         ensures same { self.new.muted ≡ self.old.muted }
     {
-        if let Err(refused) = self.records.reserve(1) {
-            drop(said);
-            return Err(refused.into());
-        }
-        add(&mut self.records, self.is_muted, said);
-        Ok(())
+        let added = add(&mut self.texts, self.is_muted, &said);
+        drop(said);
+        added
     }
 
     /// Adds a packet of these two parts, one after the other, or changes nothing. Each part is copied once. More than
     /// 2^32 - 1 bytes count as out of memory.
+    #[tactic(auto, using(crate::proofs::OutboxLemmas::packet_added, crate::proofs::OutboxLemmas::packet_told))]
     pub fn push_packet(&mut self, head: &[u8], body: &[u8]) -> Result<(), NoMemory>
         ensures ok { OnOk result
             (self.new.records ≡ self.old.records ++ shown self.old.muted (Record.Payload (head.now ++ body.now) ∷ [])) }
         ensures err { OnErr result (self.new.records ≡ self.old.records) }
         ensures same { self.new.muted ≡ self.old.muted }
     {
-        let packet = packet_of(*self.records.allocator(), head, body)?;
-        self.push(Record::Payload(packet))
+        if self.is_muted {
+            return Ok(());
+        }
+        if head.len().saturating_add(body.len()) >= 1 << 32 {
+            return Err(NoMemory);
+        }
+        self.texts.push_packet(head, body)
     }
 
     /// Adds no record, one or two, or changes nothing.
-    #[tactic(auto, using(crate::proofs::Shown::shown_two))]
+    #[tactic(auto, using(crate::proofs::OutboxLemmas::more_records, crate::proofs::OutboxLemmas::more_told))]
     pub fn push_both(
         &mut self,
         first: Option<Record>,
@@ -124,17 +125,14 @@ impl Outbox {
         ensures err { OnErr result (self.new.records ≡ self.old.records) }
         ensures same { self.new.muted ≡ self.old.muted }
     {
-        if let Err(refused) = self.records.reserve(2) {
-            drop(first);
-            drop(second);
-            return Err(refused.into());
-        }
-        add_if_some(&mut self.records, self.is_muted, first);
-        add_if_some(&mut self.records, self.is_muted, second);
-        Ok(())
+        let added = add_both(&mut self.texts, self.is_muted, &first, &second);
+        drop(first);
+        drop(second);
+        added
     }
 
     /// Adds the records, which leave their list and its memory behind, or changes nothing. Adding none takes no memory.
+    #[tactic(auto, using(crate::proofs::OutboxLemmas::more_records, crate::proofs::OutboxLemmas::more_told))]
     pub fn append(&mut self, said: &mut Vec<Record>) -> Result<(), NoMemory>
         ensures ok { OnOk result (self.new.records ≡ self.old.records ++ shown self.old.muted said.old.items) }
         ensures taken { OnOk result (said.new.items ≡ []) }
@@ -146,93 +144,167 @@ impl Outbox {
         if said.len() == 0 {
             return Ok(());
         }
-        self.records.reserve(said.len())?;
-        add_all(&mut self.records, self.is_muted, said);
+        add_all(&mut self.texts, self.is_muted, said.as_slice())?;
+        said.clear();
         Ok(())
     }
 
+    /// The text of the record at this place.
+    #[tactic(auto, using(crate::proofs::OutboxLemmas::text_lent))]
+    pub fn text(&self, at: usize) -> Option<&[u8]>
+        ensures { option_copied result ≡ option_map record_text (slice_get self.now.records at) }
+    {
+        self.texts.text(at)
+    }
+
     /// Writes the text of the record at this place; nothing behind the last record.
+    #[tactic(auto, using(crate::proofs::OutboxLemmas::text_held, crate::proofs::OutboxLemmas::no_text))]
     pub fn put_text(&self, at: usize, out: &mut Vec<u8>) -> Result<(), NoMemory>
         ensures ok { OnOk result (out.new.items ≡ out.old.items ++ text_in (slice_get self.now.records at)) }
         ensures err { OnErr result (out.new.items ≡ out.old.items) }
     {
-        match self.records.get(at) {
-            Some(said) => put_record(out, said),
-            None => Ok(()),
+        if let Some(text) = self.texts.text(at) {
+            out.extend_from_slice(text)?;
         }
+        Ok(())
     }
 
     /// The packet at this place, if that record is a packet.
+    #[tactic(auto, using(crate::proofs::OutboxLemmas::packet_held, crate::proofs::OutboxLemmas::no_packet))]
     pub fn packet(&self, at: usize) -> Option<&[u8]>
         ensures same { option_copied result ≡ packet_in (slice_get self.now.records at) }
         ensures bytes { IfSome result (λ p. IsBytes p.now) }
     {
-        match self.records.get(at) {
-            Some(Record::Payload(packet)) => Some(packet.as_slice()),
-            _ => None,
+        match self.texts.text(at) {
+            Some(text) => packet_of(text),
+            None => None,
         }
     }
 
     /// Lets the first record go, if there is one.
+    #[tactic(auto, using(crate::proofs::OutboxLemmas::rest_records, crate::proofs::OutboxLemmas::rest_told))]
     pub fn drop_first(&mut self)
         ensures { (self.new.records ≡ drop 1 self.old.records) × (self.new.muted ≡ self.old.muted) }
     {
-        drop(self.records.pop_front());
+        self.texts.drop_first();
     }
 
     /// Takes the first record, or changes nothing.
+    #[tactic(auto, using(crate::proofs::OutboxLemmas::first_taken, crate::proofs::OutboxLemmas::none_taken, crate::proofs::OutboxLemmas::rest_told))]
     pub fn take_first(&mut self) -> Result<Option<Record>, NoMemory>
         ensures ok { IfOk result (λ first. Takes first self.old.records self.new.records) }
         ensures err { OnErr result (self.new.records ≡ self.old.records) }
         ensures same { self.new.muted ≡ self.old.muted }
     {
-        Ok(self.records.pop_front())
+        let Some(said) = first_of(&self.texts)? else {
+            return Ok(None);
+        };
+        self.texts.drop_first();
+        Ok(Some(said))
     }
 }
 
-/// The bytes of both parts.
-fn packet_of(alloc: Global, head: &[u8], body: &[u8]) -> Result<Octets, NoMemory>
-    ensures { IfOk result (λ o. o ≡ head.now ++ body.now) }
+/// Adds the text of a record that it tells, or changes nothing.
+#[tactic(auto, using(crate::proofs::ToldRecords::told))]
+fn add_told(held: &mut Texts, said: &Record) -> Result<(), NoMemory>
+    ensures ok { OnOk result (held.new ≡ held.old ++ record_text said.now ∷ []) }
+    ensures told { OnOk result (IsTold said.now) }
+    ensures err { OnErr result (held.new ≡ held.old) }
 {
-    let mut packet = Vec::new(alloc);
-    packet.reserve(head.len().saturating_add(body.len()))?;
-    packet.extend_from_slice(head)?;
-    packet.extend_from_slice(body)?;
-    Octets::from_vec(packet)
+    if !fits(said) {
+        return Err(NoMemory);
+    }
+    held.push(said)
 }
 
-/// Adds a record, for which there is room, but for a packet of a muted outbox.
-fn add(records: &mut VecDeque<Record>, is_muted: bool, said: Record)
-    requires { deque_len records.old < deque_capacity records.old }
-    ensures added { records.new.items ≡ records.old.items ++ kept is_muted said }
-    ensures len { deque_len records.new ≤ deque_len records.old + 1 }
-    ensures room { deque_capacity records.new ≡ deque_capacity records.old }
+/// Adds a record's text, but for a packet of a muted outbox, or changes nothing.
+#[tactic(auto, using(crate::proofs::OutboxLemmas::nothing_more))]
+fn add(held: &mut Texts, is_muted: bool, said: &Record) -> Result<(), NoMemory>
+    ensures ok { OnOk result (held.new ≡ held.old ++ map record_text (kept is_muted said.now)) }
+    ensures told { OnOk result (AllTold (kept is_muted said.now)) }
+    ensures err { OnErr result (held.new ≡ held.old) }
 {
-    let is_packet = matches!(&said, Record::Payload(_));
-    if is_packet && is_muted {
-        drop(said);
-    } else {
-        records.push_back_reserved(said);
+    match said {
+        Record::Payload(_) if is_muted => Ok(()),
+        said => add_told(held, said),
     }
 }
 
-fn add_if_some(records: &mut VecDeque<Record>, is_muted: bool, said: Option<Record>)
-    requires { deque_len records.old < deque_capacity records.old }
-    ensures added { records.new.items ≡ records.old.items ++ shown is_muted (listed said) }
-    ensures len { deque_len records.new ≤ deque_len records.old + 1 }
-    ensures room { deque_capacity records.new ≡ deque_capacity records.old }
+/// Adds a record's text, if there is a record, or changes nothing.
+#[tactic(auto, using(crate::proofs::OutboxLemmas::nothing_more, crate::proofs::OutboxLemmas::one_shown, crate::proofs::OutboxLemmas::one_told))]
+fn add_if_some(held: &mut Texts, is_muted: bool, said: &Option<Record>) -> Result<(), NoMemory>
+    ensures ok { OnOk result (held.new ≡ held.old ++ map record_text (shown is_muted (listed said.now))) }
+    ensures told { OnOk result (AllTold (shown is_muted (listed said.now))) }
+    ensures err { OnErr result (held.new ≡ held.old) }
 {
-    if let Some(said) = said {
-        add(records, is_muted, said);
+    match said {
+        Some(said) => add(held, is_muted, said),
+        None => Ok(()),
     }
 }
 
-fn add_all(records: &mut VecDeque<Record>, is_muted: bool, said: &mut Vec<Record>)
-    requires { deque_len records.old + length said.old.items ≤ deque_capacity records.old }
-    ensures added { records.new.items ≡ records.old.items ++ shown is_muted said.old.items }
-    ensures taken { said.new.items ≡ [] }
+/// Adds the texts of both records, where there are any, or changes nothing.
+#[tactic(auto, using(crate::proofs::OutboxLemmas::both_added, crate::proofs::OutboxLemmas::all_told, crate::proofs::OutboxLemmas::cut_to_old))]
+fn add_both(
+    held: &mut Texts,
+    is_muted: bool,
+    first: &Option<Record>,
+    second: &Option<Record>,
+) -> Result<(), NoMemory>
+    ensures ok { OnOk result
+        (held.new ≡ held.old ++ map record_text (shown is_muted (listed first.now ++ listed second.now))) }
+    ensures told { OnOk result (AllTold (shown is_muted (listed first.now ++ listed second.now))) }
+    ensures err { OnErr result (held.new ≡ held.old) }
 {
-    for one in said.drain(..) {
-        add(records, is_muted, one);
+    let count = held.len();
+    add_if_some(held, is_muted, first)?;
+    if add_if_some(held, is_muted, second).is_err() {
+        held.truncate(count);
+        return Err(NoMemory);
+    }
+    Ok(())
+}
+
+/// Adds the texts of records, or changes nothing.
+#[tactic(auto, using(crate::proofs::OutboxLemmas::texts_next, crate::proofs::OutboxLemmas::told_next, crate::proofs::OutboxLemmas::cut_to_old))]
+fn add_all(held: &mut Texts, is_muted: bool, said: &[Record]) -> Result<(), NoMemory>
+    ensures ok { OnOk result (held.new ≡ held.old ++ map record_text (shown is_muted said.now)) }
+    ensures told { OnOk result (AllTold (shown is_muted said.now)) }
+    ensures err { OnErr result (held.new ≡ held.old) }
+{
+    let count = held.len();
+    for one in said {
+        if add(held, is_muted, one).is_err() {
+            held.truncate(count);
+            return Err(NoMemory);
+        }
+    }
+    Ok(())
+}
+
+/// The record of the first text, if there is one.
+fn first_of(held: &Texts) -> Result<Option<Record>, NoMemory>
+    ensures { IfOk result (λ first. first ≡ option_map record_of (slice_get held.now 0)) }
+{
+    let Some(text) = held.text(0) else {
+        return Ok(None);
+    };
+    match read_record(held.allocator(), text) {
+        Ok(said) => Ok(Some(said)),
+        Err(RecordError::NoMemory | RecordError::NotARecord) => Err(NoMemory),
+    }
+}
+
+/// The packet of a text, if it is a packet's.
+#[tactic(auto, unfolding(crate::specs::Telling::record_of), using(crate::proofs::OutboxLemmas::other_number))]
+fn packet_of(text: &[u8]) -> Option<&[u8]>
+    ensures same { option_copied result ≡ packet_in (Some (record_of text.now)) }
+    ensures bytes { IfSome result (λ p. IsBytes p.now) }
+{
+    match text {
+        [] => None,
+        // A cursor's clauses say that what it reads are bytes.
+        [0x01, packet @ ..] => Some(Cursor::new(packet).rest()),
+        _ => None,
     }
 }

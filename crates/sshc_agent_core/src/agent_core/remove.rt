@@ -20,8 +20,13 @@ impl AgentCore {
             return self.answers(&[FAILURE]);
         }
         let done = self.answers(&[SUCCESS])?;
-        self.keys.remove(blob);
-        Ok(done)
+        match self.keys.remove(blob) {
+            Ok(()) => Ok(done),
+            Err(refused) => {
+                drop(done);
+                Err(refused)
+            }
+        }
     }
 
     pub(super) fn remove_all<'a>(&mut self) -> Result<Turn<'a>, NoMemory>

@@ -9,9 +9,9 @@ ghost use Rattle.sshc_client_state.specs.Asks.{ask_of};
 ghost use Rattle.sshc_client.specs.Methods.{Acts, asks_or_denies};
 
 use super::Session;
-use super::acting::{acted, ticket_or_none};
+use super::acting::acted;
 use sshc_auth::{Error, Phase};
-use sshc_client_state::Ask;
+use sshc_client_state::{Ask, ticket_or_none};
 use sshc_wire::Ticket;
 
 impl Session {

@@ -1,7 +1,6 @@
 //! Global requests of ours, which wait for their replies in the order in which they were written (RFC 4254, section 4).
 
-ghost use Rattle.std.specs.Prelude.{◌≡◌, ◌<◌, ◌++◌, ◌∷◌, [], OnErr, OnOk, Some, drop, true};
-ghost use Rattle.std.specs.VecDeque.{deque_capacity, deque_len};
+ghost use Rattle.std.specs.Prelude.{◌≡◌, ◌++◌, ◌∷◌, [], OnErr, OnOk, Some, true};
 ghost use Rattle.sshc_wire.specs.declared.record.Record.TheVariants.{Payload};
 ghost use Rattle.sshc_wire.specs.Outgoing.{listed};
 ghost use Rattle.sshc_client_table.specs.Moves.{Asks, Moved, Replied, reply_answer};
@@ -9,29 +8,12 @@ ghost use Rattle.sshc_client_table.specs.SessionState.{is_live};
 ghost use Rattle.sshc_client_state.specs.Asks.{ask_of};
 
 use super::Connection;
-use crate::ask::Ask;
+use crate::ask::{Ask, ticket_or_none};
+use crate::ring::{drop_first, make_room, queue};
 use sshc_auth::resolved;
 use sshc_client_packets::global_request_packet;
-use sshc_client_table::Awaited;
+use sshc_client_table::ReplyEntry;
 use sshc_wire::{NoMemory, Octets, Record, Resolution};
-use std::collections::VecDeque;
-
-/// Adds the entry, if there is one; there is room for it.
-fn queue<T: Drop>(queue: &mut VecDeque<T>, entry: Option<T>)
-    requires { deque_len queue.old < deque_capacity queue.old }
-    ensures { queue.new.items ≡ queue.old.items ++ listed entry }
-{
-    if let Some(entry) = entry {
-        queue.push_back_reserved(entry);
-    }
-}
-
-/// Removes the first entry.
-fn drop_first<T: Drop>(queue: &mut VecDeque<T>)
-    ensures { queue.new.items ≡ drop 1 queue.old.items }
-{
-    let _ = queue.pop_front();
-}
 
 impl Connection {
     /// A global request. If it wants a reply it waits after the others.
@@ -47,9 +29,9 @@ impl Connection {
         self.push_asked(packet, entry)
     }
 
-    /// Adds a request's packet and its entry.
+    /// Adds a request's packet and its entry. A full ring is doubled before anything else changes.
     #[tactic(auto, using(crate::proofs::LiveLemmas::live_unmuted, crate::proofs::LiveLemmas::shown_open))]
-    fn push_asked(&mut self, packet: Octets, entry: Option<Awaited>) -> Result<(), NoMemory>
+    fn push_asked(&mut self, packet: Octets, entry: Option<ReplyEntry>) -> Result<(), NoMemory>
         requires { is_live self.old ≡ true }
         ensures ok { OnOk result
             (self.new
@@ -57,7 +39,7 @@ impl Connection {
             { replies = self.old.replies ++ listed entry; records = self.old.records ++ Payload packet ∷ [] }) }
         ensures err { OnErr result (self.new ≡ self.old) }
     {
-        self.replies.reserve(1)?;
+        make_room(&mut self.replies)?;
         self.outbox.push(Record::Payload(packet))?;
         queue(&mut self.replies, entry);
         Ok(())
@@ -89,11 +71,11 @@ impl Connection {
     }
 }
 
-fn replied(first: &Awaited, resolution: Resolution) -> Option<Record>
+fn replied(first: &ReplyEntry, resolution: Resolution) -> Option<Record>
     ensures { listed result ≡ reply_answer (first.now ∷ []) (Some resolution) }
 {
     match resolution {
         Resolution::ChannelOpened { .. } | Resolution::ChannelOpenFailed { .. } => None,
-        resolution => resolved(first.ticket, resolution),
+        resolution => resolved(ticket_or_none(first.ticket), resolution),
     }
 }

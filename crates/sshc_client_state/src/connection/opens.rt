@@ -1,61 +1,20 @@
 //! Opens of channels and their answers (RFC 4254, section 5.1). Each is one call of the table with its packet or its
 //! ticket's answer.
 
-ghost use Rattle.std.specs.Prelude.{◌≡◌, ◌≤◌, ◌++◌, IfOk, OnErr, OnOk, Some, is_some, length, false, true};
-ghost use Rattle.sshc_wire.specs.Records.{record_text};
-ghost use Rattle.sshc_wire.specs.declared.record.Record.TheVariants.{Resolved};
-ghost use Rattle.sshc_wire.specs.declared.resolution.Resolution.TheVariants.{ChannelOpened, ChannelOpenFailed};
-ghost use Rattle.sshc_auth.specs.Row.{resolved};
+ghost use Rattle.std.specs.Prelude.{◌≡◌, ◌++◌, IfOk, OnErr, OnOk, Some, is_some, false, true};
 ghost use Rattle.sshc_mux.specs.ChannelTable.Opens.{awaited, next_number, unsettled_at};
 ghost use Rattle.sshc_client_packets.specs.ChannelOpens.{channel_open};
-ghost use Rattle.sshc_client_table.specs.Moves.{Accepts, Confirms, Fails, Moved, Opens, Rejects, accept_packet, or_none, our_side, reject_packet};
+ghost use Rattle.sshc_client_table.specs.Moves.{Accepts, Confirms, Fails, Moved, Opens, Rejects, accept_packet, our_side, reject_packet};
 ghost use Rattle.sshc_client_table.specs.SessionState.{is_live};
 
 use super::Connection;
+use crate::ask::ticket_or_none;
+use sshc_auth::resolved;
 use sshc_client_packets::{
     ChannelOpen, Confirmation, Sender, channel_open_packet, confirmation_packet,
     open_failure_packet,
 };
-use sshc_mux::MuxError;
-use sshc_wire::{ChannelId, ChannelOpenFailure, NoMemory, Outbox, Record, Resolution, Ticket};
-
-/// More than the bytes of a record that answers an open.
-const ANSWER_ROOM: usize = 16;
-
-/// Resolves the ticket of an open of ours; there is room for the record. An open without a ticket has no answer.
-#[tactic(auto, using(crate::proofs::LiveLemmas::shown_resolved, crate::proofs::LiveLemmas::nothing_more))]
-fn answer_open(out: &mut Outbox, ticket: Option<Ticket>, resolution: Resolution)
-    requires { length (record_text (Resolved (or_none ticket) resolution)) ≤ out.old.room }
-    ensures answered { out.new.records ≡ out.old.records ++ resolved (or_none ticket) resolution }
-    ensures same { out.new.muted ≡ out.old.muted }
-{
-    match ticket {
-        Some(ticket) if ticket.0 != 0 => {
-            out.push_reserved(Record::Resolved { ticket, resolution });
-        }
-        _ => {}
-    }
-}
-
-/// Resolves the ticket of an open of ours that the peer confirmed.
-#[tactic(auto, using(crate::proofs::MoveLemmas::opened_fits))]
-fn answer_opened(out: &mut Outbox, ticket: Option<Ticket>, id: ChannelId)
-    requires { 16 ≤ out.old.room }
-    ensures answered { out.new.records ≡ out.old.records ++ resolved (or_none ticket) (ChannelOpened id) }
-    ensures same { out.new.muted ≡ out.old.muted }
-{
-    answer_open(out, ticket, Resolution::ChannelOpened { id });
-}
-
-/// Resolves the ticket of an open of ours that the peer refused.
-#[tactic(auto, using(crate::proofs::MoveLemmas::failed_fits))]
-fn answer_failed(out: &mut Outbox, ticket: Option<Ticket>, reason: ChannelOpenFailure)
-    requires { 16 ≤ out.old.room }
-    ensures answered { out.new.records ≡ out.old.records ++ resolved (or_none ticket) (ChannelOpenFailed reason) }
-    ensures same { out.new.muted ≡ out.old.muted }
-{
-    answer_open(out, ticket, Resolution::ChannelOpenFailed { reason });
-}
+use sshc_wire::{ChannelId, ChannelOpenFailure, NoMemory, Record, Resolution, Ticket};
 
 impl Connection {
     /// Our side of a channel under this number.
@@ -85,57 +44,59 @@ impl Connection {
         };
         let side = self.side(next.0);
         let packet = channel_open_packet(self.alloc, asked, side)?;
-        self.outbox.reserve(packet.as_slice().len() + 1)?;
-        let _id = self
-            .table
-            .open_user(side.window_size, side.max_packet_size, ticket)?;
-        self.outbox.push_reserved(Record::Payload(packet));
+        let _id = self.table.open_user_with(
+            side.window_size,
+            side.max_packet_size,
+            ticket,
+            packet,
+            &mut self.outbox,
+        )?;
         Ok(next)
     }
 
     /// The peer confirms an open of ours that waits, whose ticket is resolved. Returns false if none waits under the
     /// number, and changes nothing then.
-    #[tactic(auto, using(crate::proofs::LiveLemmas::live_unmuted, crate::proofs::LiveLemmas::shown_open, crate::proofs::LiveLemmas::nothing_more, crate::proofs::MoveLemmas::after_confirms, crate::proofs::UnknownLemmas::none_confirmed))]
+    #[tactic(auto, using(crate::proofs::LiveLemmas::live_runs, crate::proofs::LiveLemmas::nothing_more, crate::proofs::MoveLemmas::after_confirms, crate::proofs::UnknownLemmas::none_confirmed))]
     pub fn confirm(&mut self, c: Confirmation) -> Result<bool, NoMemory>
         requires { is_live self.old ≡ true }
         ensures moved { Moved (Confirms c) self.old self.new result }
         ensures awaited { IfOk result (λ known. known ≡ is_some (awaited c.recipient self.old.table)) }
         ensures same { IfOk result (λ known. known ≡ false → self.new ≡ self.old) }
     {
-        self.outbox.reserve(ANSWER_ROOM)?;
-        let confirmed = self.table.confirm(
-            ChannelId(c.recipient),
+        let id = ChannelId(c.recipient);
+        let Some(ticket) = self.table.awaited(id) else {
+            return Ok(false);
+        };
+        let answer = resolved(ticket_or_none(ticket), Resolution::ChannelOpened { id });
+        self.push_if(answer)?;
+        let _ticket = self.table.confirm(
+            id,
             c.sender.channel,
             c.sender.window_size,
             c.sender.max_packet_size,
         );
-        match confirmed {
-            Ok(ticket) => {
-                let id = ChannelId(c.recipient);
-                answer_opened(&mut self.outbox, ticket, id);
-                Ok(true)
-            }
-            Err(MuxError::Inconsistent) => Ok(false),
-        }
+        Ok(true)
     }
 
     /// The peer refuses an open of ours that waits, whose ticket is resolved. Returns false if none waits under the
     /// number, and changes nothing then.
-    #[tactic(auto, using(crate::proofs::LiveLemmas::live_unmuted, crate::proofs::LiveLemmas::shown_open, crate::proofs::LiveLemmas::nothing_more, crate::proofs::MoveLemmas::after_fails, crate::proofs::UnknownLemmas::none_failed))]
+    #[tactic(auto, using(crate::proofs::LiveLemmas::live_runs, crate::proofs::LiveLemmas::nothing_more, crate::proofs::MoveLemmas::after_fails, crate::proofs::UnknownLemmas::none_failed))]
     pub fn fail(&mut self, id: ChannelId, reason: ChannelOpenFailure) -> Result<bool, NoMemory>
         requires { is_live self.old ≡ true }
         ensures moved { Moved (Fails id.0 reason) self.old self.new result }
         ensures awaited { IfOk result (λ known. known ≡ is_some (awaited id.0 self.old.table)) }
         ensures same { IfOk result (λ known. known ≡ false → self.new ≡ self.old) }
     {
-        self.outbox.reserve(ANSWER_ROOM)?;
-        match self.table.fail(id) {
-            Some(ticket) => {
-                answer_failed(&mut self.outbox, ticket, reason);
-                Ok(true)
-            }
-            None => Ok(false),
-        }
+        let Some(ticket) = self.table.awaited(id) else {
+            return Ok(false);
+        };
+        let answer = resolved(
+            ticket_or_none(ticket),
+            Resolution::ChannelOpenFailed { reason },
+        );
+        self.push_if(answer)?;
+        let _ticket = self.table.fail(id);
+        Ok(true)
     }
 
     /// Accepts an open of the peer's that waits, with the packet. Any other number is ignored.

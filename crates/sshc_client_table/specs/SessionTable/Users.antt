@@ -16,14 +16,10 @@ use Rattle.sshc_mux.specs.ChannelTable.Opens.{unsettled_at}
 use Rattle.sshc_client_packets.specs.declared.channel_request.TerminalSize.{TerminalSize}
 use Rattle.sshc_client_packets.specs.ChannelOpens.{ChannelOpen, DirectStreamLocal, DirectTcpIp, Session, X11 as X11Open}
 use Rattle.sshc_client_packets.specs.ChannelRequests.{AgentForward, Env, Exec, PtyReq, Shell, Signal, Subsystem, WindowChange, X11}
-use Rattle.sshc_client_table.specs.Messages.{Ask, CancelForward, CancelForwardSocket, Forward, ForwardSocket, KeepAlive, NoMore, OwnRequest, Ping, Prove}
+use Rattle.sshc_client_table.specs.Messages.{Ask, asked_ticket, CancelForward, CancelForwardSocket, Forward, ForwardSocket, KeepAlive, NoMore, OwnRequest, Ping, Prove}
 use Rattle.sshc_client_table.specs.SessionState.{SessionState, exchanging}
 use Rattle.sshc_client_table.specs.Moves.{Accepts, Asks, Begins, Closes, Disconnects, EndsBytes, Grants, Move, Opens, Rejects, RequestsOn, Resolves, Sends}
 use Rattle.sshc_client_table.specs.SessionRow.{SessionRow, ending, passed_over, plain_row, refused}
-
--- ticket 0 means no ticket
-abbrev pub asked_ticket : Ticket → Option Ticket
-asked_ticket ticket = if ticket.0 == 0 then None else Some ticket
 
 abbrev pub opens : ChannelOpen → Ticket → List Move
 opens asked ticket = Opens asked (asked_ticket ticket) ∷ []

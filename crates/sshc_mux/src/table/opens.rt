@@ -1,6 +1,8 @@
 //! Numbers, opens, confirmations and failures (RFC 4254, section 5.1).
 
-ghost use Rattle.std.specs.Prelude.{◌≡◌, Some, None, IfOk, OnErr, Err, MatchResult, MatchOption, OnOk, IsErr, is_some, true, ◌<◌, ◌^◌, ℕ};
+ghost use Rattle.std.specs.Prelude.{◌≡◌, Some, None, IfOk, OnErr, Err, MatchResult, MatchOption, OnOk, IsErr, is_some, true, ◌<◌, ◌^◌, ◌++◌, ◌∷◌, [], ℕ};
+ghost use Rattle.sshc_wire.specs.declared.record.Record.TheVariants.{Payload};
+ghost use Rattle.sshc_wire.specs.Outgoing.{shown};
 ghost use Rattle.sshc_mux.specs.ChannelState.{channel_of};
 ghost use Rattle.sshc_mux.specs.ChannelAccount.{called, DidItsPart, OpenUser, ReserveServer, SettleServer, Confirm, Fail};
 ghost use Rattle.sshc_mux.specs.Places.{IsIndexed, present};
@@ -9,7 +11,7 @@ ghost use Rattle.sshc_mux.specs.ChannelTable.Opens.{next_number, IsNew, made_in,
 use crate::channel::Channel;
 use crate::error::MuxError;
 use crate::table::{ChannelTable, place, recounted, remove};
-use sshc_wire::{ChannelId, NoMemory, Ticket};
+use sshc_wire::{ChannelId, NoMemory, Octets, Outbox, Record, Ticket};
 use std::collections::HashMap;
 
 impl ChannelTable {
@@ -43,6 +45,37 @@ impl ChannelTable {
         let channel = Channel::opened_by_user(self.alloc, number, window, packet, ticket);
         self.slots.reserve(1)?;
         self.index.insert(number, self.slots.len())?;
+        self.slots.push_reserved(Some(channel));
+        self.last = number;
+        Ok(ChannelId(number))
+    }
+
+    /// Adds a channel for an open of ours, as `open_user`, and the open's packet to the outbox. The table's memory is
+    /// taken before the packet goes out, so that nothing changes where either is out of memory.
+    #[tactic(auto, using(crate::proofs::LegalLemmas::did_part))]
+    pub fn open_user_with(
+        &mut self,
+        window: u32,
+        packet_size: u32,
+        ticket: Option<Ticket>,
+        packet: Octets,
+        out: &mut Outbox,
+    ) -> Result<ChannelId, NoMemory>
+        ensures called { OnOk result (self.new ≡ (called (OpenUser window packet_size ticket) self.old).table) }
+        ensures part { OnOk result (DidItsPart (OpenUser window packet_size ticket) self.old self.new) }
+        ensures written { OnOk result
+            (out.new.records ≡ out.old.records ++ shown out.old.muted (Payload packet ∷ [])) }
+        ensures err { OnErr result (self.new ≡ self.old) }
+        ensures unwritten { OnErr result (out.new.records ≡ out.old.records) }
+        ensures same { out.new.muted ≡ out.old.muted }
+    {
+        let number = next_number(self.slots.as_slice(), &self.index, self.last)?;
+        self.slots.reserve(1)?;
+        self.index.reserve(1)?;
+        out.push(Record::Payload(packet))?;
+        let channel = Channel::opened_by_user(self.alloc, number, window, packet_size, ticket);
+        // There is room for one more entry, so no memory is taken.
+        let _ = self.index.insert(number, self.slots.len());
         self.slots.push_reserved(Some(channel));
         self.last = number;
         Ok(ChannelId(number))

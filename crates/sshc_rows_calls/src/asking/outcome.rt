@@ -1,6 +1,5 @@
 //! Makes the call that a row names, and describes its result in words. An error of the call is an error here too.
 
-use super::pieces::{PieceSink, PieceSource};
 use super::row::bytes_of;
 use crate::files::let_go;
 use sshc_ask::{AgentClient, Duplex};
@@ -8,7 +7,7 @@ use sshc_key::{
     AgentIdentity, AgentSessionBinding, Constraint, Error, HashAlg, KeyData, KeyRef, PrivateKey,
     PublicKey, Signature, Signer, parse_public_key_base64, read_key_pair,
 };
-use sshc_wire::{Cursor, NoMemory, Octets};
+use sshc_wire::{Cursor, NoMemory, Octets, PieceSink, PieceSource};
 use std::alloc::Global;
 
 /// A client over memory.

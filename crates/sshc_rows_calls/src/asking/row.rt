@@ -1,10 +1,9 @@
 //! A row: a call, the agent's answer, and the expected outcome.
 
 use super::outcome::{Client, returned};
-use super::pieces::{PieceSink, PieceSource};
 use sshc_ask::{AgentClient, Duplex};
 use sshc_key::Error;
-use sshc_wire::{MemSink, MemSource, NoMemory, read_up_to};
+use sshc_wire::{MemSink, MemSource, NoMemory, PieceSink, PieceSource, read_up_to};
 use std::alloc::Global;
 
 /// The maximal number of bytes that a row leaves unread.

@@ -4,7 +4,10 @@ use crate::files::{first_word, put_line};
 use crate::parts::bytes_of;
 use sshc_run::run_words;
 use sshc_toy::{ToySigner, ToyVerifier};
-use sshc_wire::{MemFiles, MemSink, MemSource, NoMemory, Octets, Text, put_bytes, put_u64};
+use sshc_wire::{
+    MemFiles, MemSink, MemSource, NoMemory, Octets, PieceSink, PieceSource, Text, put_bytes,
+    put_u64,
+};
 use std::alloc::Global;
 
 /// A script and its expected outcome.
@@ -101,32 +104,58 @@ fn files_of(alloc: Global, row: &Row) -> Result<MemFiles, NoMemory> {
     Ok(MemFiles::new(texts, Vec::new(alloc)))
 }
 
-/// Runs the words `script localhost 13265 known` over the row's script and known hosts text. Returns the status.
-fn run(alloc: Global, row: &Row, sink: &mut MemSink) -> Result<u8, NoMemory> {
+/// The outcome of a run: the status, and where the lines were written.
+#[derive(Drop)]
+struct Outcome {
+    status: u8,
+    sink: PieceSink,
+}
+
+/// Runs the words `script localhost 13265 known` over the row's script and known hosts text; a slow run reads and writes
+/// one byte at a time.
+fn run(alloc: Global, row: &Row, is_slow: bool) -> Result<Outcome, NoMemory> {
     let words = words(alloc)?;
     let script = Vec::from_slice(alloc, &row.script)?;
     let mut files = files_of(alloc, row)?;
-    let mut source = MemSource::new(script, Vec::new(alloc));
-    Ok(run_words(
+    let mut source = PieceSource {
+        source: MemSource::new(script, Vec::new(alloc)),
+        is_slow,
+    };
+    let mut sink = PieceSink {
+        sink: MemSink::new(Vec::new(alloc), Vec::new(alloc)),
+        is_slow,
+    };
+    let status = run_words(
         alloc,
         words.as_slice(),
         &mut files,
         &mut ToySigner::new(alloc),
         &ToyVerifier::new(alloc),
         &mut source,
-        sink,
-    ))
+        &mut sink,
+    );
+    Ok(Outcome { status, sink })
 }
 
-/// The verdict on a row as lines: `ok` with the name, or `WRONG` with the name, what was written and the status.
+/// The verdict on an outcome as lines: `ok` with the name, or `WRONG` with the name, what was written and the status.
+fn told(alloc: Global, name: &str, row: &Row, outcome: &Outcome) -> Result<String, NoMemory> {
+    let written = outcome.sink.sink.contents();
+    let status = outcome.status;
+    if row.is_right(status, written) {
+        return Ok(format!(in alloc; "ok {name}")?);
+    }
+    let written = str::from_utf8(written).unwrap_or("no text");
+    Ok(format!(in alloc; "WRONG {name}\n{written}status {status}")?)
+}
+
+/// The verdict on a row: that on its run a byte at a time, unless the run at once is wrong already.
 pub fn verdict(alloc: Global, name: &str, lines: &str) -> Result<String, NoMemory> {
     let mut row = Row::new(alloc);
     row.lines(alloc, lines)?;
-    let mut sink = MemSink::new(Vec::new(alloc), Vec::new(alloc));
-    let status = run(alloc, &row, &mut sink)?;
-    if row.is_right(status, sink.contents()) {
-        return Ok(format!(in alloc; "ok {name}")?);
+    let at_once = run(alloc, &row, false)?;
+    if !row.is_right(at_once.status, at_once.sink.sink.contents()) {
+        return told(alloc, name, &row, &at_once);
     }
-    let written = str::from_utf8(sink.contents()).unwrap_or("no text");
-    Ok(format!(in alloc; "WRONG {name}\n{written}status {status}")?)
+    let slow = run(alloc, &row, true)?;
+    told(alloc, name, &row, &slow)
 }

@@ -9,20 +9,34 @@ use std::thread;
 const TURNS: u32 = 100_000_000;
 
 /// Flag `asked` is raised when connection 1 is about to answer the question about its key; flag `answered` when
-/// connection 2 gets its answer.
+/// connection 2 gets its answer, flag `unlocked` when connection 3 does, if there is one.
 #[derive(Drop)]
 pub(crate) struct Flags {
     asked: AtomicBool,
     pub(crate) answered: AtomicBool,
+    pub(crate) unlocked: AtomicBool,
     late: AtomicBool,
+    has_third: bool,
 }
 
 impl Flags {
-    pub(crate) fn new() -> Flags {
+    /// Flags for two connections, or for three.
+    pub(crate) fn new(has_third: bool) -> Flags {
         Flags {
             asked: AtomicBool::new(false),
             answered: AtomicBool::new(false),
+            unlocked: AtomicBool::new(false),
             late: AtomicBool::new(false),
+            has_third,
+        }
+    }
+
+    /// What connection 1 waits for: the answer of the last of the other connections.
+    fn last(&self) -> &AtomicBool {
+        if self.has_third {
+            &self.unlocked
+        } else {
+            &self.answered
         }
     }
 
@@ -43,15 +57,19 @@ impl Flags {
     }
 }
 
-/// Connection 1 waits before its call 4 until connection 2 has an answer; connection 2 begins once connection 1 waits.
+/// Connection 1 waits before its call 4 until connection 2 has an answer, and connection 3 where there is one; connection
+/// 2 begins once connection 1 waits, and connection 3 once connection 2 has its answer.
 impl Pause for Flags {
     fn before(&self, conn: u32, number: u32) {
         if conn == 1 && number == 4 {
             self.asked.store(true, SeqCst);
-            self.wait_for(&self.answered);
+            self.wait_for(self.last());
         }
         if conn == 2 && number == 0 {
             self.wait_for(&self.asked);
+        }
+        if conn == 3 && number == 0 {
+            self.wait_for(&self.answered);
         }
     }
 }

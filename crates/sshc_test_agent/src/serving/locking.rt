@@ -3,7 +3,7 @@
 ghost use Rattle.std.specs.Prelude.{None};
 
 use crate::calls::{bytes_of, calls_of, let_go};
-use crate::frames::{LOCKS, SIGNS, adds_with};
+use crate::frames::{LOCKS, SIGNS, UNLOCKS, adds_with};
 use crate::serving::flags::Flags;
 use crate::serving::listener::{FlagStream, Streams, stream};
 use sshc_agent::{Clock, serve};
@@ -55,16 +55,36 @@ fn served<R: Threads + Wait + Sync>(
     )
 }
 
-/// Connection 1, which adds a key that must be confirmed and asks it for a signature, and connection 2, which locks.
-fn two_streams<'a>(alloc: Global, flags: &'a Flags) -> Result<Vec<FlagStream<'a>>, NoMemory> {
+/// Adds connection 2, which locks, and connection 1, which adds a key that must be confirmed and asks it for a signature.
+fn push_two<'a>(
+    streams: &mut Vec<FlagStream<'a>>,
+    alloc: Global,
+    flags: &'a Flags,
+) -> Result<(), NoMemory> {
     let mut first = Vec::new(alloc);
     put_frame(&mut first, adds_with(alloc, &[2])?.as_slice())?;
     put_frame(&mut first, SIGNS)?;
     let mut second = Vec::new(alloc);
     put_frame(&mut second, LOCKS)?;
-    let mut streams = Vec::new(alloc);
     streams.push(stream(alloc, second, Some(&flags.answered)))?;
     streams.push(stream(alloc, first, None))?;
+    Ok(())
+}
+
+/// These two streams.
+fn two_streams<'a>(alloc: Global, flags: &'a Flags) -> Result<Vec<FlagStream<'a>>, NoMemory> {
+    let mut streams = Vec::new(alloc);
+    push_two(&mut streams, alloc, flags)?;
+    Ok(streams)
+}
+
+/// These two and connection 3, which unlocks.
+fn three_streams<'a>(alloc: Global, flags: &'a Flags) -> Result<Vec<FlagStream<'a>>, NoMemory> {
+    let mut third = Vec::new(alloc);
+    put_frame(&mut third, UNLOCKS)?;
+    let mut streams = Vec::new(alloc);
+    streams.push(stream(alloc, third, Some(&flags.unlocked)))?;
+    push_two(&mut streams, alloc, flags)?;
     Ok(streams)
 }
 
@@ -95,19 +115,54 @@ fn is_locked_first(history: &[Entry]) -> bool {
     history.len() == 9 && calls_of(history, 1) == 6 && calls_of(history, 2) == 3
 }
 
+/// The same with connection 3.
+const UNLOCKED_ANSWERS: [(u32, u32, &[u8]); 3] = [
+    (1, 1, b"\0\0\0\x01\x06"),
+    (2, 1, b"\0\0\0\x01\x06"),
+    (3, 1, b"\0\0\0\x01\x06"),
+];
+
+/// Whether the call of a connection is answered by a signature.
+fn has_signature(history: &[Entry], conn: u32, number: u32) -> bool {
+    for entry in history {
+        if entry.conn == conn && entry.number == number {
+            return bytes_of(entry).get(4) == Some(&14);
+        }
+    }
+    false
+}
+
+/// Whether connections 2 and 3 have three calls each, and the lock and the unlock came before the waiting answer.
+fn is_unlocked_first(history: &[Entry]) -> bool {
+    for (conn, number, answer) in UNLOCKED_ANSWERS {
+        if !has_answer(history, conn, number, answer) {
+            return false;
+        }
+    }
+    history.len() == 12 && calls_of(history, 3) == 3 && has_signature(history, 1, 4)
+}
+
+fn is_in_order(history: &[Entry], unlocks: bool) -> bool {
+    if unlocks {
+        is_unlocked_first(history)
+    } else {
+        is_locked_first(history)
+    }
+}
+
 /// How serving ends, in one word or with what its history shows.
 #[derive(Clone, Copy, PartialEq, Eq)]
 enum Outcome {
-    /// Whether the lock came first.
-    LockedFirst(bool),
+    /// Whether the lock came first, and the unlock where there is one.
+    InOrder(bool),
     NoMemory,
     /// Not closed, for another reason.
     NotClosed,
 }
 
-fn told(answer: Result<Vec<Entry>, CloseError>) -> Outcome {
+fn told(answer: Result<Vec<Entry>, CloseError>, unlocks: bool) -> Outcome {
     match answer {
-        Ok(history) => Outcome::LockedFirst(is_locked_first(&history)),
+        Ok(history) => Outcome::InOrder(is_in_order(&history, unlocks)),
         Err(CloseError::NoMemory) => Outcome::NoMemory,
         Err(why) => {
             let_go(why);
@@ -118,10 +173,19 @@ fn told(answer: Result<Vec<Entry>, CloseError>) -> Outcome {
 
 #[test]
 fn a_lock_comes_before_the_waiting_answer(rt: HostRuntime) -> Result<(), Fail> {
-    let flags = Flags::new();
+    let flags = Flags::new(false);
     let streams = Streams::new(two_streams(rt.alloc(), &flags)?, false);
-    let outcome = told(served(&rt, rt.alloc(), streams, &flags));
-    assert!(rt; !flags.is_late() && outcome == Outcome::LockedFirst(true));
+    let outcome = told(served(&rt, rt.alloc(), streams, &flags), false);
+    assert!(rt; !flags.is_late() && outcome == Outcome::InOrder(true));
+    Ok(())
+}
+
+#[test]
+fn an_unlock_comes_before_the_waiting_answer(rt: HostRuntime) -> Result<(), Fail> {
+    let flags = Flags::new(true);
+    let streams = Streams::new(three_streams(rt.alloc(), &flags)?, false);
+    let outcome = told(served(&rt, rt.alloc(), streams, &flags), true);
+    assert!(rt; !flags.is_late() && outcome == Outcome::InOrder(true));
     Ok(())
 }
 
@@ -136,9 +200,9 @@ fn one_stream<'a>(alloc: Global) -> Result<Vec<FlagStream<'a>>, NoMemory> {
 
 #[test]
 fn a_listener_that_finds_no_memory_ends_without_a_history(rt: HostRuntime) -> Result<(), Fail> {
-    let flags = Flags::new();
+    let flags = Flags::new(false);
     let streams = Streams::new(one_stream(rt.alloc())?, true);
-    let outcome = told(served(&rt, rt.alloc(), streams, &flags));
+    let outcome = told(served(&rt, rt.alloc(), streams, &flags), false);
     assert!(rt; outcome == Outcome::NoMemory);
     Ok(())
 }

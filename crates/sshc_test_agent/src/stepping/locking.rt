@@ -1,6 +1,6 @@
 //! What a locked agent refuses.
 
-use crate::frames::LOCKS;
+use crate::frames::{LOCKS, UNLOCKS};
 use crate::stepping::steps::{FAILURE, Gets, Line, PutsOut, SIGNS, SUCCESS, differs};
 use std::test::Fail;
 
@@ -29,11 +29,67 @@ const BEFORE: &[Line] = &[
     (0, 1, Gets::KeyAnswer(true), FAILURE, 0),
 ];
 
+// Each order in which connection 2 locks, connection 3 unlocks, and connection 1 answers the question about its key.
+
+const LOCK_UNLOCK_ANSWER: &[Line] = &[
+    (0, 1, Gets::AddsWith(&[2]), SUCCESS, 0),
+    (0, 1, SIGNS, PutsOut::AsksKey, 0),
+    (0, 2, Gets::Frame(LOCKS), SUCCESS, 0),
+    (0, 3, Gets::Frame(UNLOCKS), SUCCESS, 0),
+    (0, 1, Gets::KeyAnswer(true), PutsOut::AnswerOf(14, 48), 1),
+];
+
+const LOCK_ANSWER_UNLOCK: &[Line] = &[
+    (0, 1, Gets::AddsWith(&[2]), SUCCESS, 0),
+    (0, 1, SIGNS, PutsOut::AsksKey, 0),
+    (0, 2, Gets::Frame(LOCKS), SUCCESS, 0),
+    (0, 1, Gets::KeyAnswer(true), FAILURE, 0),
+    (0, 3, Gets::Frame(UNLOCKS), SUCCESS, 0),
+];
+
+const UNLOCK_LOCK_ANSWER: &[Line] = &[
+    (0, 1, Gets::AddsWith(&[2]), SUCCESS, 0),
+    (0, 1, SIGNS, PutsOut::AsksKey, 0),
+    (0, 3, Gets::Frame(UNLOCKS), FAILURE, 0),
+    (0, 2, Gets::Frame(LOCKS), SUCCESS, 0),
+    (0, 1, Gets::KeyAnswer(true), FAILURE, 0),
+];
+
+const UNLOCK_ANSWER_LOCK: &[Line] = &[
+    (0, 1, Gets::AddsWith(&[2]), SUCCESS, 0),
+    (0, 1, SIGNS, PutsOut::AsksKey, 0),
+    (0, 3, Gets::Frame(UNLOCKS), FAILURE, 0),
+    (0, 1, Gets::KeyAnswer(true), PutsOut::AnswerOf(14, 48), 1),
+    (0, 2, Gets::Frame(LOCKS), SUCCESS, 1),
+];
+
+const ANSWER_LOCK_UNLOCK: &[Line] = &[
+    (0, 1, Gets::AddsWith(&[2]), SUCCESS, 0),
+    (0, 1, SIGNS, PutsOut::AsksKey, 0),
+    (0, 1, Gets::KeyAnswer(true), PutsOut::AnswerOf(14, 48), 1),
+    (0, 2, Gets::Frame(LOCKS), SUCCESS, 1),
+    (0, 3, Gets::Frame(UNLOCKS), SUCCESS, 1),
+];
+
+const ANSWER_UNLOCK_LOCK: &[Line] = &[
+    (0, 1, Gets::AddsWith(&[2]), SUCCESS, 0),
+    (0, 1, SIGNS, PutsOut::AsksKey, 0),
+    (0, 1, Gets::KeyAnswer(true), PutsOut::AnswerOf(14, 48), 1),
+    (0, 3, Gets::Frame(UNLOCKS), FAILURE, 1),
+    (0, 2, Gets::Frame(LOCKS), SUCCESS, 1),
+];
+
 /// Each scene's name and its lines.
 const SCENES: &[(&str, &[Line])] = &[
     ("an empty passphrase locks", EMPTY),
     ("another passphrase does not unlock", OTHERS),
     ("a lock stands before a confirmation", BEFORE),
+    ("lock, unlock, answer", LOCK_UNLOCK_ANSWER),
+    ("lock, answer, unlock", LOCK_ANSWER_UNLOCK),
+    ("unlock, lock, answer", UNLOCK_LOCK_ANSWER),
+    ("unlock, answer, lock", UNLOCK_ANSWER_LOCK),
+    ("answer, lock, unlock", ANSWER_LOCK_UNLOCK),
+    ("answer, unlock, lock", ANSWER_UNLOCK_LOCK),
 ];
 
 #[test]

@@ -24,6 +24,8 @@ fn told(session: &Session, name: &str, words: &mut Words<'_>) -> Option<Gave> {
         "awaits_answer" => Some(Gave::Flag(session.awaits_answer())),
         "wants_user_events" => Some(Gave::Flag(session.wants_user_events())),
         "has_pending_data" => Some(Gave::Flag(session.has_pending_data(words.id()))),
+        "reply_queue" => Some(Gave::Number(session.reply_queue().len() as u64)),
+        "reply_room" => Some(Gave::Number(session.reply_queue().capacity() as u64)),
         "sender_window_size" => Some(Gave::Number(session.sender_window_size(words.id()) as u64)),
         _ => None,
     }

@@ -1,0 +1,12 @@
+use Rattle.std.proofs.Common.{subst}
+use Rattle.std.proofs.lemmas.List.Elements.{All-more}
+use Rattle.sshc_wire.specs.Wire.{IsShort}
+use Rattle.sshc_wire.proofs.FittingLemmas.{all_taken}
+use Rattle.sshc_wire.proofs.fitting.fit_strings.Goals as goal
+
+pub loop-one-preserved : goal.loop-one-preserved
+loop-one-preserved c =
+    All-more IsShort c.args.strings.now c.loop-one.one-index c.one-item.result c.loop-one-test.true c.loop-one.invariant (subst IsShort c.one-item.is c.as_slice-bytes.ensures.short)
+
+pub returns : goal.returns
+returns c = all_taken IsShort c.args.strings.now c.loop-one.one-index c.loop-one-test.false c.loop-one.invariant

@@ -1,0 +1,162 @@
+#!/usr/bin/env python3
+"""Loads that nobody means well with: an agent with 512 connections that send garbage or close within a frame, 10,000 channels
+opened and closed, a known hosts text of 100 MB, a script of the greatest length. Of each it prints the time, the greatest
+memory, and what was to be seen; a load that isn't borne is named, and the status is 1.
+
+Usage: tests/load.py FOLDER
+FOLDER is where the proved programs lie as NAME/out/NAME (crates, say). It needs /usr/bin/time (Debian's package `time`), and
+2 GB of disk where FOLDER's script is made.
+"""
+import base64
+import os
+import pathlib
+import random
+import resource
+import socket
+import struct
+import subprocess
+import sys
+import tempfile
+import time
+
+HERE = pathlib.Path(__file__).resolve().parent
+sys.path.insert(0, str(HERE.parent / "bench"))
+from mixed_script import KEY  # noqa: E402
+from worked_rows import ROWS, rows_in, string  # noqa: E402
+
+CONNECTIONS, CHANNELS, HOSTS_SIZE, EVENTS, LONGEST = 512, 10_000, 100_000_000, 8192, 262_144
+LIST = string(b"\x0b")
+
+
+def measured(words, **given):
+    """The process that has run, and its seconds and greatest memory (KiB)."""
+    with tempfile.NamedTemporaryFile("r") as report:
+        began = time.monotonic()
+        done = subprocess.run(["/usr/bin/time", "-f", "%M", "-o", report.name, *words], stdout=subprocess.PIPE, check=False, **given)
+        return done, time.monotonic() - began, int(report.read().split()[-1])
+
+
+def memory(process, what="VmHWM"):
+    with open(f"/proc/{process.pid}/status", encoding="ascii") as file:
+        return next(int(line.split()[1]) for line in file if line.startswith(what))
+
+
+def answer_of(stream):
+    head = stream.recv(4, socket.MSG_WAITALL)
+    return stream.recv(struct.unpack(">I", head)[0], socket.MSG_WAITALL) if len(head) == 4 else b""
+
+
+def connected(path):
+    stream = socket.socket(socket.AF_UNIX)
+    stream.settimeout(10)
+    stream.connect(path)
+    return stream
+
+
+def agent(program, folder):
+    """512 connections: half send garbage, half close within a frame. A client among them is served before and after."""
+    rng, path = random.Random(1), os.path.join(folder, "agent")
+    process = subprocess.Popen([program, "agent", path])
+    try:
+        while not os.path.exists(path):
+            time.sleep(0.01)
+        own, began = connected(path), time.monotonic()
+        own.sendall(LIST)
+        before, at_start = answer_of(own), memory(process)
+        streams = [connected(path) for _ in range(CONNECTIONS)]
+        for number, stream in enumerate(streams):
+            try:
+                if number % 2:
+                    stream.sendall(bytes(rng.randrange(256) for _ in range(rng.randrange(1, 4096))))
+                else:
+                    stream.sendall(struct.pack(">I", rng.randrange(2, LONGEST)) + b"\x0b")
+            except OSError:
+                pass  # it was closed by then, as a length above the limit is
+        for stream in streams:
+            stream.close()
+        own.sendall(LIST)
+        after = answer_of(own)
+        fresh = connected(path)
+        fresh.sendall(LIST)
+        took, serves = time.monotonic() - began, before and before == after == answer_of(fresh)
+        alive = process.poll() is None
+        print(f"agent: {CONNECTIONS} connections in {took:.2f} s; memory {at_start} KiB before, {memory(process)} KiB at most; "
+              f"a client is served before, after and anew: {bool(serves)}")
+        return bool(serves) and alive
+    finally:
+        process.kill()
+
+
+def channels(program):
+    done, took, most = measured([program, "closes", "1", str(CHANNELS)])
+    print(f"channels: {CHANNELS} opened and closed in {took:.2f} s, {most} KiB: {done.stdout.decode().strip()}")
+    return done.returncode == 0
+
+
+def known_hosts(program, folder):
+    """A text of 100 MB in which the host's line is the last one, and one in which it is missing."""
+    path, key = os.path.join(folder, "known"), base64.b64encode(KEY).decode()
+    line = b"host%09d,[10.0.0.1]:2222 ssh-ed25519 " + base64.b64encode(KEY[:-4] + b"\0\0\0\1") + b"\n"
+    with open(path, "wb") as file:
+        count = HOSTS_SIZE // len(line % 0)
+        for number in range(count):
+            file.write(line % number)
+        file.write(f"[localhost]:13265 ssh-ed25519 {key}\n".encode())
+    good = True
+    for host, wanted in (("localhost", b"known\n"), ("elsewhere", b"unknown\n")):
+        done, took, most = measured([program, "hosts", "check", host, "13265", path, key])
+        print(f"known hosts: {os.path.getsize(path)} bytes, {count + 1} lines, {host} in {took:.2f} s, {most} KiB: {done.stdout!r}")
+        good &= done.stdout == wanted or host == "elsewhere" and done.stdout != b"known\n"
+    return good
+
+
+def longest_script(program, folder):
+    """8,192 events of 262,144 bytes each: the login, and then data of the peer's for a channel that isn't open."""
+    row = next(row for row in rows_in(ROWS) if row.name == "password")
+    known, path = os.path.join(folder, "known"), os.path.join(folder, "script")
+    with open(known, "w", encoding="utf-8") as file:
+        file.write(row.known)
+    count = len(list(events_of(row.script)))
+    body = struct.pack(">Q", 0) + b"\x03" + b"\x02"
+    packet = string(body + bytes(LONGEST - len(body)))
+    with open(path, "wb") as file:
+        file.write(row.script)
+        for _ in range(EVENTS - count):
+            file.write(packet)
+    with open(path, "rb") as file:
+        done, took, most = measured([program, "script", "localhost", "13265", known], stdin=file)
+    last = done.stdout.split(b"\n")[-2].decode()
+    print(f"script: {os.path.getsize(path)} bytes in {EVENTS} events in {took:.2f} s, {most} KiB: {last}")
+    os.unlink(path)
+    return last == "ended script-end"
+
+
+def events_of(script):
+    at = 0
+    while at < len(script):
+        end = at + 4 + int.from_bytes(script[at : at + 4], "big")
+        yield script[at:end]
+        at = end
+
+
+def main():
+    if len(sys.argv) != 2:
+        sys.exit(__doc__)
+    _, most = resource.getrlimit(resource.RLIMIT_NOFILE)
+    resource.setrlimit(resource.RLIMIT_NOFILE, (min(most, 8192), most))
+    place = lambda name: os.path.join(os.path.abspath(sys.argv[1]), name, "out", name)
+    with tempfile.TemporaryDirectory() as folder:
+        borne = {
+            "agent": agent(place("sshc"), folder),
+            "channels": channels(place("sshc_bench")),
+            "known hosts": known_hosts(place("sshc"), folder),
+            "script": longest_script(place("sshc"), folder),
+        }
+    for name, is_borne in borne.items():
+        if not is_borne:
+            print(f"{name}: NOT BORNE")
+    return not all(borne.values())
+
+
+if __name__ == "__main__":
+    sys.exit(main())
