@@ -94,7 +94,7 @@ at_space host text entry rest mark b cut is matches =
     let parts : parts_at 32 text ≡ entry ∷ parts_at 32 rest = ap (λ t. parts_at 32 t) text_is ∙ slice_split_at (λ c. c == 32) entry 32 rest cut.no_space refl in
     ap (third_field host) parts ∙ third_is host entry (parts_at 32 rest) b (whole_field host entry cut.no_comma ∙ sym matches)
 
-abbrev Begins : List (List ℕ) → Type 0
+abbrev pub Begins : List (List ℕ) → Type 0
 Begins parts = (first : List ℕ) × (more : List (List ℕ)) × (parts ≡ first ∷ more)
 
 begins_more : (c x : ℕ) (xs : List ℕ) (b : Bool) → (x == c) ≡ b → Begins (parts_at c xs) → Begins (parts_at c (x ∷ xs))
@@ -102,7 +102,7 @@ begins_more c x xs true h later = ([], parts_at c xs, slice_split-cons_yes (λ b
 begins_more c x xs false h (first, more, is) = (x ∷ first, more, slice_split-cons_no (λ b. b == c) x xs h ∙ ap (onto_first x) is)
 
 -- the parts of a text are never an empty list
-some_part : (c : ℕ) (xs : List ℕ) → Begins (parts_at c xs)
+pub some_part : (c : ℕ) (xs : List ℕ) → Begins (parts_at c xs)
 some_part c [] = ([], [], refl)
 some_part c (x ∷ xs) = begins_more c x xs (x == c) refl (some_part c xs)
 

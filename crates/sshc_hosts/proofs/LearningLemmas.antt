@@ -1,6 +1,6 @@
 -- The line that is learned: it names its host and no other.
 use Rattle.std.proofs.Common.{◌≡◌, ℕ, zero, suc, ◌+◌, ◌<◌, ◌^◌, ◌%◌, Bool, true, false, List, [], ◌∷◌, ◌++◌, length, get_or, Some, None, refl, ap, ◌∙◌, arith}
-use Rattle.std.specs.Prelude.{◌==◌, if◌then◌else◌}
+use Rattle.std.specs.Prelude.{◌==◌, if◌then◌else◌, option_map}
 use Rattle.std.specs.Fmt.{decimal}
 use Rattle.std.specs.Str.{bytes_eq}
 use Rattle.std.specs.List.{list_any}
@@ -8,9 +8,11 @@ use Rattle.std.proofs.lemmas.Bool.Decides.{nat_tests}
 use Rattle.std.proofs.lemmas.Fmt.{decimal_by_steps}
 use Rattle.std.proofs.lemmas.List.Elements.{All-append}
 use Rattle.sshc_hosts.specs.HostText.{host_text}
-use Rattle.sshc_hosts.specs.MatchingLines.{parts_at, is_comment, hashed_matches, entry_matches, field_matches, third_field, line_key}
+use Rattle.sshc_hosts.specs.declared.marks.Mark.TheVariants.{Recorded}
+use Rattle.sshc_hosts.specs.MatchingLines.{parts_at, is_comment, hashed_matches, entry_matches, field_matches, marked, marked_as, marked_key, line_key}
 use Rattle.sshc_hosts.specs.Learning.{Lacks, IsLearnable}
 use Rattle.sshc_hosts.proofs.LineLemmas.{parts_at-first, parts_at-lacking}
+use Rattle.sshc_hosts.proofs.MarkLemmas.{no_mark}
 
 -- ---- bytes that a text lacks
 
@@ -46,7 +48,9 @@ bracketed_lacks host port byte low short none =
     (Lacks-cons 93 (58 ∷ decimal port) byte (grind (arith, nat_tests))
     (Lacks-cons 58 (decimal port) byte (grind (arith, nat_tests)) (decimal_lacks byte port low short))))
 
-learnable_case : (host : List ℕ) (port : ℕ) (b : Bool) → port < 2 ^ 64 → IsLearnable host → IsLearnable (if b then host else 91 ∷ host ++ 93 ∷ 58 ∷ decimal port)
+learnable_case : (host : List ℕ) (port : ℕ) (b : Bool) → port < 2 ^ 64
+    → IsLearnable host (if b then host else 91 ∷ host ++ 93 ∷ 58 ∷ decimal port)
+    → IsLearnable (if b then host else 91 ∷ host ++ 93 ∷ 58 ∷ decimal port) (if b then host else 91 ∷ host ++ 93 ∷ 58 ∷ decimal port)
 learnable_case host port true short fit = fit
 learnable_case host port false short fit = record {
   some = omega arith;
@@ -55,9 +59,10 @@ learnable_case host port false short fit = record {
   no_line_feed = bracketed_lacks host port 10 (omega arith) short fit.no_line_feed;
   no_comment = refl;
   not_hashed = refl;
+  no_mark = fit.no_mark;
 }
 
-pub IsLearnable-host_text : (host : List ℕ) (port : ℕ) → port < 2 ^ 64 → IsLearnable host → IsLearnable (host_text host port)
+pub IsLearnable-host_text : (host : List ℕ) (port : ℕ) → port < 2 ^ 64 → IsLearnable host (host_text host port) → IsLearnable (host_text host port) (host_text host port)
 unfolding host_text
 IsLearnable-host_text host port short fit = learnable_case host port (port == 22) short fit
 
@@ -80,23 +85,29 @@ any_single : (p : List ℕ → Bool) (x : List ℕ) → list_any p (x ∷ []) �
 any_single p x = any_case p x (p x) refl
 
 -- a host text matches itself, and no other one
-field_is : (other host : List ℕ) → IsLearnable host → field_matches other host ≡ bytes_eq host other
+field_is : (other host : List ℕ) → IsLearnable host host → field_matches other host ≡ bytes_eq host other
 field_is other host fit =
     let one : parts_at 44 host ≡ host ∷ [] = parts_at-lacking 44 host fit.no_comma in
     let entry : entry_matches other host ≡ bytes_eq host other = ap (λ b. if b then hashed_matches other (parts_at 124 host) else bytes_eq host other) fit.not_hashed in
     ap (λ parts. list_any (λ e. entry_matches other e) parts) one ∙ any_single (λ e. entry_matches other e) host ∙ entry
 
--- the third field of the line, if the host text is this one
-pub line_key-learned : (other host name rest key : List ℕ) (later : List (List ℕ)) → IsLearnable host → Lacks name 32 → parts_at 32 rest ≡ key ∷ later
-    → line_key other (host ++ 32 ∷ (name ++ 32 ∷ rest)) ≡ (if bytes_eq host other then Some key else None)
+recorded_case : (key : List ℕ) (b : Bool) → option_map (marked_as Recorded) (if b then Some key else None) ≡ (if b then Some (marked_as Recorded key) else None)
+recorded_case key true = refl
+recorded_case key false = refl
+
+-- the key of the line, which is recorded, if the host text is this one
+pub line_key-learned : (other host name rest key : List ℕ) (later : List (List ℕ)) → IsLearnable host host → Lacks name 32 → parts_at 32 rest ≡ key ∷ later
+    → line_key other (host ++ 32 ∷ (name ++ 32 ∷ rest)) ≡ (if bytes_eq host other then Some (marked_as Recorded key) else None)
 line_key-learned other host name rest key later fit plain_name behind =
     let line : List ℕ = host ++ 32 ∷ (name ++ 32 ∷ rest) in
     let parts : parts_at 32 line ≡ host ∷ name ∷ key ∷ later =
     three_fields host name rest fit.no_space plain_name ∙ ap (λ (fields : List (List ℕ)). host ∷ name ∷ fields) behind in
     let no_comment : is_comment line ≡ false = begun host (32 ∷ (name ++ 32 ∷ rest)) fit.some ∙ fit.no_comment in
-    ap (λ b. if b then None else third_field other (parts_at 32 line)) no_comment
-    ∙ ap (λ fields. third_field other fields) parts
-    ∙ ap (λ b. if b then Some key else None) (field_is other host fit)
+    ap (λ b. if b then None else marked_key other (marked (parts_at 32 line))) no_comment
+    ∙ ap (λ fields. marked_key other (marked fields)) parts
+    ∙ ap (marked_key other) (no_mark host (name ∷ key ∷ later) fit.no_mark)
+    ∙ ap (λ b. option_map (marked_as Recorded) (if b then Some key else None)) (field_is other host fit)
+    ∙ recorded_case key (bytes_eq host other)
 
 -- the last field, and a field before others
 pub last_field : (key : List ℕ) → Lacks key 32 → parts_at 32 key ≡ key ∷ []

@@ -7,7 +7,7 @@ use Rattle.std.proofs.lemmas.List.{take-append-drop, append-nil}
 use Rattle.std.proofs.lemmas.Bool.Decides.{nat_tests}
 use Rattle.std.proofs.lemmas.List.Splits.{slice_split_none, slice_split_at, slice_split-cons_yes}
 use Rattle.std.proofs.lemmas.List.Elements.{filter_map-append}
-use Rattle.sshc_hosts.specs.MatchingLines.{parts_at, numbered_key, matching}
+use Rattle.sshc_hosts.specs.MatchingLines.{LineKey, parts_at, numbered_key, matching}
 use Rattle.sshc_hosts.specs.Learning.{ends_line, added_line, Lacks}
 
 -- ---- parts
@@ -51,7 +51,7 @@ enumerate_from-append n (x ∷ xs) ys =
     ap (λ (lines : List (ℕ × List ℕ)). (n, x) ∷ lines) (enumerate_from-append (n + 1) xs ys ∙ ap (λ m. enumerate_from (n + 1) xs ++ enumerate_from m ys) more)
 
 -- the matching lines among those of a number and after it
-abbrev pub matching_from : List ℕ → ℕ → List ℕ → List (ℕ × List ℕ)
+abbrev pub matching_from : List ℕ → ℕ → List ℕ → List (ℕ × LineKey)
 matching_from host n text = filter_map (numbered_key host) (enumerate_from n (parts_at 10 text))
 
 -- the matching lines of two texts, with a line feed between them

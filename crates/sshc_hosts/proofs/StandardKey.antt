@@ -10,9 +10,10 @@ use Rattle.sshc_key.specs.KeyGrammar.{Key}
 use Rattle.sshc_key.specs.KeyText.{is_no_line_end, decoded, decoded_key}
 use Rattle.sshc_key.specs.Nesting.{blob_key, key_or_fault}
 use Rattle.sshc_hosts.specs.HostText.{host_text}
-use Rattle.sshc_hosts.specs.Judgement.{is_certificate, read_lines, known_keys, judged_by, judged}
+use Rattle.sshc_hosts.specs.declared.marks.Mark.TheVariants.{Recorded}
+use Rattle.sshc_hosts.specs.Judgement.{is_certificate, read_lines, marked_keys, judged_by, judged}
 use Rattle.sshc_hosts.specs.Learning.{once_learned}
-use Rattle.sshc_hosts.specs.MatchingLines.{matching}
+use Rattle.sshc_hosts.specs.MatchingLines.{marked_as, matching}
 use Rattle.sshc_hosts.proofs.JudgementLemmas.{judged-more}
 
 -- ---- the key's text
@@ -42,7 +43,7 @@ field_key = ap (λ r. decoded r) field_decodes
 abbrev pub localhost_line : List ℕ
 localhost_line = codes "[localhost]:13265 ssh-ed25519 AAAAC3NzaC1lZDI1NTE5AAAAIJdD7y3aLq454yWBdwLWbieU1ebz9/cu7/QEXn9OIeZJ" ++ 10 ∷ []
 
-line_matches : matching localhost_line (host_text (codes "localhost") 13265) ≡ (1, key_field) ∷ []
+line_matches : matching localhost_line (host_text (codes "localhost") 13265) ≡ (1, marked_as Recorded key_field) ∷ []
 unfolding host_text digits
 line_matches = refl
 
@@ -52,7 +53,7 @@ first_accepts key plain = rw plain refl
 
 -- the text of this line accepts the key that is read from these bytes
 pub line_accepts : (key : Key) → is_certificate key ≡ false → blob_key key_blob ≡ Some key → judged localhost_line (host_text (codes "localhost") 13265) key ≡ Ok true
-unfolding judged known_keys
+unfolding judged marked_keys
 line_accepts key plain is =
     ap (λ found. judged_by (read_lines found) key) line_matches
     ∙ judged-more [] 1 key_field key plain (field_key ∙ ap key_or_fault is)

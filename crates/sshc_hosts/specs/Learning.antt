@@ -6,7 +6,7 @@ use Rattle.sshc_key.specs.Algorithms.{openssh_text}
 use Rattle.sshc_key.specs.Nesting.{markers}
 use Rattle.sshc_key.specs.declared.error.Error.{Error}
 use Rattle.sshc_hosts.specs.Judgement.{is_certificate, judged}
-use Rattle.sshc_hosts.specs.MatchingLines.{is_hashed, is_comment}
+use Rattle.sshc_hosts.specs.MatchingLines.{is_hashed, is_comment, revoked_mark}
 
 -- the last byte is a line feed
 abbrev pub ends_line : List ℕ → Bool
@@ -24,15 +24,16 @@ added_line old line = line_feed_after old ++ line ++ 10 ∷ []
 abbrev pub Lacks : List ℕ → ℕ → Type 0
 Lacks text byte = All (λ b. (b == byte) ≡ false) text
 
--- a host that can be learned: not empty, without space, comma and line feed, and read neither as a comment nor as a
--- hash
-pub record IsLearnable (host : List ℕ) : Type 0 where
+-- a host that can be learned: not empty, without space, comma and line feed, read neither as a comment nor as a hash,
+-- and with a host text that isn't read as a mark
+pub record IsLearnable (host text : List ℕ) : Type 0 where
   pub some : 0 < length host
   pub no_space : Lacks host 32
   pub no_comma : Lacks host 44
   pub no_line_feed : Lacks host 10
   pub no_comment : is_comment host ≡ false
   pub not_hashed : is_hashed host ≡ false
+  pub no_mark : text ≢ revoked_mark
 
 -- the text that is added to learn a key for a host text
 unfoldable pub learned : List ℕ → List ℕ → Key × List ℕ → List ℕ

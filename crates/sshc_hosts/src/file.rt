@@ -98,7 +98,7 @@ pub fn learn_known_hosts_path<F: Files>(
 ) -> Result<(), Error>
     ensures added { OnOk result
         (LearnedIn (F.contents files.old) (F.contents files.new) path.now (host_text host.now port) key.now) }
-    ensures law { IsLearnable host.now → IsLearnableKey key.now
+    ensures law { IsLearnable host.now (host_text host.now port) → IsLearnableKey key.now
         → OnOk result
         (LearnsIn (F.contents files.old) (F.contents files.new) path.now (host_text host.now port) key.now.0) }
     ensures none { OnErr result (F.contents files.new ≡ F.contents files.old) }

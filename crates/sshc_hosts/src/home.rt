@@ -83,7 +83,7 @@ pub fn learn_known_hosts<F: Files>(
     ensures added { OnOk result
         (LearnedAtHome (F.contents files.old) (F.contents files.new) (option_copied home.entry)
         (host_text host.now port) key.now) }
-    ensures law { IsLearnable host.now → IsLearnableKey key.now
+    ensures law { IsLearnable host.now (host_text host.now port) → IsLearnableKey key.now
         → OnOk result
         (LearnsAtHome (F.contents files.old) (F.contents files.new) (option_copied home.entry)
         (host_text host.now port) key.now.0) }

@@ -43,7 +43,7 @@ pub fn learn_text(
     key: &PublicKey,
 ) -> Result<Text, NoMemory>
     ensures text { IfOk result (λ t. t ≡ learned old.now (host_text host.now port) key.now) }
-    ensures law { IsLearnable host.now → IsLearnableKey key.now
+    ensures law { IsLearnable host.now (host_text host.now port) → IsLearnableKey key.now
         → IfOk result (λ t. Learns old.now t (host_text host.now port) key.now.0) }
 {
     let host = host_text(alloc, host, port)?;

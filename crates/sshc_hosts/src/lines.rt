@@ -1,15 +1,23 @@
 //! The lines of a known hosts text that match a host.
 
-ghost use Rattle.std.specs.Prelude.{◌≡◌, ◌<◌, ◌==◌, All, IfNone, IfOk, IfSome, false, length, map, option_copied};
+ghost use Rattle.std.specs.Prelude.{◌≡◌, ◌<◌, ◌==◌, All, IfNone, IfOk, IfSome, false, length, map, option_copied, option_map};
 ghost use Rattle.memchr.specs.Find.{IsFirstByte, is_byte2};
 ghost use Rattle.sshc_hosts.specs.Entries.{CutsEntry, key_behind, second};
-ghost use Rattle.sshc_hosts.specs.MatchingLines.{field_matches, is_comment, line_key, matching, parts_at, third_field};
+ghost use Rattle.sshc_hosts.specs.MatchingLines.{field_matches, field_seen, is_comment, line_key, line_seen, marked_as, matching, parts_at, third_field};
 
 use crate::cutting::cut;
 use crate::entry::is_host;
+use crate::marks::{Mark, cut_mark};
 use memchr::memchr2;
 use sshc_wire::NoMemory;
 use std::alloc::Global;
+
+/// The key of a matching line as text, its third field behind the mark, and the line's mark.
+#[derive(Clone, Copy)]
+pub struct KeyField<'a> {
+    pub mark: Mark,
+    pub text: &'a str,
+}
 
 /// Whether an entry of the host field, whose entries are separated by commas, is the host text.
 pub fn has_host(alloc: Global, host: &str, field: &str) -> Result<bool, NoMemory>
@@ -88,26 +96,37 @@ fn second_field(text: &str) -> Option<&str>
     Some(cut(rest, b' ').0)
 }
 
-/// The third field of a line whose first field has the host.
-fn key_of<'a>(alloc: Global, host: &str, line: &'a str) -> Result<Option<&'a str>, NoMemory>
-    ensures { IfOk result (λ key. option_copied key ≡ line_key host.now line.now) }
+/// The second field of a text that has two, as the key of a line with the mark.
+fn key_field(mark: Mark, rest: &str) -> Option<KeyField<'_>>
+    ensures { option_map field_seen result ≡ option_map (marked_as mark) (second (parts_at 32 rest.now)) }
+{
+    let text = second_field(rest)?;
+    Some(KeyField { mark, text })
+}
+
+/// The key of a line whose first field behind the mark has the host.
+fn key_of<'a>(alloc: Global, host: &str, line: &'a str) -> Result<Option<KeyField<'a>>, NoMemory>
+    ensures { IfOk result (λ key. option_map field_seen key ≡ line_key host.now line.now) }
 {
     if is_comment(line) {
         return Ok(None);
     }
-    match behind_host(alloc, host, line)? {
-        Some(rest) => Ok(second_field(rest)),
+    let (mark, Some(fields)) = cut_mark(line) else {
+        return Ok(None);
+    };
+    match behind_host(alloc, host, fields)? {
+        Some(rest) => Ok(key_field(mark, rest)),
         None => Ok(None),
     }
 }
 
-/// The matching lines: their numbers, counted from 1, and their third fields.
+/// The matching lines: their numbers, counted from 1, and their keys.
 pub fn matching_lines<'a>(
     alloc: Global,
     text: &'a str,
     host: &str,
-) -> Result<Vec<(u64, &'a str)>, NoMemory>
-    ensures { IfOk result (λ lines. map (λ line. (line.0, line.1.now)) lines.items ≡ matching text.now host.now) }
+) -> Result<Vec<(u64, KeyField<'a>)>, NoMemory>
+    ensures { IfOk result (λ lines. map line_seen lines.items ≡ matching text.now host.now) }
 {
     let mut found = Vec::new(alloc);
     let mut number = 1u64;

@@ -15,20 +15,7 @@ key_step n bytes h = let e : n ≡ suc (n - 1) = omega arith in ap (λ (k : ℕ)
 -- where the first part fails, so does the whole
 pub fails_first : {A B : Type 0} (e : Error) (r : Result A Error) (f : A → Result B Error) → Fails e r → Fails e (r >>= f)
 fails_first errors.NoMemory r f h = tt
-fails_first errors.CouldNotReadKey r f h = rw h refl
-fails_first errors.NoHomeDir r f h = rw h refl
-fails_first (errors.KeyChanged line) r f h = rw h refl
-fails_first errors.AgentProtocolError r f h = rw h refl
-fails_first errors.AgentFailure r f h = rw h refl
-fails_first errors.Decode r f h = rw h refl
-fails_first errors.SshKey r f h = rw h refl
-fails_first errors.SshEncoding r f h = rw h refl
-fails_first errors.EnvVar r f h = rw h refl
-fails_first errors.BadAuthSock r f h = rw h refl
-fails_first errors.Utf8 r f h = rw h refl
-fails_first errors.ReadFault r f h = rw h refl
-fails_first errors.WriteFault r f h = rw h refl
-fails_first errors.UnexpectedEnd r f h = rw h refl
+fails_first e r f h = rw h refl
 
 pub tag_fails : (e : Error) (n : ℕ) (bytes : List ℕ) → 0 < n → Fails e (tag_at bytes) → Fails e (key_at n bytes)
 tag_fails e n bytes h fails =

@@ -55,6 +55,9 @@ pub enum Error {
     /// Out of memory.
     #[error("NoMemory")]
     NoMemory,
+    /// The known hosts mark this key as revoked at this line, counted from 1.
+    #[error("Revoked")]
+    Revoked { line: u64 },
 }
 
 impl From<NoMemory> for Error {

@@ -43,20 +43,7 @@ all_taken {E} {A} f n i xs c h = let k : n - i ≡ 0 = omega arith in ap (λ (m 
 -- a fault of r, which is always a fault of all, too, is passed on
 fails_through : {A B : Type 0} (e : Error) (r : Result A Error) (all : Result B Error) → ((d : Error) → r ≡ Err d → all ≡ Err d) → Fails e r → Fails e all
 fails_through errors.NoMemory r all through h = tt
-fails_through errors.CouldNotReadKey r all through h = through errors.CouldNotReadKey h
-fails_through errors.NoHomeDir r all through h = through errors.NoHomeDir h
-fails_through (errors.KeyChanged line) r all through h = through (errors.KeyChanged line) h
-fails_through errors.AgentProtocolError r all through h = through errors.AgentProtocolError h
-fails_through errors.AgentFailure r all through h = through errors.AgentFailure h
-fails_through errors.Decode r all through h = through errors.Decode h
-fails_through errors.SshKey r all through h = through errors.SshKey h
-fails_through errors.SshEncoding r all through h = through errors.SshEncoding h
-fails_through errors.EnvVar r all through h = through errors.EnvVar h
-fails_through errors.BadAuthSock r all through h = through errors.BadAuthSock h
-fails_through errors.Utf8 r all through h = through errors.Utf8 h
-fails_through errors.ReadFault r all through h = through errors.ReadFault h
-fails_through errors.WriteFault r all through h = through errors.WriteFault h
-fails_through errors.UnexpectedEnd r all through h = through errors.UnexpectedEnd h
+fails_through e r all through h = through e h
 
 -- if a key can't be read, the listing can't be read
 pub listing_stuck : {A : Type 0} (f : Reader Error A) (n i : ℕ) (xs : List A) (c : List ℕ) (all : Result (List A × List ℕ) Error) (e : Error) → i < n → behind xs (times_at (n - i) f c) ≡ all → Fails e (f c) → Fails e all

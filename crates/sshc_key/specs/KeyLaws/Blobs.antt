@@ -16,20 +16,7 @@ use Rattle.sshc_key.specs.KeyLaws.Markers.{depth_marked, markers_append}
 -- a fault of reading, and the error that is returned for it
 pub fails_outside : {A : Type 0} (e : Error) (r : Result A Error) → Fails e r → Fails (outside e) (faults_as (λ d. SshKey) r)
 fails_outside errors.NoMemory r h = tt
-fails_outside errors.CouldNotReadKey r h = rw h refl
-fails_outside errors.NoHomeDir r h = rw h refl
-fails_outside (errors.KeyChanged line) r h = rw h refl
-fails_outside errors.AgentProtocolError r h = rw h refl
-fails_outside errors.AgentFailure r h = rw h refl
-fails_outside errors.Decode r h = rw h refl
-fails_outside errors.SshKey r h = rw h refl
-fails_outside errors.SshEncoding r h = rw h refl
-fails_outside errors.EnvVar r h = rw h refl
-fails_outside errors.BadAuthSock r h = rw h refl
-fails_outside errors.Utf8 r h = rw h refl
-fails_outside errors.ReadFault r h = rw h refl
-fails_outside errors.WriteFault r h = rw h refl
-fails_outside errors.UnexpectedEnd r h = rw h refl
+fails_outside e r h = rw h refl
 
 -- ---- the key at the front
 

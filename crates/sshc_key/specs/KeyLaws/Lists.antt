@@ -27,20 +27,7 @@ goes_on f front bytes x rest total t e so_far = sym (ap (with_front front) (all_
 pub ends : {A : Type 0} (f : Reader Error A) (e : Error) (front : List A) (bytes : List ℕ) (total : Result (List A) Error) → 0 < length bytes → Fails e (f bytes)
     → with_front front (all_at f bytes) ≡ total → Fails e total
 ends f errors.NoMemory front bytes total h fails so_far = tt
-ends f errors.CouldNotReadKey front bytes total h fails so_far = sym so_far ∙ ap (with_front front) (all_fails f bytes errors.CouldNotReadKey h fails)
-ends f errors.NoHomeDir front bytes total h fails so_far = sym so_far ∙ ap (with_front front) (all_fails f bytes errors.NoHomeDir h fails)
-ends f (errors.KeyChanged line) front bytes total h fails so_far = sym so_far ∙ ap (with_front front) (all_fails f bytes (errors.KeyChanged line) h fails)
-ends f errors.AgentProtocolError front bytes total h fails so_far = sym so_far ∙ ap (with_front front) (all_fails f bytes errors.AgentProtocolError h fails)
-ends f errors.AgentFailure front bytes total h fails so_far = sym so_far ∙ ap (with_front front) (all_fails f bytes errors.AgentFailure h fails)
-ends f errors.Decode front bytes total h fails so_far = sym so_far ∙ ap (with_front front) (all_fails f bytes errors.Decode h fails)
-ends f errors.SshKey front bytes total h fails so_far = sym so_far ∙ ap (with_front front) (all_fails f bytes errors.SshKey h fails)
-ends f errors.SshEncoding front bytes total h fails so_far = sym so_far ∙ ap (with_front front) (all_fails f bytes errors.SshEncoding h fails)
-ends f errors.EnvVar front bytes total h fails so_far = sym so_far ∙ ap (with_front front) (all_fails f bytes errors.EnvVar h fails)
-ends f errors.BadAuthSock front bytes total h fails so_far = sym so_far ∙ ap (with_front front) (all_fails f bytes errors.BadAuthSock h fails)
-ends f errors.Utf8 front bytes total h fails so_far = sym so_far ∙ ap (with_front front) (all_fails f bytes errors.Utf8 h fails)
-ends f errors.ReadFault front bytes total h fails so_far = sym so_far ∙ ap (with_front front) (all_fails f bytes errors.ReadFault h fails)
-ends f errors.WriteFault front bytes total h fails so_far = sym so_far ∙ ap (with_front front) (all_fails f bytes errors.WriteFault h fails)
-ends f errors.UnexpectedEnd front bytes total h fails so_far = sym so_far ∙ ap (with_front front) (all_fails f bytes errors.UnexpectedEnd h fails)
+ends f e front bytes total h fails so_far = sym so_far ∙ ap (with_front front) (all_fails f bytes e h fails)
 
 text_takes : Takes text_at
 unfolding text_at
