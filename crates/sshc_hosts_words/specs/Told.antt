@@ -5,7 +5,7 @@ use Rattle.std.specs.List.{flat_map}
 use Rattle.std.specs.Fmt.{decimal}
 use Rattle.sshc_key.specs.Algorithms.{openssh_text}
 use Rattle.sshc_key.specs.declared.error.Error.{Error}
-use Rattle.sshc_key.specs.declared.error.Error.TheVariants.{KeyChanged, Decode, SshKey, Utf8, ReadFault, WriteFault}
+use Rattle.sshc_key.specs.declared.error.Error.TheVariants.{CouldNotReadKey, NoHomeDir, KeyChanged, AgentProtocolError, AgentFailure, Decode, SshKey, SshEncoding, EnvVar, BadAuthSock, Utf8, ReadFault, WriteFault, UnexpectedEnd, NoMemory, Revoked}
 use Rattle.sshc_hosts.specs.Judgement.{KnownKey}
 
 -- the lines for a result, and the exit status
@@ -18,7 +18,11 @@ line_of text = text ++ 10 ∷ []
 
 -- ---- errors
 
--- the name of an error, with its line; the remaining case is out of memory, since the calls have no other error
+abbrev pub no_memory : List ℕ
+no_memory = codes "no-memory"
+
+-- the name of an error, with its line. The calls have none of the last eight errors; each is listed, so that a new error
+-- has to be given a name
 abbrev pub refusal_name : Error → List ℕ
 refusal_name ReadFault = codes "known-file"
 refusal_name Utf8 = codes "known-file"
@@ -26,8 +30,18 @@ refusal_name WriteFault = codes "known-write"
 refusal_name (KeyChanged line) = codes "key-changed " ++ decimal line
 refusal_name Decode = codes "decode"
 refusal_name SshKey = codes "ssh-key"
-refusal_name e = codes "no-memory"
+refusal_name (Revoked line) = codes "revoked " ++ decimal line
+refusal_name NoMemory = no_memory
+refusal_name CouldNotReadKey = no_memory
+refusal_name NoHomeDir = no_memory
+refusal_name AgentProtocolError = no_memory
+refusal_name AgentFailure = no_memory
+refusal_name SshEncoding = no_memory
+refusal_name EnvVar = no_memory
+refusal_name BadAuthSock = no_memory
+refusal_name UnexpectedEnd = no_memory
 
+-- and its exit status
 abbrev pub refusal_status : Error → ℕ
 refusal_status ReadFault = 3
 refusal_status Utf8 = 3
@@ -35,7 +49,16 @@ refusal_status WriteFault = 4
 refusal_status (KeyChanged line) = 29
 refusal_status Decode = 30
 refusal_status SshKey = 31
-refusal_status e = 20
+refusal_status (Revoked line) = 42
+refusal_status NoMemory = 20
+refusal_status CouldNotReadKey = 20
+refusal_status NoHomeDir = 20
+refusal_status AgentProtocolError = 20
+refusal_status AgentFailure = 20
+refusal_status SshEncoding = 20
+refusal_status EnvVar = 20
+refusal_status BadAuthSock = 20
+refusal_status UnexpectedEnd = 20
 
 abbrev pub refusal_line : Error → List ℕ
 refusal_line e = codes "error " ++ refusal_name e ++ 10 ∷ []

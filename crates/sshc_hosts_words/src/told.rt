@@ -9,7 +9,8 @@ use sshc_key::Error;
 use sshc_wire::{NoMemory, Sink};
 use std::alloc::Global;
 
-/// The line for an error of known hosts.
+/// The line for an error of known hosts. The calls have none of the last eight errors, which are named so that a new
+/// error is given a name and a status.
 fn refusal_line(alloc: Global, e: Error) -> Result<String, NoMemory>
     ensures { IfOk result (λ text. string_bytes text ≡ refusal_line e) }
 {
@@ -19,11 +20,21 @@ fn refusal_line(alloc: Global, e: Error) -> Result<String, NoMemory>
         Error::KeyChanged { line } => return Ok(format!(in alloc; "error key-changed {line}\n")?),
         Error::Decode => "decode",
         Error::SshKey => "ssh-key",
-        _ => "no-memory",
+        Error::Revoked { line } => return Ok(format!(in alloc; "error revoked {line}\n")?),
+        Error::NoMemory
+        | Error::CouldNotReadKey
+        | Error::NoHomeDir
+        | Error::AgentProtocolError
+        | Error::AgentFailure
+        | Error::SshEncoding
+        | Error::EnvVar
+        | Error::BadAuthSock
+        | Error::UnexpectedEnd => "no-memory",
     };
     Ok(format!(in alloc; "error {name}\n")?)
 }
 
+/// The status of an error of known hosts.
 fn refusal_status(e: Error) -> u8
     ensures { result ≡ refusal_status e }
 {
@@ -33,7 +44,16 @@ fn refusal_status(e: Error) -> u8
         Error::KeyChanged { .. } => 29,
         Error::Decode => 30,
         Error::SshKey => 31,
-        _ => NO_MEMORY_STATUS,
+        Error::Revoked { .. } => 42,
+        Error::NoMemory
+        | Error::CouldNotReadKey
+        | Error::NoHomeDir
+        | Error::AgentProtocolError
+        | Error::AgentFailure
+        | Error::SshEncoding
+        | Error::EnvVar
+        | Error::BadAuthSock
+        | Error::UnexpectedEnd => NO_MEMORY_STATUS,
     }
 }
 
