@@ -1,13 +1,13 @@
 -- Hashed entries: what they match, and which bytes they lack.
 use Rattle.std.proofs.Common.{◌≡◌, ℕ, zero, suc, ◌<◌, ◌/◌, ◌^◌, Bool, true, false, List, [], ◌∷◌, ◌++◌, length, Option, Some, Ok, refl, ap, sym, ◌∙◌, arith}
-use Rattle.std.specs.Prelude.{◌==◌, ◌&&◌, not, if◌then◌else◌, bytes_eq, filter, slice_index}
+use Rattle.std.specs.Prelude.{◌==◌, not, if◌then◌else◌, bytes_eq, filter, slice_index}
 use Rattle.std.specs.List.{AllByRecursion}
 use Rattle.std.specs.Int.{w32, byte_at, bytes_high_first, to_be_bytes}
 use Rattle.std.proofs.lemmas.Nat.{mod_below}
 use Rattle.std.proofs.lemmas.Bool.Decides.{nat_tests}
 use Rattle.std.proofs.lemmas.Bool.{eqb-true}
 use Rattle.std.proofs.lemmas.Slice.Eq.{bytes_eq-Decides}
-use Rattle.sshc_wire.specs.Cases.{both_true, not_true}
+use Rattle.sshc_wire.specs.Cases.{both_false, both_true, not_true}
 use Rattle.base64.specs.Engines.{standard}
 use Rattle.base64.specs.GeneralPurpose.{encode_of, decode_of, decoded_of, IsBytes}
 use Rattle.base64.proofs.EngineFacts.{decode_of-encode_of}
@@ -15,11 +15,12 @@ use Rattle.sha1.specs.Sha1.{digest_bytes, sha1}
 use Rattle.sshc_key.specs.KeyText.{is_no_line_end}
 use Rattle.sshc_hosts.specs.Hmac.{hmac_sha1}
 use Rattle.sshc_hosts.specs.Learning.{Lacks}
-use Rattle.sshc_hosts.specs.MatchingLines.{parts_at, base64_bytes, hash_matches, hashed_matches, is_hashed, entry_matches, is_comment}
+use Rattle.sshc_hosts.specs.MatchingLines.{parts_at, base64_bytes, hash_matches, hashed_matches, is_hashed, entry_matches}
 use Rattle.sshc_hosts.proofs.LineLemmas.{parts_at-first, parts_at-lacking}
 use Rattle.sshc_hosts.proofs.LearningLemmas.{Lacks-append, Lacks-cons}
 use Rattle.sshc_hosts.proofs.Base64Lemmas.{Lacks-from_test, base64_lacks, base64_no_line_feed}
 use Rattle.sshc_audit.specs.Hashing.{hashed_entry, is_name}
+use Rattle.sshc_audit.specs.Removing.{begins_apart}
 
 -- ---- digests are bytes
 
@@ -129,20 +130,23 @@ hashed_lacks salt entry byte bar one base64 =
 pub comma_lacks : (m : List ℕ) → Lacks (encode_of standard m) 44
 comma_lacks m = base64_lacks m 44 refl refl (Lacks-from_test 44 standard.encode_table refl)
 
--- an entry that isn't a name begins no comment
+-- an entry that isn't a name begins neither a comment nor a mark
 some_length : (b : ℕ) (rest : List ℕ) → (length (b ∷ rest) == 0) ≡ false
 some_length b rest = let some : 0 < length (b ∷ rest) = omega arith in grind (arith, nat_tests, some)
 
 hash_sign : (rest : List ℕ) → is_name (35 ∷ rest) ≡ true
 hash_sign rest = rw (some_length 35 rest) refl
 
-no_name_case : (b : ℕ) (rest : List ℕ) (first : Bool) → (b == 35) ≡ first → is_name (b ∷ rest) ≡ false → first ≡ false
-no_name_case b rest false e h = refl
-no_name_case b rest true e h =
-    let is : b ≡ 35 = eqb-true b 35 e in
-    let name : is_name (b ∷ rest) ≡ true = ap (λ (x : ℕ). is_name (x ∷ rest)) is ∙ hash_sign rest in
-    sym name ∙ h
+at_sign : (rest : List ℕ) → is_name (64 ∷ rest) ≡ true
+at_sign rest = rw (some_length 64 rest) refl
 
-pub no_name_comment : (entry : List ℕ) → is_name entry ≡ false → is_comment entry ≡ false
-no_name_comment [] h = refl
-no_name_comment (b ∷ rest) h = no_name_case b rest (b == 35) refl h
+no_name_case : (sign b : ℕ) (rest : List ℕ) (first : Bool) → is_name (sign ∷ rest) ≡ true → (b == sign) ≡ first → is_name (b ∷ rest) ≡ false → first ≡ false
+no_name_case sign b rest false name e h = refl
+no_name_case sign b rest true name e h =
+    let is : b ≡ sign = eqb-true b sign e in
+    sym (ap (λ (x : ℕ). is_name (x ∷ rest)) is ∙ name) ∙ h
+
+pub no_name_apart : (entry : List ℕ) → is_name entry ≡ false → begins_apart entry ≡ false
+no_name_apart [] h = refl
+no_name_apart (b ∷ rest) h =
+    both_false (b == 35) (b == 64) (no_name_case 35 b rest (b == 35) (hash_sign rest) refl h) (no_name_case 64 b rest (b == 64) (at_sign rest) refl h)

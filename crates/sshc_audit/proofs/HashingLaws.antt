@@ -6,20 +6,20 @@ use Rattle.std.proofs.lemmas.List.Splits.{length-slice_split}
 use Rattle.base64.specs.GeneralPurpose.{encode_of, IsBytes}
 use Rattle.base64.specs.Engines.{standard}
 use Rattle.sshc_key.specs.KeyGrammar.{Key}
-use Rattle.sshc_hosts.specs.MatchingLines.{parts_at, entry_matches, field_matches, is_comment, line_key, matching}
-use Rattle.sshc_hosts.specs.Judgement.{known_keys, read_lines, judged_by, judged}
+use Rattle.sshc_hosts.specs.MatchingLines.{LineKey, parts_at, entry_matches, field_matches, line_key, matching}
+use Rattle.sshc_hosts.specs.Judgement.{marked_keys, read_lines, judged_by, judged}
 use Rattle.sshc_hosts.specs.Learning.{Lacks}
 use Rattle.sshc_hosts.proofs.Base64Lemmas.{base64_no_space, base64_no_line_feed}
 use Rattle.sshc_audit.specs.Lines.{Line, line_of}
-use Rattle.sshc_audit.specs.Removing.{with_host}
+use Rattle.sshc_audit.specs.Removing.{begins_apart, with_host}
 use Rattle.sshc_audit.specs.Salts.{SaltState, IsSalt, Took}
 use Rattle.sshc_audit.specs.Hashing.{hashed_entry, is_name, first_salt, with_salts, total, entry_needs, hashed_or_same, salted_entry, entries_of, part_needs, hashed_field, hashed_line, hashed_part, salted_part, names_of, hashed_text, salted_names, IsAlone, MatchesByHash, Hashes}
 use Rattle.sshc_audit.proofs.Parts.{EachLacks, parts_lack, parts_also_lack, join_lacks}
 use Rattle.sshc_audit.proofs.Following.{numbered}
 use Rattle.sshc_audit.proofs.LineFacts.{IsLine, is_line, fields_lack, matches_as_before}
 use Rattle.sshc_audit.proofs.Agreement.{matching_case}
-use Rattle.sshc_audit.proofs.RemovingLaws.{no_comment_join, joined_matches, line_lacks, new_line_lacks}
-use Rattle.sshc_audit.proofs.HashedEntries.{hashed_matches_by, hashed_as_before, hashed_lacks, comma_lacks, no_name_comment}
+use Rattle.sshc_audit.proofs.RemovingLaws.{apart_join, joined_matches, line_lacks, new_line_lacks}
+use Rattle.sshc_audit.proofs.HashedEntries.{hashed_matches_by, hashed_as_before, hashed_lacks, comma_lacks, no_name_apart}
 
 -- ---- at least as many salts as are needed
 
@@ -118,16 +118,16 @@ space_apart = record { bar = refl; one = refl; base64 = base64_no_space }
 feed_apart : IsApart 10
 feed_apart = record { bar = refl; one = refl; base64 = base64_no_line_feed }
 
-no_comment_case : (salts : List (List ℕ)) (entry : List ℕ) (b : Bool) → is_name entry ≡ b → is_comment (if b then hashed_entry (first_salt salts) entry else entry) ≡ false
-no_comment_case salts entry true e = refl
-no_comment_case salts entry false e = no_name_comment entry e
+apart_case : (salts : List (List ℕ)) (entry : List ℕ) (b : Bool) → is_name entry ≡ b → begins_apart (if b then hashed_entry (first_salt salts) entry else entry) ≡ false
+apart_case salts entry true e = refl
+apart_case salts entry false e = no_name_apart entry e
 
 -- ---- a host field
 
 -- the new host field for these entries
 pub record HashedField (host field rest hashed : List ℕ) : Type 0 where
   pub space : Lacks hashed 32
-  pub begun : is_comment (hashed ++ 32 ∷ rest) ≡ false
+  pub begun : begins_apart (hashed ++ 32 ∷ rest) ≡ false
   pub matches : field_matches host hashed ≡ field_matches host field
 
 some_part : (c : ℕ) (xs : List ℕ) → parts_at c xs ≡ [] → ⊥
@@ -139,7 +139,7 @@ field_by host field rest salts [] is comma space are alone = absurd (some_part 4
 field_by host field rest salts (entry ∷ entries) is comma space are alone =
     let later : List (List ℕ) = drop (entry_needs entry) salts in record {
       space = join_lacks 44 32 (hashed_entries salts (entry ∷ entries)) refl (hashed_lack 32 salts (entry ∷ entries) space_apart space);
-      begun = no_comment_join (hashed_or_same salts entry) (hashed_entries later entries) rest (no_comment_case salts entry (is_name entry) refl);
+      begun = apart_join (hashed_or_same salts entry) (hashed_entries later entries) rest (apart_case salts entry (is_name entry) refl);
       matches = joined_matches host (hashed_or_same salts entry) (hashed_entries later entries) (hashed_lack 44 salts (entry ∷ entries) comma_apart comma)
           ∙ entries_match host salts (entry ∷ entries) are alone ∙ ap (λ (es : List (List ℕ)). list_any (λ e. entry_matches host e) es) (sym is);
     }
@@ -171,8 +171,8 @@ parts_lack_feeds : (salts parts : List (List ℕ)) → EachLacks parts 10 → Ea
 parts_lack_feeds salts [] each = tt
 parts_lack_feeds salts (part ∷ parts) each = (lacks_case part salts (line_of part) refl each.0, parts_lack_feeds (drop (part_needs part) salts) parts each.1)
 
-one_line : (n : ℕ) (o o' : Option (List ℕ)) (xs ys : List (ℕ × List ℕ)) → o ≡ o' → xs ≡ ys → cons_option (option_map (λ key. (n, key)) o) xs ≡ cons_option (option_map (λ key. (n, key)) o') ys
-one_line n o o' xs ys same rest = ap (λ (k : Option (List ℕ)). cons_option (option_map (λ key. (n, key)) k) xs) same ∙ ap (cons_option (option_map (λ key. (n, key)) o')) rest
+one_line : (n : ℕ) (o o' : Option LineKey) (xs ys : List (ℕ × LineKey)) → o ≡ o' → xs ≡ ys → cons_option (option_map (λ key. (n, key)) o) xs ≡ cons_option (option_map (λ key. (n, key)) o') ys
+one_line n o o' xs ys same rest = ap (λ (k : Option LineKey). cons_option (option_map (λ key. (n, key)) k) xs) same ∙ ap (cons_option (option_map (λ key. (n, key)) o')) rest
 
 parts_match : (host : List ℕ) (n : ℕ) (salts parts : List (List ℕ)) → AreSalts salts (total part_needs parts) → IsAlone host (flat_map (λ named. named) (with_salts part_needs salted_part salts parts))
     → numbered host n (with_salts part_needs hashed_part salts parts) ≡ numbered host n parts
@@ -197,12 +197,12 @@ parts_by_hash salts (part ∷ parts) are =
 -- the judgement for a host text that shares its HMAC with no other name is as it was
 pub hashed_judged : (text : List ℕ) (salts : List (List ℕ)) (host : List ℕ) (key : Key) → AreSalts salts (names_of text) → IsAlone host (salted_names text salts)
     → judged (hashed_text text salts) host key ≡ judged text host key
-unfolding judged known_keys
+unfolding judged marked_keys
 hashed_judged text salts host key are alone =
     let lines : matching (hashed_text text salts) host ≡ matching text host =
     matching_case (with_salts part_needs hashed_part salts (parts_at 10 text)) host (parts_lack_feeds salts (parts_at 10 text) (parts_lack 10 text))
     ∙ parts_match host 1 salts (parts_at 10 text) are alone in
-    ap (λ (found : List (ℕ × List ℕ)). judged_by (read_lines found) key) lines
+    ap (λ (found : List (ℕ × LineKey)). judged_by (read_lines found) key) lines
 
 -- all that holds of a text whose names were hashed with these salts
 pub hashes : (text : List ℕ) (before after : SaltState) (salts : List (List ℕ)) (new : List ℕ) → Took before after salts → length salts ≡ names_of text → new ≡ hashed_text text salts

@@ -1,50 +1,67 @@
--- The judgement by the first lines that can't be read, that contradict the key and that have it.
+-- The judgement by the first lines that can't be read, that revoke the key, that contradict it and that record it.
 use Rattle.std.proofs.Common.{◌≡◌, ℕ, Bool, true, false, List, [], ◌∷◌, Option, Some, None, Result, Ok, Err, refl, ap, sym, ◌∙◌, subst}
-use Rattle.std.specs.Prelude.{if◌then◌else◌, not, ◌&&◌, ◌||◌, find, option_map, is_some}
-use Rattle.std.specs.List.{list_any}
+use Rattle.std.specs.Prelude.{if◌then◌else◌, not, ◌&&◌, find, option_map}
 use Rattle.sshc_wire.specs.Reads.{◌>>=◌}
 use Rattle.sshc_key.specs.KeyGrammar.{Key}
 use Rattle.sshc_key.specs.KeyEq.{key_eq}
 use Rattle.sshc_key.specs.KeyText.{decoded_key}
 use Rattle.sshc_key.specs.declared.error.Error.{Error}
-use Rattle.sshc_key.specs.declared.error.Error.TheVariants.{KeyChanged}
-use Rattle.sshc_hosts.specs.Judgement.{KnownKey, same_algorithm, contradicts, has_key, verdict, judged_among, read_lines}
+use Rattle.sshc_hosts.specs.declared.marks.Mark.{Mark}
+use Rattle.sshc_hosts.specs.declared.marks.Mark.TheVariants.{Recorded, Revoked}
+use Rattle.sshc_hosts.specs.MatchingLines.{LineKey, marked_as}
+use Rattle.sshc_hosts.specs.Judgement.{KnownKey, KeysByMark, same_algorithm, contradicts, first_line, has_key, verdict, judged_among, with_key, read_lines}
+use Rattle.sshc_hosts.proofs.JudgementLemmas.{with_line}
 
--- how a third field relates to a key: it can't be read, contradicts it, or has it
+-- how a line relates to a key: it can't be read, or it has a mark and its key passes a test
 abbrev pub is_bad_by : Result Key Error → Bool
 is_bad_by (Ok k) = false
 is_bad_by (Err e) = true
 
-abbrev pub is_bad : List ℕ → Bool
-is_bad field = is_bad_by (decoded_key field)
+abbrev pub is_bad : LineKey → Bool
+is_bad line = is_bad_by (decoded_key line.text)
 
-abbrev pub contradicts_by : Key → Result Key Error → Bool
-contradicts_by key (Ok k) = same_algorithm key k && not (key_eq key k)
-contradicts_by key (Err e) = false
+abbrev pub passes : (Key → Bool) → Result Key Error → Bool
+passes test (Ok k) = test k
+passes test (Err e) = false
 
-abbrev pub is_contrary : Key → List ℕ → Bool
-is_contrary key field = contradicts_by key (decoded_key field)
+abbrev pub same_mark : Mark → Mark → Bool
+same_mark Recorded Recorded = true
+same_mark Revoked Revoked = true
+same_mark mark other = false
 
-abbrev pub has_by : Key → Result Key Error → Bool
-has_by key (Ok k) = key_eq key k
-has_by key (Err e) = false
+abbrev pub passes_as : Mark → (Key → Bool) → LineKey → Bool
+passes_as mark test line = same_mark mark line.mark && passes test (decoded_key line.text)
 
-abbrev pub is_held : Key → List ℕ → Bool
-is_held key field = has_by key (decoded_key field)
+-- the line revokes the key, contradicts it, or records it
+abbrev pub is_revoking : Key → LineKey → Bool
+is_revoking key = passes_as Revoked (key_eq key)
+
+abbrev pub is_contrary : Key → LineKey → Bool
+is_contrary key = passes_as Recorded (λ k. same_algorithm key k && not (key_eq key k))
+
+abbrev pub is_recording : Key → LineKey → Bool
+is_recording key = passes_as Recorded (key_eq key)
 
 -- the first line of a kind
-abbrev pub first_of : (List ℕ → Bool) → List (ℕ × List ℕ) → Option (ℕ × List ℕ)
+abbrev pub first_of : (LineKey → Bool) → List (ℕ × LineKey) → Option (ℕ × LineKey)
 first_of test lines = find (λ line. test line.1) lines
 
 abbrev pub number_of : {T : Type 0} → Option (ℕ × T) → Option ℕ
 number_of {T} o = option_map (λ (line : ℕ × T). line.0) o
 
--- lines whose fields can all be read
-pub record AreRead (key : Key) (lines : List (ℕ × List ℕ)) : Type 0 where
-  pub known : List KnownKey
-  pub read : read_lines lines ≡ Ok known
-  pub contrary : number_of (find (contradicts key) known) ≡ number_of (first_of (is_contrary key) lines)
-  pub held : list_any (has_key key) known ≡ is_some (first_of (is_held key) lines)
+-- the keys of lines with a mark
+abbrev pub keys_of : Mark → KeysByMark → List KnownKey
+keys_of Recorded keys = keys.recorded
+keys_of Revoked keys = keys.revoked
+
+abbrev pub key_passes : (Key → Bool) → KnownKey → Bool
+key_passes test known = test known.1.0
+
+-- lines whose keys can all be read: the first of their keys with a mark that passes a test is that of the first such line
+pub record AreRead (lines : List (ℕ × LineKey)) : Type 0 where
+  pub keys : KeysByMark
+  pub read : read_lines lines ≡ Ok keys
+  pub same : (mark : Mark) (test : Key → Bool) → first_line (key_passes test) (keys_of mark keys) ≡ number_of (first_of (passes_as mark test) lines)
 
 find_by : {X : Type 0} (p : X → Bool) (x : X) (xs : List X) (b : Bool) → p x ≡ b → find p (x ∷ xs) ≡ (if b then Some x else find p xs)
 find_by p x xs true e = rw e refl
@@ -55,83 +72,78 @@ same_number : {T U : Type 0} (b : Bool) (a : ℕ × T) (a' : ℕ × U) (x : Opti
 same_number true a a' x y first rest = ap Some first
 same_number false a a' x y first rest = rest
 
-first_number : (key k : Key) (line : ℕ × List ℕ) (known : List KnownKey) (lines : List (ℕ × List ℕ)) → decoded_key line.1 ≡ Ok k
-    → number_of (find (contradicts key) known) ≡ number_of (first_of (is_contrary key) lines)
-    → number_of (find (contradicts key) ((line.0, (k, [])) ∷ known)) ≡ number_of (first_of (is_contrary key) (line ∷ lines))
-first_number key k line known lines e rest =
-    let b : Bool = contradicts_by key (Ok k) in
-    ap number_of (find_by (contradicts key) (line.0, (k, [])) known b refl)
-    ∙ same_number b (line.0, (k, [])) line (find (contradicts key) known) (first_of (is_contrary key) lines) refl rest
-    ∙ ap number_of (sym (find_by (λ (l : ℕ × List ℕ). is_contrary key l.1) line lines b (ap (contradicts_by key) e)))
+module _ (test : Key → Bool) (n : ℕ) (k : Key) (text : List ℕ) (lines : List (ℕ × LineKey)) (is : decoded_key text ≡ Ok k) where
+  -- a line with the mark
+  own_line : (mark : Mark) (known : List KnownKey) → same_mark mark mark ≡ true → first_line (key_passes test) known ≡ number_of (first_of (passes_as mark test) lines)
+      → first_line (key_passes test) ((n, (k, [])) ∷ known) ≡ number_of (first_of (passes_as mark test) ((n, marked_as mark text) ∷ lines))
+  own_line mark known own rest =
+      let line : ℕ × LineKey = (n, marked_as mark text) in
+      let by_key : passes_as mark test line.1 ≡ test k = ap (λ (b : Bool). b && passes test (decoded_key text)) own ∙ ap (passes test) is in
+      ap number_of (find_by (key_passes test) (n, (k, [])) known (test k) refl)
+      ∙ same_number (test k) (n, (k, [])) line (find (key_passes test) known) (first_of (passes_as mark test) lines) refl rest
+      ∙ ap number_of (sym (find_by (λ (l : ℕ × LineKey). passes_as mark test l.1) line lines (test k) by_key))
 
-held_case : (b : Bool) (line : ℕ × List ℕ) (any : Bool) (o : Option (ℕ × List ℕ)) → any ≡ is_some o → (b || any) ≡ is_some (if b then Some line else o)
-held_case true line any o e = refl
-held_case false line any o e = e
+  -- a line with the other mark
+  other_line : (mark other : Mark) → same_mark mark other ≡ false → number_of (first_of (passes_as mark test) ((n, marked_as other text) ∷ lines)) ≡ number_of (first_of (passes_as mark test) lines)
+  other_line mark other apart =
+      ap number_of (find_by (λ (l : ℕ × LineKey). passes_as mark test l.1) (n, marked_as other text) lines false (ap (λ (b : Bool). b && passes test (decoded_key text)) apart))
 
-first_held : (key k : Key) (line : ℕ × List ℕ) (known : List KnownKey) (lines : List (ℕ × List ℕ)) → decoded_key line.1 ≡ Ok k
-    → list_any (has_key key) known ≡ is_some (first_of (is_held key) lines)
-    → list_any (has_key key) ((line.0, (k, [])) ∷ known) ≡ is_some (first_of (is_held key) (line ∷ lines))
-first_held key k line known lines e rest =
-    held_case (key_eq key k) line (list_any (has_key key) known) (first_of (is_held key) lines) rest
-    ∙ ap is_some (sym (find_by (λ (l : ℕ × List ℕ). is_held key l.1) line lines (key_eq key k) (ap (has_by key) e)))
+  one_line : (mark other : Mark) (keys : KeysByMark) → first_line (key_passes test) (keys_of mark keys) ≡ number_of (first_of (passes_as mark test) lines)
+      → first_line (key_passes test) (keys_of mark (with_key other (n, (k, [])) keys)) ≡ number_of (first_of (passes_as mark test) ((n, marked_as other text) ∷ lines))
+  one_line Recorded Recorded keys rest = own_line Recorded keys.recorded refl rest
+  one_line Revoked Revoked keys rest = own_line Revoked keys.revoked refl rest
+  one_line Recorded Revoked keys rest = rest ∙ sym (other_line Recorded Revoked refl)
+  one_line Revoked Recorded keys rest = rest ∙ sym (other_line Revoked Recorded refl)
 
--- the result of reading one more line
-abbrev pub with_line : ℕ → Result Key Error → Result (List KnownKey) Error → Result (List KnownKey) Error
-with_line n key rest = key >>= (λ k. rest >>= (λ known. Ok ((n, (k, [])) ∷ known)))
-
-read_case : (key : Key) (line : ℕ × List ℕ) (lines : List (ℕ × List ℕ)) (d : Result Key Error) → decoded_key line.1 ≡ d → first_of is_bad (line ∷ lines) ≡ None
-    → (first_of is_bad lines ≡ None → AreRead key lines) → AreRead key (line ∷ lines)
-read_case key line lines (Err e) is none later =
-    let stops : first_of is_bad (line ∷ lines) ≡ Some line = find_by (λ (l : ℕ × List ℕ). is_bad l.1) line lines true (ap is_bad_by is) in
+read_case : (line : ℕ × LineKey) (lines : List (ℕ × LineKey)) (d : Result Key Error) → decoded_key line.1.text ≡ d → first_of is_bad (line ∷ lines) ≡ None
+    → (first_of is_bad lines ≡ None → AreRead lines) → AreRead (line ∷ lines)
+read_case line lines (Err e) is none later =
+    let stops : first_of is_bad (line ∷ lines) ≡ Some line = find_by (λ (l : ℕ × LineKey). is_bad l.1) line lines true (ap is_bad_by is) in
     let wrong : Some line ≡ None = sym stops ∙ none in
     cc wrong
-read_case key line lines (Ok k) is none later =
-    let skips : first_of is_bad (line ∷ lines) ≡ first_of is_bad lines = find_by (λ (l : ℕ × List ℕ). is_bad l.1) line lines false (ap is_bad_by is) in
-    let rest : AreRead key lines = later (sym skips ∙ none) in
+read_case line lines (Ok k) is none later =
+    let skips : first_of is_bad (line ∷ lines) ≡ first_of is_bad lines = find_by (λ (l : ℕ × LineKey). is_bad l.1) line lines false (ap is_bad_by is) in
+    let rest : AreRead lines = later (sym skips ∙ none) in
     record {
-      known = (line.0, (k, [])) ∷ rest.known;
-      read = ap (λ (d : Result Key Error). with_line line.0 d (read_lines lines)) is ∙ ap (λ (r : Result (List KnownKey) Error). with_line line.0 (Ok k) r) rest.read;
-      contrary = first_number key k line rest.known lines is rest.contrary;
-      held = first_held key k line rest.known lines is rest.held;
+      keys = with_key line.1.mark (line.0, (k, [])) rest.keys;
+      read = ap (λ (d : Result Key Error). with_line line d (read_lines lines)) is ∙ ap (λ (r : Result KeysByMark Error). with_line line (Ok k) r) rest.read;
+      same = λ mark test. one_line test line.0 k line.1.text lines is mark line.1.mark rest.keys (rest.same mark test);
     }
 
-pub are_read : (key : Key) (lines : List (ℕ × List ℕ)) → first_of is_bad lines ≡ None → AreRead key lines
-are_read key [] none = record { known = []; read = refl; contrary = refl; held = refl }
-are_read key (line ∷ lines) none = read_case key line lines (decoded_key line.1) refl none (are_read key lines)
+none_read : (mark : Mark) (test : Key → Bool) → first_line (key_passes test) (keys_of mark (record { recorded = []; revoked = [] })) ≡ None
+none_read Recorded test = refl
+none_read Revoked test = refl
+
+pub are_read : (lines : List (ℕ × LineKey)) → first_of is_bad lines ≡ None → AreRead lines
+are_read [] none = record { keys = record { recorded = []; revoked = [] }; read = refl; same = none_read }
+are_read (line ∷ lines) none = read_case line lines (decoded_key line.1.text) refl none (are_read lines)
 
 -- the reason why the first unreadable line can't be read is the reason why the lines can't be
-abbrev pub SaysWhy : List (ℕ × List ℕ) → ℕ × List ℕ → Type 0
-SaysWhy lines bad = (e : Error) × (read_lines lines ≡ Err e) × (decoded_key bad.1 ≡ Err e)
+abbrev pub SaysWhy : List (ℕ × LineKey) → ℕ × LineKey → Type 0
+SaysWhy lines bad = (e : Error) × (read_lines lines ≡ Err e) × (decoded_key bad.1.text ≡ Err e)
 
-why_case : (line bad : ℕ × List ℕ) (lines : List (ℕ × List ℕ)) (d : Result Key Error) → decoded_key line.1 ≡ d → first_of is_bad (line ∷ lines) ≡ Some bad
+why_case : (line bad : ℕ × LineKey) (lines : List (ℕ × LineKey)) (d : Result Key Error) → decoded_key line.1.text ≡ d → first_of is_bad (line ∷ lines) ≡ Some bad
     → (first_of is_bad lines ≡ Some bad → SaysWhy lines bad) → SaysWhy (line ∷ lines) bad
 why_case line bad lines (Err e) is some later =
-    let stops : first_of is_bad (line ∷ lines) ≡ Some line = find_by (λ (l : ℕ × List ℕ). is_bad l.1) line lines true (ap is_bad_by is) in
+    let stops : first_of is_bad (line ∷ lines) ≡ Some line = find_by (λ (l : ℕ × LineKey). is_bad l.1) line lines true (ap is_bad_by is) in
     let both : Some line ≡ Some bad = sym stops ∙ some in
     let same : line ≡ bad = cc both in
-    (e, ap (λ (d : Result Key Error). with_line line.0 d (read_lines lines)) is, subst (λ (l : ℕ × List ℕ). decoded_key l.1 ≡ Err e) same is)
+    (e, ap (λ (d : Result Key Error). with_line line d (read_lines lines)) is, subst (λ (l : ℕ × LineKey). decoded_key l.1.text ≡ Err e) same is)
 why_case line bad lines (Ok k) is some later =
-    let skips : first_of is_bad (line ∷ lines) ≡ first_of is_bad lines = find_by (λ (l : ℕ × List ℕ). is_bad l.1) line lines false (ap is_bad_by is) in
+    let skips : first_of is_bad (line ∷ lines) ≡ first_of is_bad lines = find_by (λ (l : ℕ × LineKey). is_bad l.1) line lines false (ap is_bad_by is) in
     let (e, rest, why) = later (sym skips ∙ some) in
-    (e, ap (λ (d : Result Key Error). with_line line.0 d (read_lines lines)) is ∙ ap (λ (r : Result (List KnownKey) Error). with_line line.0 (Ok k) r) rest, why)
+    (e, ap (λ (d : Result Key Error). with_line line d (read_lines lines)) is ∙ ap (λ (r : Result KeysByMark Error). with_line line (Ok k) r) rest, why)
 
-pub says_why : (lines : List (ℕ × List ℕ)) (bad : ℕ × List ℕ) → first_of is_bad lines ≡ Some bad → SaysWhy lines bad
+pub says_why : (lines : List (ℕ × LineKey)) (bad : ℕ × LineKey) → first_of is_bad lines ≡ Some bad → SaysWhy lines bad
 says_why [] bad some = cc some
-says_why (line ∷ lines) bad some = why_case line bad lines (decoded_key line.1) refl some (says_why lines bad)
+says_why (line ∷ lines) bad some = why_case line bad lines (decoded_key line.1.text) refl some (says_why lines bad)
 
--- the verdict by the number of the first line that contradicts the key, and whether a line has it
-abbrev pub verdict_by : Option ℕ → Bool → Result Bool Error
-verdict_by (Some n) held = Err (KeyChanged n)
-verdict_by None held = Ok held
-
-verdict_is : (o : Option KnownKey) (held : Bool) → verdict o held ≡ verdict_by (number_of o) held
-verdict_is (Some known) held = refl
-verdict_is None held = refl
-
-pub judged_read : (key : Key) (lines : List (ℕ × List ℕ)) → AreRead key lines
-    → (read_lines lines >>= judged_among key) ≡ verdict_by (number_of (first_of (is_contrary key) lines)) (is_some (first_of (is_held key) lines))
+-- the verdict by the numbers of the first lines that revoke the key, contradict it and record it
+pub judged_read : (key : Key) (lines : List (ℕ × LineKey)) → AreRead lines
+    → (read_lines lines >>= judged_among key) ≡ verdict (number_of (first_of (is_revoking key) lines)) (number_of (first_of (is_contrary key) lines)) (number_of (first_of (is_recording key) lines))
 judged_read key lines are =
-    ap (λ (r : Result (List KnownKey) Error). r >>= judged_among key) are.read
-    ∙ verdict_is (find (contradicts key) are.known) (list_any (has_key key) are.known)
-    ∙ ap (λ (n : Option ℕ). verdict_by n (list_any (has_key key) are.known)) are.contrary
-    ∙ ap (λ (b : Bool). verdict_by (number_of (first_of (is_contrary key) lines)) b) are.held
+    ap (λ (r : Result KeysByMark Error). r >>= judged_among key) are.read
+    ∙ ap (λ (n : Option ℕ). verdict n (first_line (contradicts key) are.keys.recorded) (first_line (has_key key) are.keys.recorded)) (are.same Revoked (key_eq key))
+    ∙ ap (λ (n : Option ℕ). verdict (number_of (first_of (is_revoking key) lines)) n (first_line (has_key key) are.keys.recorded))
+    (are.same Recorded (λ k. same_algorithm key k && not (key_eq key k)))
+    ∙ ap (λ (n : Option ℕ). verdict (number_of (first_of (is_revoking key) lines)) (number_of (first_of (is_contrary key) lines)) n) (are.same Recorded (key_eq key))

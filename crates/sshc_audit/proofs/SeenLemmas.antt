@@ -3,6 +3,7 @@ use Rattle.std.proofs.Common.{◌≡◌, ℕ, Bool, true, false, List, [], ◌�
 use Rattle.std.specs.Prelude.{◌||◌, not, if◌then◌else◌}
 use Rattle.std.specs.List.{list_any}
 use Rattle.std.specs.HashSet.{HashSet, contains, UpdatesBy}
+use Rattle.sshc_hosts.specs.MatchingLines.{is_revoked}
 use Rattle.sshc_audit.specs.Lines.{Line, line_of}
 use Rattle.sshc_audit.specs.Doubled.{both_say, is_doubled, Said, same_said, says, IsSeen}
 
@@ -33,7 +34,7 @@ no_line_doubled earlier part is =
 
 -- the compared fields of a line, as the set keeps them
 abbrev pub IsKept : Said → Line → Type 0
-IsKept said line = (said.0 ≡ line.marked) × (said.1.now ≡ line.host) × (said.2.now ≡ line.key)
+IsKept said line = (said.0 ≡ is_revoked line.mark) × (said.1.now ≡ line.host) × (said.2.now ≡ line.key)
 
 kept_says : (said : Said) (line : Line) (o : Option Line) → IsKept said line → says said o ≡ both_say o (Some line)
 kept_says said line None is = refl

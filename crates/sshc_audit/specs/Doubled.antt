@@ -5,13 +5,13 @@ use mathlib.Core.Bool.{beq}
 use Rattle.std.specs.List.{list_any}
 use Rattle.std.specs.HashSet.{HashSet, contains}
 use denote.Ref.{Bor}
-use Rattle.sshc_hosts.specs.MatchingLines.{parts_at}
+use Rattle.sshc_hosts.specs.MatchingLines.{is_revoked, parts_at}
 use Rattle.sshc_audit.specs.Lines.{Line, line_of}
 use Rattle.sshc_audit.specs.Rewriting.{Change}
 
 -- two lines with the same mark, host field and third field
 abbrev pub says_same : Line → Line → Bool
-says_same line other = (beq line.marked other.marked && bytes_eq line.host other.host) && bytes_eq line.key other.key
+says_same line other = (beq (is_revoked line.mark) (is_revoked other.mark) && bytes_eq line.host other.host) && bytes_eq line.key other.key
 
 abbrev pub both_say : Option Line → Option Line → Bool
 both_say (Some line) (Some other) = says_same line other
@@ -38,7 +38,7 @@ Said = Bool × (Bor (List ℕ)) × (Bor (List ℕ))
 
 abbrev pub says : Said → Option Line → Bool
 says said None = false
-says said (Some line) = (beq line.marked said.0 && bytes_eq line.host said.1.now) && bytes_eq line.key said.2.now
+says said (Some line) = (beq (is_revoked line.mark) said.0 && bytes_eq line.host said.1.now) && bytes_eq line.key said.2.now
 
 -- two of these are equal
 abbrev pub same_said : Said → Said → Bool

@@ -4,7 +4,7 @@ use Rattle.std.specs.Prelude.{◌≡◌, ℕ, ◌+◌, Bool, List, ◌∷◌, �
 use Rattle.std.specs.List.{filter_map, join_with_byte}
 use Rattle.sshc_key.specs.KeyGrammar.{Key}
 use Rattle.sshc_key.specs.declared.error.Error.{Error}
-use Rattle.sshc_key.specs.declared.error.Error.TheVariants.{KeyChanged}
+use Rattle.sshc_key.specs.declared.error.Error.TheVariants.{KeyChanged, Revoked}
 use Rattle.sshc_hosts.specs.Judgement.{judged}
 
 -- a part of the text and its replacement; None if it is dropped
@@ -29,6 +29,8 @@ IsSameLine changes n m =
 abbrev pub Agree : List Change → Result Bool Error → Result Bool Error → Type 0
 Agree changes (Err (KeyChanged n)) (Err (KeyChanged m)) = IsSameLine changes n m
 Agree changes (Err (KeyChanged n)) after = ⊥
+Agree changes (Err (Revoked n)) (Err (Revoked m)) = IsSameLine changes n m
+Agree changes (Err (Revoked n)) after = ⊥
 Agree changes before after = after ≡ before
 
 -- the verdicts on each key agree before and after the rewriting

@@ -1,7 +1,6 @@
 //! Drops doubled lines.
 
-ghost use Rattle.std.specs.Prelude.{◌≡◌, ◌≢◌, ◌++◌, ◌∷◌, [], List, ℕ, IfOk, OnOk, Some, None, if◌then◌else◌};
-ghost use Rattle.sshc_audit.specs.Lines.{revoked};
+ghost use Rattle.std.specs.Prelude.{◌≡◌, ◌++◌, ◌∷◌, [], List, ℕ, IfOk, OnOk, Some, None, if◌then◌else◌};
 ghost use Rattle.sshc_audit.specs.Rewriting.{rewritten, Agrees};
 ghost use Rattle.sshc_audit.specs.Joining.{with_text};
 ghost use Rattle.sshc_audit.specs.Doubled.{is_doubled, drops_doubled, IsSeen};
@@ -13,7 +12,7 @@ use sshc_wire::{NoMemory, Text};
 use std::alloc::Global;
 use std::collections::HashSet;
 
-/// The fields by which lines are compared: whether the line is marked `@revoked`, its host field and its third field.
+/// The fields by which lines are compared: whether the line revokes its key, its host field and its third field.
 type Said<'a> = (bool, &'a str, &'a str);
 
 /// Whether the part is a line with the same compared fields as an earlier one. Adds the part to the earlier ones.
@@ -25,7 +24,7 @@ fn is_doubled<'a>(seen: &mut HashSet<Said<'a>>, part: &'a str) -> Result<bool, N
 {
     match line_of(part) {
         None => Ok(false),
-        Some(line) => Ok(!seen.insert((line.marked, line.host, line.key))?),
+        Some(line) => Ok(!seen.insert((line.mark.is_revoked(), line.host, line.key))?),
     }
 }
 
@@ -48,12 +47,11 @@ fn add_undoubled<'a>(
 }
 
 /// The known hosts text without each line whose mark, host field and third field are those of an earlier line. No
-/// verdict changes except for its line number. The law excludes the host text `@revoked`, because the judgement takes
-/// the mark for a host field.
+/// verdict changes except for its line number.
 #[tactic(auto, using(crate::proofs::DoubledLaws::doubled_agrees))]
 pub fn drop_doubled(alloc: Global, text: &str) -> Result<Text, NoMemory>
     ensures text { IfOk result (λ t. t ≡ rewritten (drops_doubled text.now)) }
-    ensures verdicts { (host : List ℕ) → host ≢ revoked → Agrees text.now (drops_doubled text.now) host }
+    ensures verdicts { (host : List ℕ) → Agrees text.now (drops_doubled text.now) host }
 {
     let mut seen = HashSet::new(alloc);
     let mut out = Joining::new(alloc, b'\n');

@@ -2,19 +2,19 @@
 
 ghost use Rattle.std.specs.Prelude.{◌≡◌, ◌∷◌, Some, OnOk, option_map};
 ghost use Rattle.sshc_hosts.specs.MatchingLines.{parts_at};
-ghost use Rattle.sshc_audit.specs.Lines.{is_mark, line_in, line_of, line_seen, mark_text};
+ghost use Rattle.sshc_hosts.specs.declared.marks.Mark.TheVariants.{Recorded};
+ghost use Rattle.sshc_audit.specs.Lines.{is_mark, line_by, line_in, line_of, line_seen, mark_text};
 ghost use Rattle.sshc_audit.specs.Joining.{with_text};
 ghost use Rattle.sshc_audit.specs.Removing.{with_host};
 
 use crate::joining::Joining;
-use sshc_hosts::{cut, is_comment};
+use sshc_hosts::{Mark, cut, cut_mark, is_comment};
 use sshc_wire::NoMemory;
 
-/// A line: whether it is marked `@revoked`, its host field, its third field, and everything after the host field and
-/// its space.
+/// A line: its mark, its host field, its third field, and everything after the host field and its space.
 #[derive(Clone, Copy)]
 pub struct LineFields<'a> {
-    pub marked: bool,
+    pub mark: Mark,
     pub host: &'a str,
     pub key: &'a str,
     pub rest: &'a str,
@@ -31,8 +31,8 @@ fn is_mark(field: &str) -> bool
 }
 
 /// The line with this host field, and with the fields of the text after it.
-fn line_with<'a>(marked: bool, host: &'a str, rest: &'a str) -> Option<LineFields<'a>>
-    ensures { option_map line_seen result ≡ line_in marked (host.now ∷ parts_at 32 rest.now) }
+fn line_with<'a>(mark: Mark, host: &'a str, rest: &'a str) -> Option<LineFields<'a>>
+    ensures { option_map line_seen result ≡ line_in mark (host.now ∷ parts_at 32 rest.now) }
 {
     let (_name, behind) = cut(rest, b' ');
     match behind {
@@ -40,7 +40,7 @@ fn line_with<'a>(marked: bool, host: &'a str, rest: &'a str) -> Option<LineField
         Some(behind) => {
             let (key, _later) = cut(behind, b' ');
             Some(LineFields {
-                marked,
+                mark,
                 host,
                 key,
                 rest,
@@ -49,15 +49,26 @@ fn line_with<'a>(marked: bool, host: &'a str, rest: &'a str) -> Option<LineField
     }
 }
 
-/// The line of the fields in a text, from which the mark was removed.
-fn line_in(marked: bool, text: &str) -> Option<LineFields<'_>>
-    ensures { option_map line_seen result ≡ line_in marked (parts_at 32 text.now) }
+/// The line of the fields in a text, from which the mark was cut off.
+fn line_in(mark: Mark, text: &str) -> Option<LineFields<'_>>
+    ensures { option_map line_seen result ≡ line_in mark (parts_at 32 text.now) }
 {
     let (host, rest) = cut(text, b' ');
     match rest {
         None => None,
-        Some(rest) => line_with(marked, host, rest),
+        Some(rest) => line_with(mark, host, rest),
     }
+}
+
+/// The line in a part that isn't marked `@revoked`. `None` for parts with another mark and parts with too few fields.
+fn recorded_line(part: &str) -> Option<LineFields<'_>>
+    ensures { option_map line_seen result ≡ line_by (Recorded, parts_at 32 part.now) }
+{
+    let (first, _rest) = cut(part, b' ');
+    if is_mark(first) {
+        return None;
+    }
+    line_in(Mark::Recorded, part)
 }
 
 /// The line in a part of the text. `None` for comments, parts with another mark and parts with too few fields.
@@ -68,24 +79,21 @@ pub fn line_of(part: &str) -> Option<LineFields<'_>>
     if is_comment(part) {
         return None;
     }
-    let (first, rest) = cut(part, b' ');
-    if first == "@revoked" {
-        return match rest {
-            Some(text) => line_in(true, text),
-            None => None,
-        };
+    match cut_mark(part) {
+        (Mark::Revoked, Some(fields)) => line_in(Mark::Revoked, fields),
+        (Mark::Recorded, Some(fields)) => recorded_line(fields),
+        (_, None) => None,
     }
-    if is_mark(first) {
-        return None;
-    }
-    line_in(false, part)
 }
 
-/// The mark with its space; empty for an unmarked line.
-fn mark_text(marked: bool) -> &'static str
-    ensures { result.now ≡ mark_text marked }
+/// The mark with its space; empty for a line without one.
+fn mark_text(mark: Mark) -> &'static str
+    ensures { result.now ≡ mark_text mark }
 {
-    if marked { "@revoked " } else { "" }
+    match mark {
+        Mark::Recorded => "",
+        Mark::Revoked => "@revoked ",
+    }
 }
 
 /// Adds the line with another host field.
@@ -93,7 +101,7 @@ pub fn add_with_host(out: &mut Joining, line: LineFields<'_>, host: &str) -> Res
     ensures { OnOk result (out.new ≡ with_text out.old (Some (with_host (line_seen line.entry) host.now))) }
 {
     out.start()?;
-    out.push(mark_text(line.marked))?;
+    out.push(mark_text(line.mark))?;
     out.push(host)?;
     out.push(" ")?;
     out.push(line.rest)

@@ -125,8 +125,7 @@ pub fn remove_host(alloc: Global, text: &str, host: &str, port: u16) -> Result<T
         → (key : Key)
         → judged (rewritten (removes_host text.now (host_text host.now port)))
         (host_text host.now port) key ≡ Ok false }
-    ensures verdicts { (other : List ℕ) → begins_apart other ≡ false
-        → NoneMatches other (removed_entries text.now (host_text host.now port))
+    ensures verdicts { (other : List ℕ) → NoneMatches other (removed_entries text.now (host_text host.now port))
         → Agrees text.now (removes_host text.now (host_text host.now port)) other }
 {
     let named = host_text(alloc, host, port)?;
