@@ -2,7 +2,7 @@
 
 use crate::hmac::hmac;
 use crate::key::Key;
-use crate::stop::{key_changed, Stop, DECODE, SSH_KEY, UNKNOWN_KEY};
+use crate::stop::{key_changed, revoked, Stop, DECODE, SSH_KEY, UNKNOWN_KEY};
 
 /// The known hosts text, and the text that names the host.
 pub struct Hosts {
@@ -64,33 +64,41 @@ fn entry_matches(entry: &[u8], host: &[u8]) -> bool {
     }
 }
 
-/// The third field of a line that matches.
-fn matching<'a>(line: &'a [u8], host: &[u8]) -> Option<&'a [u8]> {
+/// Whether a line that matches is marked `@revoked`, and the third of its fields behind the mark.
+fn matching<'a>(line: &'a [u8], host: &[u8]) -> Option<(bool, &'a [u8])> {
     let mut fields = line.split(|byte| *byte == b' ');
-    let entries = fields.next().filter(|field| !field.starts_with(b"#"))?;
+    let first = fields.next().filter(|field| !field.starts_with(b"#"))?;
+    let is_revoked = first == b"@revoked";
+    let entries = if is_revoked { fields.next()? } else { first };
     let (_, third) = (fields.next()?, fields.next()?);
-    entries.split(|byte| *byte == b',').any(|entry| entry_matches(entry, host)).then_some(third)
+    entries.split(|byte| *byte == b',').any(|entry| entry_matches(entry, host)).then_some((is_revoked, third))
 }
 
 impl Hosts {
     /// Whether the plain key with this blob is accepted. Each matching line has to be readable, whatever another says.
     pub fn judge(&self, key: Key, blob: &[u8]) -> Result<(), Stop> {
+        let mut revoking = None;
         let mut changed = None;
         let mut has_key = false;
         for (line, number) in self.known.as_bytes().split(|byte| *byte == b'\n').zip(1..) {
-            let Some(third) = matching(line, self.host.as_bytes()) else { continue };
+            let Some((is_revoked, third)) = matching(line, self.host.as_bytes()) else { continue };
             let bytes = base64(third).ok_or(DECODE)?;
             let (other, length) = Key::front(&bytes).ok_or(SSH_KEY)?;
             let is_same = bytes[..length] == *blob;
+            if is_revoked {
+                revoking = revoking.or(is_same.then_some(number));
+                continue;
+            }
             has_key |= is_same;
             if !other.is_certificate && other.name == key.name && !is_same {
                 changed = changed.or(Some(number));
             }
         }
-        match changed {
-            Some(line) => Err(key_changed(line)),
-            None if has_key => Ok(()),
-            None => Err(UNKNOWN_KEY),
+        match (revoking, changed) {
+            (Some(line), _) => Err(revoked(line)),
+            (None, Some(line)) => Err(key_changed(line)),
+            (None, None) if has_key => Ok(()),
+            (None, None) => Err(UNKNOWN_KEY),
         }
     }
 }

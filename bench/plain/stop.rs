@@ -38,6 +38,10 @@ pub const fn key_changed(line: u64) -> Stop {
     Stop::Error(29, "key-changed", Some(line))
 }
 
+pub const fn revoked(line: u64) -> Stop {
+    Stop::Error(42, "revoked", Some(line))
+}
+
 impl Stop {
     pub fn status(self) -> u8 {
         match self {

@@ -1,10 +1,11 @@
 //! The keys that are found for a host: in files made with OpenSSH 9.2's ssh-keygen, as `ssh-keygen -F` finds them, and in
 //! files and home directories.
 
+use crate::judgement::REVOKED;
 use crate::keys::{K1, K2, K3, has_base64};
 use crate::let_go;
 use crate::places::{Place, some_files};
-use sshc_hosts::{known_host_keys, known_host_keys_path, known_host_keys_text};
+use sshc_hosts::{known_host_keys, known_host_keys_path, known_host_keys_text, revoked_keys_text};
 use sshc_key::{Error, PublicKey};
 use sshc_wire::MemFiles;
 use std::alloc::Global;
@@ -192,7 +193,8 @@ const LOOK_UPS: &[LookUp] = &[
     },
 ];
 
-/// Here ssh-keygen finds more, by rules that this crate doesn't implement: patterns, markers, tabs and leading blanks.
+/// Here ssh-keygen finds more: by rules that this crate doesn't implement (patterns, the marker `@cert-authority`, tabs
+/// and leading blanks), and a revoked key.
 const FRONTS: &[LookUp] = &[
     LookUp {
         name: "a plain line",
@@ -222,9 +224,18 @@ const FRONTS: &[LookUp] = &[
         finds: Ok(&[(1, K1)]),
     },
     LookUp {
-        name: "a marker",
+        name: "a marker that has a meaning",
         place: Place::Text(
             "@revoked host.example ssh-ed25519 AAAAC3NzaC1lZDI1NTE5AAAAIJdD7y3aLq454yWBdwLWbieU1ebz9/cu7/QEXn9OIeZJ\n",
+        ),
+        host: "host.example",
+        port: 22,
+        finds: Ok(&[]),
+    },
+    LookUp {
+        name: "another marker",
+        place: Place::Text(
+            "@cert-authority host.example ssh-ed25519 AAAAC3NzaC1lZDI1NTE5AAAAIJdD7y3aLq454yWBdwLWbieU1ebz9/cu7/QEXn9OIeZJ\n",
         ),
         host: "host.example",
         port: 22,
@@ -296,6 +307,41 @@ const IN_FILES: &[LookUp] = &[
     },
 ];
 
+/// A known hosts text, the keys that it records for `h` and those that it revokes, or why neither can be read.
+struct Marks {
+    name: &'static str,
+    text: &'static str,
+    recorded: Result<&'static [(u64, &'static str)], Error>,
+    revoked: Result<&'static [(u64, &'static str)], Error>,
+}
+
+const MARKS: &[Marks] = &[
+    Marks {
+        name: "one key twice",
+        text: REVOKED,
+        recorded: Ok(&[(1, K2)]),
+        revoked: Ok(&[(2, K2)]),
+    },
+    Marks {
+        name: "two keys of either mark",
+        text: "@revoked h ssh-ed25519 AAAAC3NzaC1lZDI1NTE5AAAAIJdD7y3aLq454yWBdwLWbieU1ebz9/cu7/QEXn9OIeZJ\nh ssh-ed25519 AAAAC3NzaC1lZDI1NTE5AAAAIA6rWI3G1sz07DnfFlrouTcysQlj2P+jpNSOEWD9OJ3X\n@revoked g,h ssh-ed25519 AAAAC3NzaC1lZDI1NTE5AAAAILIG2T/B0l0gaqj3puu510tu9N1OkQ4znY3LYuEm5zCF\nh x AAAAC3NzaC1lZDI1NTE5AAAAIJdD7y3aLq454yWBdwLWbieU1ebz9/cu7/QEXn9OIeZJ a comment\n",
+        recorded: Ok(&[(2, K2), (4, K1)]),
+        revoked: Ok(&[(1, K1), (3, K3)]),
+    },
+    Marks {
+        name: "a revoked line that is no key",
+        text: "h ssh-ed25519 AAAAC3NzaC1lZDI1NTE5AAAAIJdD7y3aLq454yWBdwLWbieU1ebz9/cu7/QEXn9OIeZJ\n@revoked h ssh-ed25519 AAAA\n",
+        recorded: Err(Error::SshKey),
+        revoked: Err(Error::SshKey),
+    },
+    Marks {
+        name: "a recorded line that is no base64",
+        text: "h ssh-ed25519 ?\n@revoked h ssh-ed25519 AAAAC3NzaC1lZDI1NTE5AAAAIJdD7y3aLq454yWBdwLWbieU1ebz9/cu7/QEXn9OIeZJ\n",
+        recorded: Err(Error::Decode),
+        revoked: Err(Error::Decode),
+    },
+];
+
 /// Looks up the host's keys.
 fn look_up(
     alloc: Global,
@@ -318,19 +364,33 @@ fn are_keys(found: &[(u64, PublicKey)], want: &[(u64, &str)]) -> bool {
     are_equal
 }
 
-/// Whether the row's lines are found with their keys, or its error.
-fn is_found(alloc: Global, files: &mut MemFiles, row: &LookUp) -> bool {
-    match look_up(alloc, files, row) {
+/// Whether these lines are found with their keys, or the error.
+fn are_found(
+    found: Result<Vec<(u64, PublicKey)>, Error>,
+    finds: Result<&[(u64, &str)], Error>,
+) -> bool {
+    match found {
         Ok(found) => {
-            let are_found = match row.finds {
+            let are_found = match finds {
                 Ok(want) => are_keys(found.as_slice(), want),
                 Err(_) => false,
             };
             let_go(found);
             are_found
         }
-        Err(error) => row.finds.err() == Some(error),
+        Err(error) => finds.err() == Some(error),
     }
+}
+
+/// Whether the row's lines are found with their keys, or its error.
+fn is_found(alloc: Global, files: &mut MemFiles, row: &LookUp) -> bool {
+    are_found(look_up(alloc, files, row), row.finds)
+}
+
+/// Whether the row's keys are those that its text records for `h`, and those that it revokes.
+fn are_marked(alloc: Global, row: &Marks) -> bool {
+    are_found(known_host_keys_text(alloc, row.text, "h", 22), row.recorded)
+        && are_found(revoked_keys_text(alloc, row.text, "h", 22), row.revoked)
 }
 
 #[test]
@@ -343,12 +403,19 @@ fn finds_what_ssh_keygen_finds(rt: HostRuntime) -> Result<(), Fail> {
 }
 
 #[test]
-fn takes_no_patterns_markers_or_tabs(rt: HostRuntime) -> Result<(), Fail> {
+fn takes_no_patterns_other_markers_or_tabs(rt: HostRuntime) -> Result<(), Fail> {
     let mut files = some_files(rt.alloc(), &[])?;
     for row in FRONTS {
         assert!(rt; is_found(rt.alloc(), &mut files, row), "row {}", row.name);
     }
     Ok(())
+}
+
+#[test]
+fn finds_keys_by_their_marks(rt: HostRuntime) {
+    for row in MARKS {
+        assert!(rt; are_marked(rt.alloc(), row), "row {}", row.name);
+    }
 }
 
 #[test]

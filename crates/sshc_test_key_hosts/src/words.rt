@@ -150,6 +150,14 @@ const CHECKS: &[Row] = &[
         lines: "error key-changed 3\n",
     },
     Row {
+        name: "a revoked key",
+        known: "h ssh-ed25519 AAAAC3NzaC1lZDI1NTE5AAAAIA6rWI3G1sz07DnfFlrouTcysQlj2P+jpNSOEWD9OJ3X\n@revoked h ssh-ed25519 AAAAC3NzaC1lZDI1NTE5AAAAIA6rWI3G1sz07DnfFlrouTcysQlj2P+jpNSOEWD9OJ3X\n",
+        words: "hosts check h 22 known ",
+        key: K2,
+        status: 42,
+        lines: "error revoked 2\n",
+    },
+    Row {
         name: "no base64",
         known: "h ssh-ed25519 not-base64\n",
         words: "hosts check h 22 known ",
