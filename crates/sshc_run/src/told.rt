@@ -46,6 +46,7 @@ fn error_name(alloc: Global, e: RunError) -> Result<String, NoMemory>
         RunError::RecvError => "recv-error",
         RunError::KeepaliveTimeout => "keepalive-timeout",
         RunError::InactivityTimeout => "inactivity-timeout",
+        RunError::Revoked { line } => return Ok(format!(in alloc; "revoked {line}")?),
     };
     Ok(format!(in alloc; "{name}")?)
 }
@@ -94,6 +95,7 @@ fn error_status(e: RunError) -> u8
         RunError::RecvError => 38,
         RunError::KeepaliveTimeout => 39,
         RunError::InactivityTimeout => 40,
+        RunError::Revoked { .. } => 42,
     }
 }
 

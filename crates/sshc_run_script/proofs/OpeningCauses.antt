@@ -121,6 +121,7 @@ module _ (hosts : Hosts) (w : SessionState) (frame : Frame) (event : Event) (rea
 
   key_shows : (key : PublicKeyOrCertificate) (k : KeyError) → AsksFor s event key → verdict hosts key ≡ Err (Key k) → IsRefusal k → IsEventCause hosts w frame (handler_error_of frame.place (Key k))
   key_shows key (key_errors.KeyChanged line) for said refusal = (for.first, (event, read, rw (for.is) (ap Some (ap (said_of_key hosts) for.has ∙ said))))
+  key_shows key (key_errors.Revoked line) for said refusal = (for.first, (event, read, rw (for.is) (ap Some (ap (said_of_key hosts) for.has ∙ said))))
   key_shows key key_errors.Decode for said refusal = (for.first, (event, read, rw (for.is) (ap Some (ap (said_of_key hosts) for.has ∙ said))))
   key_shows key key_errors.SshKey for said refusal = (for.first, (event, read, rw (for.is) (ap Some (ap (said_of_key hosts) for.has ∙ said))))
   key_shows key key_errors.NoMemory for said refusal = tt

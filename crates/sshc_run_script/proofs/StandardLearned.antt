@@ -1,8 +1,10 @@
 -- A known hosts text to which the login's host key was added accepts it, so that the login is valid with it.
-use Rattle.std.proofs.Common.{◌≡◌, ℕ, Bool, true, false, List, [], ◌++◌, get_or, Some, None, Result, Ok, lit<, lit≤, refl, ap, ◌∙◌}
-use Rattle.std.specs.Prelude.{codes, not, ◌==◌}
+use Rattle.std.proofs.Common.{◌≡◌, ℕ, Bool, true, false, List, [], ◌++◌, get_or, Some, None, Result, Ok, lit<, lit≤, refl, ap, sym, ◌∙◌}
+use Rattle.std.specs.Fmt.{digits}
+use Rattle.std.specs.Prelude.{bytes_eq, codes, not, ◌==◌}
 use Rattle.std.specs.List.{list_all}
 use Rattle.std.proofs.lemmas.List.Sums.{AllPass-from_list_all}
+use Rattle.std.proofs.lemmas.Slice.Eq.{bytes_eq-Decides}
 use Rattle.sshc_wire.specs.Format.{faults_as}
 use Rattle.sshc_wire.specs.Wire.{u32_text, string_text}
 use Rattle.base64.proofs.OnLiterals.{base64_on_literals}
@@ -14,7 +16,8 @@ use Rattle.sshc_key.specs.declared.error.Error.{Error as KeyError}
 use Rattle.sshc_key.specs.declared.error.Error.TheVariants as key_errors
 use Rattle.sshc_key.specs.declared.identity.PublicKeyOrCertificate.TheVariants.{PublicKey}
 use Rattle.sshc_hosts.specs.HostText.{host_text}
-use Rattle.sshc_hosts.specs.Judgement.{known_keys, judged}
+use Rattle.sshc_hosts.specs.MatchingLines.{revoked_mark}
+use Rattle.sshc_hosts.specs.Judgement.{marked_keys, judged}
 use Rattle.sshc_hosts.specs.Learning.{Lacks, IsLearnable, IsLearnableKey, Learns, once_learned, learned}
 use Rattle.sshc_hosts.proofs.LearningLaws.{learns}
 use Rattle.sshc_hosts.proofs.StandardKey.{field_key, key_blob, key_field}
@@ -44,7 +47,11 @@ lacks_from_test byte xs none k d within = by_not (get_or xs k d == byte) (AllPas
     by_not false e = refl
 
 -- `localhost` can be added
-host_is_learnable : IsLearnable (codes "localhost")
+no_mark : bytes_eq localhost revoked_mark ≡ false
+unfolding host_text digits
+no_mark = refl
+
+host_is_learnable : IsLearnable (codes "localhost") localhost
 host_is_learnable = record {
   some = lit< tt;
   no_space = lacks_from_test 32 (codes "localhost") refl;
@@ -52,6 +59,7 @@ host_is_learnable = record {
   no_line_feed = lacks_from_test 10 (codes "localhost") refl;
   no_comment = refl;
   not_hashed = refl;
+  no_mark = λ same. let other : true ≡ false = sym ((bytes_eq-Decides localhost revoked_mark).1 same) ∙ no_mark in absurd cc;
 }
 
 -- and so can the key
@@ -89,7 +97,7 @@ learned_accepts old accepted before =
 
 -- an empty text doesn't know the key
 empty_knows_none : judged [] localhost login_key ≡ Ok false
-unfolding judged known_keys
+unfolding judged marked_keys
 empty_knows_none = refl
 
 -- ---- the login

@@ -63,6 +63,7 @@ IsEventCause hosts s frame errors.NoMemory = Unit {0}
 IsEventCause hosts s frame (errors.BadEvent at) = IsBadAt at frame
 IsEventCause hosts s frame (errors.OutOfTurn at) = (frame.place ≡ at) × IsRefusedBy hosts s frame auths.OutOfTurn
 IsEventCause hosts s frame (errors.KeyChanged line) = IsSaid hosts s frame (Err (Key (key_errors.KeyChanged line)))
+IsEventCause hosts s frame (errors.Revoked line) = IsSaid hosts s frame (Err (Key (key_errors.Revoked line)))
 IsEventCause hosts s frame errors.Decode = IsSaid hosts s frame (Err (Key key_errors.Decode))
 IsEventCause hosts s frame errors.SshKey = IsSaid hosts s frame (Err (Key key_errors.SshKey))
 IsEventCause hosts s frame errors.UnknownKey = IsRefusedBy hosts s frame auths.UnknownKey

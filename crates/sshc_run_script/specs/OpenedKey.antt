@@ -1,6 +1,6 @@
 -- By which host key a session is opened, by the meaning of the known hosts text (sshd(8), SSH_KNOWN_HOSTS FILE FORMAT)
--- and not by the judgement's definition: its lines for the host can all be read, none has another key of the same
--- algorithm, and one has the key.
+-- and not by the judgement's definition: its lines for the host can all be read, none revokes the key or has another
+-- key of the same algorithm, and one records the key.
 use Rattle.std.specs.Prelude.{◌≡◌, ℕ, List, [], ◌∷◌, Option, Some, None, Result, Ok}
 use Rattle.sshc_key.specs.Signers.{SignCall}
 use Rattle.sshc_key.specs.declared.identity.PublicKeyOrCertificate.{PublicKeyOrCertificate}

@@ -96,7 +96,7 @@ pub record RunPromises (asked : RunAsked) (before now : RunOutside) (answer : Re
   -- session, all of them followed by more, whatever events of agents are in between
   pub opening : IsOpeningFirst (opening_table asked) session_own asked.max_events (calls_since before now) before.source.left before.sink.held now.sink.held
   -- if that table opens the session, the first exchange has a plain host key that the known hosts text accepts by its
-  -- meaning: all its lines for the host can be read, none contradicts the key, and one has it
+  -- meaning: all its lines for the host can be read, none revokes or contradicts the key, and one records it
   pub accepted : IsOpenedByAccepted asked.hosts (opening_table asked) session_own asked.max_events (calls_since before now) before.source.left
   -- if that table opens the session, with Ok all of its outputs are written; else exactly these are, and Ok is the
   -- table's end

@@ -47,6 +47,7 @@ error_of place e = errors.Inconsistent
 -- a refusal of the known hosts text; the judgement returns no others than these
 abbrev pub key_error_of : KeyError → RunError
 key_error_of (key_errors.KeyChanged line) = errors.KeyChanged line
+key_error_of (key_errors.Revoked line) = errors.Revoked line
 key_error_of key_errors.Decode = errors.Decode
 key_error_of key_errors.NoMemory = errors.NoMemory
 key_error_of e = errors.SshKey

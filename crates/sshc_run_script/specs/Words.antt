@@ -57,13 +57,14 @@ error_name errors.InvalidDisconnect = codes "invalid-disconnect"
 error_name errors.RecvError = codes "recv-error"
 error_name errors.KeepaliveTimeout = codes "keepalive-timeout"
 error_name errors.InactivityTimeout = codes "inactivity-timeout"
+error_name (errors.Revoked line) = codes "revoked " ++ decimal line
 
 -- the line that reports a result
 abbrev pub answer_line : Result Ended RunError → List ℕ
 answer_line (Ok e) = codes "ended " ++ end_name e ++ 10 ∷ []
 answer_line (Err e) = codes "error " ++ error_name e ++ 10 ∷ []
 
--- errors in their order, from 20
+-- errors in their order, from 20; 41 isn't used
 abbrev pub error_status : RunError → ℕ
 error_status errors.NoMemory = 20
 error_status errors.ReadFault = 21
@@ -86,6 +87,7 @@ error_status errors.InvalidDisconnect = 37
 error_status errors.RecvError = 38
 error_status errors.KeepaliveTimeout = 39
 error_status errors.InactivityTimeout = 40
+error_status (errors.Revoked line) = 42
 
 abbrev pub status_of : Result Ended RunError → ℕ
 status_of (Ok e) = 0

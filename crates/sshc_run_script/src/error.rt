@@ -68,4 +68,7 @@ pub enum RunError {
     /// Nothing came for too long.
     #[error("InactivityTimeout")]
     InactivityTimeout,
+    /// A line of the known hosts text revokes the host key.
+    #[error("Revoked")]
+    Revoked { line: u64 },
 }

@@ -61,6 +61,7 @@ fn handler_error_at(place: u64, e: HandlerError) -> RunError
     match e {
         HandlerError::Client(e) => error_at(place, e),
         HandlerError::Key(sshc_key::Error::KeyChanged { line }) => RunError::KeyChanged { line },
+        HandlerError::Key(sshc_key::Error::Revoked { line }) => RunError::Revoked { line },
         HandlerError::Key(sshc_key::Error::Decode) => RunError::Decode,
         HandlerError::Key(sshc_key::Error::NoMemory) => RunError::NoMemory,
         HandlerError::Key(_) => RunError::SshKey,

@@ -24,7 +24,7 @@ pub mod hosts {
     pub use sshc_hosts::{
         check_known_hosts, check_known_hosts_path, hmac_sha1, host_text, judge_text,
         known_host_keys, known_host_keys_path, known_host_keys_text, learn_known_hosts,
-        learn_known_hosts_path, learn_text,
+        learn_known_hosts_path, learn_text, revoked_keys_text,
     };
 }
 

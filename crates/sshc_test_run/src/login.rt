@@ -107,6 +107,13 @@ const NOT_KNOWN: &[Row] = &[
         0,
     ),
     (
+        "a revoked key",
+        "[localhost]:13265 ssh-ed25519 AAAAC3NzaC1lZDI1NTE5AAAAIJdD7y3aLq454yWBdwLWbieU1ebz9/cu7/QEXn9OIeZJ\n@revoked [localhost]:13265 ssh-ed25519 AAAAC3NzaC1lZDI1NTE5AAAAIJdD7y3aLq454yWBdwLWbieU1ebz9/cu7/QEXn9OIeZJ\n",
+        LOGIN_EVENTS,
+        Ends::By(RunError::Revoked { line: 2 }),
+        0,
+    ),
+    (
         "no base64",
         "[localhost]:13265 ssh-ed25519 not-base64\n",
         LOGIN_EVENTS,

@@ -187,6 +187,18 @@ const BY_FILES: &[Row] = &[
         line: "error key-changed 2\n",
     },
     Row {
+        case: "a revoked key",
+        given: Given {
+            known: Known::Holds(
+                "@revoked [localhost]:13265 ssh-ed25519 AAAAC3NzaC1lZDI1NTE5AAAAIJdD7y3aLq454yWBdwLWbieU1ebz9/cu7/QEXn9OIeZJ\n",
+            ),
+            ..LOGS_IN
+        },
+        status: 42,
+        written: 0,
+        line: "error revoked 1\n",
+    },
+    Row {
         case: "no base64",
         given: Given {
             known: Known::Holds("[localhost]:13265 ssh-ed25519 not-base64\n"),
