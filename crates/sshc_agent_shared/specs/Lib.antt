@@ -3,3 +3,6 @@ pub mod Counting
 pub mod Kept
 pub mod Closing
 pub mod Rooms
+pub mod HeldBytes
+pub mod KeptForms
+pub mod Groups

@@ -1,9 +1,13 @@
--- The buffers that are reserved for copies of an answer.
-use Rattle.std.specs.Prelude.{◌≤◌, vec_capacity}
+-- The buffers that are reserved for an answer.
+use Rattle.std.specs.Prelude.{ℕ, ◌≤◌, Option, Some, None, Box, Vec, vec_capacity}
+use Rattle.std.specs.declared.alloc.Global.{Global}
 use Rattle.sshc_agent_shared.specs.declared.room.Rooms.{Rooms}
 
--- each has room for the longest answer: a frame and its length
+-- room for the longest answer: a frame and its length
+abbrev pub HasRoom : Option (Box (Vec ℕ Global) Global) → Type 0
+HasRoom None = ⊥
+HasRoom (Some buffer) = 262148 ≤ vec_capacity buffer.value
+
 pub record AreMade (rooms : Rooms) : Type 0 where
-  pub signature : 262148 ≤ vec_capacity rooms.signature
-  pub kept : 262148 ≤ vec_capacity rooms.kept
-  pub told : 262148 ≤ vec_capacity rooms.told
+  pub kept : HasRoom rooms.kept
+  pub told : HasRoom rooms.told

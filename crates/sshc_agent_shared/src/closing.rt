@@ -6,10 +6,10 @@ ghost use Rattle.sshc_agent_shared.specs.Closing.{Accounts, IsLegalBy, LockedCau
 ghost use Rattle.sshc_agent_core.specs.LockLaw.{LocksHold};
 
 use crate::error::CloseError;
+use crate::groups::Groups;
 use crate::seat::Seat;
 use crate::settings::Settings;
 use crate::state::AgentState;
-use crate::tear::first_tear;
 use sshc_agent_core::Entry;
 use sshc_wire::NoMemory;
 
@@ -17,18 +17,16 @@ use sshc_wire::NoMemory;
 const PARTS: usize = 67_108_864;
 
 impl<L: Settings> AgentState<L> {
-    /// The first call in which a seat and the journal differ.
+    /// The first call in which a seat and the journal differ. The journal is passed over once, however many seats there
+    /// are.
     fn torn(&self, seats: &[Seat<L>]) -> Result<Option<CloseError>, NoMemory>
         ensures { IfOk result
             (λ r. MatchOption r (All (λ p. calls_of p.conn self.now.journal ≡ p.calls) seats.now)
             (λ e. LockedCause self.now seats.now e)) }
     {
+        let groups = Groups::new(self.alloc, self.journal.as_slice())?;
         for seat in seats {
-            if let Some(tear) = first_tear(
-                self.journal.as_slice(),
-                seat.conn,
-                seat.calls.as_slice(),
-            )? {
+            if let Some(tear) = groups.first_tear(self.alloc, seat.conn, seat.calls.as_slice())? {
                 return Ok(Some(CloseError::Torn {
                     conn: seat.conn,
                     at: tear.at,
@@ -38,6 +36,17 @@ impl<L: Settings> AgentState<L> {
             }
         }
         Ok(None)
+    }
+
+    /// The journal, with bytes of its own.
+    fn history(&self) -> Result<Vec<Entry>, NoMemory>
+        ensures { IfOk result (λ h. h.items ≡ self.now.journal) }
+    {
+        let mut history = Vec::new(self.alloc);
+        for e in self.journal.as_slice() {
+            history.push(e.copy(self.alloc)?)?;
+        }
+        Ok(history)
     }
 
     /// How many seats there are: at most as many as the ledger has parts.
@@ -64,16 +73,16 @@ impl<L: Settings> AgentState<L> {
         unreachable!()
     }
 
-    /// Every part is back, so the seats' calls are all the entries of the journal.
-    fn settle(self, seats: Vec<Seat<L>>) -> Vec<Entry>
-        requires { length seats.items ≡ self.made }
+    /// Every part is back, so the seats' calls are all the entries of the journal, of which this is the history.
+    fn settle(self, seats: Vec<Seat<L>>, history: Vec<Entry>) -> Vec<Entry>
+        requires made { length seats.items ≡ self.made }
+        requires whole { history.items ≡ self.journal }
         ensures journal { result.items ≡ self.journal }
         ensures legal { IsLegalBy L.asks result.items }
         ensures within { journal_weight self.made result.items ≤ L.limit }
         ensures together { length result.items ≡ sum_by (λ p. length p.calls) seats.items }
     {
         let AgentState {
-            journal,
             mut book,
             mut spare,
             whole,
@@ -86,7 +95,7 @@ impl<L: Settings> AgentState<L> {
             spare.merge(part);
         }
         book.audit(&mut spare);
-        journal
+        history
     }
 
     /// The journal, if every seat is back and its calls are in the journal. Otherwise returns the state and the seats
@@ -110,7 +119,10 @@ impl<L: Settings> AgentState<L> {
         match state.torn(seats.as_slice()) {
             Err(NoMemory) => Err((state, seats, CloseError::NoMemory)),
             Ok(Some(why)) => Err((state, seats, why)),
-            Ok(None) => Ok(state.settle(seats)),
+            Ok(None) => match state.history() {
+                Err(NoMemory) => Err((state, seats, CloseError::NoMemory)),
+                Ok(history) => Ok(state.settle(seats, history)),
+            },
         }
     }
 }

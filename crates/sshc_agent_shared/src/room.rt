@@ -1,146 +1,121 @@
-//! Room that is reserved before a step, so that copying its answer can't run out of memory.
+//! Room that is reserved before a step, so that keeping its answer can't run out of memory.
 
-ghost use Rattle.std.specs.Prelude.{◌≡◌, ◌<◌, ◌≤◌, ℕ, IfOk, IsSome, OnOk, drop, length, vec_capacity, vec_len};
+ghost use Rattle.std.specs.Prelude.{◌≡◌, ◌<◌, ◌≤◌, ℕ, IfOk, IsSome, OnOk, length, vec_len, vec_capacity};
 ghost use Rattle.std.specs.BTreeMap.{get};
 ghost use Rattle.std.specs.Ordering.{nat_cmp};
 ghost use Rattle.sshc_agent_core.specs.AnswerBytes.{answer_bytes};
-ghost use Rattle.sshc_agent_shared.specs.Calls.{call_of, entry_of, signature_at, signature_of};
+ghost use Rattle.sshc_agent_shared.specs.Calls.{call_of, entry_of};
 ghost use Rattle.sshc_agent_shared.specs.Counting.{count_in};
+ghost use Rattle.sshc_agent_shared.specs.KeptForms.{input_of, output_of};
+ghost use Rattle.sshc_agent_shared.specs.Rooms.{AreMade, HasRoom};
 
-use crate::call::Call;
+use crate::bytes::KeptBytes;
 use crate::counts::Counts;
-use sshc_agent_core::{AgentInput, AgentOutput, Entry};
-use sshc_key::agent_msg::SIGN_RESPONSE;
+use crate::kept::{FAILED, InputForm, KeptCall, KeptEntry, OutputForm, SUCCEEDED, same_bytes};
+use sshc_agent_core::{AgentInput, AgentOutput};
+use sshc_key::agent_msg::IDENTITIES_ANSWER;
 use sshc_wire::{NoMemory, Octets};
 use std::alloc::Global;
-use std::mem;
-
-/// The bytes of a frame's length.
-const LENGTH_BYTES: usize = 4;
 
 /// The maximal number of bytes in an answer: those of a frame, and its length.
 const ANSWER_BYTES: usize = 262_148;
 
-/// A buffer for each copy of an answer, which is used if no other memory can be allocated for the copy.
+/// A buffer for the bytes that an entry keeps of an answer and one for those of the call, which are used if no other
+/// memory can be allocated for them; and the latest listing, whose bytes the next equal one shares.
 #[derive(Drop)]
 pub(crate) struct Rooms {
-    signature: Vec<u8>,
-    kept: Vec<u8>,
-    told: Vec<u8>,
+    kept: Option<Box<Vec<u8>>>,
+    told: Option<Box<Vec<u8>>>,
+    listing: Option<KeptBytes>,
 }
 
 /// Reserves room for the longest answer.
-fn make_room(buffer: &mut Vec<u8>) -> Result<(), NoMemory>
-    ensures { OnOk result (262148 ≤ vec_capacity buffer.new) }
+fn make_room(alloc: Global, buffer: &mut Option<Box<Vec<u8>>>) -> Result<(), NoMemory>
+    ensures { OnOk result (HasRoom buffer.new) }
 {
-    buffer.clear();
-    buffer.reserve(ANSWER_BYTES)?;
+    if let Some(room) = buffer {
+        room.clear();
+        room.reserve(ANSWER_BYTES)?;
+        return Ok(());
+    }
+    let mut room = Vec::new(alloc);
+    room.reserve(ANSWER_BYTES)?;
+    let Ok(room) = Box::new(alloc, room) else {
+        return Err(NoMemory);
+    };
+    *buffer = Some(room);
     Ok(())
 }
 
-/// The buffer, with these bytes as its contents; it has room for them.
-fn filled(buffer: Vec<u8>, bytes: &[u8]) -> Octets
-    requires room { length bytes.now ≤ vec_capacity buffer }
+/// The bytes in the buffer that was reserved for them.
+fn filled(buffer: &mut Option<Box<Vec<u8>>>, bytes: &[u8]) -> KeptBytes
+    requires room { HasRoom buffer.old }
     requires short { length bytes.now ≤ 262148 }
     ensures { result ≡ bytes.now }
 {
-    let mut buffer = buffer;
-    buffer.clear();
-    if buffer.extend_from_slice(bytes).is_ok() {
-        return Octets::from_short(buffer);
+    if let Some(mut room) = buffer.take() {
+        room.clear();
+        if room.extend_from_slice(bytes).is_ok() {
+            return KeptBytes::alone(room);
+        }
     }
     unreachable!()
 }
 
-/// A copy in newly allocated memory of just the bytes' size, or in the buffer if that can't be allocated.
-fn copied(buffer: &mut Vec<u8>, bytes: &[u8]) -> Octets
-    requires room { 262148 ≤ vec_capacity buffer.old }
-    requires short { length bytes.now ≤ 262148 }
-    ensures { result ≡ bytes.now }
-{
-    let alloc = *buffer.allocator();
-    if let Ok(copy) = Octets::from_slice(alloc, bytes) {
-        return copy;
-    }
-    filled(mem::replace(buffer, Vec::new(alloc)), bytes)
-}
-
-fn output_in(buffer: &mut Vec<u8>, output: &AgentOutput) -> AgentOutput
-    requires room { 262148 ≤ vec_capacity buffer.old }
-    requires short { answer_bytes output.now ≤ 262148 }
-    ensures { result ≡ output.now }
-{
-    match output {
-        AgentOutput::Answer(frame) => AgentOutput::Answer(copied(buffer, frame.as_slice())),
-        AgentOutput::AskRequest(message) => AgentOutput::AskRequest(*message),
-        AgentOutput::AskKey(blob) => AgentOutput::AskKey(copied(buffer, blob.as_slice())),
-        AgentOutput::Nothing => AgentOutput::Nothing,
-        AgentOutput::Closed(cause) => AgentOutput::Closed(*cause),
+/// Whether the answer lists keys.
+fn is_listing(answer: &[u8]) -> bool {
+    match answer {
+        [_, _, _, _, number, ..] => *number == IDENTITIES_ANSWER,
+        _ => false,
     }
 }
 
-/// The signature in a frame without its length, if it is a SIGN_RESPONSE (14).
-fn signature_at(buffer: &mut Vec<u8>, body: &[u8]) -> Option<Octets>
-    requires room { 262148 ≤ vec_capacity buffer.old }
-    requires short { length body.now ≤ 262148 }
-    ensures { result ≡ signature_at body.now }
+/// Two that share these bytes; those of the latest listing, if they are equal.
+fn shared_twice(
+    alloc: Global,
+    listing: &mut Option<KeptBytes>,
+    bytes: &[u8],
+) -> Result<(KeptBytes, KeptBytes), NoMemory>
+    ensures { IfOk result (λ r. (r.0 ≡ bytes.now) × (r.1 ≡ bytes.now)) }
 {
-    match body {
-        [] => None,
-        [number, rest @ ..] => {
-            if *number != SIGN_RESPONSE {
-                return None;
+    let is_listing = is_listing(bytes);
+    if is_listing {
+        if let Some(latest) = listing {
+            if latest.as_slice() == bytes {
+                return Ok((latest.share(alloc)?, latest.share(alloc)?));
             }
-            Some(copied(buffer, behind(rest, LENGTH_BYTES)))
         }
     }
-}
-
-/// The bytes after the first `count`.
-fn behind(bytes: &[u8], count: usize) -> &[u8]
-    ensures { result.now ≡ drop count bytes.now }
-{
-    if count < bytes.len() {
-        &bytes[count..]
-    } else {
-        &[]
+    let one = KeptBytes::new(Octets::from_slice(alloc, bytes)?)?;
+    let other = one.share(alloc)?;
+    if is_listing {
+        *listing = one.share(alloc).ok();
     }
-}
-
-/// The signature that an answer holds.
-fn signature_in(buffer: &mut Vec<u8>, output: &AgentOutput) -> Option<Octets>
-    requires room { 262148 ≤ vec_capacity buffer.old }
-    requires short { answer_bytes output.now ≤ 262148 }
-    ensures { result ≡ signature_of output.now }
-{
-    match output {
-        AgentOutput::Answer(frame) => signature_at(buffer, behind(frame.as_slice(), LENGTH_BYTES)),
-        _ => None,
-    }
+    Ok((one, other))
 }
 
 impl Rooms {
-    ghost use Rattle.sshc_agent_shared.specs.Rooms.{AreMade};
-
     /// No room yet.
-    pub(crate) fn new(alloc: Global) -> Rooms {
+    pub(crate) fn new() -> Rooms {
         Rooms {
-            signature: Vec::new(alloc),
-            kept: Vec::new(alloc),
-            told: Vec::new(alloc),
+            kept: None,
+            told: None,
+            listing: None,
         }
     }
 
-    /// Reserves the room that a call with this input needs for an entry, a call and their bytes, and copies the input.
+    /// Reserves the room that a call with this input needs for an entry, a call and their bytes. Returns the input as
+    /// entry and call keep it.
     pub(crate) fn make(
         &mut self,
+        alloc: Global,
         input: &AgentInput,
         conn: u32,
-        journal: &mut Vec<Entry>,
-        calls: &mut Vec<Call>,
+        journal: &mut Vec<KeptEntry>,
+        calls: &mut Vec<KeptCall>,
         counts: &mut Counts,
-    ) -> Result<AgentInput, NoMemory>
-        ensures input { IfOk result (λ theirs. theirs ≡ input.now) }
+    ) -> Result<(InputForm, InputForm), NoMemory>
+        ensures forms { IfOk result (λ r. (input_of r.0 ≡ input.now) × (input_of r.1 ≡ input.now)) }
         ensures rooms { OnOk result (AreMade self.new) }
         ensures journal { journal.new.items ≡ journal.old.items }
         ensures journal_room { OnOk result (vec_len journal.new < vec_capacity journal.new) }
@@ -152,41 +127,84 @@ impl Rooms {
         journal.reserve(1)?;
         calls.reserve(1)?;
         counts.open(conn)?;
-        make_room(&mut self.signature)?;
-        make_room(&mut self.kept)?;
-        make_room(&mut self.told)?;
-        input.copy()
+        make_room(alloc, &mut self.kept)?;
+        make_room(alloc, &mut self.told)?;
+        let input = InputForm::of(alloc, input)?;
+        let theirs = input.share(alloc)?;
+        Ok((input, theirs))
     }
 
-    /// The entry and the call of an answer; `theirs` is a copy of the input.
+    /// These bytes twice, for the entry and for the call.
+    fn twice(&mut self, alloc: Global, bytes: &[u8]) -> (KeptBytes, KeptBytes)
+        requires made { AreMade self.old }
+        requires short { length bytes.now ≤ 262148 }
+        ensures { (result.0 ≡ bytes.now) × (result.1 ≡ bytes.now) }
+    {
+        match shared_twice(alloc, &mut self.listing, bytes) {
+            Ok(two) => two,
+            Err(NoMemory) => (filled(&mut self.kept, bytes), filled(&mut self.told, bytes)),
+        }
+    }
+
+    /// The output, for the entry and for the call.
+    fn outputs(&mut self, alloc: Global, output: &AgentOutput) -> (OutputForm, OutputForm)
+        requires made { AreMade self.old }
+        requires short { answer_bytes output.now ≤ 262148 }
+        ensures { (output_of result.0 ≡ output.now) × (output_of result.1 ≡ output.now) }
+    {
+        match output {
+            AgentOutput::Answer(frame) => {
+                if same_bytes(frame.as_slice(), &FAILED) {
+                    return (OutputForm::Failure, OutputForm::Failure);
+                }
+                if same_bytes(frame.as_slice(), &SUCCEEDED) {
+                    return (OutputForm::Success, OutputForm::Success);
+                }
+                let (one, other) = self.twice(alloc, frame.as_slice());
+                (OutputForm::Answer(one), OutputForm::Answer(other))
+            }
+            AgentOutput::AskRequest(message) => (
+                OutputForm::AskRequest(*message),
+                OutputForm::AskRequest(*message),
+            ),
+            AgentOutput::AskKey(blob) => {
+                let (one, other) = self.twice(alloc, blob.as_slice());
+                (OutputForm::AskKey(one), OutputForm::AskKey(other))
+            }
+            AgentOutput::Nothing => (OutputForm::Nothing, OutputForm::Nothing),
+            AgentOutput::Closed(cause) => (OutputForm::Closed(*cause), OutputForm::Closed(*cause)),
+        }
+    }
+
+    /// The entry and the call of an answer; `inputs` is what `make` returned for the input.
     pub(crate) fn entries(
         &mut self,
+        alloc: Global,
         conn: u32,
         number: u32,
         moment: u64,
-        input: AgentInput,
-        theirs: AgentInput,
+        _input: &AgentInput,
+        inputs: (InputForm, InputForm),
         output: &AgentOutput,
-    ) -> (Entry, Call)
+    ) -> (KeptEntry, KeptCall)
         requires made { AreMade self.old }
         requires short { answer_bytes output.now ≤ 262148 }
-        requires same { theirs ≡ input }
-        ensures entry { result.0 ≡ entry_of conn number moment input output.now }
-        ensures call { result.1 ≡ call_of moment input output.now }
+        requires forms { (input_of inputs.0 ≡ _input.now) × (input_of inputs.1 ≡ _input.now) }
+        ensures entry { result.0 ≡ entry_of conn number moment _input.now output.now }
+        ensures call { result.1 ≡ call_of moment _input.now output.now }
     {
-        let entry = Entry {
-            conn,
-            number,
+        let (kept, told) = self.outputs(alloc, output);
+        let (input, theirs) = inputs;
+        let entry = KeptCall {
             moment,
             input,
-            signature: signature_in(&mut self.signature, output),
-            output: output_in(&mut self.kept, output),
+            output: kept,
         };
-        let call = Call {
+        let call = KeptCall {
             moment,
             input: theirs,
-            output: output_in(&mut self.told, output),
+            output: told,
         };
-        (entry, call)
+        (KeptEntry::new(conn, number, entry), call)
     }
 }

@@ -3,7 +3,7 @@
 ghost use Rattle.std.specs.Prelude.{◌≡◌};
 ghost use Rattle.sshc_agent_shared.specs.Kept.{refused_once};
 
-use crate::call::Call;
+use crate::kept::KeptCall;
 use std::marker::Model;
 use std::sync::ledger::{Ledger, Share};
 
@@ -11,7 +11,7 @@ use std::sync::ledger::{Ledger, Share};
 #[derive(Drop)]
 pub struct Seat<L: Ledger> {
     pub(crate) conn: u32,
-    pub(crate) calls: Vec<Call>,
+    pub(crate) calls: Vec<KeptCall>,
     pub(crate) refused: u64,
     pub(crate) part: Share<L>,
 }
@@ -36,7 +36,7 @@ impl<L: Ledger> Seat<L> {
     }
 
     /// The calls that weren't refused, in order.
-    pub fn calls(&self) -> &[Call]
+    pub fn calls(&self) -> &[KeptCall]
         ensures { result.now ≡ self.now.calls }
     {
         self.calls.as_slice()

@@ -7,13 +7,13 @@ ghost use Rattle.sshc_agent_shared.specs.Calls.{call_of};
 ghost use Rattle.sshc_agent_shared.specs.Closing.{Tells};
 ghost use Rattle.sshc_agent_shared.specs.Kept.{Adds, IsHistoryOf, due, new_seat, refused_once, weight_of};
 
-use crate::call::frame_length;
 use crate::counts::Counts;
 use crate::error::CallRefused;
+use crate::kept::{KeptEntry, frame_length};
 use crate::room::Rooms;
 use crate::seat::Seat;
 use crate::settings::{Given, Settings};
-use sshc_agent_core::{AgentCore, AgentInput, AgentOutput, Entry};
+use sshc_agent_core::{AgentCore, AgentInput, AgentOutput};
 use sshc_key::LocalSigner;
 use sshc_wire::NoMemory;
 use std::alloc::Global;
@@ -36,7 +36,7 @@ pub struct AgentState<L: Settings> {
     pub(crate) alloc: Global,
     pub(crate) given: Given<L>,
     pub(crate) agent: AgentCore,
-    pub(crate) journal: Vec<Entry>,
+    pub(crate) journal: Vec<KeptEntry>,
     pub(crate) counts: Counts,
     pub(crate) made: u32,
     pub(crate) weight: u64,
@@ -85,7 +85,7 @@ impl<L: Settings> AgentState<L> {
             book,
             spare,
             whole: Whole { of: PhantomData },
-            rooms: Rooms::new(alloc),
+            rooms: Rooms::new(),
         }
     }
 
@@ -160,7 +160,8 @@ impl<L: Settings> AgentState<L> {
         if left < heavy || left - heavy < ENTRY_WEIGHT {
             return Err(CallRefused::JournalFull);
         }
-        let Ok(theirs) = self.rooms.make(
+        let Ok(inputs) = self.rooms.make(
+            self.alloc,
             &input,
             conn,
             &mut self.journal,
@@ -171,7 +172,9 @@ impl<L: Settings> AgentState<L> {
             return Err(CallRefused::NoMemory);
         };
         let output = self.agent.step(now, conn, &input, signer);
-        let (entry, call) = self.rooms.entries(conn, kept, now, input, theirs, &output);
+        let (entry, call) = self
+            .rooms
+            .entries(self.alloc, conn, kept, now, &input, inputs, &output);
         self.journal.push_reserved(entry);
         seat.calls.push_reserved(call);
         self.counts.raise(conn);

@@ -1,10 +1,13 @@
 use Rattle.std.proofs.Common.{◌≤◌, length, arith}
 use Rattle.std.proofs.lemmas.List.{take_all}
+use Rattle.sshc_agent_shared.proofs.Histories.{count_at_most}
 use Rattle.sshc_agent_shared.proofs.Keeping.{journal_short}
 use Rattle.sshc_agent_shared.proofs.state.AgentState.torn.Goals as goal
 
 pub first_tear-requires : goal.first_tear-requires
-first_tear-requires g c = rw c.as_slice.ensures.value (journal_short _ _ _ _ _ _ _ _ _ _ c.self.invariant)
+first_tear-requires g c =
+    let short = journal_short _ _ _ _ _ _ _ _ _ _ c.self.invariant in
+    rw (c.in_ok-groups.ensures c.seat.inside.conn, c.as_slice.ensures.value) (omega (arith, short, count_at_most c.seat.inside.conn c.self.inside.journal.items))
 
 pub returns : goal.returns
 returns g c =
