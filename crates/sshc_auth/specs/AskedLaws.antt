@@ -84,6 +84,39 @@ pub has_exchange : (s : OpeningState) (event : Event) → HasExchange (asked_of 
 unfolding asked_of
 has_exchange s event = has_by s event s.closed (is_out_of_turn s event)
 
+-- ---- events that ask nothing
+
+-- the packet has the number of a banner (RFC 4252, section 5.4)
+abbrev pub is_banner : List ℕ → Bool
+is_banner [] = false
+is_banner (n ∷ body) = n == USERAUTH_BANNER
+
+-- the kinds of events whose rows may ask the gate
+abbrev pub may_ask : Event → Bool
+may_ask (events.ExchangeDone x) = true
+may_ask (events.Payload packet) = is_banner packet
+may_ask event = false
+
+number_unasked : (phase : Phase) (s : OpeningState) (len n : ℕ) (body : List ℕ) → (n == USERAUTH_BANNER) ≡ false → number_asks phase s len n body ≡ asking.Nothing
+number_unasked phases.Auth s len n body other = rw other refl
+number_unasked phase s len n body other = refl
+
+event_unasked : (s : OpeningState) (event : Event) → may_ask event ≡ false → event_asks s event ≡ asking.Nothing
+event_unasked s (events.ExchangeDone x) never = absurd cc
+event_unasked s (events.Payload []) other = refl
+event_unasked s (events.Payload (n ∷ body)) other = number_unasked s.phase s (length body + 1) n body other
+event_unasked s event other = refl
+
+unasked_by : (asked : Asks) (closed early : Bool) → asked ≡ asking.Nothing → (if closed then asking.Nothing else (if early then asking.Nothing else asked)) ≡ asking.Nothing
+unasked_by asked true early is = refl
+unasked_by asked false true is = refl
+unasked_by asked false false is = is
+
+-- any other event asks nothing
+pub unasked : (s : OpeningState) (event : Event) → may_ask event ≡ false → asked_of s event ≡ asking.Nothing
+unfolding asked_of
+unasked s event other = unasked_by (event_asks s event) s.closed (is_out_of_turn s event) (event_unasked s event other)
+
 -- ---- the first exchange
 
 -- the first exchange, if it may come, asks for its host key

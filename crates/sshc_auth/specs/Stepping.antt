@@ -15,7 +15,7 @@ use Rattle.sshc_auth.specs.declared.error.Error.TheVariants.{NoMemory}
 use Rattle.sshc_auth_event.specs.declared.event.Event.{Event}
 use Rattle.sshc_auth_event.specs.declared.event.Event.TheVariants.{ExchangeDone}
 use Rattle.sshc_transport.specs.declared.exchange.ExchangeResult.{ExchangeResult}
-use Rattle.sshc_transport.specs.declared.exchange.NamesChosen.{NamesChosen}
+use Rattle.sshc_transport.specs.declared.exchange.ExchangeNames.{ExchangeNames}
 use Rattle.sshc_auth.specs.declared.step.Asks.{Asks}
 use Rattle.sshc_auth.specs.declared.step.Asks.TheVariants as asking
 use Rattle.sshc_auth.specs.declared.step.Told.{Told}
@@ -63,10 +63,10 @@ with_gate rest refusals setting = record { rest = rest; refusals = refusals; set
 pub record GateAnswers (E : Type 0) : Type 1 where
   pub told_as : Error → E
   pub judges : PublicKeyOrCertificate → Result Bool E → Type 0
-  pub tells : Option (List ℕ) → NamesChosen → Result (Unit {0}) E → List Record → Type 0
+  pub tells : Option (List ℕ) → ExchangeNames → Result (Unit {0}) E → List Record → Type 0
   pub tells_banner : List ℕ → Result (Unit {0}) E → List Record → Type 0
 
-abbrev pub gate_answers : {E : Type 0} → (Error → E) → (PublicKeyOrCertificate → Result Bool E → Type 0) → (Option (List ℕ) → NamesChosen → Result (Unit {0}) E → List Record → Type 0) → (List ℕ → Result (Unit {0}) E → List Record → Type 0) → GateAnswers E
+abbrev pub gate_answers : {E : Type 0} → (Error → E) → (PublicKeyOrCertificate → Result Bool E → Type 0) → (Option (List ℕ) → ExchangeNames → Result (Unit {0}) E → List Record → Type 0) → (List ℕ → Result (Unit {0}) E → List Record → Type 0) → GateAnswers E
 gate_answers told_as judges tells tells_banner = record { told_as = told_as; judges = judges; tells = tells; tells_banner = tells_banner }
 
 -- a gate's call added only answers to tickets, as its relation allows

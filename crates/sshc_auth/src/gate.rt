@@ -5,7 +5,7 @@ ghost use Rattle.sshc_wire.specs.Faults.{Rose};
 ghost use Rattle.sshc_wire.specs.declared.record.Record.{Record as Said};
 ghost use Rattle.sshc_key.specs.declared.identity.PublicKeyOrCertificate.{PublicKeyOrCertificate as HostKey};
 ghost use Rattle.sshc_auth.specs.declared.error.Error.{Error as Refusal};
-ghost use Rattle.sshc_transport.specs.declared.exchange.NamesChosen.{NamesChosen as Names};
+ghost use Rattle.sshc_transport.specs.declared.exchange.ExchangeNames.{ExchangeNames as Names};
 ghost use Rattle.sshc_auth.specs.Stepping.{Adds};
 
 use crate::error::Error;

@@ -11,8 +11,7 @@ ghost use Rattle.sshc_auth.specs.Stepping.{lent};
 
 use crate::error::Error;
 use crate::step::{Flow, Step, Told};
-use crate::stored::StoredMethod;
-use sshc_auth_event::Event;
+use sshc_auth_event::{Event, SharedMethod};
 use sshc_key::LocalSigner;
 use sshc_transport::{ExchangeFlag, PendingCount};
 use sshc_wire::{List, Octets, Outbox, Record, Resolution, Text, Ticket};
@@ -90,7 +89,7 @@ pub struct Opening {
     session_id: Octets,
     requested: bool,
     user: Text,
-    method: Option<StoredMethod>,
+    method: Option<SharedMethod>,
     class: Class,
     ticket: Ticket,
     ext_infos: u32,

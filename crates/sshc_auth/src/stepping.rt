@@ -159,6 +159,9 @@ impl Opening {
         if self.is_closed() {
             return Step::Closed;
         }
+        if !self.may_ask(event) {
+            return self.step_asked(&Asks::Nothing, event, gate, signer, out);
+        }
         match self.asks(event) {
             Ok(asks) => {
                 let step = self.step_asked(&asks, event, gate, signer, out);

@@ -1,1 +1,2 @@
 pub mod HostKey
+pub mod MethodCode

@@ -1,7 +1,7 @@
 //! What happens to a session.
 
 use crate::channel_msg::ChannelMsg;
-use crate::method::Method;
+use crate::shared_method::SharedMethod;
 use sshc_key::PublicKey;
 use sshc_transport::ExchangeResult;
 use sshc_wire::{ChannelId, ChannelOpenFailure, Disconnect, List, Octets, Text, Ticket};
@@ -28,7 +28,7 @@ pub enum Event {
     Authenticate {
         ticket: Ticket,
         user: Text,
-        method: Method,
+        method: SharedMethod,
     },
     /// The user's answers to prompts, in order (RFC 4256, section 3.4).
     AuthInfoResponse {

@@ -5,8 +5,10 @@ mod channel_msg;
 mod event;
 mod host_key;
 mod method;
+mod shared_method;
 
 pub use channel_msg::ChannelMsg;
 pub use event::Event;
 pub use host_key::host_key_of;
 pub use method::Method;
+pub use shared_method::SharedMethod;

@@ -48,10 +48,18 @@ pub told_banner : {E : Type 0} (defaults : Type 0) (judges : PublicKeyOrCertific
     Handles {E = E} defaults (Ok tt) was is old new (Ok u) → AsksHandler {E = E} defaults judges (asking.Banner text) was is old new (Ok false)
 told_banner defaults judges was is old new u text h = record { said = (refl, λ plain. (h.default_body plain).1); grown = h.grown; keeps = h.keeps }
 
-pub refused_telling : {E : Type 0} (defaults : Type 0) (judges : PublicKeyOrCertificate → Result Bool E → Type 0) (asks : Asks) (was is : HandlerAt) (old new : SessionState) (e : E) →
-    Handles {T = Unit {0}} defaults (Ok tt) was is old new (Err e) → AsksHandler defaults judges asks was is old new (Err e)
-refused_telling defaults judges asks was is old new e h = record {
-  said = (inr (λ plain. no_default tt e (h.default_body plain).0), h.cause);
+pub refused_exchange : {E : Type 0} (defaults : Type 0) (judges : PublicKeyOrCertificate → Result Bool E → Type 0) (was is : HandlerAt) (old new : SessionState) (e : E) →
+    Handles {T = Unit {0}} defaults (Ok tt) was is old new (Err e) → AsksHandler defaults judges asking.Exchange was is old new (Err e)
+refused_exchange defaults judges was is old new e h = record {
+  said = (inr (tt, λ plain. no_default tt e (h.default_body plain).0), h.cause);
+  grown = h.grown;
+  keeps = h.keeps;
+}
+
+pub refused_banner : {E : Type 0} (defaults : Type 0) (judges : PublicKeyOrCertificate → Result Bool E → Type 0) (was is : HandlerAt) (old new : SessionState) (e : E) (text : List ℕ) →
+    Handles {T = Unit {0}} defaults (Ok tt) was is old new (Err e) → AsksHandler defaults judges (asking.Banner text) was is old new (Err e)
+refused_banner defaults judges was is old new e text h = record {
+  said = (inr (tt, λ plain. no_default tt e (h.default_body plain).0), h.cause);
   grown = h.grown;
   keeps = h.keeps;
 }
@@ -76,7 +84,7 @@ key_told defaults judges key was mid is old new u says keeps h = record {
 pub key_told_refused : {E : Type 0} (defaults : Type 0) (judges : PublicKeyOrCertificate → Result Bool E → Type 0) (key : PublicKeyOrCertificate) (was mid is : HandlerAt) (old new : SessionState) (e : E) →
     HandlerKeeps was mid → Handles {T = Unit {0}} defaults (Ok tt) mid is old new (Err e) → AsksHandler defaults judges (asking.HostKey key) was is old new (Err e)
 key_told_refused defaults judges key was mid is old new e keeps h = record {
-  said = (inr (λ plain. no_default tt e (h.default_body plain).0), rose_later was.refusals mid.refusals is.refusals keeps.later h.cause);
+  said = (inr (tt, λ plain. no_default tt e (h.default_body plain).0), rose_later was.refusals mid.refusals is.refusals keeps.later h.cause);
   grown = h.grown;
   keeps = keeps_on was mid is keeps h.keeps;
 }

@@ -23,7 +23,7 @@ use Rattle.sshc_client_table.specs.KeepLaws.{grown_keeps}
 use Rattle.sshc_client_state.specs.OpeningStep.{lent_session}
 use Rattle.sshc_client.specs.Asked.{AsksHandler, IsVerdict, Refuses, RefusesKey, Said, StepsBefore, verdict_gate}
 use Rattle.sshc_client.specs.Handling.{HandlerAt, HandlerKeeps, handler_at}
-use Rattle.sshc_client.specs.HandledStep.{Before, RefusedBefore, StepsBehind, WhyRefused, handler_gate, shut_session}
+use Rattle.sshc_client.specs.HandledStep.{Before, IsCall, RefusedBefore, StepsBehind, WhyRefused, handler_gate, shut_session}
 use Rattle.sshc_client.proofs.AskedLemmas.{lent_with}
 use Rattle.sshc_client.proofs.HandlerLemmas.{same_handler}
 
@@ -85,7 +85,7 @@ why_refused defaults told_as judges event (asking.HostKey key) s mid t calls cal
 why_refused defaults told_as judges event asking.Nothing s mid t calls calls2 x x2 r r2 setting setting2 e asked (inl (never, same)) rose = absurd never
 why_refused defaults told_as judges event asking.Exchange s mid t calls calls2 x x2 r r2 setting setting2 e asked (inl (never, same)) rose = absurd never
 why_refused defaults told_as judges event (asking.Banner text) s mid t calls calls2 x x2 r r2 setting setting2 e asked (inl (never, same)) rose = absurd never
-why_refused defaults told_as judges event asks s mid t calls calls2 x x2 r r2 setting setting2 e asked (inr own_body) rose = inr (inr (rose, own_body))
+why_refused defaults told_as judges event asks s mid t calls calls2 x x2 r r2 setting setting2 e asked (inr (called, own_body)) rose = inr (inr (rose, subst IsCall (sym asked) called, own_body))
 
 -- the handler refused
 pub refused_before : {E : Type 0} (defaults : Type 0) (told_as : Error → E) (judges : PublicKeyOrCertificate → Result Bool E → Type 0) (event : Event) (asks : Asks) (s mid : SessionState) (calls : List SignCall) (x r r2 : ℕ) (setting setting2 : List (List ℕ)) (e : E) →

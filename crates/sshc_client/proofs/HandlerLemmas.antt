@@ -66,7 +66,7 @@ unfolding asking
 refused_call defaults was is callback back old new (Handler e) h = record {
   opinions = default_opinions old;
   default = λ plain. refl;
-  follows = record { grown = h.grown; rose = h.cause; changed = λ plain. no_default tt e (h.default_body plain).0 };
+  follows = record { asked = refl; grown = h.grown; rose = h.cause; changed = λ plain. no_default tt e (h.default_body plain).0 };
   keeps = h.keeps;
 }
 refused_call defaults was is callback back old new (Own e) (memory, same, still) = record {
@@ -224,7 +224,7 @@ front_row defaults was is m row old new (Ok (flows.Ended e)) f = (f.0, record { 
 front_row defaults was is m row old new (Err (Own e)) (inl (memory, inl f)) = inl (memory, inl (inr f))
 front_row defaults was is m row old new (Err (Own e)) (inl (memory, inr f)) = inl (memory, inr (record { mid = f.mid; answer = f.answer; let_go = f.let_go; is = f.is }))
 front_row defaults was is m row old new (Err (Own e)) (inr f) = inr (f.0, record { mid = f.1.mid; answer = f.1.answer; let_go = f.1.let_go; is = f.1.is })
-front_row defaults was is m row old new (Err (Handler e)) f = record { grown = f.grown; rose = f.rose; changed = f.changed }
+front_row defaults was is m row old new (Err (Handler e)) f = record { asked = f.asked; grown = f.grown; rose = f.rose; changed = f.changed }
 
 pub front_one : {E : Type 0} (defaults : Type 0) (was is : HandlerAt) (m : Move) (row : SessionRow) (old new : SessionState) (r : Result Flow (Stop E)) →
     FollowsOne defaults was is row (after m old) new r → FollowsOne defaults was is (behind_moves (m ∷ []) row) old new r
@@ -250,7 +250,7 @@ pub called_before : {E : Type 0} (defaults : Type 0) (was mid is : HandlerAt) (r
 called_before defaults was mid is row old new (Ok flows.Went) keeps f = f
 called_before defaults was mid is row old new (Ok (flows.Ended e)) keeps f = f
 called_before defaults was mid is row old new (Err (Own e)) keeps f = f
-called_before defaults was mid is row old new (Err (Handler e)) keeps f = record { grown = f.grown; rose = rose_later was.refusals mid.refusals is.refusals keeps.later f.rose; changed = f.changed }
+called_before defaults was mid is row old new (Err (Handler e)) keeps f = record { asked = f.asked; grown = f.grown; rose = rose_later was.refusals mid.refusals is.refusals keeps.later f.rose; changed = f.changed }
 
 -- ---- our window is refilled
 
@@ -326,7 +326,7 @@ unfolding served
 refused_open defaults default was is id opened old new (Handler e) h = record {
   opinions = default_opinions old;
   default = λ plain. refl;
-  follows = record { grown = h.grown; rose = h.cause; changed = λ plain. no_default default e (h.default_body plain).0 };
+  follows = record { asked = refl; grown = h.grown; rose = h.cause; changed = λ plain. no_default default e (h.default_body plain).0 };
   keeps = h.keeps;
 }
 refused_open defaults default was is id opened old new (Own e) (memory, same, still) = record {

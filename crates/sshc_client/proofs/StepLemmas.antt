@@ -27,16 +27,18 @@ use Rattle.sshc_client_table.specs.declared.open_answer.OpenAnswer.{OpenAnswer}
 use Rattle.sshc_client_table.specs.declared.open_answer.OpenAnswer.TheVariants.{Accept}
 use Rattle.sshc_client_table.specs.SessionState.{SessionState, is_live, is_open, opens_later, runs}
 use Rattle.sshc_client_table.specs.Moves.{Fronts, Move, Stops, after, done, onto}
-use Rattle.sshc_client_table.specs.SessionRow.{Callback, Opinions, SessionRow, ends, goes, refuses}
+use Rattle.sshc_client_table.specs.SessionRow.{Callback, Next, Opinions, SessionRow, ends, goes, refuses}
 use Rattle.sshc_client_table.specs.SessionTable.{session_row}
 use Rattle.sshc_client_state.specs.OpeningStep.{Lent, StepsLent, StepsOpening, goes_on, lent_session, life_behind, life_if, outbox_of, outgoing}
 use Rattle.sshc_client_table.specs.KeptByMoves.{moves_keep}
-use Rattle.sshc_client_table.specs.OpenCauseLaws.{all_keep, open_why, session_holds}
+use Rattle.sshc_client_table.specs.OpenCauses.{IsOpenCause}
+use Rattle.sshc_client_table.specs.OpenCauseLaws.{NextCaused, all_keep, open_why, session_holds}
 use Rattle.sshc_client_rows.specs.declared.flow.Flow.{Flow}
 use Rattle.sshc_client_rows.specs.declared.flow.Flow.TheVariants as flows
 use Rattle.sshc_client_rows.specs.Follows.{all_moves, default_opinions}
 use Rattle.sshc_client.specs.declared.stop.Stop.{Stop}
 use Rattle.sshc_client.specs.declared.stop.Stop.TheVariants.{Own, Handler}
+use Rattle.sshc_client.specs.CausedStep.{IsCausedOpen}
 use Rattle.sshc_client.specs.Handling.{HandlerAt, HandlerKeeps, handler_at}
 use Rattle.sshc_client.specs.HandledRow.{Cut, CutBehind, FollowsRow, FollowsWith, Handled, LetGo}
 use Rattle.sshc_client.specs.HandledStep.{Before, EndsBy, EndsRow, RefusedBefore, SessionSteps, StepsBehind, StepsOpen, WhyRefused, handler_of, has_left, shut_session}
@@ -123,6 +125,44 @@ open_so : {E : Type 0} (defaults : Type 0) (told_as : Error → E) (accepts : Ac
 open_so defaults told_as accepts event was is old new result plain live s =
     row_so defaults told_as accepts (default_opinions old) event was is old s.last new s.answer result plain (live_open _ old.life live) (live_life _ old.life live)
     (subst (λ (o : Opinions). FollowsRow defaults was is (session_row accepts o old event) old s.last s.answer) (s.follows.default plain) s.follows.follows) s.ends
+
+-- ---- why it refuses or ends
+
+went_caused : {E : Type 0} (defaults : Type 0) (told_as : Error → E) (was is : HandlerAt) (s last new : SessionState) (event : Event) (b : Bool) (result : Step E) →
+    (b ≡ true → defaults → ⊥) → EndsBy b last new steps.Went result → IsCausedOpen defaults told_as was is s event result
+went_caused {E = E} defaults told_as was is s last new event false result left_by ends_so =
+    subst (λ (z : Step E). IsCausedOpen defaults told_as was is s event z) (sym ends_so.0) tt
+went_caused {E = E} defaults told_as was is s last new event true result left_by ends_so =
+    subst (λ (z : Step E). IsCausedOpen defaults told_as was is s event z) (sym ends_so.0) (inr (refl, left_by refl))
+
+row_caused : {E : Type 0} (defaults : Type 0) (told_as : Error → E) (was is : HandlerAt) (row : SessionRow) (old last new : SessionState) (event : Event) (answer : Result Flow (Stop E)) (result : Step E) →
+    NextCaused (open_why old event) row.next → (has_left last.life ≡ true → Handled defaults row old last → defaults → ⊥) →
+    FollowsRow defaults was is row old last answer → EndsRow told_as last new answer result → IsCausedOpen defaults told_as was is old event result
+row_caused defaults told_as was is row old last new event (Ok flows.Went) result caused left_by f ends_so =
+    went_caused defaults told_as was is old last new event (has_left last.life) result (λ left. left_by left f.1) ends_so
+row_caused {E = E} defaults told_as was is row old last new event (Ok (flows.Ended e)) result caused left_by f ends_so =
+    subst (λ (z : Step E). IsCausedOpen defaults told_as was is old event z) (sym ends_so.0) (inl (subst (λ (n : Next). NextCaused (open_why old event) n) f.0 caused))
+row_caused {E = E} defaults told_as was is row old last new event (Err (Own e)) result caused left_by (inl f) ends_so =
+    subst (λ (z : Step E). IsCausedOpen defaults told_as was is old event z) (sym ends_so.0) (inl (e, refl, subst (λ (x : Error). IsOpenCause old event x) (sym f.0) tt))
+row_caused {E = E} defaults told_as was is row old last new event (Err (Own e)) result caused left_by (inr f) ends_so =
+    subst (λ (z : Step E). IsCausedOpen defaults told_as was is old event z) (sym ends_so.0) (inl (e, refl, subst (λ (n : Next). NextCaused (open_why old event) n) f.0 caused))
+row_caused {E = E} defaults told_as was is row old last new event (Err (Handler e)) result caused left_by f ends_so =
+    subst (λ (z : Step E). IsCausedOpen defaults told_as was is old event z) (sym ends_so.0) (inr f.rose)
+
+-- a handler that keeps its defaults leaves no session
+nobody_leaves : (defaults : Type 0) (accepts : Accepts) (o : Opinions) (old last : SessionState) (event : Event) → is_live old ≡ true →
+    has_left last.life ≡ true → Handled defaults (session_row accepts o old event) old last → defaults → ⊥
+nobody_leaves defaults accepts o old last event live left h plain =
+    let last_is = handled_so defaults (session_row accepts o old event) old last plain h in
+    let same : has_left last.life ≡ false = ap has_left (ap (λ (s : SessionState). s.life) last_is ∙ row_life accepts o old event (live_open _ old.life live)) ∙ live_life _ old.life live in
+    let clash : true ≡ false = sym left ∙ same in absurd cc
+
+open_caused : {E : Type 0} (defaults : Type 0) (told_as : Error → E) (accepts : Accepts) (event : Event) (was is : HandlerAt) (old new : SessionState) (result : Step E) → is_live old ≡ true →
+    StepsOpen defaults told_as accepts event was is old new result → IsCausedOpen defaults told_as was is old event result
+open_caused defaults told_as accepts event was is old new result live s =
+    row_caused defaults told_as was is (session_row accepts s.follows.opinions old event) old s.last new event s.answer result
+    (session_holds accepts s.follows.opinions old event (live_open _ old.life live)).caused
+    (nobody_leaves defaults accepts s.follows.opinions old s.last event live) s.follows.follows s.ends
 
 -- ---- before the session is open
 
@@ -216,7 +256,7 @@ why_so defaults gate event s mid calls calls2 x r r2 setting setting2 t e plain 
     rw (is, still) (shut_so gate event s calls calls2 x r r2 setting setting2 e fresh same keeps
     (inr (Err e, outgoing s, refuses_key gate (exchange_in event) (outgoing s) key e (asked_of s.opening event) asked says, (refl, refl, refl, same)))
     (inr rose))
-why_so defaults gate event s mid calls calls2 x r r2 setting setting2 t e plain fresh same keeps is (inr (inr (rose, own_body))) = absurd (own_body plain)
+why_so defaults gate event s mid calls calls2 x r r2 setting setting2 t e plain fresh same keeps is (inr (inr (rose, called_so, own_body))) = absurd (own_body plain)
 
 refused_so : {E : Type 0} (defaults : Type 0) (gate : GateAnswers E) (event : Event) (s t : SessionState) (calls calls2 : List SignCall) (x x2 r r2 : ℕ) (setting setting2 : List (List ℕ)) (result : Step E) → defaults → GateKeeps r r2 setting setting2 →
     RefusedBefore defaults gate event (lent_session s calls x r setting) (lent_session t calls2 x2 r2 setting2) result →
@@ -240,6 +280,7 @@ pub plain_step : {E : Type 0} (defaults : Type 0) (gate : GateAnswers E) (accept
 plain_step defaults gate accepts event s t calls calls2 x x2 r r2 setting setting2 result plain steps_so = record {
   closed = steps_so.closed;
   left = steps_so.left;
+  silent = steps_so.silent;
   opening = λ later. opening_so defaults gate event s t calls calls2 x x2 r r2 setting setting2 result plain (record { later = steps_so.keeps.later; kept = steps_so.keeps.kept }) (runs_of _ s.life later) (steps_so.opening later);
   row = λ live. (open_so defaults gate.told_as accepts event _ _ s t result plain live (steps_so.row live).0, (steps_so.row live).1);
 }
@@ -271,8 +312,10 @@ pub over_steps : {E : Type 0} (defaults : Type 0) (gate : GateAnswers E) (accept
 over_steps defaults gate accepts event s calls x r setting over = record {
   closed = λ is_over. (refl, refl);
   left = λ is_left. absurd (over_left (sym over ∙ is_left));
+  silent = λ halts. refl;
   opening = λ later. absurd (no_run _ s.life (ap runs over) later);
   row = λ live. absurd (no_run _ s.life (ap runs over) live);
+  caused = λ live. absurd (no_run _ s.life (ap runs over) live);
   keeps = same_handler (handler_at r setting);
 }
 
@@ -281,8 +324,10 @@ pub left_steps : {E : Type 0} (defaults : Type 0) (gate : GateAnswers E) (accept
 left_steps defaults gate accepts event s t calls x r setting left stopped = record {
   closed = λ is_over. absurd (over_left (sym is_over ∙ left));
   left = λ is_left. (refl, stopped);
+  silent = λ halts. refl;
   opening = λ later. absurd (no_run _ s.life (ap runs left) later);
   row = λ live. absurd (no_run _ s.life (ap runs left) live);
+  caused = λ live. absurd (no_run _ s.life (ap runs left) live);
   keeps = same_handler (handler_at r setting);
 }
 
@@ -292,8 +337,10 @@ pub live_steps : {E : Type 0} (defaults : Type 0) (gate : GateAnswers E) (accept
 live_steps defaults gate accepts event s t calls x r r2 setting setting2 result live steps_so = record {
   closed = λ over. absurd (runs_over (sym (runs_of _ s.life live) ∙ over));
   left = λ left. absurd (runs_left (sym (runs_of _ s.life live) ∙ left));
+  silent = λ halts. absurd (no_run _ s.life halts live);
   opening = λ later. absurd (open_early _ (runs s.life) live later);
   row = λ is_so. (steps_so, refl);
+  caused = λ is_so. open_caused defaults gate.told_as accepts event (handler_at r setting) (handler_at r2 setting2) s t result live steps_so;
   keeps = steps_so.follows.keeps;
 }
 
@@ -303,8 +350,10 @@ pub before_steps : {E : Type 0} (defaults : Type 0) (gate : GateAnswers E) (acce
 before_steps defaults gate accepts event s t calls calls2 x x2 r r2 setting setting2 result life dead b = record {
   closed = λ over. absurd (runs_over (sym life ∙ over));
   left = λ left. absurd (runs_left (sym life ∙ left));
+  silent = λ halts. absurd (not_both (runs s.life) halts (ap runs life));
   opening = λ later. b.steps_on;
   row = λ live. absurd (not_both (is_live s) dead live);
+  caused = λ live. absurd (not_both (is_live s) dead live);
   keeps = b.keeps;
 }
 

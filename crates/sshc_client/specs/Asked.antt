@@ -12,7 +12,7 @@ use Rattle.sshc_client_table.specs.SessionState.{SessionState}
 use Rattle.sshc_client_table.specs.Grown.{Grown}
 use Rattle.sshc_client_state.specs.OpeningStep.{Lent, StepsLent, goes_on}
 use Rattle.sshc_client.specs.Handling.{HandlerAt, HandlerKeeps}
-use Rattle.sshc_client.specs.HandledStep.{AddsNothing, EndsBy, has_left}
+use Rattle.sshc_client.specs.HandledStep.{AddsNothing, EndsBy, IsCall, has_left}
 
 -- the verdict
 abbrev pub Says : {E : Type 0} → Bool → PublicKeyOrCertificate → Result Bool E → Type 0
@@ -27,14 +27,14 @@ abbrev pub IsVerdict : {E : Type 0} → (PublicKeyOrCertificate → Result Bool 
 IsVerdict judges (asking.HostKey key) accepts = judges key (Ok accepts)
 IsVerdict judges asks accepts = accepts ≡ false
 
--- the handler refused the host key, before it was lent the session; or it refused for another reason, by a body of its
--- own
+-- the handler refused the host key, before it was lent the session; or it refused for another reason, from a call that
+-- the row asks, by a body of its own
 abbrev pub RefusesKey : {E : Type 0} → (PublicKeyOrCertificate → Result Bool E → Type 0) → Asks → E → Type 0
 RefusesKey judges (asking.HostKey key) e = judges key (Err e)
 RefusesKey judges asks e = ⊥
 
 abbrev pub Refuses : {E : Type 0} → Type 0 → (PublicKeyOrCertificate → Result Bool E → Type 0) → Asks → SessionState → SessionState → E → Type 0
-Refuses defaults judges asks old new e = (RefusesKey judges asks e × (new ≡ old)) ⊎ (defaults → ⊥)
+Refuses defaults judges asks old new e = (RefusesKey judges asks e × (new ≡ old)) ⊎ (IsCall asks × (defaults → ⊥))
 
 abbrev pub Said : {E : Type 0} → Type 0 → (PublicKeyOrCertificate → Result Bool E → Type 0) → Asks → HandlerAt → HandlerAt → SessionState → SessionState → Result Bool E → Type 0
 Said defaults judges asks was is old new (Ok accepts) = IsVerdict judges asks accepts × (defaults → new ≡ old)

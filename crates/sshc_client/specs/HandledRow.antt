@@ -2,7 +2,7 @@
 -- the handler does to the session that it is lent, and the moves by what it returns. What the handler does is a list of
 -- moves too, of those that the session's methods make. Stated by relations between states; the code does one move after
 -- the other.
-use Rattle.std.specs.Prelude.{◌≡◌, ◌⊎◌, ℕ, nat_lt, Bool, true, false, if◌then◌else◌, List, [], ◌∷◌, Option, Some, None, Result, Ok, Err}
+use Rattle.std.specs.Prelude.{◌≡◌, ◌⊎◌, ℕ, nat_lt, Bool, true, false, if◌then◌else◌, List, [], ◌∷◌, Option, Some, None, IsSome, Result, Ok, Err}
 use Rattle.sshc_wire.specs.Faults.{Rose}
 use Rattle.sshc_wire.specs.declared.channel_open_failure.ChannelOpenFailure.TheVariants.{AdministrativelyProhibited}
 use Rattle.sshc_wire.specs.declared.channel_record.ServerOpen.{ServerOpen}
@@ -48,8 +48,9 @@ pub record CutBehind (defaults : Type 0) (row : SessionRow) (old new : SessionSt
 abbrev pub Cut : Type 0 → SessionRow → SessionState → SessionState → Type 0
 Cut defaults row old new = Fronts row.front old new ⊎ CutBehind defaults row old new
 
--- the handler refused
+-- the handler refused, from the callback that the row asks
 pub record HandlerRefused (defaults : Type 0) (was is : HandlerAt) (row : SessionRow) (old new : SessionState) : Type 0 where
+  pub asked : IsSome row.asks
   pub grown : Grown (done row.front old) new
   pub rose : Rose was.refusals is.refusals
   pub changed : defaults → ⊥

@@ -29,6 +29,7 @@ use Rattle.sshc_client_rows.specs.declared.flow.Flow.TheVariants as flows
 use Rattle.sshc_client.specs.declared.stop.Stop.{Stop}
 use Rattle.sshc_client.specs.declared.stop.Stop.TheVariants.{Own, Handler}
 use Rattle.sshc_client.specs.Handling.{HandlerAt, HandlerKeeps, handler_at}
+use Rattle.sshc_client.specs.CausedStep.{IsCausedOpen}
 use Rattle.sshc_client.specs.HandledRow.{FollowsWith}
 
 -- the handler, as it is at one moment
@@ -85,13 +86,18 @@ pub record StepsBehind {E : Type 0} (defaults : Type 0) (gate : GateAnswers E) (
 abbrev pub shut_session : SessionState → SessionState
 shut_session s = record s { opening = shut s.opening; life = Over }
 
--- why: memory ran out; the handler refused the host key that it was asked about; or it refused otherwise, by a body of
--- its own
+-- the handler is called
+abbrev pub IsCall : Asks → Type 0
+IsCall asking.Nothing = ⊥
+IsCall asks = Unit {0}
+
+-- why: memory ran out; the handler refused the host key that it was asked about; or it refused otherwise, from a call
+-- that the row asks, by a body of its own
 abbrev pub WhyRefused : {E : Type 0} → Type 0 → GateAnswers E → Event → Lent → Lent → SessionState → E → Type 0
 WhyRefused defaults gate event was is mid e =
     ((e ≡ gate.told_as NoMemory) × (mid ≡ was.session))
     ⊎ (((key : PublicKeyOrCertificate) × (asked_of was.session.opening event ≡ asking.HostKey key) × gate.judges key (Err e) × (mid ≡ was.session) × Rose was.gate_refusals is.gate_refusals)
-    ⊎ (Rose was.gate_refusals is.gate_refusals × (defaults → ⊥)))
+    ⊎ (Rose was.gate_refusals is.gate_refusals × IsCall (asked_of was.session.opening event) × (defaults → ⊥)))
 
 pub record RefusedBefore {E : Type 0} (defaults : Type 0) (gate : GateAnswers E) (event : Event) (was is : Lent) (result : Step E) : Type 0 where
   pub fresh : was.session.opening.closed ≡ false
@@ -116,6 +122,8 @@ pub record SessionSteps {E : Type 0} (defaults : Type 0) (gate : GateAnswers E) 
   pub closed : was.session.life ≡ Over → (result ≡ steps.Closed) × (is.session ≡ was.session)
   -- a session that the user left is over with the next step
   pub left : was.session.life ≡ Left → (result ≡ steps.Ended Disconnected) × (is.session ≡ after Stops (was.session))
+  -- a session that is over or was left calls neither signer nor handler: nothing else that is lent changes
+  pub silent : runs (was.session.life) ≡ false → is ≡ record was { session = is.session }
   -- before the session is open
   pub opening : opens_later (was.session) ≡ true →
       StepsBehind defaults gate event was is result ⊎ RefusedBefore defaults gate event was is result
@@ -123,5 +131,8 @@ pub record SessionSteps {E : Type 0} (defaults : Type 0) (gate : GateAnswers E) 
   pub row : is_live (was.session) ≡ true →
       StepsOpen defaults gate.told_as accepts event (handler_of was) (handler_of is) (was.session) (is.session) result
       × (is.calls ≡ was.calls)
+  -- in an open session, why it refuses or ends: by its state and the event alone, or by the handler
+  pub caused : is_live (was.session) ≡ true →
+      IsCausedOpen defaults gate.told_as (handler_of was) (handler_of is) (was.session) event result
   -- the handler's count of refusals never falls, and what it judges by doesn't change
   pub keeps : HandlerKeeps (handler_of was) (handler_of is)

@@ -1,5 +1,6 @@
 pub mod Asked
 pub mod Asking
+pub mod CausedStep
 pub mod Configured
 pub mod Handling
 pub mod HandledRow

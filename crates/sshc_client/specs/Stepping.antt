@@ -1,7 +1,7 @@
 -- What a step of a session does if the handler keeps its default bodies, with its gate's verdict on host keys: before
 -- the session is open the opening's step is done, in an open session the event's row is followed, and a session that
 -- has ended returns `Closed`. In the code the opening is a part of the session all along.
-use Rattle.std.specs.Prelude.{◌≡◌, ◌⊎◌, true}
+use Rattle.std.specs.Prelude.{◌≡◌, ◌⊎◌, true, false}
 use Rattle.sshc_auth_event.specs.declared.event.Event.{Event}
 use Rattle.sshc_auth.specs.declared.ended.Ended.TheVariants.{Disconnected}
 use Rattle.sshc_auth.specs.declared.error.Error.{Error}
@@ -11,7 +11,7 @@ use Rattle.sshc_auth.specs.declared.step.Step.TheVariants as steps
 use Rattle.sshc_auth.specs.Stepping.{GateAnswers}
 use Rattle.sshc_client_packets.specs.HostKeyProof.{Accepts}
 use Rattle.sshc_client_table.specs.declared.life.Life.TheVariants.{Left, Over}
-use Rattle.sshc_client_table.specs.SessionState.{SessionState, is_live, opens_later}
+use Rattle.sshc_client_table.specs.SessionState.{SessionState, is_live, opens_later, runs}
 use Rattle.sshc_client_table.specs.Moves.{Fronts, Stops, after, done}
 use Rattle.sshc_client_table.specs.SessionRow.{SessionRow, ends, goes, refuses}
 use Rattle.sshc_client_table.specs.SessionTable.{session_row}
@@ -37,6 +37,8 @@ pub record SessionStepped {E : Type 0} (gate : GateAnswers E) (accepts : Accepts
   pub closed : was.session.life ≡ Over → (result ≡ steps.Closed) × (is.session ≡ was.session)
   -- a session that the user left is over with the next step
   pub left : was.session.life ≡ Left → (result ≡ steps.Ended Disconnected) × (is.session ≡ after Stops (was.session))
+  -- a session that is over or was left calls neither signer nor handler: nothing else that is lent changes
+  pub silent : runs (was.session.life) ≡ false → is ≡ record was { session = is.session }
   -- before the session is open
   pub opening : opens_later (was.session) ≡ true → StepsOpening gate event was is result
   -- the row of the table; neither signer nor gate is asked

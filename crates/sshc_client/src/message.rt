@@ -3,7 +3,7 @@
 ghost use Rattle.std.specs.Prelude.{◌≡◌};
 ghost use Rattle.sshc_client.specs.declared.message.Msg.TheVariants as msgs;
 
-use sshc_auth::{ChannelMsg, Method};
+use sshc_auth::{ChannelMsg, SharedMethod};
 use sshc_key::PublicKey;
 use sshc_wire::{ChannelId, ChannelOpenFailure, Disconnect, List, Octets, Text, Ticket};
 
@@ -13,7 +13,7 @@ pub enum Msg {
     /// RFC 4252, section 5.
     Authenticate {
         user: Text,
-        method: Method,
+        method: SharedMethod,
         ticket: Option<Ticket>,
     },
     /// The answers to prompts, in order (RFC 4256, section 3.4).

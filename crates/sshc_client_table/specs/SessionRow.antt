@@ -9,7 +9,7 @@ use Rattle.sshc_wire.specs.declared.error.WireError.{WireError}
 use Rattle.sshc_wire.specs.declared.record.Record.{Record}
 use Rattle.sshc_wire.specs.declared.record.Record.TheVariants.{Channel}
 use Rattle.sshc_key.specs.KeyGrammar.{Key}
-use Rattle.sshc_transport.specs.declared.exchange.NamesChosen.{NamesChosen}
+use Rattle.sshc_transport.specs.declared.exchange.ExchangeNames.{ExchangeNames}
 use Rattle.sshc_auth.specs.declared.ended.Ended.{Ended}
 use Rattle.sshc_auth.specs.declared.error.Error.{Error}
 use Rattle.sshc_auth.specs.declared.error.Error.TheVariants.{SshEncoding}
@@ -19,7 +19,7 @@ use Rattle.sshc_client_table.specs.Moves.{Move, Tells}
 
 -- a call of the handler, which borrows the session, with its arguments
 pub data Callback : Type 0 where
-  KexDone : (secret : Option (List ℕ)) → (names : NamesChosen) → Callback
+  KexDone : (secret : Option (List ℕ)) → (names : ExchangeNames) → Callback
   Happened : (id : ℕ) → (happened : ChannelRecord) → Callback  -- what the peer did on a channel, by its record
   ServerOpened : (id : ℕ) → (opened : ServerOpen) → Callback
   HostKeysAnnounced : (keys : List (Key × List ℕ)) → Callback

@@ -22,7 +22,7 @@ use Rattle.sshc_auth_event.specs.contracts.event.Event as Event
 use Rattle.sshc_auth_event.specs.contracts.method.Method as Method
 use Rattle.sshc_auth_event.proofs.channel_msg.ChannelMsg.TheSendSync as channel_msg
 use Rattle.sshc_auth.specs.contracts.opening.Opening as Opening
-use Rattle.sshc_auth.specs.contracts.stored.StoredMethod as StoredMethod
+use Rattle.sshc_auth_event.specs.contracts.shared_method.SharedMethod as SharedMethod
 use Rattle.sshc_auth.proofs.opening.Settings.TheSendSync as settings
 use Rattle.sshc_auth.proofs.opening.Phase.TheSendSync as phase
 use Rattle.sshc_auth.proofs.opening.Class.TheSendSync as class
@@ -61,12 +61,34 @@ method_send =
     let p = private_send in let h = hashed_send in let k = public_send in let c = certificate_send in
     search (octets.the_send, text.the_send, sendable, crosses) depth 60 fits 60000
 
-stored_send : IsSend StoredMethod.the_row
-stored_send = let m = method_send in search (sendable, crosses) depth 60 fits 60000
+-- a method is shared between threads, so its parts may be seen from each of them
+
+key_sync : IsSync (KeyData.the_field).row
+key_sync = search (octets.the_sync, text.the_sync, signature.the_sync, knot.crosses, sendable, crosses) depth 60 fits 60000
+
+certificate_sync : IsSync Certificate.the_row
+certificate_sync = search (octets.the_sync, text.the_sync, signature.the_sync, knot.crosses, sendable, crosses) depth 60 fits 60000
+
+public_sync : IsSync PublicKey.the_row
+public_sync = let k = key_sync in search (text.the_sync, sendable, crosses) depth 60 fits 60000
+
+private_sync : IsSync PrivateKey.the_row
+private_sync = let p = public_sync in search (pair_data.the_field_sync, sendable, crosses) depth 60 fits 60000
+
+hashed_sync : IsSync PrivateKeyWithHashAlg.the_row
+hashed_sync = let p = private_sync in search (sendable, crosses) depth 60 fits 60000
+
+method_sync : IsSync (Method.the_field).row
+method_sync =
+    let p = private_sync in let h = hashed_sync in let k = public_sync in let c = certificate_sync in
+    search (octets.the_sync, text.the_sync, sendable, crosses) depth 60 fits 60000
+
+method_shared : IsSend SharedMethod.the_row
+method_shared = let m = method_send in let n = method_sync in search (sendable, crosses) depth 60 fits 60000
 
 opening_send : IsSend Opening.the_row
 opening_send =
-    let m = stored_send in
+    let m = method_shared in
     search (octets.the_send, text.the_send, settings.the_field_send, phase.the_field_send, class.the_field_send, waiter.the_field_send, pending.the_send, sendable, crosses) depth 60 fits 60000
 
 entry_send : IsSend (ReplyEntry.the_field).row
@@ -82,7 +104,7 @@ session_send = let c = connection_send in search (sendable, crosses) depth 60 fi
 
 event_send : IsSend (Event.the_field).row
 event_send =
-    let m = method_send in let k = public_send in
+    let m = method_shared in let k = public_send in
     search (octets.the_send, text.the_send, exchange.the_field_send, channel_msg.the_field_send, sendable, crosses) depth 90 fits 90000
 
 module _ (H E : RattleType) (g : Ghosts H.Denot E.Denot) where

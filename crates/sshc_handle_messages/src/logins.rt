@@ -5,7 +5,7 @@ ghost use Rattle.sshc_handle_messages.specs.Messages.{asked_ticket, identity_of_
 ghost use Rattle.sshc_auth_event.specs.declared.method.Method.TheVariants as methods;
 ghost use Rattle.sshc_client.specs.declared.message.Msg.TheVariants as msgs;
 
-use sshc_auth::Method;
+use sshc_auth::{Method, SharedMethod};
 use sshc_client::Msg;
 use sshc_key::{AgentIdentity, Certificate, HashAlg, PublicKey};
 use sshc_wire::{NoMemory, Text, Ticket};
@@ -22,17 +22,12 @@ pub fn asked() -> Option<Ticket>
 pub fn login(alloc: Global, user: &str, method: Method) -> Result<Msg, NoMemory>
     ensures { IfOk result (λ m. m ≡ msgs.Authenticate user.now method asked_ticket) }
 {
-    match Text::from_str(alloc, user) {
-        Ok(user) => Ok(Msg::Authenticate {
-            user,
-            method,
-            ticket: asked(),
-        }),
-        Err(e) => {
-            drop(method);
-            Err(e)
-        }
-    }
+    let method = SharedMethod::new(alloc, method)?;
+    Ok(Msg::Authenticate {
+        user: Text::from_str(alloc, user)?,
+        method,
+        ticket: asked(),
+    })
 }
 
 /// A login by a key whose signatures a signer makes, with the key as the signer knows it.

@@ -2,7 +2,7 @@
 use Rattle.std.specs.Coded.{Coded, codes}
 use Rattle.sshc_key.specs.KeyCode.{key_code}
 use Rattle.sshc_key.specs.PairCode.{key_pair_code}
-use Rattle.sshc_auth.specs.StateCode.{method_code}
+use Rattle.sshc_auth_event.specs.MethodCode.{method_code}
 use Rattle.sshc_client_state.specs.StateCode.{session_code}
 use Rattle.sshc_auth_event.specs.declared.event.Event.{Event}
 use Rattle.sshc_handle_state.specs.HandleAt.{HandleAt}

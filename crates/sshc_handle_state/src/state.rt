@@ -14,7 +14,7 @@ use crate::end::End;
 use crate::ending::ended_copied;
 use crate::submission::{asks_answer, event_of};
 use crate::timers::Timers;
-use sshc_auth::{Ended, Error, Event, Method};
+use sshc_auth::{Ended, Error, Event, Method, SharedMethod};
 use sshc_client::{Config, Handler, Msg, Session};
 use sshc_handle_tickets::Tickets;
 use sshc_key::AgentSessionBinding;
@@ -155,9 +155,16 @@ impl<H: Handler> HandleState<H> {
     pub fn start_prompts(&mut self, user: Text, submethods: Text) -> Result<Option<Ticket>, Error>
         ensures { PromptsAt user submethods self.old self.new result }
     {
+        if self.end.is_some() {
+            return Err(Error::SendError);
+        }
+        let alloc = user.allocator();
+        let Ok(method) = SharedMethod::new(alloc, Method::KeyboardInteractive { submethods }) else {
+            return Err(Error::NoMemory);
+        };
         let begun = self.submit(Msg::Authenticate {
             user,
-            method: Method::KeyboardInteractive { submethods },
+            method,
             ticket: Some(Ticket(0)),
         });
         self.keep_prompts(&begun);

@@ -11,7 +11,7 @@ use Rattle.sshc_key.specs.PairCode.{KeyPair}
 use Rattle.sshc_transport.specs.declared.exchange.ExchangeKey.{ExchangeKey}
 use Rattle.sshc_transport.specs.declared.exchange.ExchangeKey.TheVariants as exchange_keys
 use Rattle.sshc_transport.specs.declared.exchange.ExchangeResult.{ExchangeResult}
-use Rattle.sshc_transport.specs.declared.exchange.NamesChosen.{NamesChosen}
+use Rattle.sshc_transport.specs.declared.exchange.ExchangeNames.{ExchangeNames}
 use Rattle.sshc_auth_event.specs.declared.channel_msg.ChannelMsg.{ChannelMsg}
 use Rattle.sshc_auth_event.specs.declared.channel_msg.ChannelMsg.TheVariants as msgs
 use Rattle.sshc_auth_event.specs.declared.event.Event.{Event}
@@ -50,7 +50,7 @@ abbrev pub IsSecret : Option (List ℕ) → List ℕ → Type 0
 IsSecret (Some secret) bytes = InRow IsFlag IsString (true, secret) bytes
 IsSecret None bytes = InRow IsFlag IsString (false, []) bytes
 
-abbrev pub IsNames : NamesChosen → List ℕ → Type 0
+abbrev pub IsNames : ExchangeNames → List ℕ → Type 0
 IsNames n bytes = InRow IsText (InRow IsText (InRow IsText (InRow IsText (InRow IsText IsFlag)))) (n.kex, (n.key, (n.cipher, (n.client_mac, (n.server_mac, n.strict_kex))))) bytes
 
 abbrev pub IsExchange : ExchangeResult → List ℕ → Type 0

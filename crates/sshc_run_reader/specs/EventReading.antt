@@ -12,7 +12,7 @@ use Rattle.sshc_key.specs.Algorithms.{kept_hash}
 use Rattle.sshc_transport.specs.declared.exchange.ExchangeKey.{ExchangeKey}
 use Rattle.sshc_transport.specs.declared.exchange.ExchangeKey.TheVariants as exchange_keys
 use Rattle.sshc_transport.specs.declared.exchange.ExchangeResult.{ExchangeResult}
-use Rattle.sshc_transport.specs.declared.exchange.NamesChosen.{NamesChosen}
+use Rattle.sshc_transport.specs.declared.exchange.ExchangeNames.{ExchangeNames}
 use Rattle.sshc_auth_event.specs.declared.channel_msg.ChannelMsg.{ChannelMsg}
 use Rattle.sshc_auth_event.specs.declared.channel_msg.ChannelMsg.TheVariants as msgs
 use Rattle.sshc_auth_event.specs.declared.event.Event.{Event}
@@ -60,7 +60,7 @@ secret_of (false, body) = no_secret body
 unfoldable pub secret_at : Reader EventError (Option (List ℕ))
 secret_at bytes = converted_at secret_of (both_at flag_at octets_at) bytes
 
-unfoldable pub names_at : Reader EventError NamesChosen
+unfoldable pub names_at : Reader EventError ExchangeNames
 names_at bytes =
     made_at (λ x. record { kex = x.0; key = x.1.0; cipher = x.1.1.0; client_mac = x.1.1.1.0; server_mac = x.1.1.1.1.0; strict_kex = x.1.1.1.1.1 })
     (both_at words_at (both_at words_at (both_at words_at (both_at words_at (both_at words_at flag_at))))) bytes

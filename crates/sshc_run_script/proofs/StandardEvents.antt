@@ -26,7 +26,7 @@ use Rattle.sshc_auth_event.specs.declared.event.Event.TheVariants as events
 use Rattle.sshc_transport.specs.declared.exchange.ExchangeKey.{ExchangeKey}
 use Rattle.sshc_transport.specs.declared.exchange.ExchangeKey.TheVariants as keys
 use Rattle.sshc_transport.specs.declared.exchange.ExchangeResult.{ExchangeResult}
-use Rattle.sshc_transport.specs.declared.exchange.NamesChosen.{NamesChosen}
+use Rattle.sshc_transport.specs.declared.exchange.ExchangeNames.{ExchangeNames}
 use Rattle.sshc_auth_event.specs.declared.method.Method.{Method}
 use Rattle.sshc_auth_event.specs.declared.method.Method.TheVariants.{Password}
 use Rattle.sshc_run_reader.specs.declared.error.EventError.{EventError}
@@ -67,7 +67,7 @@ whole_is = ap (λ (r : Result (Key × List ℕ) KeyError). whole_of (faults_as (
 
 -- ---- the exchange's fields
 
-abbrev names : NamesChosen
+abbrev names : ExchangeNames
 names = record { kex = codes "curve25519-sha256"; key = []; cipher = []; client_mac = []; server_mac = []; strict_kex = false }
 
 abbrev pub exchange_with : ExchangeKey → ExchangeResult
@@ -141,7 +141,7 @@ secretless = 0 ∷ string_text [] ++ named
 abbrev keyed : List ℕ
 keyed = string_text (codes "session-id") ++ (string_text [] ++ secretless)
 
-exchange_of : (b0 b1 b2 b3 b4 hash signature : List ℕ) (key : ExchangeKey) (secret : Option (List ℕ)) (names : NamesChosen) → exchange_key_at b0 ≡ Ok (key, b1) → octets_at b1 ≡ Ok (hash, b2)
+exchange_of : (b0 b1 b2 b3 b4 hash signature : List ℕ) (key : ExchangeKey) (secret : Option (List ℕ)) (names : ExchangeNames) → exchange_key_at b0 ≡ Ok (key, b1) → octets_at b1 ≡ Ok (hash, b2)
     → octets_at b2 ≡ Ok (signature, b3) → secret_at b3 ≡ Ok (secret, b4) → names_at b4 ≡ Ok (names, [])
     → exchange_done_of b0 ≡ Ok (events.ExchangeDone (record { key = key; session_hash = hash; signature = signature; secret = secret; names = names }))
 unfolding exchange_done_of exchange_at

@@ -1,7 +1,7 @@
 //! A server that logs in and grants every other request.
 
 use crate::server::{Coming, Server};
-use sshc_transport::{ExchangeKey, ExchangeResult, NamesChosen, TransportEvent};
+use sshc_transport::{ExchangeKey, ExchangeNames, ExchangeResult, NamesChosen, TransportEvent};
 use sshc_wire::{Cursor, NoMemory, Octets, Text, WireError};
 use std::alloc::Global;
 
@@ -10,6 +10,19 @@ pub const HOST_KEY: [u8; 51] = [
     0, 0, 0, 11, b's', b's', b'h', b'-', b'e', b'd', b'2', b'5', b'5', b'1', b'9', 0, 0, 0, 32, 8,
     8, 8, 8, 8, 8, 8, 8, 8, 8, 8, 8, 8, 8, 8, 8, 8, 8, 8, 8, 8, 8, 8, 8, 8, 8, 8, 8, 8, 8, 8, 8,
 ];
+
+/// The names of the exchange: its method's name and no others.
+fn names_chosen(alloc: Global) -> Result<NamesChosen, NoMemory> {
+    let names = ExchangeNames {
+        kex: Text::from_str(alloc, "curve25519-sha256")?,
+        key: Text::new(alloc),
+        cipher: Text::new(alloc),
+        client_mac: Text::new(alloc),
+        server_mac: Text::new(alloc),
+        strict_kex: false,
+    };
+    NamesChosen::new(alloc, names)
+}
 
 /// Which of the requests that are answered together are granted.
 #[derive(Clone, Copy, PartialEq, Eq)]
@@ -129,14 +142,7 @@ impl Host {
             session_hash: Octets::from_slice(alloc, b"session-id")?,
             signature: Octets::new(alloc),
             secret: None,
-            names: NamesChosen {
-                kex: Text::from_str(alloc, "curve25519-sha256")?,
-                key: Text::new(alloc),
-                cipher: Text::new(alloc),
-                client_mac: Text::new(alloc),
-                server_mac: Text::new(alloc),
-                strict_kex: false,
-            },
+            names: names_chosen(alloc)?,
         })
     }
 

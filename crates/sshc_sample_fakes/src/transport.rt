@@ -56,6 +56,7 @@ fn is_short_key(key: &ExchangeKey) -> bool
 fn are_short(names: &NamesChosen) -> bool
     ensures { result ≡ true → AreShortNames names.now }
 {
+    let names = names.names();
     names.kex.as_str().len() <= LONGEST
         && names.key.as_str().len() <= LONGEST
         && names.cipher.as_str().len() <= LONGEST

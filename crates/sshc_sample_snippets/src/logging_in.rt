@@ -1,6 +1,6 @@
 //! Events of a session.
 
-use sshc_auth_event::{Event, Method};
+use sshc_auth_event::{Event, Method, SharedMethod};
 use sshc_wire::{NoMemory, Text, Ticket};
 use std::alloc::Global;
 
@@ -11,6 +11,6 @@ pub fn password_login(alloc: Global, user: &str, password: &str) -> Result<Event
     Ok(Event::Authenticate {
         ticket: Ticket(1),
         user,
-        method: Method::Password { password },
+        method: SharedMethod::new(alloc, Method::Password { password })?,
     })
 }

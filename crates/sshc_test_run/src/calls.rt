@@ -83,11 +83,15 @@ fn is_request(read: &Result<Event, EventError>) -> bool {
             Event::Authenticate {
                 ticket: Ticket(1),
                 user,
-                method: Method::Password { password },
+                method,
             },
-        ) => user.as_str() == "alice" && password.as_str() == "pw",
+        ) => user.as_str() == "alice" && is_password(method.as_method(), "pw"),
         _ => false,
     }
+}
+
+fn is_password(method: &Method, text: &str) -> bool {
+    matches!(method, Method::Password { password } if password.as_str() == text)
 }
 
 #[test]

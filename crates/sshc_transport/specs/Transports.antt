@@ -7,7 +7,7 @@ use Rattle.sshc_wire.specs.declared.source.Failed.TheVariants.{Fault, NoMemory}
 use Rattle.sshc_transport.specs.declared.exchange.ExchangeKey.{ExchangeKey}
 use Rattle.sshc_transport.specs.declared.exchange.ExchangeKey.TheVariants as keys
 use Rattle.sshc_transport.specs.declared.exchange.ExchangeResult.{ExchangeResult}
-use Rattle.sshc_transport.specs.declared.exchange.NamesChosen.{NamesChosen}
+use Rattle.sshc_transport.specs.declared.exchange.ExchangeNames.{ExchangeNames}
 use Rattle.sshc_transport.specs.declared.transport.TransportEvent.{TransportEvent}
 use Rattle.sshc_transport.specs.declared.transport.TransportEvent.TheVariants as events
 
@@ -47,7 +47,7 @@ IsShortKey keys.Missing = Unit {0}
 IsShortKey (keys.Key blob) = IsShortPart blob
 IsShortKey (keys.Certificate blob) = IsShortPart blob
 
-pub record AreShortNames (names : NamesChosen) : Type 0 where
+pub record AreShortNames (names : ExchangeNames) : Type 0 where
   pub kex : IsShortPart names.kex
   pub key : IsShortPart names.key
   pub cipher : IsShortPart names.cipher

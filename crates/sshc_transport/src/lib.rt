@@ -6,6 +6,6 @@ mod exchange;
 mod pending;
 mod transport;
 
-pub use exchange::{ExchangeFlag, ExchangeKey, ExchangeResult, NamesChosen};
+pub use exchange::{ExchangeFlag, ExchangeKey, ExchangeNames, ExchangeResult, NamesChosen};
 pub use pending::PendingCount;
 pub use transport::{Transport, TransportEvent};

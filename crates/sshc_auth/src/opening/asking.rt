@@ -1,6 +1,7 @@
 //! What an event's row asks of the gate.
 
-ghost use Rattle.std.specs.Prelude.{◌≡◌, IfOk};
+ghost use Rattle.std.specs.Prelude.{◌≡◌, IfOk, false};
+ghost use Rattle.sshc_auth.specs.AskedLaws.{is_banner, may_ask};
 ghost use Rattle.sshc_auth.specs.OpeningTable.{asked_of, exchange_asks, banner_asks, is_held_back, number_asks, packet_asks};
 
 use super::{Opening, Phase};
@@ -8,6 +9,26 @@ use crate::step::Asks;
 use sshc_auth_event::{Event, host_key_of};
 use sshc_transport::{ExchangeFlag, ExchangeResult};
 use sshc_wire::{Cursor, NoMemory, Octets, Text, msg};
+
+/// Whether the packet has the number of a banner (RFC 4252, section 5.4).
+fn is_banner(packet: &[u8]) -> bool
+    ensures { result ≡ is_banner packet.now }
+{
+    match packet {
+        [] => false,
+        [number, ..] => *number == msg::USERAUTH_BANNER,
+    }
+}
+
+fn may_ask(event: &Event) -> bool
+    ensures { result ≡ may_ask event.now }
+{
+    match event {
+        Event::ExchangeDone(_) => true,
+        Event::Payload(packet) => is_banner(packet.as_slice()),
+        _ => false,
+    }
+}
 
 impl Opening {
     /// What the event's row asks of the gate.
@@ -23,6 +44,15 @@ impl Opening {
             Event::Payload(packet) => self.packet_asks(packet),
             _ => Ok(Asks::Nothing),
         }
+    }
+
+    /// Whether the event is of the kinds whose rows ask the gate: an exchange that is done, and a banner. Of any other
+    /// event a caller knows so that nothing is asked, without a key or a text made for it.
+    #[tactic(auto, using(crate::specs::AskedLaws::unasked))]
+    pub fn may_ask(&self, event: &Event) -> bool
+        ensures nothing { result ≡ false → asked_of self.now event.now ≡ Asks.Nothing }
+    {
+        may_ask(event)
     }
 
     fn exchange_asks(&self, exchange: &ExchangeResult) -> Result<Asks, NoMemory>

@@ -9,9 +9,9 @@ ghost use Rattle.sshc_auth.specs.Row.{Follows, span};
 
 use super::{Class, Opening, Phase, resolved};
 use crate::error::Error;
+use crate::slot::clear;
 use crate::step::Flow;
-use crate::stored::{StoredMethod, clear};
-use sshc_auth_event::Method;
+use sshc_auth_event::SharedMethod;
 use sshc_auth_request::request_packet;
 use sshc_wire::{
     Cursor, MethodKind, MethodSet, Names, NoMemory, Outbox, Record, Resolution, Text, Ticket, msg,
@@ -138,15 +138,15 @@ impl Opening {
         &mut self,
         ticket: Ticket,
         user: &Text,
-        method: &Method,
+        method: &SharedMethod,
         out: &mut Outbox,
     ) -> Result<Flow, Error>
         ensures row { Follows (authenticate_again_row self.old ticket user.now method.now)
             (span self.old self.new out.old out.new) result }
     {
         let user = user.copy()?;
-        let request = request_packet(self.alloc, &user, method)?;
-        let kept = StoredMethod::copy_of(method)?;
+        let request = request_packet(self.alloc, &user, method.as_method())?;
+        let kept = method.share()?;
         let dropped = resolved(self.ticket, Resolution::Dropped);
         let added = out.push_both(dropped, Some(Record::Payload(request)));
         self.ask(ticket, user, kept, added)?;

@@ -11,7 +11,7 @@ use crate::ended::Ended;
 use crate::error::Error;
 use crate::order::{EventSort, packet_of, sort_of};
 use crate::step::{Flow, Told};
-use sshc_auth_event::{Event, Method};
+use sshc_auth_event::{Event, SharedMethod};
 use sshc_key::LocalSigner;
 use sshc_transport::ExchangeFlag;
 use sshc_wire::{Outbox, Resolution, Text, Ticket};
@@ -152,7 +152,7 @@ impl Opening {
         &mut self,
         ticket: Ticket,
         user: &Text,
-        method: &Method,
+        method: &SharedMethod,
         out: &mut Outbox,
     ) -> Result<Flow, Error>
         ensures row { Follows (authenticate_row_in self.old.phase self.old ticket user.now method.now)

@@ -61,7 +61,7 @@ impl Opening {
             return Err(Error::UnknownKey);
         }
         let session_id = exchange.session_hash.copy()?;
-        let kex = exchange.names.kex.copy()?;
+        let kex = exchange.names.kex().copy()?;
         let kex = Record::KexDone { kex };
         if self.settings.anonymous {
             out.push_both(Some(kex), Some(Record::Opened))?;
@@ -96,7 +96,7 @@ impl Opening {
         ensures row { Follows (later_exchange_row self.old exchange.now)
             (span self.old self.new out.old out.new) result }
     {
-        let kex = exchange.names.kex.copy()?;
+        let kex = exchange.names.kex().copy()?;
         out.push(Record::KexDone { kex })?;
         self.exchanged();
         Ok(Flow::Went)

@@ -8,9 +8,9 @@ ghost use Rattle.sshc_auth.specs.Row.{Follows, span};
 
 use super::{Class, Opening, Phase, resolved};
 use crate::error::Error;
+use crate::slot::put_unless;
 use crate::step::Flow;
-use crate::stored::{StoredMethod, put_unless};
-use sshc_auth_event::Method;
+use sshc_auth_event::{Method, SharedMethod};
 use sshc_auth_request::{request_packet, service_request_packet};
 use sshc_wire::{Cursor, NoMemory, Octets, Outbox, Record, Resolution, Text, Ticket, msg};
 
@@ -71,7 +71,7 @@ impl Opening {
         &mut self,
         ticket: Ticket,
         user: &Text,
-        method: &Method,
+        method: &SharedMethod,
         out: &mut Outbox,
     ) -> Result<Flow, Error>
         ensures row { Follows (authenticate_first_row self.old ticket user.now method.now)
@@ -79,7 +79,7 @@ impl Opening {
     {
         let user = user.copy()?;
         let request = self.asking_for_service()?;
-        let kept = StoredMethod::copy_of(method)?;
+        let kept = method.share()?;
         let dropped = resolved(self.ticket, Resolution::Dropped);
         let added = out.push_both(dropped, as_record(request));
         self.ask(ticket, user, kept, added)?;
@@ -92,7 +92,7 @@ impl Opening {
         &mut self,
         ticket: Ticket,
         user: Text,
-        method: StoredMethod,
+        method: SharedMethod,
         before: Result<(), NoMemory>,
     ) -> Result<(), NoMemory>
         ensures ok { OnOk result (self.new ≡ asked_by self.old ticket user method) }

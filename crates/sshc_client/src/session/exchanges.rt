@@ -56,7 +56,7 @@ impl Session {
             (handler_at (H.refusals handler.new) (H.setting handler.new))
             (exchange_done_row ExchangeFlag.Peer exchange.now) self.old self.new result }
     {
-        let kex = exchange.names.kex.copy()?;
+        let kex = exchange.names.kex().copy()?;
         self.go_on_with(kex, exchange, handler)
     }
 

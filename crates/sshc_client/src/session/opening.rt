@@ -52,7 +52,7 @@ impl Session {
     }
 
     /// Calls the handler as the opening's row asks. Returns whether a host key was accepted.
-    #[tactic(auto, using(crate::proofs::AskedLemmas::not_asked, crate::proofs::AskedLemmas::told_exchange, crate::proofs::AskedLemmas::told_banner, crate::proofs::AskedLemmas::refused_telling))]
+    #[tactic(auto, using(crate::proofs::AskedLemmas::not_asked, crate::proofs::AskedLemmas::told_exchange, crate::proofs::AskedLemmas::told_banner, crate::proofs::AskedLemmas::refused_exchange, crate::proofs::AskedLemmas::refused_banner))]
     fn ask_handler<H: Handler>(
         &mut self,
         asks: &Asks,
@@ -151,6 +151,9 @@ impl Session {
     {
         if self.connection.opening().is_closed() {
             return self.step_asked::<H, S>(event, false, signer);
+        }
+        if !self.connection.opening().may_ask(event) {
+            return self.step_asking(&Asks::Nothing, event, handler, signer);
         }
         match self.connection.opening().asks(event) {
             Ok(asks) => self.step_asking(&asks, event, handler, signer),

@@ -1,6 +1,6 @@
 //! What the user asks and answers while it is authenticated (RFC 4252, RFC 4256, RFC 4462).
 
-ghost use Rattle.std.specs.Prelude.{◌≡◌};
+ghost use Rattle.std.specs.Prelude.{◌≡◌, Ok};
 ghost use Rattle.sshc_wire.specs.Format.{made_at, no_bytes_at};
 ghost use Rattle.sshc_wire.specs.Grammar.{finished_at};
 ghost use Rattle.sshc_run_reader.specs.EventParts.{texts_at, strings_at};
@@ -12,20 +12,30 @@ use crate::fields::lists::list_of;
 use crate::keys::{certificate_of, key_of, pair_of};
 use crate::method_sort::MethodSort;
 use crate::parts::{at_end, hash_of, method_sort_of, octets_of, text_of, ticket_of, token_field};
-use sshc_auth_event::{Event, Method};
+use sshc_auth_event::{Event, Method, SharedMethod};
 use sshc_key::PrivateKeyWithHashAlg;
 use sshc_wire::Cursor;
 use std::alloc::Global;
 
+/// A method goes behind its pointer where its fields were read, so that no reader hands on more than that.
+fn shared(alloc: Global, method: Method) -> Result<SharedMethod, EventError>
+    ensures { GivesAll (λ m. m) result (Ok method) }
+{
+    Ok(SharedMethod::new(alloc, method)?)
+}
+
 #[tactic(auto, unfolding(crate::specs::EventReading::hashed_pair_at))]
-fn hashed_pair(alloc: Global, c: &mut Cursor<'_>) -> Result<Method, EventError>
+fn hashed_pair(alloc: Global, c: &mut Cursor<'_>) -> Result<SharedMethod, EventError>
     ensures { Gives (λ m. m) result c.new (hashed_pair_at c.old) }
 {
     let key = pair_of(alloc, c)?;
     match hash_of(c) {
-        Ok(hash_alg) => Ok(Method::PublicKey {
-            key: PrivateKeyWithHashAlg::new(key, hash_alg),
-        }),
+        Ok(hash_alg) => shared(
+            alloc,
+            Method::PublicKey {
+                key: PrivateKeyWithHashAlg::new(key, hash_alg),
+            },
+        ),
         Err(error) => {
             drop(key);
             Err(error)
@@ -33,12 +43,12 @@ fn hashed_pair(alloc: Global, c: &mut Cursor<'_>) -> Result<Method, EventError>
     }
 }
 
-fn pair_and_certificate(alloc: Global, c: &mut Cursor<'_>) -> Result<Method, EventError>
+fn pair_and_certificate(alloc: Global, c: &mut Cursor<'_>) -> Result<SharedMethod, EventError>
     ensures { Gives (λ m. m) result c.new (method_fields_at MethodSort.OpenSshCertificate c.old) }
 {
     let key = pair_of(alloc, c)?;
     match certificate_of(alloc, c) {
-        Ok(cert) => Ok(Method::OpenSshCertificate { key, cert }),
+        Ok(cert) => shared(alloc, Method::OpenSshCertificate { key, cert }),
         Err(error) => {
             drop(key);
             Err(error)
@@ -46,12 +56,12 @@ fn pair_and_certificate(alloc: Global, c: &mut Cursor<'_>) -> Result<Method, Eve
     }
 }
 
-fn key_and_hash(alloc: Global, c: &mut Cursor<'_>) -> Result<Method, EventError>
+fn key_and_hash(alloc: Global, c: &mut Cursor<'_>) -> Result<SharedMethod, EventError>
     ensures { Gives (λ m. m) result c.new (method_fields_at MethodSort.FuturePublicKey c.old) }
 {
     let key = key_of(alloc, c)?;
     match hash_of(c) {
-        Ok(hash_alg) => Ok(Method::FuturePublicKey { key, hash_alg }),
+        Ok(hash_alg) => shared(alloc, Method::FuturePublicKey { key, hash_alg }),
         Err(error) => {
             drop(key);
             Err(error)
@@ -59,12 +69,12 @@ fn key_and_hash(alloc: Global, c: &mut Cursor<'_>) -> Result<Method, EventError>
     }
 }
 
-fn certificate_and_hash(alloc: Global, c: &mut Cursor<'_>) -> Result<Method, EventError>
+fn certificate_and_hash(alloc: Global, c: &mut Cursor<'_>) -> Result<SharedMethod, EventError>
     ensures { Gives (λ m. m) result c.new (method_fields_at MethodSort.FutureCertificate c.old) }
 {
     let cert = certificate_of(alloc, c)?;
     match hash_of(c) {
-        Ok(hash_alg) => Ok(Method::FutureCertificate { cert, hash_alg }),
+        Ok(hash_alg) => shared(alloc, Method::FutureCertificate { cert, hash_alg }),
         Err(error) => {
             drop(cert);
             Err(error)
@@ -72,35 +82,49 @@ fn certificate_and_hash(alloc: Global, c: &mut Cursor<'_>) -> Result<Method, Eve
     }
 }
 
+fn password(alloc: Global, c: &mut Cursor<'_>) -> Result<SharedMethod, EventError>
+    ensures { Gives (λ m. m) result c.new (method_fields_at MethodSort.Password c.old) }
+{
+    let password = text_of(alloc, c)?;
+    shared(alloc, Method::Password { password })
+}
+
+fn prompts(alloc: Global, c: &mut Cursor<'_>) -> Result<SharedMethod, EventError>
+    ensures { Gives (λ m. m) result c.new (method_fields_at MethodSort.KeyboardInteractive c.old) }
+{
+    let submethods = text_of(alloc, c)?;
+    shared(alloc, Method::KeyboardInteractive { submethods })
+}
+
 #[tactic(auto, unfolding(crate::specs::EventParts::strings_at))]
-fn mechanisms(alloc: Global, c: &mut Cursor<'_>) -> Result<Method, EventError>
+fn mechanisms(alloc: Global, c: &mut Cursor<'_>) -> Result<SharedMethod, EventError>
     ensures { Gives (λ m. m) result c.new (method_fields_at MethodSort.GssapiWithMic c.old) }
 {
     let mechanism_oids = list_of(alloc, 4, c)?;
-    Ok(Method::GssapiWithMic { mechanism_oids })
+    shared(alloc, Method::GssapiWithMic { mechanism_oids })
 }
 
-fn method_fields(alloc: Global, sort: MethodSort, c: &mut Cursor<'_>) -> Result<Method, EventError>
+fn method_fields(
+    alloc: Global,
+    sort: MethodSort,
+    c: &mut Cursor<'_>,
+) -> Result<SharedMethod, EventError>
     ensures { Gives (λ m. m) result c.new (method_fields_at sort c.old) }
 {
     match sort {
-        MethodSort::Nothing => Ok(Method::None),
-        MethodSort::Password => Ok(Method::Password {
-            password: text_of(alloc, c)?,
-        }),
+        MethodSort::Nothing => shared(alloc, Method::None),
+        MethodSort::Password => password(alloc, c),
         MethodSort::PublicKey => hashed_pair(alloc, c),
         MethodSort::OpenSshCertificate => pair_and_certificate(alloc, c),
         MethodSort::FuturePublicKey => key_and_hash(alloc, c),
         MethodSort::FutureCertificate => certificate_and_hash(alloc, c),
-        MethodSort::KeyboardInteractive => Ok(Method::KeyboardInteractive {
-            submethods: text_of(alloc, c)?,
-        }),
+        MethodSort::KeyboardInteractive => prompts(alloc, c),
         MethodSort::GssapiWithMic => mechanisms(alloc, c),
     }
 }
 
 #[tactic(auto, unfolding(crate::specs::EventReading::method_at))]
-fn method(alloc: Global, c: &mut Cursor<'_>) -> Result<Method, EventError>
+fn method(alloc: Global, c: &mut Cursor<'_>) -> Result<SharedMethod, EventError>
     ensures { Gives (λ m. m) result c.new (method_at c.old) }
 {
     let sort = method_sort_of(c)?;

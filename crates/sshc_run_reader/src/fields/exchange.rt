@@ -9,7 +9,7 @@ ghost use Rattle.sshc_run_reader.specs.Gives.{Gives, GivesAll};
 use crate::error::EventError;
 use crate::parts::{at_end, bytes_of, flag_of, octets_of, text_of, u8_of};
 use sshc_auth_event::{Event, host_key_of};
-use sshc_transport::{ExchangeKey, ExchangeResult, NamesChosen};
+use sshc_transport::{ExchangeKey, ExchangeNames, ExchangeResult, NamesChosen};
 use sshc_wire::{Cursor, Octets};
 use std::alloc::Global;
 
@@ -101,14 +101,17 @@ fn names(alloc: Global, c: &mut Cursor<'_>) -> Result<NamesChosen, EventError>
     let client_mac = text_of(alloc, c)?;
     let server_mac = text_of(alloc, c)?;
     let strict_kex = flag_of(c)?;
-    Ok(NamesChosen {
-        kex,
-        key,
-        cipher,
-        client_mac,
-        server_mac,
-        strict_kex,
-    })
+    Ok(NamesChosen::new(
+        alloc,
+        ExchangeNames {
+            kex,
+            key,
+            cipher,
+            client_mac,
+            server_mac,
+            strict_kex,
+        },
+    )?)
 }
 
 #[tactic(auto, unfolding(crate::specs::EventReading::exchange_at))]

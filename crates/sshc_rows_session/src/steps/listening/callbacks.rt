@@ -45,6 +45,7 @@ fn exchange_of(alloc: Global, secret: Option<&[u8]>, names: &NamesChosen) -> Val
         Some(secret) => Values::new(alloc).bytes(secret),
         None => Values::new(alloc).text("no secret"),
     };
+    let names = names.names();
     values
         .text(names.kex.as_str())
         .text(names.key.as_str())
