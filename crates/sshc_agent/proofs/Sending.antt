@@ -12,12 +12,13 @@ use Rattle.std.proofs.sync.ledger.Book.TheSendSync as book
 use Rattle.std.proofs.sync.ledger.Share.TheSendSync as share
 use Rattle.sshc_key.specs.contracts.pair.PrivateKey as PrivateKey
 use Rattle.sshc_agent_core.proofs.Sending as core
-use Rattle.sshc_agent_core.proofs.entry.Entry.TheSendSync as entry
 use Rattle.sshc_agent_shared.specs.contracts.state.AgentState as AgentState
 use Rattle.sshc_agent_shared.specs.contracts.shared.AgentShared as AgentShared
 use Rattle.sshc_agent_shared.specs.contracts.seat.Seat as Seat
 use Rattle.sshc_agent_shared.specs.contracts.room.Rooms as Rooms
-use Rattle.sshc_agent_shared.proofs.call.Call.TheSendSync as call
+use Rattle.sshc_agent_shared.proofs.bytes.KeptBytes.TheSendSync as bytes
+use Rattle.sshc_agent_shared.proofs.kept.KeptCall.TheSendSync as call
+use Rattle.sshc_agent_shared.proofs.kept.KeptEntry.TheSendSync as entry
 use Rattle.sshc_agent.specs.contracts.seats.Seats as Seats
 use Rattle.sshc_agent.specs.contracts.server.Server as Server
 use Rattle.sshc_agent.specs.contracts.server.Connection as Connection
@@ -27,18 +28,18 @@ pub private_send : IsSend PrivateKey.the_row
 private_send = core.private_send
 
 rooms_send : IsSend (Rooms.the_field).row
-rooms_send = search (sendable, crosses) depth 20 fits 20000
+rooms_send = search (bytes.the_send, sendable, crosses) depth 20 fits 20000
 
 module _ (L : RattleType) (n : Named L.Denot) (g : Ghosts L.Denot) (l : IsSend L) where
   state_send : IsSend (AgentState.the_row L n g)
-  state_send = let c = core.core_send in let r = rooms_send in search (book.the_send, share.the_send, entry.the_field_send, sendable, crosses, maps.crosses) depth 24 fits 20000
+  state_send = let c = core.core_send in let r = rooms_send in search (book.the_send, share.the_send, entry.the_send, sendable, crosses, maps.crosses) depth 24 fits 20000
 
   pub shared_sync : IsSync (AgentShared.the_row L n g)
   shared_sync = let s = state_send in search (sendable, crosses) depth 20 fits 20000
 
 module _ (L : RattleType) (g : Ghosts L.Denot) (l : IsSend L) where
   pub seat_send : IsSend (Seat.the_row L g)
-  seat_send = search (share.the_send, call.the_field_send, sendable, crosses) depth 20 fits 20000
+  seat_send = search (share.the_send, call.the_send, sendable, crosses) depth 20 fits 20000
 
   seats_send : IsSend (Seats.the_field L g).row
   seats_send = let s = seat_send in search (sendable, crosses) depth 20 fits 20000

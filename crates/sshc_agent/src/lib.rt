@@ -2,6 +2,7 @@
 //! itself: its core, its frames, and one agent that connections share.
 #![tactic(auto)]
 
+mod accepting;
 mod fetching;
 mod outside;
 mod seats;
@@ -9,6 +10,7 @@ mod server;
 mod serving;
 mod turn;
 
+pub use accepting::{Acceptor, LastingListener, NotAccepted};
 pub use outside::{Agent, Listener, Pause};
 pub use server::serve;
 pub use serving::serve_one;

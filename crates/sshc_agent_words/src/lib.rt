@@ -3,6 +3,7 @@
 #![tactic(auto)]
 
 mod clock;
+mod folder;
 mod listener;
 mod signer;
 mod words;

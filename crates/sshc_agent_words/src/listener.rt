@@ -3,25 +3,40 @@
 
 ghost use Rattle.std.specs.Prelude.{◌≡◌, IfOk};
 
-use sshc_agent::Listener;
-use sshc_ask::{Duplex, UnixAgentStream};
-use sshc_wire::{Failed, StdSink, StdSource};
+use crate::folder::{keep_to_owner, owner_of_folder};
+use sshc_agent::{Acceptor, NotAccepted};
+use sshc_ask::{UnixAgentStream, socket_stream};
+use sshc_wire::NoMemory;
 use std::alloc::Global;
-use std::io::{self, ErrorKind};
 use std::marker::Model;
 use std::net::Net;
 use std::os::unix::net::UnixListener;
 use std::rt::Files;
+use std::time::{Clock, Duration};
+use std::{fs, io};
 
-/// A listening socket, and how often it failed.
+/// How many milliseconds no stream is accepted after one that couldn't be made.
+const WAIT: u64 = 50;
+
+// Errors of accept(2) after which no later call can accept a stream: the descriptor isn't that of a listening socket.
+const EBADF: i32 = 9;
+
+const EINVAL: i32 = 22;
+
+const ENOTSOCK: i32 = 88;
+
+const EOPNOTSUPP: i32 = 95;
+
+/// A listening socket, and how often it failed for good.
 #[derive(Drop)]
-pub struct UnixAgents {
+pub struct UnixAgents<'a, R> {
+    system: &'a R,
     inner: UnixListener,
     alloc: Global,
     faults: u64,
 }
 
-impl Model for UnixAgents {
+impl<'a, R> Model for UnixAgents<'a, R> {
     ghost use Rattle.std.specs.Prelude.{ℕ};
 
     ghost Value = { ℕ };
@@ -29,47 +44,57 @@ impl Model for UnixAgents {
     ghost view = { λ a. a.faults };
 }
 
-impl UnixAgents {
-    /// Creates a socket at the path, and listens.
-    pub fn bind<R: Files + Net>(rt: &R, alloc: Global, path: &str) -> io::Result<UnixAgents>
+impl<'a, R: Files + Net> UnixAgents<'a, R> {
+    /// Creates a socket at the path, and listens. The socket's mode is 0600, whatever the process's umask. An error if
+    /// others than its owner enter the folder of the path, or if that owner isn't the process's user.
+    pub fn bind(system: &'a R, alloc: Global, path: &str) -> io::Result<UnixAgents<'a, R>>
         ensures { IfOk result (λ a. a ≡ 0) }
     {
-        let inner = UnixListener::bind(rt, path)?;
+        let owner = owner_of_folder(system, path)?;
+        let inner = UnixListener::bind(system, path)?;
+        if let Err(error) = keep_to_owner(system, path, owner) {
+            let _ = fs::remove_file(system, path);
+            return Err(error);
+        }
         Ok(UnixAgents {
+            system,
             inner,
             alloc,
             faults: 0,
         })
     }
-
-    fn accepted(&self) -> io::Result<UnixAgentStream> {
-        let (reading, _address) = self.inner.accept()?;
-        let writing = reading.try_clone()?;
-        match StdSource::new(self.alloc, reading) {
-            Ok(source) => Ok(Duplex {
-                source,
-                sink: StdSink::new(writing),
-            }),
-            Err(_) => Err(io::Error::from(ErrorKind::OutOfMemory)),
-        }
-    }
 }
 
-impl Listener for UnixAgents {
+/// Whether the error says that the listening socket isn't one any more.
+fn is_over(error: &io::Error) -> bool {
+    matches!(
+        error.raw_os_error(),
+        Some(EBADF | EINVAL | ENOTSOCK | EOPNOTSUPP)
+    )
+}
+
+impl<'a, R: Clock> Acceptor for UnixAgents<'a, R> {
     type Stream = UnixAgentStream;
 
     ghost faults = { λ a. a };
 
-    fn accept(&mut self) -> Result<UnixAgentStream, Failed> {
-        match self.accepted() {
-            Ok(stream) => Ok(stream),
-            Err(error) => match error.kind() {
-                ErrorKind::OutOfMemory => Err(Failed::NoMemory),
-                _ => {
-                    self.faults = self.faults.saturating_add(1);
-                    Err(Failed::Fault)
-                }
+    fn try_accept(&mut self) -> Result<UnixAgentStream, NotAccepted> {
+        match self.inner.accept() {
+            Ok((socket, _address)) => match socket_stream(self.alloc, socket) {
+                Ok(stream) => Ok(stream),
+                Err(NoMemory) => Err(NotAccepted::NotNow),
             },
+            Err(error) => {
+                if !is_over(&error) {
+                    return Err(NotAccepted::NotNow);
+                }
+                self.faults = self.faults.saturating_add(1);
+                Err(NotAccepted::Over)
+            }
         }
+    }
+
+    fn wait(&mut self) {
+        self.system.sleep(Duration::from_millis(WAIT))
     }
 }

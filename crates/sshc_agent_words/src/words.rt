@@ -6,7 +6,7 @@ ghost use Rattle.sshc_agent_words.specs.AgentWords.{EndsAgent, IsAgent, error_st
 use crate::clock::SystemClock;
 use crate::listener::UnixAgents;
 use crate::signer::FreshSigner;
-use sshc_agent::serve;
+use sshc_agent::{LastingListener, serve};
 use sshc_agent_shared::CloseError;
 use sshc_wire::Text;
 use std::alloc::{AllocGlobal, Global};
@@ -65,9 +65,10 @@ fn serve_at<R: Files + Net + Clock + Threads + Wait + Sync>(rt: &R, alloc: Globa
     ensures ends { EndsAgent result }
     ensures other { result ≢ 2 }
 {
-    let Ok(mut listener) = UnixAgents::bind(rt, alloc, path) else {
+    let Ok(socket) = UnixAgents::bind(rt, alloc, path) else {
         return NOT_BOUND;
     };
+    let mut listener = LastingListener::new(rt, socket);
     match serve(
         rt,
         alloc,

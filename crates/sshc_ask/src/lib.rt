@@ -14,4 +14,4 @@ mod system;
 pub use client::AgentClient;
 pub use duplex::Duplex;
 pub use opener::{OpenFailed, Opener, connect_env, connect_uds};
-pub use system::{UnixAgentStream, UnixOpener};
+pub use system::{SharedSocket, UnixAgentStream, UnixOpener, socket_stream};

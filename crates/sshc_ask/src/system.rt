@@ -6,15 +6,55 @@ ghost use Rattle.sshc_ask.specs.Opens.{CountsFault};
 
 use crate::duplex::Duplex;
 use crate::opener::{OpenFailed, Opener};
-use sshc_wire::{StdSink, StdSource};
+use sshc_wire::{NoMemory, StdSink, StdSource};
 use std::alloc::Global;
-use std::io::{self, ErrorKind};
+use std::io::{self, ErrorKind, Read, Write};
 use std::marker::Model;
 use std::net::Net;
 use std::os::unix::net::UnixStream;
+use std::sync::Arc;
+
+/// A Unix socket with one descriptor, by which it is read and written.
+#[derive(Drop)]
+pub struct SharedSocket {
+    socket: Arc<UnixStream, Global>,
+}
+
+impl Read for SharedSocket {
+    fn read(&mut self, buf: &mut [u8]) -> io::Result<usize> {
+        let mut socket: &UnixStream = &self.socket;
+        socket.read(buf)
+    }
+}
+
+impl Write for SharedSocket {
+    fn write(&mut self, buf: &[u8]) -> io::Result<usize> {
+        let mut socket: &UnixStream = &self.socket;
+        socket.write(buf)
+    }
+
+    fn flush(&mut self) -> io::Result<()> {
+        Ok(())
+    }
+}
 
 /// A Unix socket with a buffer for reading.
-pub type UnixAgentStream = Duplex<StdSource<UnixStream>, StdSink<UnixStream>>;
+pub type UnixAgentStream = Duplex<StdSource<SharedSocket>, StdSink<SharedSocket>>;
+
+/// The socket as a stream that was neither read nor written. If memory runs out the socket is closed.
+pub fn socket_stream(alloc: Global, socket: UnixStream) -> Result<UnixAgentStream, NoMemory>
+    ensures unused { IfOk result (λ s. (s.source.calls ≡ 0) × (s.sink.calls ≡ 0)) }
+{
+    let Ok(reading) = Arc::new(alloc, socket) else {
+        return Err(NoMemory);
+    };
+    let writing = Arc::try_clone(&reading)?;
+    let source = StdSource::new(alloc, SharedSocket { socket: reading })?;
+    Ok(Duplex {
+        source,
+        sink: StdSink::new(SharedSocket { socket: writing }),
+    })
+}
 
 /// Opens Unix sockets. A path that doesn't exist is `NotFound`.
 #[derive(Drop)]
@@ -49,14 +89,10 @@ impl<'a, R: Net + AllocGlobal> UnixOpener<'a, R> {
     fn connected(&self, path: &str) -> io::Result<UnixAgentStream>
         ensures unused { IfOk result (λ s. (s.source.calls ≡ 0) × (s.sink.calls ≡ 0)) }
     {
-        let reading = UnixStream::connect(self.system, path)?;
-        let writing = reading.try_clone()?;
-        match StdSource::new(self.alloc, reading) {
-            Ok(source) => Ok(Duplex {
-                source,
-                sink: StdSink::new(writing),
-            }),
-            Err(_) => Err(io::Error::from(ErrorKind::OutOfMemory)),
+        let socket = UnixStream::connect(self.system, path)?;
+        match socket_stream(self.alloc, socket) {
+            Ok(stream) => Ok(stream),
+            Err(NoMemory) => Err(io::Error::from(ErrorKind::OutOfMemory)),
         }
     }
 }

@@ -34,8 +34,8 @@ pub mod audit {
 
 pub mod transport {
     pub use sshc_transport::{
-        ExchangeFlag, ExchangeKey, ExchangeResult, NamesChosen, PendingCount, Transport,
-        TransportEvent,
+        ExchangeFlag, ExchangeKey, ExchangeNames, ExchangeResult, NamesChosen, PendingCount,
+        Transport, TransportEvent,
     };
 }
 
@@ -45,10 +45,10 @@ pub mod mux {
 
 pub mod auth {
     pub use sshc_auth::{
-        Asks, AuthResult, Ended, Error, Event, ExchangeKey, ExchangeResult, Gate,
+        Asks, AuthResult, Ended, Error, Event, ExchangeKey, ExchangeNames, ExchangeResult, Gate,
         GssapiAuthenticator, GssapiError, GssapiStep, Method, NamesChosen, Opening, Outbox, Phase,
-        Prompt, Record, RemoteDisconnectInfo, Resolution, Step, Ticket, Told, mic_data, to_sign,
-        write_auth_request,
+        Prompt, Record, RemoteDisconnectInfo, Resolution, SharedMethod, Step, Ticket, Told,
+        mic_data, to_sign, write_auth_request,
     };
 }
 
@@ -69,9 +69,9 @@ pub mod agent {
         SSH_AGENT_RSA_SHA2_256, SSH_AGENT_RSA_SHA2_512, SUCCESS, UNLOCK,
     };
     pub use sshc_agent::{
-        Agent, AgentCore, AgentInput, AgentOutput, AgentShared, AgentState, Call, CallRefused,
-        Cause, CloseError, Entry, Frames, Listener, MessageType, Pause, Seat, ServerError, serve,
-        serve_one,
+        Acceptor, Agent, AgentCore, AgentInput, AgentOutput, AgentShared, AgentState, Call,
+        CallRefused, Cause, CloseError, Entry, Frames, LastingListener, Listener, MessageType,
+        NotAccepted, Pause, Seat, ServerError, serve, serve_one,
     };
 }
 
