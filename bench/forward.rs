@@ -338,6 +338,13 @@ fn run(source: &mut impl Read, lines: &mut Lines<impl Write>) -> io::Result<i32>
     }
 }
 
+/// Runs events over memory, and returns the status.
+pub fn run_over(source: &mut impl Read, written: &mut Vec<u8>) -> u8 {
+    let mut lines = Lines { out: written, line: Vec::new(), most: 65_536 };
+    let status = run(source, &mut lines).and_then(|status| lines.flush().map(|()| status));
+    status.map_or(22, |status| status as u8)
+}
+
 fn main() -> io::Result<()> {
     let most = if std::env::args().nth(1).as_deref() == Some("buffered") { 65_536 } else { 0 };
     let out = std::fs::OpenOptions::new().write(true).open("/dev/stdout")?;

@@ -1,18 +1,17 @@
 #!/usr/bin/env python3
-"""Changes worked inputs at random, and runs the proved programs over them beside programs or readers that were written apart:
-scripts, agents' frames and known hosts texts beside the plain loop of bench/plain, forward events beside bench/forward.rs,
-records beside tests/records.py, policies beside the reader below. The same number makes the same inputs. It prints each
-difference, and how many inputs a second there were.
+"""Changes worked inputs at random, and runs the proved code over them beside programs or readers that were written apart:
+scripts, agents' frames, known hosts texts, and policies with the streams of a proxy beside the plain loop of bench/plain,
+forward events beside bench/forward.rs, records beside tests/records.py. The same number makes the same inputs. It prints each
+difference, how the inputs ended, how many got past the first reader, and how many there were a second.
 
 Usage: tests/fuzz.py FOLDER KIND COUNT [SEED]
-FOLDER is where the proved programs lie as NAME/out/NAME (crates, say). KIND is scripts, frames, hosts, records, policies or
-forwards. It needs a C compiler and rustc. A difference's input is kept as fuzz-KIND-NUMBER in the current folder.
+FOLDER is where the proved programs lie as NAME/out/NAME (crates, say): sshc_fuzz_main, which takes many cases, and for records
+sshc_show. KIND is scripts, frames, hosts, policies, forwards or records; of the first four sshc_fuzz_main takes no cases yet.
+It needs rustc. A difference's case is kept as fuzz-KIND-NUMBER in the current folder; `sshc_fuzz_main` runs it alone.
 """
-import base64
 import collections
 import os
 import pathlib
-import random
 import struct
 import subprocess
 import sys
@@ -21,230 +20,179 @@ import time
 
 HERE = pathlib.Path(__file__).resolve().parent
 sys.path[:0] = [str(HERE), str(HERE.parent / "bench")]
-from proxy_rows import BLOBS  # noqa: E402
+import cases  # noqa: E402
+from changes import Quick, changed  # noqa: E402
 from records import is_record  # noqa: E402
 from worked_rows import ROWS, rows_in  # noqa: E402
 
-LONGEST = 1 << 16
-NUMBERS = (0, 1, 2, 4, 5, 8, 9, 255, 32768, 262144, 262145, 2**31, 2**32 - 1)
+BATCH, SECONDS, MOST_DIFFERENCES = 2000, 120, 100
 
 
-def string(body):
-    return struct.pack(">I", len(body)) + body
-
-
-# ---- changes
-
-
-def changed(rng, body, others):
-    """Some bytes of the input are other ones, are gone, doubled, or come from another input."""
-    body = bytearray(body)
-    for _ in range(rng.choice((1, 1, 1, 2, 3, 8))):
-        at = rng.randrange(len(body) + 1)
-        sort = rng.randrange(8)
-        if sort == 0 and at < len(body):
-            body[at] ^= 1 << rng.randrange(8)
-        elif sort == 1 and at < len(body):
-            body[at] = rng.randrange(256)
-        elif sort == 2:
-            del body[at : at + rng.choice((1, 1, 2, 4, 16))]
-        elif sort == 3:
-            body[at:at] = bytes(rng.randrange(256) for _ in range(rng.choice((1, 1, 2, 4))))
-        elif sort == 4:
-            body[at : at + 4] = struct.pack(">I", rng.choice(NUMBERS))
-        elif sort == 5:
-            body[at:at] = body[at : at + rng.choice((1, 4, 8, 32))]
-        elif sort == 6:
-            other = rng.choice(others)
-            start = rng.randrange(len(other) + 1)
-            body[at : at + rng.choice((0, 4, 16))] = other[start : start + rng.choice((4, 16, 64))]
-        else:
-            del body[at:]
-    return bytes(body[:LONGEST])
-
-
-def pieces(script):
-    """The events of a script, each with its length; what is no event is the last piece."""
-    out, at = [], 0
-    while len(script) - at >= 4 and at + 4 + int.from_bytes(script[at : at + 4], "big") <= len(script):
-        end = at + 4 + int.from_bytes(script[at : at + 4], "big")
-        out.append(script[at:end])
-        at = end
-    return out + ([script[at:]] if at < len(script) else [])
-
-
-def shuffled(rng, events, others):
-    """Events are changed within their lengths, are gone, doubled, exchanged, or come from another script."""
-    events = list(events)
-    for _ in range(rng.choice((1, 1, 2, 4))):
-        at, sort = rng.randrange(len(events) + 1), rng.randrange(6)
-        if sort == 0 and at < len(events) and len(events[at]) > 4:
-            events[at] = string(changed(rng, events[at][4:], [b"".join(rng.choice(others))]))
-        elif sort == 1 and at < len(events):
-            del events[at]
-        elif sort == 2 and at < len(events):
-            events.insert(at, events[at])
-        elif sort == 3 and len(events) > 1:
-            one = rng.randrange(len(events) - 1)
-            events[one], events[one + 1] = events[one + 1], events[one]
-        elif sort == 4:
-            other = rng.choice(others)
-            events[at:at] = other[rng.randrange(len(other) + 1) :][: rng.choice((1, 2, 8))]
-        elif at < len(events) and len(events[at]) > 13:
-            head = events[at][4:13]
-            events[at] = string(head + changed(rng, events[at][13:], [b"".join(rng.choice(others))]))
-    return events
-
-
-def broken_text(rng, text, others):
-    """Lines of a text are changed, doubled, exchanged or gone."""
-    lines = text.split(b"\n")
-    for _ in range(rng.choice((1, 1, 2, 3))):
-        at, sort = rng.randrange(len(lines)), rng.randrange(5)
-        if sort == 0:
-            lines[at] = changed(rng, lines[at], others)
-        elif sort == 1:
-            lines.insert(at, rng.choice(rng.choice(others).split(b"\n")))
-        elif sort == 2 and len(lines) > 1:
-            del lines[at]
-        elif sort == 3:
-            words = lines[at].split(b" ")
-            words[rng.randrange(len(words))] = rng.choice((b"", b"*", b"@revoked", b"localhost", b"[localhost]:13265", b"!localhost", b"|1|x|y"))
-            lines[at] = b" ".join(words)
-        else:
-            lines[at] += rng.choice((b" ", b"\r", b"\t", b" x", b"=", b"\xff"))
-    return b"\n".join(lines)
-
-
-# ---- two programs
-
-
-class Pair:
-    """One or two programs in processes of their own for each input (pairs.c)."""
-
-    def __init__(self, folder, programs):
-        pairs = os.path.join(folder, "pairs")
-        subprocess.run(["cc", "-O2", "-o", pairs, str(HERE / "pairs.c")], check=True)
-        self.file = os.path.join(folder, "file")
-        words = [self.file if word == "FILE" else word for program in programs for word in ["--", *program]][1:]
-        self.count = len(programs)
-        self.process = subprocess.Popen([pairs, self.file, *words], stdin=subprocess.PIPE, stdout=subprocess.PIPE)
-
-    def run(self, file, script):
-        """The status and what was written, of each program."""
-        self.process.stdin.write(struct.pack(">I", len(file)) + struct.pack(">I", len(script)))
-        self.process.stdin.write(file + script)
-        self.process.stdin.flush()
-        return [self.outcome() for _ in range(self.count)]
-
-    def outcome(self):
-        status, size = struct.unpack(">II", self.process.stdout.read(8))
-        return status, self.process.stdout.read(size)
-
-
-def plain(folder, source):
+def plain(folder):
+    """The plain loop, built."""
     out = os.path.join(folder, "plain")
-    subprocess.run(["rustc", "--edition", "2021", "-O", "-o", out, str(HERE.parent / "bench" / source)], check=True)
+    subprocess.run(["rustc", "--edition", "2021", "-O", "-o", out, str(HERE.parent / "bench/plain/main.rs")], check=True)
     return out
 
 
-def compared(pair, inputs, ends):
-    """The inputs on which the two programs differ."""
-    for file, script in inputs:
-        outcomes = pair.run(file, script)
-        ends[b" ".join(outcomes[0][1].rsplit(b"\n", 2)[-2:][0].split(b" ")[:2]).decode(errors="replace")] += 1
-        if outcomes[0][0] > 255 or any(one != outcomes[0] for one in outcomes[1:]):
-            yield b"file:\n" + file + b"\ninput:\n" + script, outcomes
+# ---- two programs over many cases
 
 
-def scripts(rng, count, is_agents):
-    rows = [(row.known.encode(), pieces(row.script)) for row in rows_in(ROWS) if row.script]
-    own = [(known, events) for known, events in rows if any(len(one) > 12 and one[12] & 0xF0 == 0x40 for one in events)] if is_agents else rows
-    others = [events for _, events in (own if is_agents else rows)]
-    for _ in range(count):
-        known, events = rng.choice(own)
-        if rng.random() < 0.7:
-            yield known, b"".join(shuffled(rng, events, others))[:LONGEST]
-        else:
-            yield known, changed(rng, b"".join(events), [b"".join(rng.choice(others))])
+class Side:
+    """A program that runs many cases in one process."""
+
+    def __init__(self, words, folder, name):
+        self.words, self.given, self.told = words, os.path.join(folder, f"{name}.in"), os.path.join(folder, f"{name}.out")
+
+    def start(self, batch):
+        with open(self.given, "wb") as file:
+            file.write(b"".join(batch))
+        with open(self.given, "rb") as given, open(self.told, "wb") as told:
+            self.process = subprocess.Popen(self.words, stdin=given, stdout=told)
+
+    def finish(self):
+        """What was written, and how the process ended: its status, or `hangs`."""
+        try:
+            ended = self.process.wait(SECONDS)
+        except subprocess.TimeoutExpired:
+            self.process.kill()
+            self.process.wait()
+            ended = "hangs"
+        with open(self.told, "rb") as told:
+            return told.read(), ended
 
 
-def known_texts(rng, count):
-    rows = [row for row in rows_in(ROWS) if row.known]
-    texts = [row.known.encode() for row in rows]
-    folder = HERE.parent / "crates/sshc_rows_calls/data"
-    texts += [(folder / name).read_bytes() for name in ("plain", "marks", "wild", "worked", "marks.hashed", "doubled", "pairs")]
-    login = next(row.script for row in rows if row.name == "password")
-    key = base64.b64encode(bytes.fromhex("0000000b7373682d656432353531390000002097" "43ef2dda2eae39e325817702d66e2794d5e6f3f7f72eeff4045e7f4e21e649"))
-    texts += [b"|1|" + b" ".join((b"x|y", b"ssh-ed25519", key)), b"*,!local* ssh-ed25519 " + key, b"localhost,[localhost]:13265 x " + key]
-    for _ in range(count):
-        yield broken_text(rng, rng.choice(texts), texts), login
+def outcomes(told):
+    """The outcomes that are written whole: the status, what the program wrote, and what it left."""
+    found, at = [], 0
+    while len(told) - at >= 9:
+        size = struct.unpack_from(">I", told, at + 1)[0]
+        middle = at + 5 + size
+        if middle + 4 > len(told):
+            break
+        end = middle + 4 + struct.unpack_from(">I", told, middle)[0]
+        if end > len(told):
+            break
+        found.append((told[at], told[at + 5 : middle], told[middle + 4 : end]))
+        at = end
+    return found
 
 
-def forward_events(rng, count):
-    runs = []
-    for line in (HERE.parent / "crates/sshc_rows_forward/data/runs").read_text().splitlines():
-        if line and not line.startswith("#"):
-            runs.append(pieces(bytes.fromhex(line.split("|")[5].replace(" ", ""))))
-    runs = [events for events in runs if events]
-    for _ in range(count):
-        events = rng.choice(runs)
-        if rng.random() < 0.7:
-            yield b"", b"".join(shuffled(rng, events, runs))[:LONGEST]
-        else:
-            yield b"", changed(rng, b"".join(events), [b"".join(rng.choice(runs))])
+def finished(sides, batch, ends):
+    """The cases of a batch that both programs have begun, each with its outcomes. Where a program stops in a case, that is told
+    in place of its outcome, and the cases behind it are run anew."""
+    while batch:
+        ended = [side.finish() for side in sides]
+        found = [outcomes(told) for told, _ in ended]
+        done = min(map(len, found))
+        yield from zip(batch, *found)
+        if done == len(batch):
+            return
+        yield batch[done], *[one[done] if len(one) > done else ("stopped", end, b"") for one, (_, end) in zip(found, ended)]
+        ends["a program stopped"] += 1
+        batch = batch[done + 1 :]
+        for side in sides:
+            side.start(batch)
+
+
+def batches(inputs):
+    batch = []
+    for one in inputs:
+        batch.append(one)
+        if len(batch) == BATCH:
+            yield batch
+            batch = []
+    if batch:
+        yield batch
+
+
+# ---- what became of an input
+
+
+def past_scripts(status, written, left):
+    return (
+        ("every event was read", status != 24), ("a record was written", not written.startswith(b"e")),
+        ("the session was opened", b"\n03\n" in written or written.startswith(b"03\n")),
+    )
+
+
+FAILURE = b"0000000500000001" b"05\n"
+
+
+def past_frames(status, written, left):
+    answers = written.count(b"\n40") + written.startswith(b"40")
+    return (
+        ("every event was read", status != 24), ("a frame was answered", answers > 0),
+        ("one was answered with more than a failure", answers > written.count(FAILURE)),
+    )
+
+
+def past_hosts(status, written, left):
+    return (
+        ("arguments, key and file were read", status not in (2, 3, 5)),
+        ("a line of the host was found", status in (29, 30, 31) or status == 0 and written not in (b"", b"learned\n")),
+    )
+
+
+def past_policies(status, written, left):
+    return (
+        ("the policy was read", status not in (3, 5)), ("a message was forwarded", bool(left)),
+        ("a message was answered with more than a failure", status not in (3, 5) and len(written) > 5 * written.count(b"\0\0\0\1\5")),
+    )
+
+
+def past_forwards(status, written, left):
+    return ("every event was read", status != 24), ("a line was written", written.count(b"\n") > 1)
+
+
+PAST = {"scripts": past_scripts, "frames": past_frames, "hosts": past_hosts, "policies": past_policies, "forwards": past_forwards}
+
+
+def label(outcome):
+    """The last line's first two words where they tell an end, or the status."""
+    status, written, _ = outcome
+    words = written[written.rfind(b"\n", 0, -1) + 1 : -1].split(b" ")[:2]
+    return b" ".join(words).decode() if words[0] in (b"ended", b"error", b"left") else f"status {status}"
+
+
+def compared(kind, folder, place, rng, count, ends, past):
+    """The cases on which the two programs differ, with what each made of them. The next batch is made while one is run."""
+    sides = [Side([place("sshc_fuzz_main")], folder, "proved"), Side([plain(folder), "many"], folder, "plain")]
+    before = []
+    for batch in batches(cases.KINDS[kind](rng, count)):
+        yield from judged(kind, sides, before, ends, past)
+        for side in sides:
+            side.start(batch)
+        before = batch
+    yield from judged(kind, sides, before, ends, past)
+
+
+def judged(kind, sides, batch, ends, past):
+    for one, first, second in finished(sides, batch, ends):
+        if first != second:
+            yield one, [first, second]
+        if first[0] != "stopped":
+            ends[label(first)] += 1
+            past.update([what for what, is_so in PAST[kind](*first) if is_so])
 
 
 # ---- a program beside a reader
 
 
-def is_rule(line):
-    words = line.split(b" ")
-    if len(words) != 3 or words[0] != b"allow":
-        return False
-    return all(is_key(word) for word in words[1:])
-
-
-def is_key(word):
-    """Base64 with its padding, of one plain key of the Ed25519 sort: the only sort in the worked policies."""
-    try:
-        body = base64.b64decode(word, validate=True)
-    except ValueError:
-        return False
-    return base64.b64encode(body) == word and len(body) == 51 and body.startswith(string(b"ssh-ed25519") + struct.pack(">I", 32))
-
-
-def bad_line(text):
-    """The number of the first line that is neither empty, nor a comment, nor a rule; 0 where there is none."""
-    for number, line in enumerate(text.split(b"\n"), 1):
-        if line and not line.startswith(b"#") and not is_rule(line):
-            return number
-    return 0
-
-
-def policies(pair, rng, count, ends):
-    key = [blob.encode() for blob in BLOBS.values()]
-    texts = [b"allow %s %s\n" % (rng.choice(key), rng.choice(key)) * rng.choice((1, 2)) + b"# a comment\n\n" for _ in range(20)]
-    for _ in range(count):
-        text = broken_text(rng, rng.choice(texts), texts)
-        try:
-            text.decode()
-            bad = bad_line(text)
-            wanted = (5, b"error policy %d\n" % bad) if bad else (22, b"")
-        except UnicodeDecodeError:
-            wanted = (3, b"")
-        (outcome,) = pair.run(text, b"")
-        ends[f"status {outcome[0]}"] += 1
-        if outcome != wanted:
-            yield text, [outcome, wanted]
+EXTRA_RECORDS = (
+    "0400000001" "01" "0000000d" "70617373776f72642c6e6f6e65" "01", "0400000001" "03" "01" "00000007" "612c622c636363",
+    "0700000001" "0000000161" "00000000" "00000002" "0000000150" "01" "0000000151" "00", "2d00000005" "00000003485550" "00" "00000000" "00000000",
+    "2800000005" "01" "0000000168" "00000016" "000000016f" "00000009", "2f" "00000002" "0000000161" "00000000", "43" "00000001" "02",
+    "27" "00000005" "00000002" "0000000161" "00000000", "0a" "00000001" "00000001" "00000002" "0000000165",
+)
 
 
 def records(program, rng, count, ends):
     """Many lines in one process: each is shown, or is told to be no record."""
     worked = [bytes.fromhex(line) for row in rows_in(ROWS) for line in row.wanted.split("\n") if line and " " not in line]
     worked += [bytes.fromhex(line) for line in EXTRA_RECORDS]
-    for start in range(0, count, 1000):
-        bodies = [changed(rng, rng.choice(worked), worked) for _ in range(min(1000, count - start))]
+    for start in range(0, count, BATCH):
+        bodies = [changed(rng, rng.choice(worked), worked) for _ in range(min(BATCH, count - start))]
         lines = b"".join(body.hex().encode() + b"\n" for body in bodies)
         done = subprocess.run([program], input=lines, stdout=subprocess.PIPE, check=False)
         shown = done.stdout.split(b"\n")[:-1]
@@ -258,46 +206,28 @@ def records(program, rng, count, ends):
                 yield body, [line, "a record" if is_record(body) else "no record"]
 
 
-EXTRA_RECORDS = (
-    "0400000001" "01" "0000000d" "70617373776f72642c6e6f6e65" "01", "0400000001" "03" "01" "00000007" "612c622c636363",
-    "0700000001" "0000000161" "00000000" "00000002" "0000000150" "01" "0000000151" "00", "2d00000005" "00000003485550" "00" "00000000" "00000000",
-    "2800000005" "01" "0000000168" "00000016" "000000016f" "00000009", "2f" "00000002" "0000000161" "00000000", "43" "00000001" "02",
-    "27" "00000005" "00000002" "0000000161" "00000000", "0a" "00000001" "00000001" "00000002" "0000000165",
-)
-
-
-def differences(kind, folder, place, rng, count, ends):
-    if kind in ("scripts", "frames", "hosts"):
-        pair = Pair(folder, [[place("sshc"), "script", "localhost", "13265", "FILE"], [plain(folder, "plain/main.rs"), "script", "localhost", "13265", "FILE"]])
-        inputs = known_texts(rng, count) if kind == "hosts" else scripts(rng, count, kind == "frames")
-        return compared(pair, inputs, ends)
-    if kind == "forwards":
-        return compared(Pair(folder, [[place("sshc_forward_main")], [plain(folder, "forward.rs")]]), forward_events(rng, count), ends)
-    if kind == "policies":
-        return policies(Pair(folder, [[place("sshc_proxy_main"), os.path.join(folder, "absent"), "FILE"]]), rng, count, ends)
-    if kind == "records":
-        return records(place("sshc_show"), rng, count, ends)
-    sys.exit(__doc__)
-
-
 def main():
-    if len(sys.argv) < 4:
+    if len(sys.argv) < 4 or sys.argv[2] not in (*cases.KINDS, "records"):
         sys.exit(__doc__)
     kind, count, seed = sys.argv[2], int(sys.argv[3]), int(sys.argv[4]) if len(sys.argv) > 4 else 1
     place = lambda name: os.path.join(os.path.abspath(sys.argv[1]), name, "out", name)
-    ends, differing, began = collections.Counter(), 0, time.monotonic()
+    rng, ends, past, differing = Quick(f"{kind} {seed}"), collections.Counter(), collections.Counter(), 0
+    began = time.monotonic()
     with tempfile.TemporaryDirectory(dir="/dev/shm") as folder:
-        for body, outcomes in differences(kind, folder, place, random.Random(f"{kind} {seed}"), count, ends):
+        found = records(place("sshc_show"), rng, count, ends) if kind == "records" else compared(kind, folder, place, rng, count, ends, past)
+        for body, results in found:
             differing += 1
-            print(f"{kind} {seed}, difference {differing}: {[str(one)[-200:] for one in outcomes]}")
+            print(f"{kind} {seed}, difference {differing}: {[str(one)[-300:] for one in results]}", flush=True)
             with open(f"fuzz-{kind}-{differing}", "wb") as file:
                 file.write(body)
-            if differing == 100:
+            if differing == MOST_DIFFERENCES:
                 break
     for end, times in ends.most_common():
         print(f"{times:10} {end}")
-    took = time.monotonic() - began
-    print(f"{sum(ends.values())} {kind} from seed {seed} in {took:.0f} seconds, {sum(ends.values()) / took:.0f} a second: {differing} differ")
+    for what, times in past.most_common():
+        print(f"{times:10} of them: {what}")
+    took, run = time.monotonic() - began, sum(ends.values())
+    print(f"{run} {kind} from seed {seed} in {took:.0f} seconds, {run / took:.0f} a second: {differing} differ")
     return differing > 0
 
 

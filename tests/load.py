@@ -3,9 +3,10 @@
 opened and closed, a known hosts text of 100 MB, a script of the greatest length. Of each it prints the time, the greatest
 memory, and what was to be seen; a load that isn't borne is named, and the status is 1.
 
-Usage: tests/load.py FOLDER
-FOLDER is where the proved programs lie as NAME/out/NAME (crates, say). It needs /usr/bin/time (Debian's package `time`), and
-2 GB of disk where FOLDER's script is made.
+Usage: tests/load.py FOLDER [LOAD ..]
+FOLDER is where the proved programs lie as NAME/out/NAME (crates, say): sshc, sshc_forward_main, and for channels sshc_bench.
+LOAD is agent, channels, script-channels, pairs, known-hosts or script (all of them). It needs /usr/bin/time (Debian's package
+`time`), and 2.2 GB of disk for the script.
 """
 import base64
 import os
@@ -22,6 +23,7 @@ import time
 HERE = pathlib.Path(__file__).resolve().parent
 sys.path.insert(0, str(HERE.parent / "bench"))
 from mixed_script import KEY  # noqa: E402
+from wire_parts import event  # noqa: E402
 from worked_rows import ROWS, rows_in, string  # noqa: E402
 
 CONNECTIONS, CHANNELS, HOSTS_SIZE, EVENTS, LONGEST = 512, 10_000, 100_000_000, 8192, 262_144
@@ -31,6 +33,8 @@ LIST = string(b"\x0b")
 def measured(words, **given):
     """The process that has run, and its seconds and greatest memory (KiB)."""
     with tempfile.NamedTemporaryFile("r") as report:
+        if "input" not in given:
+            given.setdefault("stdin", subprocess.DEVNULL)
         began = time.monotonic()
         done = subprocess.run(["/usr/bin/time", "-f", "%M", "-o", report.name, *words], stdout=subprocess.PIPE, check=False, **given)
         return done, time.monotonic() - began, int(report.read().split()[-1])
@@ -87,15 +91,68 @@ def agent(program, folder):
         process.kill()
 
 
-def channels(program):
+def channels(program, folder):
+    """Each channel is opened, has bytes that wait for a grant, and is closed, in one table."""
     done, took, most = measured([program, "closes", "1", str(CHANNELS)])
     print(f"channels: {CHANNELS} opened and closed in {took:.2f} s, {most} KiB: {done.stdout.decode().strip()}")
-    return done.returncode == 0
+    return done.returncode == 0 and done.stdout.startswith(b"closes 1 %d:" % CHANNELS)
+
+
+def script_channels(program, folder):
+    """Scripts, each of which opens as many channels as its events allow, one after the other or all at once."""
+    row, known = login(folder)
+    count, good = (EVENTS - len(list(events_of(row.script)))) // 4, True
+    numbers = [u32(number) for number in range(1, count + 1)]
+    turns = [[opens(n), confirms(n), closes(n), peer_closes(n)] for n in numbers]
+    for sort, events in (("one by one", sum(turns, [])), ("all at once", [event for at in zip(*turns) for event in at])):
+        script = row.script + b"".join(events)
+        done, took, most = measured([program, "script", "localhost", "13265", known], input=script)
+        lines = done.stdout.split(b"\n")
+        closed = sum(line.startswith(b"25") for line in lines)
+        print(f"script-channels: {count} opened and closed {sort}, {len(script)} bytes in {took:.2f} s, {most} KiB: "
+              f"{closed} closed, {lines[-2].decode()}")
+        good &= closed == count and lines[-2] == b"ended script-end"
+    return good
+
+
+def u32(number):
+    return struct.pack(">I", number)
+
+
+def opens(number):
+    return event(0x17, u32(9))
+
+
+def confirms(number):
+    return event(0x03, b"\x5b" + number + number + u32(1 << 21) + u32(32768))
+
+
+def closes(number):
+    return event(0x1F, number)
+
+
+def peer_closes(number):
+    return event(0x03, b"\x61" + number)
+
+
+def pairs(program, folder):
+    """Streams that are accepted, opened, read, written and closed, all at once."""
+    numbers = [u32(number) for number in range(CHANNELS)]
+    address = string(b"host") + u32(80) + string(b"from") + u32(9)
+    events = [b"\1" + n + address for n in numbers] + [b"\5" + n + string(b"held") for n in numbers] + [b"\2" + n + n for n in numbers]
+    events += [kind + n + rest for kind, rest in ((b"\7", string(b"data")), (b"\6", b""), (b"\x08", b""), (b"\x09", b"")) for n in numbers]
+    given = b"".join(map(string, events))
+    done, took, most = measured([program], input=given)
+    lines = done.stdout.split(b"\n")
+    closed = sum(line.startswith(b"86") for line in lines)
+    print(f"pairs: {CHANNELS} opened and closed, {len(given)} bytes in {took:.2f} s, {most} KiB: {len(lines) - 2} lines, "
+          f"{closed} closed, {lines[-2].decode()}")
+    return closed == CHANNELS and lines[-2] == b"left 0"
 
 
 def known_hosts(program, folder):
-    """A text of 100 MB in which the host's line is the last one, and one in which it is missing."""
-    path, key = os.path.join(folder, "known"), base64.b64encode(KEY).decode()
+    """A text of 100 MB in which the host's line is the last one; another host, which it doesn't have."""
+    path, key = os.path.join(folder, "known-hosts"), base64.b64encode(KEY).decode()
     line = b"host%09d,[10.0.0.1]:2222 ssh-ed25519 " + base64.b64encode(KEY[:-4] + b"\0\0\0\1") + b"\n"
     with open(path, "wb") as file:
         count = HOSTS_SIZE // len(line % 0)
@@ -105,20 +162,27 @@ def known_hosts(program, folder):
     good = True
     for host, wanted in (("localhost", b"known\n"), ("elsewhere", b"unknown\n")):
         done, took, most = measured([program, "hosts", "check", host, "13265", path, key])
-        print(f"known hosts: {os.path.getsize(path)} bytes, {count + 1} lines, {host} in {took:.2f} s, {most} KiB: {done.stdout!r}")
-        good &= done.stdout == wanted or host == "elsewhere" and done.stdout != b"known\n"
+        print(f"known-hosts: {os.path.getsize(path)} bytes, {count + 1} lines, {host} in {took:.2f} s, {most} KiB: {done.stdout!r}")
+        good &= done.stdout == wanted
+    os.unlink(path)
     return good
 
 
-def longest_script(program, folder):
-    """8,192 events of 262,144 bytes each: the login, and then data of the peer's for a channel that isn't open."""
+def login(folder):
+    """The worked login by a password, and the path of its known hosts file."""
     row = next(row for row in rows_in(ROWS) if row.name == "password")
-    known, path = os.path.join(folder, "known"), os.path.join(folder, "script")
+    known = os.path.join(folder, "known")
     with open(known, "w", encoding="utf-8") as file:
         file.write(row.known)
+    return row, known
+
+
+def longest_script(program, folder):
+    """8,192 events of which all but the login's have 262,144 bytes: packets that are passed over."""
+    row, known = login(folder)
+    path = os.path.join(folder, "script")
     count = len(list(events_of(row.script)))
-    body = struct.pack(">Q", 0) + b"\x03" + b"\x02"
-    packet = string(body + bytes(LONGEST - len(body)))
+    packet = event(0x03, b"\x02" + bytes(LONGEST - 10))
     with open(path, "wb") as file:
         file.write(row.script)
         for _ in range(EVENTS - count):
@@ -128,7 +192,7 @@ def longest_script(program, folder):
     last = done.stdout.split(b"\n")[-2].decode()
     print(f"script: {os.path.getsize(path)} bytes in {EVENTS} events in {took:.2f} s, {most} KiB: {last}")
     os.unlink(path)
-    return last == "ended script-end"
+    return done.stdout == row.wanted.encode()
 
 
 def events_of(script):
@@ -139,23 +203,25 @@ def events_of(script):
         at = end
 
 
+LOADS = {
+    "agent": (agent, "sshc"), "channels": (channels, "sshc_bench"), "script-channels": (script_channels, "sshc"),
+    "pairs": (pairs, "sshc_forward_main"), "known-hosts": (known_hosts, "sshc"), "script": (longest_script, "sshc"),
+}
+
+
 def main():
-    if len(sys.argv) != 2:
+    if len(sys.argv) < 2 or not set(sys.argv[2:]) <= set(LOADS):
         sys.exit(__doc__)
     _, most = resource.getrlimit(resource.RLIMIT_NOFILE)
     resource.setrlimit(resource.RLIMIT_NOFILE, (min(most, 8192), most))
-    place = lambda name: os.path.join(os.path.abspath(sys.argv[1]), name, "out", name)
+    is_borne = True
     with tempfile.TemporaryDirectory() as folder:
-        borne = {
-            "agent": agent(place("sshc"), folder),
-            "channels": channels(place("sshc_bench")),
-            "known hosts": known_hosts(place("sshc"), folder),
-            "script": longest_script(place("sshc"), folder),
-        }
-    for name, is_borne in borne.items():
-        if not is_borne:
-            print(f"{name}: NOT BORNE")
-    return not all(borne.values())
+        for name in sys.argv[2:] or LOADS:
+            load, program = LOADS[name]
+            if not load(os.path.join(os.path.abspath(sys.argv[1]), program, "out", program), folder):
+                print(f"{name}: NOT BORNE")
+                is_borne = False
+    return not is_borne
 
 
 if __name__ == "__main__":

@@ -10,9 +10,14 @@ pub struct Hosts {
     pub host: String,
 }
 
-/// Padded base64 (RFC 4648, section 4), after carriage returns and line feeds are dropped.
-fn base64(text: &[u8]) -> Option<Vec<u8>> {
+/// Padded base64, after carriage returns and line feeds are dropped.
+pub fn base64(text: &[u8]) -> Option<Vec<u8>> {
     let text: Vec<u8> = text.iter().copied().filter(|byte| !b"\r\n".contains(byte)).collect();
+    base64_exact(&text)
+}
+
+/// Padded base64 (RFC 4648, section 4).
+pub fn base64_exact(text: &[u8]) -> Option<Vec<u8>> {
     if text.len() % 4 != 0 {
         return None;
     }
@@ -49,6 +54,20 @@ fn digit_value(digit: u8) -> Option<u32> {
     Some(u32::from(value))
 }
 
+/// The bytes as padded base64.
+pub fn base64_text(bytes: &[u8]) -> String {
+    const DIGITS: &[u8; 64] = b"ABCDEFGHIJKLMNOPQRSTUVWXYZabcdefghijklmnopqrstuvwxyz0123456789+/";
+    let mut text = String::with_capacity(bytes.len().div_ceil(3) * 4);
+    for part in bytes.chunks(3) {
+        let number = (0..3).fold(0_u32, |number, at| number << 8 | u32::from(*part.get(at).unwrap_or(&0)));
+        for at in 0..4 {
+            let digit = DIGITS[(number >> (18 - 6 * at) & 63) as usize];
+            text.push(if at <= part.len() { char::from(digit) } else { '=' });
+        }
+    }
+    text
+}
+
 fn hashed_matches(entry: &[u8], host: &[u8]) -> bool {
     let mut parts = entry.split(|byte| *byte == b'|').skip(2);
     let (Some(salt), Some(hash)) = (parts.next(), parts.next()) else { return false };
@@ -75,6 +94,19 @@ fn matching<'a>(line: &'a [u8], host: &[u8]) -> Option<(bool, &'a [u8])> {
 }
 
 impl Hosts {
+    /// The blobs of the matching lines with the lines' numbers, each line's or the first that can't be read.
+    pub fn keys(&self) -> Result<Vec<(u64, Vec<u8>)>, Stop> {
+        let mut keys = Vec::new();
+        for (line, number) in self.known.as_bytes().split(|byte| *byte == b'\n').zip(1..) {
+            let Some(third) = matching(line, self.host.as_bytes()) else { continue };
+            let mut bytes = base64(third).ok_or(DECODE)?;
+            let (_, length) = Key::front(&bytes).ok_or(SSH_KEY)?;
+            bytes.truncate(length);
+            keys.push((number, bytes));
+        }
+        Ok(keys)
+    }
+
     /// Whether the plain key with this blob is accepted. Each matching line has to be readable, whatever another says.
     pub fn judge(&self, key: Key, blob: &[u8]) -> Result<(), Stop> {
         let mut revoking = None;

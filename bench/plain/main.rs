@@ -2,7 +2,8 @@
 //! last line and status. It is written from docs/FORMATS.md, docs/TABLES.md and docs/DEFINITIONS.md, and from the crates'
 //! definitions where these leave a question, so that a difference from the program shows an error of one of them.
 //!
-//! Words: script HOST PORT KNOWN, and `buffered` to hold lines back in a buffer of 64 KiB.
+//! Words: script HOST PORT KNOWN, and `buffered` to hold lines back in a buffer of 64 KiB; or `many`, to run the cases of
+//! standard input as `sshc_fuzz_main` does (many.rs).
 //! Build it by `rustc --edition 2021 -O -o plain bench/plain/main.rs`.
 
 mod agent;
@@ -10,9 +11,12 @@ mod channels;
 mod event;
 mod hmac;
 mod hosts;
+mod hosts_words;
 mod key;
+mod many;
 mod open;
 mod opening;
+mod proxy;
 mod session;
 mod stop;
 mod wire;
@@ -120,6 +124,15 @@ fn known_text(path: &str) -> Option<String> {
     }
 }
 
+/// The name of the host at the port in a known hosts text.
+fn host_text(host: &str, port: u16) -> String {
+    if port == 22 {
+        host.to_string()
+    } else {
+        format!("[{host}]:{port}")
+    }
+}
+
 fn answer(out: &mut dyn Write, line: &str, status: u8) -> u8 {
     match writeln!(out, "{line}").and_then(|()| out.flush()) {
         Ok(()) => status,
@@ -127,14 +140,14 @@ fn answer(out: &mut dyn Write, line: &str, status: u8) -> u8 {
     }
 }
 
-fn work(words: &[String], out: &mut dyn Write) -> u8 {
+/// Runs `script HOST PORT KNOWN`, where a path's text is found so.
+fn work(words: &[String], found: impl Fn(&str) -> Option<String>, input: impl Read, out: &mut dyn Write) -> u8 {
     let [script, host, port_word, known] = words else { return answer(out, "error words", 2) };
     let (Some(port), "script") = (port(port_word), script.as_str()) else { return answer(out, "error words", 2) };
-    let Some(known) = known_text(known) else { return answer(out, "error known-file", 3) };
-    let host = if port == 22 { host.clone() } else { format!("[{host}]:{port}") };
-    let mut script =
-        Script { input: BufReader::new(io::stdin().lock()), buffer: Vec::new(), length: 0, place: 0, moment: 0 };
-    let stop = run(&mut script, Session::new(Lines::new(out), Hosts { known, host }));
+    let Some(known) = found(known) else { return answer(out, "error known-file", 3) };
+    let hosts = Hosts { known, host: host_text(host, port) };
+    let mut script = Script { input, buffer: Vec::new(), length: 0, place: 0, moment: 0 };
+    let stop = run(&mut script, Session::new(Lines::new(out), hosts));
     match stop {
         WRITE_FAULT => stop.status(),
         stop => answer(out, &stop.to_string(), stop.status()),
@@ -145,11 +158,14 @@ fn main() -> ExitCode {
     let mut words: Vec<String> = std::env::args().skip(1).collect();
     // Rust's own standard output has a buffer for lines; the bare descriptor has none.
     let mut bare = unsafe { File::from_raw_fd(1) };
-    let status = if words.len() == 5 && words[4] == "buffered" {
+    let input = BufReader::new(io::stdin().lock());
+    let status = if words == ["many"] {
+        many::run(input, bare)
+    } else if words.len() == 5 && words[4] == "buffered" {
         words.pop();
-        work(&words, &mut BufWriter::with_capacity(65_536, bare))
+        work(&words, known_text, input, &mut BufWriter::with_capacity(65_536, bare))
     } else {
-        work(&words, &mut bare)
+        work(&words, known_text, input, &mut bare)
     };
     ExitCode::from(status)
 }
