@@ -94,15 +94,17 @@ fn matching<'a>(line: &'a [u8], host: &[u8]) -> Option<(bool, &'a [u8])> {
 }
 
 impl Hosts {
-    /// The blobs of the matching lines with the lines' numbers, each line's or the first that can't be read.
+    /// The blobs that matching lines record, with the lines' numbers. Each matching line has to be readable.
     pub fn keys(&self) -> Result<Vec<(u64, Vec<u8>)>, Stop> {
         let mut keys = Vec::new();
         for (line, number) in self.known.as_bytes().split(|byte| *byte == b'\n').zip(1..) {
-            let Some(third) = matching(line, self.host.as_bytes()) else { continue };
+            let Some((is_revoked, third)) = matching(line, self.host.as_bytes()) else { continue };
             let mut bytes = base64(third).ok_or(DECODE)?;
             let (_, length) = Key::front(&bytes).ok_or(SSH_KEY)?;
             bytes.truncate(length);
-            keys.push((number, bytes));
+            if !is_revoked {
+                keys.push((number, bytes));
+            }
         }
         Ok(keys)
     }
