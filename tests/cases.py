@@ -2,7 +2,7 @@
 """Cases for sshc_fuzz_main and bench/plain, made at random from worked inputs, for tests/fuzz.py. A case is what a program is
 given, in the bytes of crates/sshc_fuzz_main/README.md. Each generator yields so many of one kind.
 
-Usage: tests/cases.py, which writes the stored run of crates/sshc_fuzz_main (stdin and stdout) from a worked row
+Usage: tests/cases.py, which writes the stored run of crates/sshc_fuzz_main (stdin and stdout) from worked rows
 """
 import base64
 import pathlib
@@ -275,7 +275,20 @@ def row_of(path, name):
 
 
 def stored():
-    """A worked row of forwards as a case, and its outcome."""
+    """A few worked rows as cases, each with its outcome."""
+    login = next(row for row in rows_in(ROWS) if row.name == "password")
+    known, script, key = login.known.encode(), b"script\nlocalhost\n13265\nfile", base64.b64encode(KEY)
+    yield case(0, script, known, login.script), outcome(login.status, login.wanted.encode(), known)
+    yield case(0, script, b"\xff", login.script), outcome(3, b"error known-file\n", b"\xff")
+    yield case(0, b"hosts\ncheck\nlocalhost\n13265\nfile\n" + key, known), outcome(0, b"known\n", known)
+    learned = b"\n[localhost]:13265 ssh-ed25519 " + key + b"\n"
+    yield case(0, b"hosts\nlearn\nlocalhost\n13265\nabsent\n" + key, b"#"), outcome(0, b"learned\n", b"#" + learned)
+    for name, status in (("each-kind-of-frame", 0), ("an-agent-that-ends-before-its-answer", 25)):
+        row = row_of("sshc_rows_proxy/data/runs", name)
+        policy = (DATA / "sshc_rows_proxy/data" / row[1]).read_bytes()
+        given, answers, written, left = (bytes.fromhex(row[at]) for at in (2, 5, 8, 9))
+        yield case(1, b"", policy, given, answers), outcome(status, written, left)
+    yield case(1, b"", (DATA / "sshc_rows_proxy/data/bad").read_bytes()), outcome(5, b"error policy 3\n", b"")
     row = row_of("sshc_rows_forward/data/runs", "a_whole_life")
     lines = "".join(one.strip() + "\n" for one in row[6].split(";") if one.strip())
     yield case(2, given=bytes.fromhex(row[5].replace(" ", ""))), outcome(int(row[4]), lines.encode(), b"")

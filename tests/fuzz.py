@@ -6,8 +6,7 @@ difference, how the inputs ended, how many got past the first reader, and how ma
 
 Usage: tests/fuzz.py FOLDER KIND COUNT [SEED]
 FOLDER is where the proved programs lie as NAME/out/NAME (crates, say): sshc_fuzz_main, which takes many cases, and for records
-sshc_show. KIND is scripts, frames, hosts, policies, forwards or records; of the first four sshc_fuzz_main takes no cases yet.
-It needs rustc. A difference's case is kept as fuzz-KIND-NUMBER in the current folder; `sshc_fuzz_main` runs it alone.
+sshc_show. KIND is scripts, frames, hosts, policies, forwards or records. It needs rustc. A difference's case is kept as fuzz-KIND-NUMBER in the current folder; `sshc_fuzz_main` runs it alone.
 """
 import collections
 import os

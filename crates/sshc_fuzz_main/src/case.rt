@@ -8,6 +8,10 @@ const LENGTH_BYTES: usize = 4;
 /// Which program a case is for.
 #[derive(Clone, Copy, PartialEq, Eq)]
 pub enum Kind {
+    /// `sshc`, with arguments and a file.
+    Words,
+    /// `sshc_proxy_main`, with a policy, the client's bytes and the agent's.
+    Proxy,
     /// `sshc_forward_main`, with events.
     Forwards,
 }
@@ -53,6 +57,8 @@ impl From<Failed> for Broken {
 
 fn kind_of(number: u8) -> Result<Kind, Broken> {
     match number {
+        0 => Ok(Kind::Words),
+        1 => Ok(Kind::Proxy),
         2 => Ok(Kind::Forwards),
         _ => Err(Broken::NoCase),
     }
