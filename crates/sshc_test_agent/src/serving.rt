@@ -1,5 +1,6 @@
 //! An agent that is shared by threads, and its server.
 
+mod faults;
 mod flags;
 mod listener;
 mod locking;

@@ -5,7 +5,7 @@ ghost use Rattle.sshc_wire.specs.Beside.{no_side};
 
 use sshc_agent::Listener;
 use sshc_ask::Duplex;
-use sshc_wire::{Failed, MemSink, MemSource, Sink};
+use sshc_wire::{Failed, MemSink, MemSource, NoMemory, Sink};
 use std::alloc::Global;
 use std::marker::Model;
 use std::sync::atomic::AtomicBool;
@@ -53,6 +53,22 @@ pub(crate) fn stream<'a>(
             flag,
         },
     }
+}
+
+/// The same without a flag, where the first write fails.
+pub(crate) fn failing_stream<'a>(
+    alloc: Global,
+    bytes: Vec<u8>,
+) -> Result<FlagStream<'a>, NoMemory> {
+    let mut failing = Vec::new(alloc);
+    failing.push(0)?;
+    Ok(Duplex {
+        source: MemSource::new(bytes, Vec::new(alloc)),
+        sink: FlagSink {
+            inner: MemSink::new(Vec::new(alloc), failing),
+            flag: None,
+        },
+    })
 }
 
 /// Accepts its streams from the last to the first. Then it fails, or runs out of memory.

@@ -6,7 +6,7 @@ use crate::calls::{bytes_of, calls_of, let_go};
 use crate::frames::{LOCKS, SIGNS, UNLOCKS, adds_with};
 use crate::serving::flags::Flags;
 use crate::serving::listener::{FlagStream, Streams, stream};
-use sshc_agent::{Clock, serve};
+use sshc_agent::{Clock, Pause, serve};
 use sshc_agent_core::Entry;
 use sshc_agent_shared::CloseError;
 use sshc_agent_words::FreshSigner;
@@ -29,7 +29,7 @@ impl Clock for Standstill {
 }
 
 /// Appends a frame with its length.
-fn put_frame(out: &mut Vec<u8>, frame: &[u8]) -> Result<(), NoMemory> {
+pub(crate) fn put_frame(out: &mut Vec<u8>, frame: &[u8]) -> Result<(), NoMemory> {
     if frame.len() < 1_000 {
         put_bytes(out, frame)?;
     }
@@ -37,11 +37,11 @@ fn put_frame(out: &mut Vec<u8>, frame: &[u8]) -> Result<(), NoMemory> {
 }
 
 /// Serves these streams, with a clock that doesn't move.
-fn served<R: Threads + Wait + Sync>(
+pub(crate) fn served<R: Threads + Wait + Sync, P: Pause>(
     rt: &R,
     alloc: Global,
     mut streams: Streams<'_>,
-    flags: &Flags,
+    pause: &P,
 ) -> Result<Vec<Entry>, CloseError> {
     serve(
         rt,
@@ -49,7 +49,7 @@ fn served<R: Threads + Wait + Sync>(
         &mut streams,
         &(),
         &FreshSigner::new(alloc),
-        flags,
+        pause,
         &Standstill,
         1_000_000,
     )
@@ -96,7 +96,7 @@ const ANSWERS: [(u32, u32, &[u8]); 3] = [
 ];
 
 /// Whether the call of a connection has this answer.
-fn has_answer(history: &[Entry], conn: u32, number: u32, answer: &[u8]) -> bool {
+pub(crate) fn has_answer(history: &[Entry], conn: u32, number: u32, answer: &[u8]) -> bool {
     for entry in history {
         if entry.conn == conn && entry.number == number {
             return bytes_of(entry) == answer;
