@@ -1,6 +1,6 @@
 //! Writes outputs as lines.
 
-ghost use Rattle.std.specs.Prelude.{◌≡◌, ◌∷◌, ◌++◌, OnOk, OnErr};
+ghost use Rattle.std.specs.Prelude.{◌≡◌, ◌∷◌, ◌++◌, IfOk, OnOk, OnErr};
 ghost use Rattle.sshc_wire.specs.Contents.{append, WroteFront};
 ghost use Rattle.sshc_wire.specs.Faults.{HasCause};
 ghost use Rattle.sshc_wire.specs.Wire.{u32_text, string_text};
@@ -8,7 +8,7 @@ ghost use Rattle.sshc_forward_run.specs.OutputLines.{output_text, line, lines};
 
 use sshc_forward_core::FwdOutput;
 use sshc_wire::{
-    Failed, NoMemory, Octets, Sink, Text, put_bytes, put_digit_line, put_text, put_u32, write_whole,
+    Failed, NoMemory, Octets, Sink, Text, digit_line, put_bytes, put_text, put_u32, write_whole,
 };
 use std::alloc::Global;
 
@@ -16,7 +16,7 @@ use std::alloc::Global;
 #[derive(Drop)]
 pub(crate) struct LineBuffer {
     bytes: Vec<u8>,
-    line: Vec<u8>,
+    memory: Vec<u8>,
 }
 
 impl LineBuffer {
@@ -24,7 +24,7 @@ impl LineBuffer {
     pub(crate) fn new(alloc: Global) -> LineBuffer {
         LineBuffer {
             bytes: Vec::new(alloc),
-            line: Vec::new(alloc),
+            memory: Vec::new(alloc),
         }
     }
 }
@@ -78,13 +78,13 @@ fn put_output(out: &mut Vec<u8>, output: &FwdOutput) -> Result<(), NoMemory>
     }
 }
 
-/// Makes the line of an output.
-fn make_line(buffer: &mut LineBuffer, output: &FwdOutput) -> Result<(), NoMemory>
-    ensures { OnOk result (buffer.new.line.items ≡ line output.now) }
+/// The line of an output.
+fn line_of<'a>(buffer: &'a mut LineBuffer, output: &FwdOutput) -> Result<&'a [u8], NoMemory>
+    ensures { IfOk result (λ made. made.now ≡ line output.now) }
 {
     buffer.bytes.clear();
     put_output(&mut buffer.bytes, output)?;
-    put_digit_line(&mut buffer.line, buffer.bytes.as_slice())
+    digit_line(&mut buffer.memory, buffer.bytes.as_slice())
 }
 
 /// Writes the line of an output, or a front of the line.
@@ -99,8 +99,8 @@ fn write_line<K: Sink>(
         (WroteFront (K.contents sink.old) (K.contents sink.new) (line output.now)) }
     ensures cause { HasCause (K.faults sink.old) (K.faults sink.new) result }
 {
-    match make_line(buffer, output) {
-        Ok(()) => write_whole(sink, buffer.line.as_slice()),
+    match line_of(buffer, output) {
+        Ok(made) => write_whole(sink, made),
         Err(NoMemory) => Err(Failed::NoMemory),
     }
 }

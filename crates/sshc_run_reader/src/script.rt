@@ -9,7 +9,7 @@ ghost use Rattle.sshc_run_reader.specs.Reading.{NextGives};
 
 use crate::error::{EventError, NextError, not_read, read_failed};
 use crate::event_kind::EventKind;
-use sshc_wire::{Cursor, Source, read_into};
+use sshc_wire::{Cursor, Source, read_front};
 use std::marker::Model;
 
 /// The fewest bytes of an event after its length: a moment and a kind.
@@ -114,9 +114,9 @@ fn raw_event(last: u64, body: &[u8]) -> Result<RawEvent<'_>, EventError>
 }
 
 /// Returns the next event, or `None` at the script's end. The event's moment must not be below `last`. The event is read
-/// into the buffer, whose memory is used again if it is large enough; no clause says so.
+/// to the front of this memory, which is only ever made longer; no clause says so.
 pub fn next_event<'a, S: Source>(
-    buffer: &'a mut Vec<u8>,
+    memory: &'a mut Vec<u8>,
     source: &mut S,
     last: u64,
 ) -> Result<Option<RawEvent<'a>>, NextError>
@@ -129,22 +129,24 @@ pub fn next_event<'a, S: Source>(
     ensures moving { IfOk result (λ taken. IfSome taken (λ _. S.empty_reads source.new ≡ S.empty_reads source.old)) }
     ensures last { S.empty_reads source.new ≤ S.empty_reads source.old + 1 }
 {
-    if let Err(failed) = read_into(buffer, source, 4) {
-        return Err(read_failed(failed));
-    }
-    if buffer.is_empty() {
+    let head = match read_front(memory, source, 4) {
+        Ok(head) => head,
+        Err(failed) => return Err(read_failed(failed)),
+    };
+    if head.is_empty() {
         return Ok(None);
     }
-    let Some(length) = length_of(buffer.as_slice()) else {
+    let Some(length) = length_of(head) else {
         return Err(NextError::Bad);
     };
-    if let Err(failed) = read_into(buffer, source, length) {
-        return Err(read_failed(failed));
-    }
-    if buffer.len() < length {
+    let body = match read_front(memory, source, length) {
+        Ok(body) => body,
+        Err(failed) => return Err(read_failed(failed)),
+    };
+    if body.len() < length {
         return Err(NextError::Bad);
     }
-    match raw_event(last, buffer.as_slice()) {
+    match raw_event(last, body) {
         Ok(event) => Ok(Some(event)),
         Err(e) => Err(not_read(e)),
     }

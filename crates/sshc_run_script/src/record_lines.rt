@@ -1,38 +1,38 @@
 //! Writes records as lines.
 
-ghost use Rattle.std.specs.Prelude.{◌≡◌, ◌+◌, ◌≤◌, OnOk, OnErr, slice_get};
+ghost use Rattle.std.specs.Prelude.{◌≡◌, ◌+◌, ◌≤◌, IfOk, OnOk, OnErr, slice_get};
 ghost use Rattle.sshc_wire.specs.Contents.{append, WroteFront, WritesMove, WritesFor};
 ghost use Rattle.sshc_wire.specs.Outgoing.{text_in};
 ghost use Rattle.sshc_wire.specs.Faults.{HasCause};
 ghost use Rattle.sshc_wire.specs.DigitLines.{text_line};
 ghost use Rattle.sshc_run_script.specs.RecordLines.{lines};
 
-use sshc_wire::{Failed, NoMemory, Outbox, Sink, put_digit_line, write_whole};
+use sshc_wire::{Failed, NoMemory, Outbox, Sink, digit_line, write_whole};
 use std::alloc::Global;
 
 /// Where lines are made. The memory is kept from one line to the next.
 #[derive(Drop)]
 pub struct LineBuffer {
-    line: Vec<u8>,
+    memory: Vec<u8>,
 }
 
 impl LineBuffer {
     /// A buffer without memory.
     pub fn new(alloc: Global) -> LineBuffer {
         LineBuffer {
-            line: Vec::new(alloc),
+            memory: Vec::new(alloc),
         }
     }
 }
 
-/// Makes the line of the record at a place: its number and fields in hexadecimal digits, and a line feed.
+/// The line of the record at a place: its number and fields in hexadecimal digits, and a line feed.
 #[tactic(auto, using(crate::proofs::Lines::lent_line, crate::proofs::Lines::no_line))]
-fn make_line(buffer: &mut LineBuffer, out: &Outbox, at: usize) -> Result<(), NoMemory>
-    ensures { OnOk result (buffer.new.line.items ≡ text_line (text_in (slice_get out.now.records at))) }
+fn line_of<'a>(buffer: &'a mut LineBuffer, out: &Outbox, at: usize) -> Result<&'a [u8], NoMemory>
+    ensures { IfOk result (λ line. line.now ≡ text_line (text_in (slice_get out.now.records at))) }
 {
     match out.text(at) {
-        Some(text) => put_digit_line(&mut buffer.line, text),
-        None => put_digit_line(&mut buffer.line, &[]),
+        Some(text) => digit_line(&mut buffer.memory, text),
+        None => digit_line(&mut buffer.memory, &[]),
     }
 }
 
@@ -55,8 +55,8 @@ fn write_line<K: Sink>(
     ensures moving { OnOk result (K.empty_writes sink.new ≡ K.empty_writes sink.old) }
     ensures last { K.empty_writes sink.new ≤ K.empty_writes sink.old + 1 }
 {
-    match make_line(buffer, out, at) {
-        Ok(()) => write_whole(sink, buffer.line.as_slice()),
+    match line_of(buffer, out, at) {
+        Ok(line) => write_whole(sink, line),
         Err(NoMemory) => Err(Failed::NoMemory),
     }
 }

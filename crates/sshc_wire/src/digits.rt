@@ -1,10 +1,11 @@
 //! Bytes as lines of lower-case hexadecimal digits.
 
-ghost use Rattle.std.specs.Prelude.{◌≡◌, ◌*◌, ◌<◌, OnOk, length, slice_index};
+ghost use Rattle.std.specs.Prelude.{◌≡◌, ◌+◌, ◌*◌, ◌<◌, IfOk, length, slice_index};
 ghost use Rattle.hex.specs.Hex.{encode_lower, lower_digits};
 ghost use Rattle.sshc_wire.specs.DigitLines.{text_line};
 
 use crate::error::NoMemory;
+use crate::source::lengthen;
 
 /// The digit of a number below 16. It is computed and not looked up, so that a compiler can make many at once.
 #[tactic(auto, using(crate::proofs::DigitLemmas::digit_small, crate::proofs::DigitLemmas::digit_large))]
@@ -27,13 +28,24 @@ fn write_digits(line: &mut [u8], bytes: &[u8])
     }
 }
 
-/// Replaces the line by the bytes as lower-case hexadecimal digits, followed by a line feed. The line's memory is used
-/// again if it is large enough, which no clause says.
-pub fn put_digit_line(line: &mut Vec<u8>, bytes: &[u8]) -> Result<(), NoMemory>
-    ensures { OnOk result (line.new.items ≡ text_line bytes.now) }
+/// Writes the bytes as lower-case hexadecimal digits and a line feed over a line of that length.
+fn write_digit_line(line: &mut [u8], bytes: &[u8])
+    requires { length line.old ≡ 2 * length bytes.now + 1 }
+    ensures { line.new ≡ text_line bytes.now }
 {
-    line.resize(2 * bytes.len(), b'0')?;
-    write_digits(line.as_mut_slice(), bytes);
-    line.push(b'\n')?;
-    Ok(())
+    let digits = 2 * bytes.len();
+    write_digits(&mut line[..digits], bytes);
+    line[digits] = b'\n';
+}
+
+/// Makes the bytes a line, lower-case hexadecimal digits followed by a line feed, at the front of this memory. The memory
+/// is only ever made longer, so that what a line before wrote isn't cleared; no clause says so.
+pub fn digit_line<'a>(memory: &'a mut Vec<u8>, bytes: &[u8]) -> Result<&'a [u8], NoMemory>
+    ensures { IfOk result (λ line. line.now ≡ text_line bytes.now) }
+{
+    let length = 2 * bytes.len() + 1;
+    lengthen(memory, length)?;
+    let line = &mut memory.as_mut_slice()[..length];
+    write_digit_line(line, bytes);
+    Ok(line)
 }

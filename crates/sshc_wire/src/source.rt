@@ -5,6 +5,7 @@ ghost use Rattle.sshc_wire.specs.Beside.{Beside};
 ghost use Rattle.sshc_wire.specs.Contents.{prepend, IsAtEnd};
 ghost use Rattle.sshc_wire.specs.Faults.{CountsOne, CountsEmpty, HasCause};
 
+use crate::error::NoMemory;
 use std::alloc::Global;
 
 /// How a call of the outside fails.
@@ -108,6 +109,47 @@ pub fn read_into<S: Source>(bytes: &mut Vec<u8>, source: &mut S, count: usize) -
     let filled = read_full(source, bytes.as_mut_slice())?;
     bytes.truncate(filled);
     Ok(())
+}
+
+/// Makes the memory at least so long. What it held may be any bytes afterwards.
+pub(crate) fn lengthen(memory: &mut Vec<u8>, least: usize) -> Result<(), NoMemory>
+    ensures { OnOk result (least ≤ length memory.new.items) }
+{
+    if memory.len() < least {
+        memory.resize(least, 0)?;
+    }
+    Ok(())
+}
+
+/// The next bytes of the source, as many as are asked for or all before its end, at the front of this memory. The memory
+/// is only ever made longer, so that what was read before isn't cleared; no clause says so.
+pub fn read_front<'a, S: Source>(
+    memory: &'a mut Vec<u8>,
+    source: &mut S,
+    count: usize,
+) -> Result<&'a [u8], Failed>
+    requires { 0 < count }
+    ensures bytes { IfOk result (λ bytes. S.left source.old ≡ prepend bytes.now (S.left source.new)) }
+    ensures bound { IfOk result (λ bytes. length bytes.now ≤ count) }
+    ensures end { IfOk result (λ bytes. length bytes.now < count → IsAtEnd (S.left source.new)) }
+    ensures none { OnErr result ((given : List ℕ) × (length given < count)
+        × (S.left source.old ≡ prepend given (S.left source.new))
+        × (S.reads source.new ≤ S.reads source.old + length given + 1)) }
+    ensures cause { HasCause (S.faults source.old) (S.faults source.new) result }
+    ensures whole { IfOk result
+        (λ bytes. length bytes.now ≡ count → S.reads source.new ≤ S.reads source.old + length bytes.now) }
+    ensures short { IfOk result (λ bytes. S.reads source.new ≤ S.reads source.old + length bytes.now + 1) }
+    ensures empty { IfOk result
+        (λ bytes. length bytes.now ≡ count → S.empty_reads source.new ≡ S.empty_reads source.old) }
+    ensures last { S.empty_reads source.new ≤ S.empty_reads source.old + 1 }
+    ensures apart { S.beside source.new ≡ S.beside source.old }
+{
+    if lengthen(memory, count).is_err() {
+        return Err(Failed::NoMemory);
+    }
+    let front = &mut memory.as_mut_slice()[..count];
+    let filled = read_full(source, front)?;
+    Ok(&front[..filled])
 }
 
 /// The next bytes of the source: as many as are asked for, or all before its end.
