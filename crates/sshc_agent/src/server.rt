@@ -1,8 +1,10 @@
 //! Serves many connections concurrently, each in a thread of its own.
 
-ghost use Rattle.std.specs.Prelude.{◌≡◌, ◌≤◌, IfErr, IfOk, OnOk, true};
+ghost use Rattle.std.specs.Prelude.{◌≡◌, ◌≤◌, All, IfErr, IfOk, OnOk, true};
 ghost use Rattle.std.specs.Thread.{IsSend, IsSync};
+ghost use Rattle.sshc_agent_core.specs.AgentHistory.{IsTold};
 ghost use Rattle.sshc_agent_core.specs.LockLaw.{LocksHold};
+ghost use Rattle.sshc_agent_core.specs.SignedEntries.{SignaturesArePermitted};
 ghost use Rattle.sshc_agent_shared.specs.Calls.{journal_weight};
 ghost use Rattle.sshc_agent_shared.specs.Closing.{IsLegalBy};
 ghost use Rattle.sshc_wire.specs.Faults.{Rose};
@@ -177,6 +179,8 @@ fn serve_by<
     ensures legal { IfOk result (λ h. IsLegalBy true h.items) }
     ensures within { IfOk result (λ h. journal_weight 0 h.items ≤ journal_limit) }
     ensures locks { IfOk result (λ h. LocksHold h.items) }
+    ensures signed { IfOk result (λ h. SignaturesArePermitted h.items) }
+    ensures told { IfOk result (λ h. All IsTold h.items) }
     ensures differs { IfErr result (λ e. Differs e) }
 {
     let Ok(shared) = AgentShared::<L>::new(alloc, blank, true, journal_limit) else {
@@ -229,7 +233,12 @@ pub fn serve<
     // It is a history of an agent that asks, and weighs at most the limit.
     ensures legal { IfOk result (λ h. IsLegalBy true h.items) }
     ensures within { IfOk result (λ h. journal_weight 0 h.items ≤ journal_limit) }
+    // From each acknowledged lock to the unlock with its passphrase, nothing is signed, listed or acknowledged.
     ensures locks { IfOk result (λ h. LocksHold h.items) }
+    // Each signature is by a sign request to an unlocked agent, by a key that was held, and confirmed if it wants that.
+    ensures signed { IfOk result (λ h. SignaturesArePermitted h.items) }
+    // An entry has a signature exactly with an answer of type 14, and it is the one in that frame.
+    ensures told { IfOk result (λ h. All IsTold h.items) }
     ensures differs { IfErr result (λ e. Differs e) }
 {
     serve_by::<Brand, I, A, G, P, C, R>(

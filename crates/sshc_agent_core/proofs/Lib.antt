@@ -1,5 +1,7 @@
 mod Listings
-mod Asked
+mod Telling
+mod AskedLemmas
+mod Living
 pub mod Constrained
 mod Stepped
 mod Fronts

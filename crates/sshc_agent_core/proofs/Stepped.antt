@@ -8,10 +8,7 @@ use Rattle.std.specs.declared.cmp.Ordering.TheVariants.{Less, Equal, Greater}
 use Rattle.std.specs.Cmp.{nat_cmp_is}
 use Rattle.std.specs.BTreeMap.{insert_entry, is_at}
 use Rattle.std.specs.Map.{remove_entry}
-use Rattle.sshc_wire.specs.declared.error.NoMemory.{NoMemory}
-use Rattle.sshc_key.specs.Signers.{SignCall, since}
-use Rattle.sshc_key.specs.Asking.{Makes, MakesFirst}
-use Rattle.sshc_key.specs.AskingLaws.{none_first}
+use Rattle.sshc_key.specs.Asking.{Answer, Makes}
 use Rattle.sshc_agent_core.specs.declared.connections.Standing.{Standing}
 use Rattle.sshc_agent_core.specs.declared.connections.Standing.TheVariants.{Open, Closed}
 use Rattle.sshc_agent_core.specs.declared.input.AgentInput.{AgentInput}
@@ -21,15 +18,16 @@ use Rattle.sshc_agent_core.specs.declared.input.Cause.TheVariants as causes
 use Rattle.sshc_agent_core.specs.AgentList.{AgentList, aged, seen, standing, starved}
 use Rattle.sshc_agent_core.specs.AgentTable.{Steps, agent_row, is_shut, seen_row}
 use Rattle.sshc_agent_core.specs.Connections.{is_new, standing_of, with_standing, without}
-use Rattle.sshc_agent_core.specs.Turn.{FollowsBy}
-use Rattle.sshc_agent_core.proofs.Asked.{none_since}
+use Rattle.sshc_agent_core.specs.Asked.{asked_of}
+use Rattle.sshc_agent_core.specs.Turn.{FollowsTold, asked_in, told_calls}
+use Rattle.sshc_agent_core.proofs.Telling.{told_first}
 
 -- the row's answer
-pub goes : (now conn : ℕ) (input : AgentInput) (before mid after : AgentList) (gained : List SignCall) (output : AgentOutput)
-    → mid ≡ seen conn (aged now before) → FollowsBy (seen_row conn input mid) mid after gained (Ok output) → Steps now conn input before after gained output
-unfolding agent_row
-goes now conn input before mid after gained output is follows =
-    inl (subst (λ (m : AgentList). Makes (seen_row conn input m) gained (record { next = after; output = output })) is follows)
+pub goes : (now conn : ℕ) (input : AgentInput) (before mid after : AgentList) (answer : Option Answer) (output : AgentOutput)
+    → mid ≡ seen conn (aged now before) → FollowsTold (seen_row conn input mid) mid after answer (Ok output) → Steps now conn input before after (told_calls (asked_of now conn input before) answer) output
+unfolding agent_row asked_of
+goes now conn input before mid after answer output is follows =
+    inl (subst (λ (m : AgentList). Makes (seen_row conn input m) (told_calls (asked_in (seen_row conn input m)) answer) (record { next = after; output = output })) is follows)
 
 abbrev Conns : Type 0
 Conns = List (ℕ × Standing)
@@ -83,16 +81,16 @@ open_by conn before true is e = ap is_shut (absent_of (standing_of before.conns 
 open_by conn before false is e = e
 
 -- memory ran out after the start
-pub starves : (now conn : ℕ) (input : AgentInput) (before mid stays after : AgentList) (gained : List SignCall) (new : Bool) (e : NoMemory)
-    → mid ≡ seen conn (aged now before) → new ≡ is_new before.conns conn → FollowsBy (seen_row conn input mid) mid stays gained (Err e)
+pub starves : (now conn : ℕ) (input : AgentInput) (before mid stays after : AgentList) (answer : Option Answer) (new : Bool)
+    → mid ≡ seen conn (aged now before) → new ≡ is_new before.conns conn → stays ≡ mid
     → is_shut (standing_of mid.conns conn) ≡ false → after ≡ (if new then record stays { conns = without stays.conns conn } else standing conn Closed stays)
-    → Steps now conn input before after gained (outputs.Closed causes.NoMemory)
-unfolding agent_row
-starves now conn input before mid stays after gained new e is fresh follows unshut is_after =
+    → Steps now conn input before after (told_calls (asked_of now conn input before) answer) (outputs.Closed causes.NoMemory)
+unfolding asked_of
+starves now conn input before mid stays after answer new is fresh same unshut is_after =
     inr (record {
       closed = refl;
-      list = is_after ∙ left_new now conn before new fresh stays (follows.0 ∙ is);
-      asked = subst (λ (m : AgentList). MakesFirst (seen_row conn input m) gained) is follows.1;
+      list = is_after ∙ left_new now conn before new fresh stays (same ∙ is);
+      asked = told_first (agent_row now conn input before) answer;
       open_before = open_by conn before (is_new before.conns conn) refl (subst (λ (m : AgentList). is_shut (standing_of m.conns conn) ≡ false) is unshut);
     })
 
@@ -101,13 +99,14 @@ new_by None e = refl
 new_by (Some x) e = absurd cc
 
 -- memory ran out at the start, for a new connection
-pub starves_new : (now conn : ℕ) (input : AgentInput) (before after : AgentList) (calls calls' : List SignCall)
-    → after ≡ aged now before → standing_of before.conns conn ≡ None → calls' ≡ calls → Steps now conn input before after (since calls calls') (outputs.Closed causes.NoMemory)
-starves_new now conn input before after calls calls' is absent same =
+pub starves_new : (now conn : ℕ) (input : AgentInput) (before after : AgentList) (answer : Option Answer)
+    → after ≡ aged now before → standing_of before.conns conn ≡ None → Steps now conn input before after (told_calls (asked_of now conn input before) answer) (outputs.Closed causes.NoMemory)
+unfolding asked_of
+starves_new now conn input before after answer is absent =
     let fresh = new_by (standing_of before.conns conn) absent in
     inr (record {
       closed = refl;
       list = is ∙ ap (λ (b : Bool). cond b (aged now before) (standing conn Closed (aged now before))) (sym fresh);
-      asked = subst (MakesFirst (agent_row now conn input before)) (sym (none_since calls calls' same)) (none_first (agent_row now conn input before));
+      asked = told_first (agent_row now conn input before) answer;
       open_before = ap is_shut absent;
     })

@@ -1,7 +1,7 @@
 -- What happened on an agent's connections, in one order, and what a lock and a refusal mean. The rows of the agent
--- table occur only through Steps.
+-- table occur only through Steps and Shows.
 -- The definitions are about lists of entries, which the code doesn't keep.
-use Rattle.std.specs.Prelude.{◌≡◌, ◌⊎◌, ◌==◌, ℕ, Bool, true, false, List, [], ◌∷◌, ◌++◌, length, filter, Option, Some, None, Ok}
+use Rattle.std.specs.Prelude.{◌≡◌, ◌⊎◌, ◌==◌, ℕ, Bool, true, false, List, [], ◌∷◌, ◌++◌, drop, length, filter, Option, Some, None, Ok, if◌then◌else◌}
 use Rattle.sshc_wire.specs.Reads.{string_at}
 use Rattle.sshc_wire.specs.Wire.{string_text}
 use Rattle.sshc_key.specs.Signers.{SignCall}
@@ -12,13 +12,13 @@ use Rattle.sshc_agent_core.specs.declared.input.AgentInput.{AgentInput}
 use Rattle.sshc_agent_core.specs.declared.input.AgentInput.TheVariants as inputs
 use Rattle.sshc_agent_core.specs.declared.input.AgentOutput.{AgentOutput}
 use Rattle.sshc_agent_core.specs.declared.input.AgentOutput.TheVariants as outputs
-use Rattle.sshc_key.specs.declared.agent_msg.TheConstants.{FAILURE, SIGN_REQUEST, SUCCESS, UNLOCK}
+use Rattle.sshc_key.specs.declared.agent_msg.TheConstants.{FAILURE, SIGN_REQUEST, SIGN_RESPONSE, SUCCESS, UNLOCK}
 use Rattle.sshc_agent_core.specs.AgentList.{AgentList, aged, empty_list}
 use Rattle.sshc_key.specs.declared.signer.Asker.{Asker}
 use Rattle.sshc_key.specs.declared.signer.Asker.TheVariants.{Agent}
 use Rattle.sshc_key.specs.PairCode.{KeyPair}
 use Rattle.sshc_agent_core.specs.declared.key_list.HeldKey.{HeldKey}
-use Rattle.sshc_agent_core.specs.AgentTable.{Steps}
+use Rattle.sshc_agent_core.specs.AgentTable.{Shows}
 use Rattle.sshc_agent_core.specs.KeyList.{held}
 use Rattle.sshc_agent_core.specs.Connections.{seen_in, standing_of}
 
@@ -80,16 +80,14 @@ pub record KeepsLock (p : List ℕ) (now conn : ℕ) (input : AgentInput) (befor
   pub unsigned : gained ≡ []
   pub lock : StaysLocked p now before after output ⊎ IsUnlocked p now conn input before after output
 
--- the key of a request may sign: the agent is unlocked, the key is held, and either it requires no confirmation or
--- `confirmed` holds
+-- the key of a request of type 13 may sign: the agent is unlocked, the key is held, and either it requires no
+-- confirmation or `confirmed` holds
 pub record MaySign (l : AgentList) (whole : List ℕ) (confirmed : Type 0) (key : HeldKey) : Type 0 where
   pub unlocked : l.passphrase ≡ None
-  pub number : ℕ
   pub body : List ℕ
   pub blob : List ℕ
   pub rest : List ℕ
-  pub frame : whole ≡ number ∷ body
-  pub asks : (number ≡ SIGN_REQUEST) ⊎ confirmed
+  pub frame : whole ≡ SIGN_REQUEST ∷ body
   pub names : string_at body ≡ Ok (blob, rest)
   pub is_held : held l.keys blob ≡ Some key
   pub confirms : (key.constraints.confirm ≡ false) ⊎ confirmed
@@ -104,17 +102,36 @@ pub record IsPermitted (now conn : ℕ) (input : AgentInput) (before : AgentList
   pub pair_is : pair ≡ key.pair
   pub asker : by ≡ Agent conn
 
+-- every other connection is as it was
+abbrev pub KeepsOthers : ℕ → AgentList → AgentList → Type 0
+KeepsOthers conn before after = (other : ℕ) → (other ≡ conn → ⊥) → standing_of after.conns other ≡ standing_of before.conns other
+
 -- ---- histories
 
--- an entry is a step, and it has a signature exactly if the signer returned one
+-- the signature that the signer returned in these calls
 abbrev pub signature_in : List SignCall → Option (List ℕ)
 signature_in [] = None
 signature_in (call ∷ calls) = call.answer
 
+-- what follows the type and the signature's length, in an answer of type 14 (draft-miller-ssh-agent, section 3.6)
+abbrev pub signature_at : List ℕ → Option (List ℕ)
+signature_at [] = None
+signature_at (number ∷ body) = if number == SIGN_RESPONSE then Some (drop 4 body) else None
+
+-- the signature of an answer, after the frame's length
+abbrev pub signature_of : AgentOutput → Option (List ℕ)
+signature_of (outputs.Answer frame) = signature_at (drop 4 frame)
+signature_of output = None
+
+-- an entry is a step, and it has a signature exactly if it shows a call for which the signer returned one
 pub record IsEntry (before : AgentList) (e : Entry) (after : AgentList) : Type 0 where
   pub gained : List SignCall
-  pub step : Steps e.moment e.conn e.input before after gained e.output
+  pub step : Shows e.moment e.conn e.input before after gained e.output
   pub signature : e.signature ≡ signature_in gained
+
+-- an entry has a signature exactly with an answer of type 14, and it is the one in that frame
+abbrev pub IsTold : Entry → Type 0
+IsTold e = e.signature ≡ signature_of e.output
 
 -- the entries lead from one agent state to another
 abbrev pub Leads : AgentList → List Entry → AgentList → Type 0

@@ -6,13 +6,13 @@ pub mod Lock
 -- The agent table: a row for each input, chosen by the state of its connection and by the message
 -- (draft-miller-ssh-agent, sections 3.2 to 3.7; RFC 8332 for the flags of a signature).
 -- It is defined by cases on plain data; each row has a function of the same name in the code.
-use Rattle.std.specs.Prelude.{◌≡◌, ◌⊎◌, ℕ, Bool, true, false, List, [], ◌∷◌, Option, Some, None, Result, Ok, slice_get, ◌==◌, if◌then◌else◌}
+use Rattle.std.specs.Prelude.{◌≡◌, ◌⊎◌, ℕ, Bool, true, false, List, [], ◌∷◌, Option, Some, None, Result, Ok, ◌==◌, if◌then◌else◌}
 use Rattle.std.specs.Option.{is_some}
 use Rattle.sshc_wire.specs.declared.message_type.MessageType.{MessageType}
 use Rattle.sshc_wire.specs.declared.message_type.MessageType.TheVariants as messages
 use Rattle.sshc_wire.specs.declared.error.NoMemory.{NoMemory}
 use Rattle.sshc_key.specs.Signers.{SignCall}
-use Rattle.sshc_key.specs.Asking.{Asking, Makes, MakesFirst, done}
+use Rattle.sshc_key.specs.Asking.{Answer, Asking, Makes, MakesFirst, done}
 use Rattle.sshc_agent_core.specs.declared.agent_core.turn.Turn.{Turn as Taken}
 use Rattle.sshc_agent_core.specs.declared.agent_core.turn.Turn.TheVariants as taken
 use Rattle.sshc_agent_core.specs.declared.connections.Standing.{Standing}
@@ -22,13 +22,14 @@ use Rattle.sshc_agent_core.specs.declared.input.AgentInput.TheVariants as inputs
 use Rattle.sshc_agent_core.specs.declared.input.AgentOutput.{AgentOutput}
 use Rattle.sshc_agent_core.specs.declared.input.AgentOutput.TheVariants as outputs
 use Rattle.sshc_agent_core.specs.declared.input.Cause.TheVariants as causes
+use Rattle.sshc_agent_core.specs.declared.key_list.HeldKey.{HeldKey}
 use Rattle.sshc_key.specs.declared.agent_msg.TheConstants.{ADD_ID_CONSTRAINED}
 use Rattle.sshc_agent_core.specs.AgentList.{AgentList, aged, seen, standing, starved}
 use Rattle.sshc_agent_core.specs.Connections.{standing_of}
 use Rattle.sshc_agent_core.specs.Messages.{message_of}
-use Rattle.sshc_agent_core.specs.Turn.{FollowsBy, Outcome, Turn, fails, ignored, says, signs}
+use Rattle.sshc_agent_core.specs.Turn.{FollowsTold, Outcome, Turn, fails, ignored, says, signs}
 use Rattle.sshc_agent_core.specs.AgentTable.Identities.{identities_turn}
-use Rattle.sshc_agent_core.specs.AgentTable.Sign.{confirmed_turn, sign_request_turn, sign_row, signed_at}
+use Rattle.sshc_agent_core.specs.AgentTable.Sign.{confirmed_turn, sign_request_turn, sign_row}
 use Rattle.sshc_agent_core.specs.AgentTable.Add.{add_turn}
 use Rattle.sshc_agent_core.specs.AgentTable.Remove.{remove_turn, remove_all_turn}
 use Rattle.sshc_agent_core.specs.AgentTable.Lock.{lock_turn, unlock_turn}
@@ -115,10 +116,10 @@ abbrev pub is_shut : Option Standing → Bool
 is_shut (Some standings.Closed) = true
 is_shut stands = false
 
--- what happens after a row's turn was taken
-abbrev pub Finishes : ℕ → Taken → AgentList → AgentList → List SignCall → Result AgentOutput NoMemory → Type 0
-Finishes conn (taken.Says stands output) old new gained result = (result ≡ Ok output) × (new ≡ standing conn stands old) × (gained ≡ [])
-Finishes conn (taken.Signs at rest) old new gained result = FollowsBy (signed_at conn old (slice_get old.keys at) rest.now) old new gained result
+-- what happens after a row's turn was taken, with the signer's answer if there is one
+abbrev pub Finishes : ℕ → Taken → AgentList → AgentList → Option Answer → Result AgentOutput NoMemory → Type 0
+Finishes conn (taken.Says stands output) old new answer result = (result ≡ Ok output) × (new ≡ standing conn stands old)
+Finishes conn (taken.Signs rest) old new answer result = (key : HeldKey) → FollowsTold (sign_row conn old key rest.now) old new answer result
 
 -- a step that ran out of memory, on a connection that isn't closed; the signer may have been asked before
 pub record Starves (now conn : ℕ) (input : AgentInput) (before after : AgentList) (gained : List SignCall) (output : AgentOutput) : Type 0 where
@@ -131,3 +132,9 @@ pub record Starves (now conn : ℕ) (input : AgentInput) (before after : AgentLi
 abbrev pub Steps : ℕ → ℕ → AgentInput → AgentList → AgentList → List SignCall → AgentOutput → Type 0
 Steps now conn input before after gained output =
     Makes (agent_row now conn input before) gained (record { next = after; output = output }) ⊎ Starves now conn input before after gained output
+
+-- a history shows a step as the row of its input, with the calls that were added to the signer's list; or the step ran
+-- out of memory, and no call is shown
+abbrev pub Shows : ℕ → ℕ → AgentInput → AgentList → AgentList → List SignCall → AgentOutput → Type 0
+Shows now conn input before after gained output =
+    Makes (agent_row now conn input before) gained (record { next = after; output = output }) ⊎ ((gained ≡ []) × Starves now conn input before after gained output)

@@ -14,7 +14,7 @@ use Rattle.sshc_agent_core.specs.declared.key_list.HeldKey.{HeldKey}
 use Rattle.sshc_agent_core.specs.AgentHistory.{stands_in}
 use Rattle.sshc_agent_core.specs.AgentList.{AgentList, aged, seen}
 use Rattle.sshc_agent_core.specs.AgentTable.{agent_row, frame_turn, key_answer_turn, request_answer_turn, seen_row, standing_row, turned}
-use Rattle.sshc_agent_core.specs.AgentTable.Sign.{bytes_row, flags_row, sign_row, signed_at, signed_row}
+use Rattle.sshc_agent_core.specs.AgentTable.Sign.{bytes_row, flags_row, sign_row, signed_row}
 use Rattle.sshc_agent_core.specs.Turn.{Turn, says, signs}
 
 -- whoever asks is the agent, for this connection
@@ -26,16 +26,16 @@ signed_asks : (conn : ℕ) (l : AgentList) (answer : Answer) → AsksAs conn (si
 signed_asks conn l None = tt
 signed_asks conn l (Some signature) = tt
 
-flags_asks : (r : Result (ℕ × List ℕ) WireError) (bytes : List ℕ) (conn : ℕ) (l : AgentList) (key : HeldKey) → AsksAs conn (flags_row r bytes conn l (Some key))
+flags_asks : (r : Result (ℕ × List ℕ) WireError) (bytes : List ℕ) (conn : ℕ) (l : AgentList) (key : HeldKey) → AsksAs conn (flags_row r bytes conn l key)
 flags_asks (Err e) bytes conn l key = tt
 flags_asks (Ok flags) bytes conn l key = (refl, λ answer. signed_asks conn l answer)
 
-bytes_asks : (r : Result (List ℕ × List ℕ) WireError) (conn : ℕ) (l : AgentList) (key : HeldKey) → AsksAs conn (bytes_row r conn l (Some key))
+bytes_asks : (r : Result (List ℕ × List ℕ) WireError) (conn : ℕ) (l : AgentList) (key : HeldKey) → AsksAs conn (bytes_row r conn l key)
 bytes_asks (Err e) conn l key = tt
 bytes_asks (Ok bytes) conn l key = flags_asks (number_at w32 bytes.1) bytes.0 conn l key
 
 sign_asks : (conn : ℕ) (l : AgentList) (key : HeldKey) (rest : List ℕ) → AsksAs conn (sign_row conn l key rest)
-unfolding signed_at
+unfolding sign_row
 sign_asks conn l key rest = bytes_asks (string_at rest) conn l key
 
 turned_asks : (conn : ℕ) (turn : Turn) → AsksAs conn (turned conn turn)

@@ -15,6 +15,9 @@ pub mod LockLaws
 pub mod LockLaw
 pub mod LocksHold
 pub mod AskerLaw
-pub mod RefusalLaws
-pub mod SignLaws
+pub mod Asked
+pub mod AskedRows
+pub mod StepShape
+pub mod ShapeLaws
+pub mod StepLaws
 pub mod SignedEntries

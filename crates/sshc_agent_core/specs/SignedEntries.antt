@@ -7,7 +7,8 @@ use Rattle.sshc_key.specs.Signers.{SignCall}
 use Rattle.sshc_agent_core.specs.declared.entry.Entry.{Entry}
 use Rattle.sshc_agent_core.specs.AgentHistory.{IsEntry, IsPermitted, Leads, signature_in}
 use Rattle.sshc_agent_core.specs.AgentList.{AgentList, empty_list}
-use Rattle.sshc_agent_core.specs.SignLaws.{step_permits}
+use Rattle.sshc_agent_core.specs.ShapeLaws.{shown_step}
+use Rattle.sshc_agent_core.specs.StepLaws.{step_permits}
 
 -- the call that returned the signature, which the step permits
 pub record IsSignedBy (before : AgentList) (e : Entry) (signature : List ℕ) : Type 0 where
@@ -27,7 +28,7 @@ signed_by before after e [] signature is none some = let clash : signature_in []
 signed_by before after e (call ∷ calls) signature is gained some = record {
   call = call;
   answer = sym (is.signature ∙ ap signature_in gained) ∙ some;
-  permitted = step_permits e.moment e.conn e.input before after is.gained e.output call calls is.step gained;
+  permitted = step_permits e.moment e.conn e.input before after is.gained e.output call calls (shown_step e.moment e.conn e.input before after is.gained e.output is.step) gained;
 }
 
 -- this holds in every history

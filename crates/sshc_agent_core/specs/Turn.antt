@@ -1,11 +1,11 @@
 -- The result of a row of the agent table, and what a call that implements it does.
 -- A row is plain data: the agent's state after it, the connection's new state and the answer; or the key that is to
 -- sign, with what follows its blob in the request.
-use Rattle.std.specs.Prelude.{◌≡◌, ◌<◌, length, ℕ, List, [], ◌∷◌, slice_get, Some, Result, Ok, Err}
+use Rattle.std.specs.Prelude.{◌≡◌, ℕ, List, [], ◌∷◌, Option, Some, None, Result, Ok, Err}
 use Rattle.sshc_wire.specs.Wire.{string_text}
 use Rattle.sshc_wire.specs.declared.error.NoMemory.{NoMemory}
 use Rattle.sshc_key.specs.Signers.{SignCall}
-use Rattle.sshc_key.specs.Asking.{Asking, Makes, MakesFirst}
+use Rattle.sshc_key.specs.Asking.{Answer, Asking, Makes, SignRequest, asks, call_of, done}
 use Rattle.sshc_agent_core.specs.declared.agent_core.turn.Turn.{Turn as Taken}
 use Rattle.sshc_agent_core.specs.declared.agent_core.turn.Turn.TheVariants as taken
 use Rattle.sshc_agent_core.specs.declared.connections.Standing.{Standing}
@@ -61,16 +61,22 @@ answered body = taken.Says Open (frame body)
 -- a call that took a row's turn leaves the connections unchanged; if memory ran out, it changed nothing
 abbrev pub Follows : Turn → AgentList → AgentList → Result Taken NoMemory → Type 0
 Follows turn old new (Ok (taken.Says stands output)) = (turn ≡ says new stands output) × (new.conns ≡ old.conns)
-Follows turn old new (Ok (taken.Signs at rest)) = (new ≡ old) × (key : HeldKey) × (slice_get new.keys at ≡ Some key) × (turn ≡ signs new key rest.now)
+Follows turn old new (Ok (taken.Signs rest)) = (new ≡ old) × (key : HeldKey) × (turn ≡ signs new key rest.now)
 Follows turn old new (Err e) = new ≡ old
 
--- the key that is to sign is held
-abbrev pub IsTakeable : Taken → AgentList → Type 0
-IsTakeable (taken.Says stands output) l = Unit {0}
-IsTakeable (taken.Signs at rest) l = at < length l.keys
+-- ---- questions to the signer and their answers
 
--- a call that may have asked the signer, with the calls that the signer's list gained; if memory ran out, it changed
--- nothing
-abbrev pub FollowsBy : Asking Outcome → AgentList → AgentList → List SignCall → Result AgentOutput NoMemory → Type 0
-FollowsBy asking old new gained (Ok output) = Makes asking gained (record { next = new; output = output })
-FollowsBy asking old new gained (Err e) = (new ≡ old) × MakesFirst asking gained
+-- what a row asks to be signed, if it asks
+abbrev pub asked_in : Asking Outcome → Option SignRequest
+asked_in (done o) = None
+asked_in (asks q on) = Some q
+
+-- the signer's calls that a request and its answer stand for: none if nothing was asked, or nothing was answered
+abbrev pub told_calls : Option SignRequest → Option Answer → List SignCall
+told_calls (Some q) (Some answer) = call_of q answer ∷ []
+told_calls q answer = []
+
+-- a call that was told the signer's answer did what the row does with it; if memory ran out, it changed nothing
+abbrev pub FollowsTold : Asking Outcome → AgentList → AgentList → Option Answer → Result AgentOutput NoMemory → Type 0
+FollowsTold asking old new answer (Ok output) = Makes asking (told_calls (asked_in asking) answer) (record { next = new; output = output })
+FollowsTold asking old new answer (Err e) = new ≡ old

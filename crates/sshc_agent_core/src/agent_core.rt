@@ -23,6 +23,7 @@ use std::collections::BTreeMap;
 use std::marker::Model;
 
 mod add;
+mod asking;
 mod lock;
 mod remove;
 mod sign;

@@ -1,6 +1,6 @@
 //! The keys that an agent holds, in the order in which they were added.
 
-ghost use Rattle.std.specs.Prelude.{◌≡◌, ◌<◌, [], IfOk, MatchOption, None, OnOk, OnErr, Some, length, option_copied, slice_get};
+ghost use Rattle.std.specs.Prelude.{◌≡◌, [], IfOk, OnOk, OnErr, option_copied};
 ghost use Rattle.std.specs.BTreeMap.{get};
 ghost use Rattle.std.specs.Ordering.{nat_cmp};
 ghost use Rattle.sshc_wire.specs.Wire.{string_text};
@@ -8,7 +8,7 @@ ghost use Rattle.sshc_agent_core.specs.Deadlines.{Agree, AreApart};
 
 use crate::constraints::Constraints;
 use due::cut_due;
-use holding::{drop_key, drop_past, find_key, find_place, fits, framed_listing, key_at, put_key};
+use holding::{drop_key, drop_past, find_key, find_live, fits, framed_listing, put_key};
 use indexmap::IndexMap;
 use sshc_key::PrivateKey;
 use sshc_wire::{List, NoMemory, Octets};
@@ -90,20 +90,11 @@ impl KeyList {
         find_key(&self.keys, blob)
     }
 
-    /// The index of the key with this blob.
-    pub(crate) fn place(&self, blob: &[u8]) -> Option<usize>
-        ensures { MatchOption result (held self.now blob.now ≡ None)
-            (λ at. (at < length self.now) × (held self.now blob.now ≡ slice_get self.now at)) }
+    /// The key with this blob, if it is still held at this moment.
+    pub(crate) fn find_at(&self, blob: &[u8], now: u64) -> Option<&HeldKey>
+        ensures { option_copied result ≡ held (unexpired now self.now) blob.now }
     {
-        find_place(&self.keys, blob)
-    }
-
-    /// The key at this index.
-    pub(crate) fn key(&self, at: usize) -> &HeldKey
-        requires { at < length self.now }
-        ensures { slice_get self.now at ≡ Some result.now }
-    {
-        key_at(&self.keys, at)
+        find_live(&self.keys, blob, now)
     }
 
     /// Drops the keys whose deadline has come. Takes no memory.

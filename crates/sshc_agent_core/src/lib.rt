@@ -12,6 +12,7 @@ mod frames;
 mod input;
 mod key_list;
 mod message;
+mod signing;
 
 pub use agent_core::AgentCore;
 pub use connections::Standing;
@@ -22,4 +23,5 @@ pub use frames::Frames;
 pub use input::{AgentInput, AgentOutput, Cause};
 pub use key_list::HeldKey;
 pub use message::message_type;
+pub use signing::{Asked, Told};
 pub use sshc_wire::MessageType;

@@ -9,13 +9,13 @@ use Rattle.sshc_agent_core.specs.declared.input.AgentOutput.{AgentOutput}
 use Rattle.sshc_agent_core.specs.AgentHistory.{count_of}
 use Rattle.sshc_agent_core.specs.AgentList.{AgentList}
 use Rattle.sshc_agent_core.specs.AgentTable.{Steps}
+use Rattle.sshc_agent_core.specs.StepLaws.{step_entry, step_others}
 use Rattle.sshc_agent_shared.specs.declared.counts.Counts.{Counts}
 use Rattle.sshc_agent_shared.specs.Calls.{call_of, entry_of, entry_weight, journal_weight}
 use Rattle.sshc_agent_shared.specs.Closing.{Tells}
 use Rattle.sshc_agent_shared.specs.Counting.{count_in}
 use Rattle.sshc_agent_shared.specs.Kept.{Adds, IsHistoryOf, IsKept, SeatState, SharedState, due, weight_of}
 use Rattle.sshc_agent_shared.proofs.Histories.{count_push, entries_weigh, history_push, weight_push}
-use Rattle.sshc_agent_shared.proofs.SignatureLemmas.{entry_is}
 
 pub kept_same :
     (asks : Bool) (list : AgentList) (h h' : List Entry) (counts counts' : Counts) (total total' amount parts made weight limit : ℕ)
@@ -48,7 +48,7 @@ pub kept_push :
 kept_push asks list list' h h' counts counts' total total' amount parts made weight weight' limit conn number now input gained output k numbered step is counted book weighs within =
     let e = entry_of conn number now input output in
     record {
-      history = subst (λ (j : List Entry). IsHistoryOf asks j list') (sym is) (history_push asks h list list' e k.history (entry_is now conn number input list list' gained output step) numbered);
+      history = subst (λ (j : List Entry). IsHistoryOf asks j list') (sym is) (history_push asks h list list' e k.history (step_entry list list' e gained step refl) numbered);
       counted = λ c. counted c ∙ (ap (λ (n : ℕ). n + (if conn == c then 1 else 0)) (k.counted c) ∙ sym (ap (count_of c) is ∙ count_push c h e));
       book = book ∙ (ap (λ (n : ℕ). n + 1) k.book ∙ sym (ap (length {A = Entry}) is ∙ length-append h (e ∷ [])));
       spare = k.spare;
@@ -71,7 +71,7 @@ journal_short asks list h counts total amount parts made weight limit k = omega 
 pub tells_from : (old new : SharedState) (before after : SeatState) (now : ℕ) (input : AgentInput) (gained : List SignCall) (output : AgentOutput) → Adds old new before after now input gained output → IsHistoryOf old.asks old.journal old.list → Tells before after (call_of now input output) gained
 tells_from old new before after now input gained output adds history =
     record {
-      step = record { earlier = old.journal; legal = record { asks = old.asks; last = old.list; leads = history.leads; numbers = history.numbers }; next = new.list; step = adds.step };
+      step = record { earlier = old.journal; legal = record { asks = old.asks; last = old.list; leads = history.leads; numbers = history.numbers }; next = new.list; step = adds.step; others = step_others now before.conn input old.list new.list gained output adds.step };
       numbered = adds.numbered;
       added = adds.seat;
     }

@@ -1,4 +1,3 @@
 mod Histories
-mod SignatureLemmas
 mod Keeping
 mod Parting

@@ -1,25 +1,12 @@
--- The calls that a caller keeps of its entries, and the signature in an answer (draft-miller-ssh-agent, section 3.6).
+-- The calls that a caller keeps of its entries (draft-miller-ssh-agent, section 3.6).
 -- The definitions are about whole lists of entries; the code goes through the journal once for each connection.
-use Rattle.std.specs.Prelude.{ℕ, ◌+◌, ◌*◌, List, [], ◌∷◌, drop, filter, length, map, sum_by, Option, Some, None, ◌==◌, if◌then◌else◌}
+use Rattle.std.specs.Prelude.{ℕ, ◌+◌, ◌*◌, List, filter, length, map, sum_by, ◌==◌}
 use Rattle.sshc_agent_core.specs.declared.entry.Entry.{Entry}
 use Rattle.sshc_agent_core.specs.declared.input.AgentInput.{AgentInput}
 use Rattle.sshc_agent_core.specs.declared.input.AgentInput.TheVariants as inputs
 use Rattle.sshc_agent_core.specs.declared.input.AgentOutput.{AgentOutput}
-use Rattle.sshc_agent_core.specs.declared.input.AgentOutput.TheVariants as outputs
-use Rattle.sshc_key.specs.declared.agent_msg.TheConstants.{SIGN_RESPONSE}
+use Rattle.sshc_agent_core.specs.AgentHistory.{signature_of}
 use Rattle.sshc_agent_shared.specs.declared.call.Call.{Call}
-
--- ---- signatures
-
--- what follows the type and the signature's length, in an answer of type 14
-abbrev pub signature_at : List ℕ → Option (List ℕ)
-signature_at [] = None
-signature_at (number ∷ body) = if number == SIGN_RESPONSE then Some (drop 4 body) else None
-
--- the signature of an answer, after the frame's length
-abbrev pub signature_of : AgentOutput → Option (List ℕ)
-signature_of (outputs.Answer frame) = signature_at (drop 4 frame)
-signature_of output = None
 
 -- ---- calls
 

@@ -1,7 +1,7 @@
 -- When a shared agent can be closed, and why not; and what a caller knows about a call.
 use Rattle.std.specs.Prelude.{◌≡◌, ◌≢◌, ◌≤◌, ℕ, Bool, List, [], ◌∷◌, ◌++◌, length, Option, slice_get, All, Contains, sum_by}
 use Rattle.sshc_agent_core.specs.declared.entry.Entry.{Entry}
-use Rattle.sshc_agent_core.specs.AgentHistory.{IsLegal, count_of}
+use Rattle.sshc_agent_core.specs.AgentHistory.{IsLegal, KeepsOthers, count_of}
 use Rattle.sshc_agent_core.specs.AgentList.{AgentList}
 use Rattle.sshc_agent_core.specs.AgentTable.{Steps}
 use Rattle.sshc_key.specs.Signers.{SignCall}
@@ -45,12 +45,14 @@ LockedCause s seats (SeatsOut made given) = (made ≡ s.made) × (made ≢ given
 LockedCause s seats (Torn conn at got kept) =
     ((seat : SeatState) × Contains seats seat × IsTorn seat conn at got kept) × (kept ≡ slice_get (calls_of conn s.journal) at)
 
--- a call is a step of an agent to which some legal history leads, and the signer gets the calls of that step
+-- a call is a step of an agent to which some legal history leads, and the signer gets the calls of that step; it leaves
+-- every other connection as it was
 pub record IsStep (conn : ℕ) (call : Call) (gained : List SignCall) : Type 0 where
   pub earlier : List Entry
   pub legal : IsLegal earlier
   pub next : AgentList
   pub step : Steps call.moment conn call.input legal.last next gained call.output
+  pub others : KeepsOthers conn legal.last next
 
 -- the call is such a step, after exactly as many entries of its connection as the seat has earlier calls, and the seat
 -- has the call afterwards

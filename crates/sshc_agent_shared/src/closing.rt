@@ -1,9 +1,11 @@
 //! Closing a shared agent: all seats are back, and their calls are those of the journal.
 
-ghost use Rattle.std.specs.Prelude.{◌≡◌, ◌≤◌, All, IfErr, IfOk, MatchOption, length, sum_by};
+ghost use Rattle.std.specs.Prelude.{◌≡◌, ◌≤◌, All, IfErr, IfOk, MatchOption, OnOk, length, sum_by};
 ghost use Rattle.sshc_agent_shared.specs.Calls.{calls_of, journal_weight};
 ghost use Rattle.sshc_agent_shared.specs.Closing.{Accounts, IsLegalBy, LockedCause};
+ghost use Rattle.sshc_agent_core.specs.AgentHistory.{IsTold};
 ghost use Rattle.sshc_agent_core.specs.LockLaw.{LocksHold};
+ghost use Rattle.sshc_agent_core.specs.SignedEntries.{SignaturesArePermitted};
 
 use crate::error::CloseError;
 use crate::groups::Groups;
@@ -108,6 +110,12 @@ impl<L: Settings> AgentState<L> {
         ensures accounts { IfOk result (λ h. Accounts L.asks L.limit h.items seats.items) }
         // From each acknowledged lock to the unlock with its passphrase, nothing is signed, listed or acknowledged.
         ensures locks { IfOk result (λ h. LocksHold h.items) }
+        // Each signature is by a sign request to an unlocked agent, by a key that was held, and confirmed if it wants that.
+        ensures signed { IfOk result (λ h. SignaturesArePermitted h.items) }
+        // An entry has a signature exactly with an answer of type 14, and it is the one in that frame.
+        ensures told { IfOk result (λ h. All IsTold h.items) }
+        // Every seat is back.
+        ensures whole { OnOk result (self.made ≡ length seats.items) }
         ensures same { IfErr result (λ r. (r.0 ≡ self) × (r.1.items ≡ seats.items)) }
         ensures cause { IfErr result (λ r. LockedCause self seats.items r.2) }
     {

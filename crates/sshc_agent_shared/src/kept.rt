@@ -2,7 +2,8 @@
 //! `KeptCall` as a `Call`, and a `KeptEntry` as an `Entry`.
 
 ghost use Rattle.std.specs.Prelude.{◌≡◌, ◌↔◌, IfOk, IsTrue, drop};
-ghost use Rattle.sshc_agent_shared.specs.Calls.{call_in, entry_of, frame_length, signature_at, signature_of};
+ghost use Rattle.sshc_agent_core.specs.AgentHistory.{signature_at, signature_of};
+ghost use Rattle.sshc_agent_shared.specs.Calls.{call_in, entry_of, frame_length};
 ghost use Rattle.sshc_agent_shared.specs.KeptForms.{input_of, output_of};
 
 use crate::bytes::KeptBytes;

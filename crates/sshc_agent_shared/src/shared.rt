@@ -1,17 +1,20 @@
 //! The agent that threads share.
 
-ghost use Rattle.std.specs.Prelude.{◌≡◌, ◌++◌, [], IfErr, IfOk, OnErr, OnOk};
+ghost use Rattle.std.specs.Prelude.{◌≡◌, ◌++◌, ◌≤◌, [], All, IfErr, IfOk, OnErr, OnOk};
 ghost use Rattle.sshc_key.specs.Signers.{since};
 ghost use Rattle.sshc_agent_shared.specs.Calls.{call_of};
 ghost use Rattle.sshc_agent_shared.specs.Kept.{refused_once};
 ghost use Rattle.sshc_agent_shared.specs.Closing.{Accounts, CloseCause, RefusalSeen, Tells};
+ghost use Rattle.sshc_agent_core.specs.AgentHistory.{IsTold};
 ghost use Rattle.sshc_agent_core.specs.LockLaw.{LocksHold};
+ghost use Rattle.sshc_agent_core.specs.SignedEntries.{SignaturesArePermitted};
+ghost use Rattle.sshc_wire.specs.Faults.{Rose};
 
 use crate::error::{CallRefused, CloseError};
 use crate::seat::Seat;
 use crate::settings::Settings;
 use crate::state::AgentState;
-use sshc_agent_core::{AgentInput, AgentOutput, Entry};
+use sshc_agent_core::{AgentInput, AgentOutput, Cause, Entry};
 use sshc_key::LocalSigner;
 use sshc_wire::NoMemory;
 use std::alloc::Global;
@@ -68,6 +71,10 @@ impl<L: Settings> AgentShared<L> {
         ensures asked { OnOk result.1
             (G.calls signer.new ≡ G.calls signer.old ++ since (G.calls signer.old) (G.calls signer.new)) }
         ensures unasked { OnErr result.1 (G.calls signer.new ≡ G.calls signer.old) }
+        // The connection is closed because the signer refused only where its count rose.
+        ensures cause { IfOk result.1 (λ out. out ≡ AgentOutput.Closed Cause.SignerRefused
+            → Rose (G.refusals signer.old) (G.refusals signer.new)) }
+        ensures later { G.refusals signer.old ≤ G.refusals signer.new }
     {
         self.state.lock(rt).call(seat, now, input, signer)
     }
@@ -81,6 +88,10 @@ impl<L: Settings> AgentShared<L> {
         ensures accounts { IfOk result (λ h. Accounts L.asks L.limit h.items seats.items) }
         // From each acknowledged lock to the unlock with its passphrase, nothing is signed, listed or acknowledged.
         ensures locks { IfOk result (λ h. LocksHold h.items) }
+        // Each signature is by a sign request to an unlocked agent, by a key that was held, and confirmed if it wants that.
+        ensures signed { IfOk result (λ h. SignaturesArePermitted h.items) }
+        // An entry has a signature exactly with an answer of type 14, and it is the one in that frame.
+        ensures told { IfOk result (λ h. All IsTold h.items) }
         ensures same { IfErr result (λ r. r.1.items ≡ seats.items) }
         ensures cause { IfErr result (λ r. CloseCause seats.items r.2) }
     {

@@ -3,6 +3,7 @@
 ghost use Rattle.std.specs.Prelude.{◌≡◌, ◌≤◌, ◌+◌, ◌++◌, ◌<◌, [], IfErr, IfOk, MatchOption, OnErr, OnOk};
 ghost use Rattle.sshc_agent_core.specs.AgentList.{empty_list};
 ghost use Rattle.sshc_key.specs.Signers.{since};
+ghost use Rattle.sshc_wire.specs.Faults.{Rose};
 ghost use Rattle.sshc_agent_shared.specs.Calls.{call_of};
 ghost use Rattle.sshc_agent_shared.specs.Closing.{Tells};
 ghost use Rattle.sshc_agent_shared.specs.Kept.{Adds, IsHistoryOf, due, new_seat, refused_once, weight_of};
@@ -13,7 +14,7 @@ use crate::kept::{KeptEntry, frame_length};
 use crate::room::Rooms;
 use crate::seat::Seat;
 use crate::settings::{Given, Settings};
-use sshc_agent_core::{AgentCore, AgentInput, AgentOutput};
+use sshc_agent_core::{AgentCore, AgentInput, AgentOutput, Cause};
 use sshc_key::LocalSigner;
 use sshc_wire::NoMemory;
 use std::alloc::Global;
@@ -144,6 +145,9 @@ impl<L: Settings> AgentState<L> {
         ensures asked { OnOk result
             (G.calls signer.new ≡ G.calls signer.old ++ since (G.calls signer.old) (G.calls signer.new)) }
         ensures unasked { OnErr result (G.calls signer.new ≡ G.calls signer.old) }
+        ensures cause { IfOk result (λ out. out ≡ AgentOutput.Closed Cause.SignerRefused
+            → Rose (G.refusals signer.old) (G.refusals signer.new)) }
+        ensures later { G.refusals signer.old ≤ G.refusals signer.new }
     {
         let conn = seat.conn;
         let kept = self.counts.at(conn);
@@ -207,6 +211,10 @@ impl<L: Settings> AgentState<L> {
         ensures asked { OnOk result.1
             (G.calls signer.new ≡ G.calls signer.old ++ since (G.calls signer.old) (G.calls signer.new)) }
         ensures unasked { OnErr result.1 (G.calls signer.new ≡ G.calls signer.old) }
+        // The connection is closed because the signer refused only where its count rose.
+        ensures cause { IfOk result.1 (λ out. out ≡ AgentOutput.Closed Cause.SignerRefused
+            → Rose (G.refusals signer.old) (G.refusals signer.new)) }
+        ensures later { G.refusals signer.old ≤ G.refusals signer.new }
     {
         self.is_legal();
         let mut seat = seat;

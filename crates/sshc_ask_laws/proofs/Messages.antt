@@ -29,7 +29,7 @@ use Rattle.sshc_agent_core.specs.AgentTable.{agent_row, asked_turn, frame_turn, 
 use Rattle.sshc_agent_core.specs.AgentTable.Add.{add_turn, added_turn, commented_turn, constraints_in, pair_turn, unconstrained}
 use Rattle.sshc_agent_core.specs.AgentTable.Lock.{is_passphrase, lock_in, lock_turn, unlock_in, unlock_turn}
 use Rattle.sshc_agent_core.specs.AgentTable.Remove.{remove_in, remove_turn}
-use Rattle.sshc_agent_core.specs.AgentTable.Sign.{asked_row, bytes_row, flags_row, hash_of, sign_request_in, sign_request_turn, sign_row, signed_at}
+use Rattle.sshc_agent_core.specs.AgentTable.Sign.{asked_row, bytes_row, flags_row, hash_of, sign_request_in, sign_request_turn, sign_row}
 use Rattle.sshc_agent_core.specs.Connections.{standing_of}
 use Rattle.sshc_agent_core.specs.Messages.{message_of}
 use Rattle.sshc_agent_core.specs.Turn.{Turn, fails, says, succeeds}
@@ -163,12 +163,12 @@ flag_read hash = ap (number_at w32) (sym (append-nil (u32_text (hash_flag hash))
 
 pub signs_bytes : (conn : ℕ) (l : AgentList) (key : HeldKey) (asked : Key) (hash : Option HashAlg) (bytes : List ℕ) → length (message (sign_request asked hash bytes)) ≤ MAX_AGENT_FRAME_LEN
     → sign_row conn l key (asked_rest asked hash bytes) ≡ asked_row conn l key bytes (hash_flag (sent_hash asked hash))
-unfolding signed_at
+unfolding sign_row
 signs_bytes conn l key asked hash bytes few =
     let flag = sent_hash asked hash in
     let behind : length (asked_rest asked hash bytes) ≤ 262144 = omega (arith, few, length-append (string_text (key_text asked)) (asked_rest asked hash bytes)) in
-    ap (λ (r : OneString). bytes_row r conn l (Some key)) (strings.again bytes (u32_text (hash_flag flag)) (short_front bytes (u32_text (hash_flag flag)) behind))
-    ∙ ap (λ (r : Result (ℕ × List ℕ) WireError). flags_row r bytes conn l (Some key)) (flag_read flag)
+    ap (λ (r : OneString). bytes_row r conn l key) (strings.again bytes (u32_text (hash_flag flag)) (short_front bytes (u32_text (hash_flag flag)) behind))
+    ∙ ap (λ (r : Result (ℕ × List ℕ) WireError). flags_row r bytes conn l key) (flag_read flag)
 
 pub flag_is_hash : (e n : List ℕ) (hash : Option HashAlg) → hash_of (plain (rsa e n)) (hash_flag (sent_hash (plain (rsa e n)) hash)) ≡ hash
 flag_is_hash e n None = refl

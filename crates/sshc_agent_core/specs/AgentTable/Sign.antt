@@ -13,10 +13,10 @@ use Rattle.sshc_agent_core.specs.declared.connections.Standing.TheVariants.{Open
 use Rattle.sshc_agent_core.specs.declared.input.AgentOutput.TheVariants as outputs
 use Rattle.sshc_agent_core.specs.declared.input.Cause.TheVariants.{Unreadable, SignerRefused}
 use Rattle.sshc_agent_core.specs.declared.key_list.HeldKey.{HeldKey}
-use Rattle.sshc_key.specs.declared.agent_msg.TheConstants.{SIGN_RESPONSE, SSH_AGENT_RSA_SHA2_256, SSH_AGENT_RSA_SHA2_512}
+use Rattle.sshc_key.specs.declared.agent_msg.TheConstants.{SIGN_REQUEST, SIGN_RESPONSE, SSH_AGENT_RSA_SHA2_256, SSH_AGENT_RSA_SHA2_512}
 use Rattle.sshc_agent_core.specs.AgentList.{AgentList, standing}
 use Rattle.sshc_agent_core.specs.KeyList.{held}
-use Rattle.sshc_agent_core.specs.Turn.{Outcome, Turn, closes, fails, frame, ignored, says, signs}
+use Rattle.sshc_agent_core.specs.Turn.{Outcome, Turn, closes, fails, frame, says, signs}
 
 -- a key that requires a confirmation is asked about; any other key signs
 abbrev pub held_turn : Option HeldKey → List ℕ → List ℕ → AgentList → Turn
@@ -40,9 +40,10 @@ abbrev pub confirmed_in : Result (List ℕ × List ℕ) WireError → AgentList 
 confirmed_in (Err e) l = fails l
 confirmed_in (Ok blob) l = held_still (held l.keys blob.0) blob.1 l
 
+-- only a sign request asks for a confirmation
 unfoldable pub confirmed_turn : List ℕ → AgentList → Turn
 confirmed_turn [] l = fails l
-confirmed_turn (number ∷ body) l = confirmed_in (string_at body) l
+confirmed_turn (number ∷ body) l = if number == SIGN_REQUEST then confirmed_in (string_at body) l else fails l
 
 -- ---- the signature
 
@@ -70,23 +71,14 @@ abbrev pub asked_row : ℕ → AgentList → HeldKey → List ℕ → ℕ → As
 asked_row conn l key bytes flags =
     asks (record { by = Agent conn; key = key.pair; hash = hash_of key.pair.public.0 flags; bytes = bytes }) (λ answer. signed_row conn l answer)
 
--- the same of a key that may be missing
-abbrev pub signer_row : ℕ → AgentList → Option HeldKey → List ℕ → ℕ → Asking Outcome
-signer_row conn l None bytes flags = done (ignored l)
-signer_row conn l (Some key) bytes flags = asked_row conn l key bytes flags
-
-abbrev pub flags_row : Result (ℕ × List ℕ) WireError → List ℕ → ℕ → AgentList → Option HeldKey → Asking Outcome
+abbrev pub flags_row : Result (ℕ × List ℕ) WireError → List ℕ → ℕ → AgentList → HeldKey → Asking Outcome
 flags_row (Err e) bytes conn l key = unreadable_row conn l
-flags_row (Ok flags) bytes conn l key = signer_row conn l key bytes flags.0
+flags_row (Ok flags) bytes conn l key = asked_row conn l key bytes flags.0
 
-abbrev pub bytes_row : Result (List ℕ × List ℕ) WireError → ℕ → AgentList → Option HeldKey → Asking Outcome
+abbrev pub bytes_row : Result (List ℕ × List ℕ) WireError → ℕ → AgentList → HeldKey → Asking Outcome
 bytes_row (Err e) conn l key = unreadable_row conn l
 bytes_row (Ok bytes) conn l key = flags_row (number_at w32 bytes.1) bytes.0 conn l key
 
--- what follows the blob is read; bytes or flags that can't be read close the connection
-unfoldable pub signed_at : ℕ → AgentList → Option HeldKey → List ℕ → Asking Outcome
-signed_at conn l key rest = bytes_row (string_at rest) conn l key
-
--- the signer is asked to sign with the key
-abbrev pub sign_row : ℕ → AgentList → HeldKey → List ℕ → Asking Outcome
-sign_row conn l key rest = signed_at conn l (Some key) rest
+-- the signer is asked to sign with the key what follows its blob; bytes or flags that can't be read close the connection
+unfoldable pub sign_row : ℕ → AgentList → HeldKey → List ℕ → Asking Outcome
+sign_row conn l key rest = bytes_row (string_at rest) conn l key

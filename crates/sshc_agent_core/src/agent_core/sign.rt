@@ -1,53 +1,30 @@
 //! SIGN_REQUEST (draft-miller-ssh-agent, section 3.6).
 
-ghost use Rattle.std.specs.Prelude.{◌≡◌, ◌<◌, ◌≤◌, ◌∷◌, IfOk, IsSome, length, slice_get};
+ghost use Rattle.std.specs.Prelude.{◌≡◌, ◌∷◌, IfOk, IsSome, Some};
 ghost use Rattle.sshc_wire.specs.Reads.{string_at};
 ghost use Rattle.sshc_wire.specs.Wire.{string_text};
-ghost use Rattle.sshc_key.specs.Signers.{since};
-ghost use Rattle.sshc_key.specs.View.{view};
+ghost use Rattle.sshc_key.specs.Asking.{SignRequest, asks};
 ghost use Rattle.sshc_agent_core.specs.AgentList.{standing};
-ghost use Rattle.sshc_agent_core.specs.AgentTable.Sign.{confirmed_in, confirmed_turn, flagged_hash, hash_of, held_turn, sign_request_turn, signed_at, signer_row};
+ghost use Rattle.sshc_agent_core.specs.AgentTable.Sign.{confirmed_in, confirmed_turn, held_turn, sign_request_turn, sign_row, signed_row};
+ghost use Rattle.sshc_agent_core.specs.Asked.{told_of};
 ghost use Rattle.sshc_agent_core.specs.Connections.{standing_of};
-ghost use Rattle.sshc_agent_core.specs.SignerLists.{Grew};
-ghost use Rattle.sshc_agent_core.specs.Turn.{Follows, FollowsBy};
+ghost use Rattle.sshc_agent_core.specs.Turn.{Follows, FollowsTold, signs};
 ghost use Rattle.sshc_agent_core.specs.declared.connections.Standing.TheVariants.{Closed};
+ghost use Rattle.sshc_agent_core.specs.declared.key_list.HeldKey.{HeldKey as Held};
 
 use super::AgentCore;
 use super::turn::Turn;
 use crate::connections::Standing;
 use crate::frame::framed;
 use crate::input::{AgentOutput, Cause};
-use sshc_key::agent_msg::{FAILURE, SIGN_RESPONSE, SSH_AGENT_RSA_SHA2_256, SSH_AGENT_RSA_SHA2_512};
-use sshc_key::{Asker, KeyData, LocalSigner, SignRefused};
-use sshc_wire::{Cursor, HashAlg, NoMemory, Octets, put_bytes};
+use crate::key_list::HeldKey;
+use crate::signing::Told;
+use sshc_key::agent_msg::{FAILURE, SIGN_REQUEST, SIGN_RESPONSE};
+use sshc_wire::{Cursor, NoMemory, Octets, put_bytes};
 use std::alloc::Global;
 
-/// The hash that the flags of a request ask for; flag 2 is tested first.
-fn flagged_hash(flags: u32) -> Option<HashAlg>
-    ensures { result ≡ flagged_hash flags }
-{
-    if flags & SSH_AGENT_RSA_SHA2_256 != 0 {
-        Some(HashAlg::Sha256)
-    } else if flags & SSH_AGENT_RSA_SHA2_512 != 0 {
-        Some(HashAlg::Sha512)
-    } else {
-        None
-    }
-}
-
-/// The hash to sign with, which only an RSA key has.
-fn hash_of(key: &KeyData, flags: u32) -> Option<HashAlg>
-    ensures { result ≡ hash_of (view key.now) flags }
-{
-    match key {
-        KeyData::Rsa { .. } => flagged_hash(flags),
-        KeyData::Certificate(certificate) => {
-            let _ = &certificate.nonce;
-            None
-        }
-        _ => None,
-    }
-}
+/// The longest signature, in bytes.
+const LONGEST_SIGNATURE: usize = 65_536;
 
 impl AgentCore {
     /// A request to sign, on a connection on which no question is open; `whole` is its frame.
@@ -63,36 +40,46 @@ impl AgentCore {
         let Ok(blob) = c.bytes() else {
             return Ok(Turn::Says(Standing::Closed, AgentOutput::Closed(Cause::Unreadable)));
         };
-        match self.keys.place(blob) {
+        match self.keys.find(blob) {
             None => self.answers(&[FAILURE]),
-            Some(at) => self.held(at, c.rest(), whole),
+            Some(key) => self.held(key, c.rest(), whole),
         }
     }
 
-    /// Lets the key at this place sign, or asks the user first.
-    fn held<'a>(&mut self, at: usize, rest: &'a [u8], whole: &'a [u8]) -> Result<Turn<'a>, NoMemory>
-        requires { at < length self.old.keys }
-        ensures row { Follows (held_turn (slice_get self.old.keys at) rest.now whole.now self.old)
-            self.old self.new result }
+    /// Lets the key sign, or asks the user first; `rest` is what follows its blob in the request.
+    fn held<'a>(&self, key: &HeldKey, rest: &'a [u8], whole: &'a [u8]) -> Result<Turn<'a>, NoMemory>
+        ensures row { Follows (held_turn (Some key.now) rest.now whole.now self.now) self.now self.now result }
     {
-        let key = self.keys.key(at);
         if key.constraints.confirm {
             let blob = key.blob.copy()?;
             let whole = Octets::from_slice(self.alloc, whole)?;
             Ok(Turn::Says(Standing::KeyAsked(whole), AgentOutput::AskKey(blob)))
         } else {
-            Ok(Turn::Signs(at, rest))
+            self.signs(key, rest)
         }
     }
 
-    /// Lets the key of the frame sign, if it is still held.
+    /// Lets the key sign.
+    fn signs<'a>(&self, _key: &HeldKey, rest: &'a [u8]) -> Result<Turn<'a>, NoMemory>
+        ensures row { Follows (signs self.now _key.now rest.now) self.now self.now result }
+    {
+        Ok(Turn::Signs(rest))
+    }
+
+    /// Lets the key of the frame sign, if it is a sign request and the key is still held.
     #[tactic(auto, unfolding(crate::specs::AgentTable::Sign::confirmed_turn))]
     pub(super) fn confirmed<'a>(&mut self, whole: &'a [u8]) -> Result<Turn<'a>, NoMemory>
         ensures row { Follows (confirmed_turn whole.now self.old) self.old self.new result }
     {
         match whole {
             [] => self.answers(&[FAILURE]),
-            [_, body @ ..] => self.confirmed_body(body),
+            [number, body @ ..] => {
+                if *number == SIGN_REQUEST {
+                    self.confirmed_body(body)
+                } else {
+                    self.answers(&[FAILURE])
+                }
+            }
         }
     }
 
@@ -103,35 +90,32 @@ impl AgentCore {
         let Ok(blob) = c.bytes() else {
             return self.answers(&[FAILURE]);
         };
-        match self.keys.place(blob) {
+        match self.keys.find(blob) {
             None => self.answers(&[FAILURE]),
-            Some(at) => Ok(Turn::Signs(at, c.rest())),
+            Some(key) => self.signs(key, c.rest()),
         }
     }
 
-    /// Asks the signer for a signature of the key at the place; `rest` is what follows its blob in the request.
-    #[tactic(auto, unfolding(crate::specs::AgentTable::Sign::signed_at), using(crate::proofs::Asked::quiet, crate::proofs::Asked::quiet_out, crate::specs::SignerLists::grew_none))]
-    pub(super) fn sign<G: LocalSigner>(
+    /// Takes the signer's answer; `rest` is what follows the key's blob in the request.
+    #[tactic(auto, unfolding(crate::specs::AgentTable::Sign::sign_row))]
+    pub(super) fn sign(
         &mut self,
         conn: u32,
-        at: usize,
         rest: &[u8],
-        signer: &mut G,
+        told: Told<'_>,
     ) -> Result<AgentOutput, NoMemory>
-        requires held { at < length self.old.keys }
         requires seen { IsSome (standing_of self.old.conns conn) }
-        ensures row { FollowsBy (signed_at conn self.old (slice_get self.old.keys at) rest.now)
-            self.old self.new (since (G.calls signer.old) (G.calls signer.new)) result }
-        ensures grew { Grew (G.calls signer.old) (G.calls signer.new) }
+        ensures row { (key : Held) → FollowsTold (sign_row conn self.old key rest.now)
+            self.old self.new (told_of told.entry) result }
     {
         let mut c = Cursor::new(rest);
-        let Ok(bytes) = c.bytes() else {
+        let Ok(_bytes) = c.bytes() else {
             return Ok(self.unreadable(conn));
         };
-        let Ok(flags) = c.u32() else {
+        let Ok(_flags) = c.u32() else {
             return Ok(self.unreadable(conn));
         };
-        self.ask_signer(conn, at, bytes, flags, signer)
+        self.answer(conn, told)
     }
 
     /// Closes the connection, because its request can't be read.
@@ -144,43 +128,34 @@ impl AgentCore {
         AgentOutput::Closed(Cause::Unreadable)
     }
 
-    #[tactic(auto, using(crate::proofs::Asked::signed, crate::proofs::Asked::signed_out, crate::proofs::Asked::quiet_out, crate::specs::SignerLists::grew_signed, crate::specs::SignerLists::grew_refused, crate::specs::SignerLists::grew_same))]
-    fn ask_signer<G: LocalSigner>(
-        &mut self,
-        conn: u32,
-        at: usize,
-        bytes: &[u8],
-        flags: u32,
-        signer: &mut G,
-    ) -> Result<AgentOutput, NoMemory>
-        requires held { at < length self.old.keys }
-        requires seen { IsSome (standing_of self.old.conns conn) }
-        ensures row { FollowsBy (signer_row conn self.old (slice_get self.old.keys at) bytes.now flags)
-            self.old self.new (since (G.calls signer.old) (G.calls signer.new)) result }
-        ensures grew { Grew (G.calls signer.old) (G.calls signer.new) }
+    /// Answers with the signature, or closes the connection because the signer refused.
+    fn answer(&mut self, conn: u32, told: Told<'_>) -> Result<AgentOutput, NoMemory>
+        requires { IsSome (standing_of self.old.conns conn) }
+        ensures row { (q : SignRequest) → FollowsTold (asks q (λ answer. signed_row conn self.old answer))
+            self.old self.new (told_of told.entry) result }
     {
-        let key = self.keys.key(at);
-        let hash = hash_of(&key.pair.public.key, flags);
-        match signer.sign(Asker::Agent(conn), &key.pair, hash, bytes) {
-            Ok(signature) => {
-                let frame = framed_signature(self.alloc, &signature)?;
+        match told {
+            Told::Signed(signature) => {
+                let frame = framed_signature(self.alloc, signature)?;
                 self.conns.set(conn, Standing::Open);
                 Ok(AgentOutput::Answer(frame))
             }
-            Err(SignRefused::Refused) => {
+            Told::Refused => {
                 self.conns.set(conn, Standing::Closed);
                 Ok(AgentOutput::Closed(Cause::SignerRefused))
             }
-            Err(SignRefused::NoMemory) => Err(NoMemory),
+            Told::Unanswered => Err(NoMemory),
         }
     }
 }
 
-/// The answer with the signature, as a whole frame.
+/// The answer with the signature, as a whole frame. `NoMemory` also for a signature of more than 65536 bytes.
 fn framed_signature(alloc: Global, signature: &[u8]) -> Result<Octets, NoMemory>
-    requires { length signature.now ≤ 65536 }
     ensures { IfOk result (λ o. o ≡ string_text (SIGN_RESPONSE ∷ string_text signature.now)) }
 {
+    if signature.len() > LONGEST_SIGNATURE {
+        return Err(NoMemory);
+    }
     let mut body = Vec::new(alloc);
     body.push(SIGN_RESPONSE)?;
     put_bytes(&mut body, signature)?;

@@ -3,10 +3,10 @@
 use crate::connections::Standing;
 use crate::input::AgentOutput;
 
-/// The connection's new state with the answer, or the key that is to sign.
+/// The connection's new state with the answer, or a key that is to sign.
 #[derive(Drop)]
 pub(crate) enum Turn<'a> {
     Says(Standing, AgentOutput),
-    /// The index of the key that signs, and what follows its blob in the request.
-    Signs(usize, &'a [u8]),
+    /// What follows the blob of the key that signs, in the request.
+    Signs(&'a [u8]),
 }

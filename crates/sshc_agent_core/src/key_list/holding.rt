@@ -119,6 +119,29 @@ pub(super) fn find_key<'a>(keys: &'a IndexMap<Vec<u8>, HeldKey>, blob: &[u8]) ->
     keys.get(blob)
 }
 
+/// The key with this blob, if it is still held at this moment.
+#[tactic(auto, using(crate::proofs::Living::held_live))]
+pub(super) fn find_live<'a>(
+    keys: &'a IndexMap<Vec<u8>, HeldKey>,
+    blob: &[u8],
+    now: u64,
+) -> Option<&'a HeldKey>
+    requires keyed { AreKeyed keys.now.entries }
+    requires apart { AreApart (values keys.now) }
+    ensures { option_copied result ≡ held (unexpired now (values keys.now)) blob.now }
+{
+    match find_key(keys, blob) {
+        None => None,
+        Some(key) => {
+            if is_past(key.deadline, now) {
+                None
+            } else {
+                Some(key)
+            }
+        }
+    }
+}
+
 /// Drops the keys whose deadline has come.
 pub(super) fn drop_past(keys: &mut IndexMap<Vec<u8>, HeldKey>, now: u64)
     requires { AreKeyed keys.old.entries }
