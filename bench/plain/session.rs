@@ -84,6 +84,8 @@ pub struct Session<'a> {
     /// Bytes of packets from 50 on while an exchange of ours runs.
     counted: u64,
     pub session_id: Vec<u8>,
+    /// The blob of the first exchange's host key, which is a plain key.
+    host_key: Vec<u8>,
     pub login: Login,
     pub extensions: Extensions,
     pub channels: Channels,
@@ -102,6 +104,7 @@ impl<'a> Session<'a> {
             flag: Flag::Ours,
             counted: 0,
             session_id: Vec::new(),
+            host_key: Vec::new(),
             login: Login {
                 ticket: 0,
                 user: Vec::new(),
@@ -183,11 +186,16 @@ impl<'a> Session<'a> {
         let is_first = self.phase == Phase::Exchanging;
         if is_first {
             match exchange.key {
-                Some((key, blob)) if !key.is_certificate => self.hosts.judge(key, blob)?,
+                Some((key, blob)) if !key.is_certificate => {
+                    self.hosts.judge(key, blob)?;
+                    self.host_key.extend_from_slice(blob);
+                }
                 _ => return Err(UNKNOWN_KEY),
             }
             self.session_id.extend_from_slice(exchange.hash);
             self.phase = Phase::Service;
+        } else if !self.has_kept_key(&exchange) {
+            return Err(REKEY_KEY);
         }
         (self.flag, self.counted) = (Flag::Idle, 0);
         self.lines.record(0x20, |record| record.string(exchange.kex))?;
@@ -196,6 +204,11 @@ impl<'a> Session<'a> {
         } else {
             Ok(())
         }
+    }
+
+    /// A later exchange has the first one's host key. Its blob is a plain key's, so a certificate's is another.
+    fn has_kept_key(&self, exchange: &Exchange) -> bool {
+        exchange.key.as_ref().is_some_and(|(_, blob)| **blob == *self.host_key)
     }
 
     // ---- packets

@@ -33,6 +33,7 @@ pub const NOT_AUTHENTICATED: Stop = error(35, "not-authenticated");
 pub const SSH_ENCODING: Stop = error(36, "ssh-encoding");
 pub const INVALID_DISCONNECT: Stop = error(37, "invalid-disconnect");
 pub const RECV_ERROR: Stop = error(38, "recv-error");
+pub const REKEY_KEY: Stop = error(43, "rekey-key");
 
 pub const fn key_changed(line: u64) -> Stop {
     Stop::Error(29, "key-changed", Some(line))

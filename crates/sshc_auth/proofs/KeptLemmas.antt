@@ -25,11 +25,13 @@ use Rattle.sshc_auth.specs.declared.step.Told.{Told}
 use Rattle.sshc_auth.specs.declared.step.Told.TheVariants as telling
 use Rattle.sshc_auth.specs.AskedLaws.{AsksFor, IsKeyAtMost, asks_for, first_at_most}
 use Rattle.sshc_auth.specs.GateLaw.{FirstRow, FirstOrTaken, TakesFirst, first_row}
+use Rattle.sshc_auth.specs.Causes.{IsKeptKey}
+use Rattle.sshc_auth.specs.OneKeyLaw.{HasKeyNext, HasKeyRow, later_row}
 use Rattle.sshc_auth.specs.KeepLaws.{Keeps, KeepsNext, KeepsState, KeepsAsked, KeepsAsking, SettledNext, open_keeps}
 use Rattle.sshc_auth.specs.OpeningState.{OpeningState, shut}
 use Rattle.sshc_auth.specs.OpeningTable.{open_row, asked_of}
 use Rattle.sshc_auth.specs.Row.{Row, Next, Span, Did, Steps, stays, opens, ends, refuses}
-use Rattle.sshc_auth.specs.SessionWords.{Kept, kept_of, AddsOnly, IsNoPacket, IsFirst, GoesOnFirst, AcceptsFirst, KeepsFirst, KeepsSession, KeepsRequest, SignsStored, HandsStored, IsSettled, AsksOnce, Stores, KeepsTo}
+use Rattle.sshc_auth.specs.SessionWords.{Kept, kept_of, AddsOnly, IsNoPacket, IsFirst, GoesOnFirst, AcceptsFirst, KeepsFirst, KeepsKey, KeepsSession, HasKeptKey, Continues, KeepsRequest, SignsStored, HandsStored, IsSettled, AsksOnce, Stores, KeepsTo}
 use Rattle.sshc_auth.specs.Stepping.{Lent, GateAnswers, Adds, Answered, Judged, Tells, GateRefused, StepsBy, StaysClosed, exchange_in, gained, map_step, span_of, told_of}
 
 -- ---- what was added
@@ -210,15 +212,15 @@ judged_true gate x old mid told (asking.HostKey key) most (Err e, judges, (is, s
 judged_true gate x old mid told wanted never answered went = absurd never
 
 accepts : {E : Type 0} (gate : GateAnswers E) (s t : OpeningState) (event : Event) (old mid : Outgoing) (told : Told) → IsFirst s → Answered gate (exchange_in event) old mid (Ok told) (asked_of s event) → TakesFirst event told t → AcceptsFirst gate event t
-accepts gate s t event old mid told first answered (x, is, went, id) =
+accepts gate s t event old mid told first answered (x, is, went, id, kept_so) =
     let key = judged_true gate (exchange_in event) old mid told (asked_of s event) (first_at_most s event first.exchanging) answered went in
     let wanted : AsksFor s event key.0 = asks_for s event key.0 key.1 in
     let same : events.ExchangeDone wanted.exchange ≡ events.ExchangeDone x = sym wanted.is ∙ is in
     let one : wanted.exchange ≡ x = cc in
-    record { exchange = wanted.exchange; came = wanted.is; key = key.0; is_there = wanted.has; accepted = key.2; session_id = id ∙ ap (λ (y : ExchangeResult). y.session_hash) (sym one) }
+    record { exchange = wanted.exchange; came = wanted.is; key = key.0; is_there = wanted.has; accepted = key.2; session_id = id ∙ ap (λ (y : ExchangeResult). y.session_hash) (sym one); kept = kept_so ∙ ap (λ (y : ExchangeResult). y.key) (sym one) }
 
 accepts_shut : {E : Type 0} (gate : GateAnswers E) (event : Event) (t : OpeningState) → AcceptsFirst gate event t → AcceptsFirst gate event (shut t)
-accepts_shut gate event t a = record { exchange = a.exchange; came = a.came; key = a.key; is_there = a.is_there; accepted = a.accepted; session_id = a.session_id }
+accepts_shut gate event t a = record { exchange = a.exchange; came = a.came; key = a.key; is_there = a.is_there; accepted = a.accepted; session_id = a.session_id; kept = a.kept }
 
 behind_first : {E : Type 0} (gate : GateAnswers E) (s : OpeningState) (event : Event) (old mid : Outgoing) (told : Told) (calls : List SignCall) (at : Span) (answer : Step Error) (result : Step E) →
     IsFirst s → Answered gate (exchange_in event) old mid (Ok told) (asked_of s event) → at.before ≡ s → result ≡ map_step gate.told_as answer → Steps (open_row s event told) calls at answer → GoesOnFirst at.after result ⊎ AcceptsFirst gate event at.after
@@ -235,6 +237,27 @@ behind_first gate s event old mid told calls at (steps.Ended e) result first ans
 behind_first gate s event old mid told calls at (steps.Refused e) result first answered same is (after, why) = rw is (inl (rw (after, same) first.exchanging))
 behind_first gate s event old mid told calls at steps.Closed result first answered same is never = absurd never
 
+-- ---- later exchanges
+
+-- the session continues behind a later exchange only with the host key that it has
+key_next : (s : OpeningState) (event : Event) (told : Told) (calls : List SignCall) (row : Row) (t : OpeningState) → s.phase ≢ phases.Exchanging → Makes (open_row s event told) calls row → (row.next ≡ stays t) ⊎ (row.next ≡ opens t) → HasKeptKey s event
+key_next s (events.ExchangeDone x) told calls row t later makes next = by next
+  where
+    has : HasKeyRow s x row
+    has = always_makes (HasKeyRow s x) (open_row s (events.ExchangeDone x) told) calls row (later_row s x told later) makes
+
+    by : (row.next ≡ stays t) ⊎ (row.next ≡ opens t) → IsKeptKey s x.key
+    by (inl is) = subst (HasKeyNext s x) is has
+    by (inr is) = subst (HasKeyNext s x) is has
+key_next s event told calls row t later makes next = tt
+
+key_of : {E : Type 0} (gate : GateAnswers E) (s : OpeningState) (event : Event) (told : Told) (calls : List SignCall) (at : Span) (answer : Step Error) (result : Step E) → result ≡ map_step gate.told_as answer → Steps (open_row s event told) calls at answer → KeepsKey event s result
+key_of gate s event told calls at steps.Went result is (row, (makes, adds), next) = λ later goes. key_next s event told calls row at.after later makes (inl next)
+key_of gate s event told calls at steps.Opened result is (row, to, (makes, adds), next, after) = λ later goes. key_next s event told calls row to later makes (inr next)
+key_of gate s event told calls at (steps.Ended e) result is steps_so = λ later goes. absurd (subst Continues is goes)
+key_of gate s event told calls at (steps.Refused e) result is steps_so = λ later goes. absurd (subst Continues is goes)
+key_of gate s event told calls at steps.Closed result is never = absurd never
+
 -- ---- a step
 
 refused_keeps : {E : Type 0} (gate : GateAnswers E) (event : Event) (e : E) (was is : Lent) (mid : Outgoing) (result : Step E) → GateAdds was.outbox mid → GateRefused e (record was { outbox = mid }) is result → KeepsTo gate event was is result
@@ -244,6 +267,7 @@ refused_keeps gate event e was is mid result adds (refused, shut_so, outbox, cal
     behind = inl (rw (refused, shut_so) first.exchanging);
   };
   session = rw shut_so (λ later. (refl, later));
+  key = rw refused (λ later never. absurd never);
   asked = rw none tt;
   handed = adds_gate (HandsStored (kept_of was.opening)) was is mid (none_handed (kept_of was.opening)) adds outbox;
   request = rw shut_so (inl (refl, inl refl));
@@ -270,6 +294,7 @@ told_keeps gate event was is mid told answer result answered same steps_so =
             behind = behind_first gate s event was.outbox mid told (gained was is) at answer result first answered refl same steps_so;
           };
       session = kept_so.session;
+      key = key_of gate s event told (gained was is) at answer result same steps_so;
       asked = kept_so.asked;
       handed = adds_both (HandsStored (kept_of s)) was is mid handed.0 (none_handed (kept_of s)) adds handed.1 handed.2;
       request = kept_so.request;
@@ -286,6 +311,7 @@ closed_keeps gate event was is result shut_before closed =
     record {
       first = λ first. let clash : true ≡ false = sym shut_before ∙ first.fresh in absurd cc;
       session = rw so.1 (λ later. (refl, later));
+      key = rw so.0 (λ later never. absurd never);
       asked = rw (ap (since was.calls) so.3 ∙ drop-length was.calls) tt;
       handed = ([], ap (λ (o : Outgoing). o.records) so.2 ∙ sym (append-nil was.outbox.records), tt);
       request = rw so.1 (inl (refl, inl refl));

@@ -7,10 +7,11 @@ use Rattle.sshc_wire.specs.Wire.{u32_text, string_text}
 use Rattle.sshc_wire.specs.declared.record.Record.TheVariants.{KexDone, Payload, Resolved, Opened}
 use Rattle.sshc_wire.specs.declared.resolution.Resolution.TheVariants.{AuthSuccess, Dropped, ExtInfoSeen}
 use Rattle.sshc_key.specs.Asking.{done}
-use Rattle.sshc_auth.specs.declared.error.Error.TheVariants.{OutOfTurn, UnknownKey, Inconsistent, SshEncoding}
+use Rattle.sshc_auth.specs.declared.error.Error.TheVariants.{OutOfTurn, UnknownKey, RekeyKey, Inconsistent, SshEncoding}
 use Rattle.sshc_auth_event.specs.declared.event.Event.TheVariants as events
 use Rattle.sshc_transport.specs.declared.exchange.ExchangeFlag.TheVariants as flags
-use Rattle.sshc_transport.specs.declared.exchange.ExchangeKey.TheVariants.{Missing}
+use Rattle.sshc_transport.specs.declared.exchange.ExchangeKey.{ExchangeKey}
+use Rattle.sshc_transport.specs.declared.exchange.ExchangeKey.TheVariants.{Certificate, Key, Missing}
 use Rattle.sshc_transport.specs.declared.exchange.ExchangeResult.{ExchangeResult}
 use Rattle.sshc_auth_event.specs.declared.method.Method.{Method}
 use Rattle.sshc_auth_event.specs.declared.method.Method.TheVariants.{Password}
@@ -135,6 +136,36 @@ again : open_row in_auth (events.Authenticate (record { 0 = 2 }) (codes "bob") p
     ≡ done (goes (Resolved (record { 0 = 1 }) Dropped ∷ Payload (request (codes "bob") password) ∷ []) (record in_auth { ticket = record { 0 = 2 }; user = codes "bob"; method = Some password }))
 unfolding open_row plain_row user_row payload_row numbered_row held_packet_row peer_kexinit_row exchange_done_row authenticate_first_row authenticate_again_row service_packet_row service_accept_row auth_packet_row auth_row userauth_success_row
 again = refl
+
+-- ---- later exchanges
+
+abbrev keyed : ExchangeKey → ExchangeResult
+keyed key = record exchange { key = key }
+
+abbrev rekeying : OpeningState
+rekeying = record in_service { host_key = Key (1 ∷ []); flag = flags.Peer }
+
+-- one with the same host key goes on; one with another, without one, or with a certificate is refused
+same_key : open_row rekeying (events.ExchangeDone (keyed (Key (1 ∷ [])))) telling.Went ≡ done (goes (KexDone (codes "curve25519-sha256") ∷ []) (record in_service { host_key = Key (1 ∷ []) }))
+unfolding open_row plain_row exchange_done_row
+same_key = refl
+
+other_key : open_row rekeying (events.ExchangeDone (keyed (Key (2 ∷ [])))) telling.NotAsked ≡ done (refused RekeyKey)
+unfolding open_row plain_row exchange_done_row
+other_key = refl
+
+no_key : open_row rekeying (events.ExchangeDone exchange) telling.NotAsked ≡ done (refused RekeyKey)
+unfolding open_row plain_row exchange_done_row
+no_key = refl
+
+certified : open_row rekeying (events.ExchangeDone (keyed (Certificate (1 ∷ [])))) telling.NotAsked ≡ done (refused RekeyKey)
+unfolding open_row plain_row exchange_done_row
+certified = refl
+
+-- and of the gate it asks nothing
+other_asks : asked_of rekeying (events.ExchangeDone (keyed (Key (2 ∷ [])))) ≡ asking.Nothing
+unfolding asked_of
+other_asks = refl
 
 -- ---- extensions (RFC 8308)
 

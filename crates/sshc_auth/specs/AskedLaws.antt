@@ -17,6 +17,7 @@ use Rattle.sshc_auth.specs.declared.step.Asks.{Asks}
 use Rattle.sshc_auth.specs.declared.step.Asks.TheVariants as asking
 use Rattle.sshc_auth.specs.OpeningState.{OpeningState}
 use Rattle.sshc_auth.specs.OpeningTable.{asked_of, event_asks, exchange_asks, key_asked, packet_asks, number_asks, is_held_back, banner_asks, banner_at_end}
+use Rattle.sshc_auth.specs.OpeningTable.Exchange.{has_kept_key}
 use Rattle.sshc_auth.specs.OpeningTable.Order.{is_out_of_turn}
 use Rattle.sshc_auth.specs.Row.{with_part}
 use Rattle.sshc_auth.specs.Stepping.{HasExchange, exchange_in}
@@ -70,7 +71,7 @@ packet_has s [] = tt
 packet_has s (n ∷ body) = none_has (number_asks s.phase s (length body + 1) n body) (number_none s.phase s (length body + 1) n body)
 
 event_has : (s : OpeningState) (event : Event) → HasExchange (event_asks s event) (exchange_in event)
-event_has s (events.ExchangeDone x) = has_some (exchange_asks s.phase x) x
+event_has s (events.ExchangeDone x) = has_some (exchange_asks s.phase s x) x
 event_has s (events.Payload packet) = packet_has s packet
 event_has s event = tt
 
@@ -136,9 +137,13 @@ key_is : (o : Option PublicKeyOrCertificate) (key : PublicKeyOrCertificate) → 
 key_is None key is = absurd cc
 key_is (Some x) key is = let same : x ≡ key = cc in ap Some same
 
-exchange_for : (s : OpeningState) (x : ExchangeResult) (key : PublicKeyOrCertificate) (phase : Phase) → s.phase ≡ phase → exchange_asks phase x ≡ asking.HostKey key → AsksFor s (events.ExchangeDone x) key
+later_unasked : (same : Bool) (key : PublicKeyOrCertificate) → (if same then asking.Exchange else asking.Nothing) ≡ asking.HostKey key → ⊥
+later_unasked true key asked = cc
+later_unasked false key asked = cc
+
+exchange_for : (s : OpeningState) (x : ExchangeResult) (key : PublicKeyOrCertificate) (phase : Phase) → s.phase ≡ phase → exchange_asks phase s x ≡ asking.HostKey key → AsksFor s (events.ExchangeDone x) key
 exchange_for s x key phases.Exchanging is asked = record { exchange = x; is = refl; first = is; has = key_is (host_key x.key) key asked }
-exchange_for s x key phase is asked = absurd cc
+exchange_for s x key phase is asked = absurd (later_unasked (has_kept_key s x) key asked)
 
 event_for : (s : OpeningState) (event : Event) (key : PublicKeyOrCertificate) → event_asks s event ≡ asking.HostKey key → AsksFor s event key
 event_for s (events.ExchangeDone x) key asked = exchange_for s x key s.phase refl asked
@@ -165,9 +170,9 @@ key_at_most : (o : Option PublicKeyOrCertificate) → IsKeyAtMost (key_asked o)
 key_at_most None = tt
 key_at_most (Some key) = tt
 
-exchange_at_most : (x : ExchangeResult) (phase : Phase) → phase ≡ phases.Exchanging → IsKeyAtMost (exchange_asks phase x)
-exchange_at_most x phases.Exchanging is = key_at_most (host_key x.key)
-exchange_at_most x phase is = absurd cc
+exchange_at_most : (s : OpeningState) (x : ExchangeResult) (phase : Phase) → phase ≡ phases.Exchanging → IsKeyAtMost (exchange_asks phase s x)
+exchange_at_most s x phases.Exchanging is = key_at_most (host_key x.key)
+exchange_at_most s x phase is = absurd cc
 
 number_at_most : (phase : Phase) (s : OpeningState) (len n : ℕ) (body : List ℕ) → phase ≡ phases.Exchanging → IsKeyAtMost (number_asks phase s len n body)
 number_at_most phases.Auth s len n body is = absurd cc
@@ -178,7 +183,7 @@ packet_at_most s [] is = tt
 packet_at_most s (n ∷ body) is = number_at_most s.phase s (length body + 1) n body is
 
 event_at_most : (s : OpeningState) (event : Event) → s.phase ≡ phases.Exchanging → IsKeyAtMost (event_asks s event)
-event_at_most s (events.ExchangeDone x) is = exchange_at_most x s.phase is
+event_at_most s (events.ExchangeDone x) is = exchange_at_most s x s.phase is
 event_at_most s (events.Payload packet) is = packet_at_most s packet is
 event_at_most s event is = tt
 

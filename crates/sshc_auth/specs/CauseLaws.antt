@@ -4,6 +4,7 @@ use Rattle.std.specs.Prelude.{min, not, ◌==◌, ◌||◌, nat_le, nat_lt, if�
 use Rattle.std.specs.Int.{w32}
 use Rattle.std.specs.List.{AllByRecursion}
 use Rattle.std.proofs.lemmas.Bool.Decides.{nat_tests}
+use Rattle.std.proofs.lemmas.Slice.Eq.{bytes_eq-Decides}
 use Rattle.sshc_wire.specs.Methods.{has_method, method_of, with_method}
 use Rattle.sshc_wire.specs.Names.{names_in}
 use Rattle.sshc_wire.specs.Reads.{boolean_at, number_at, string_at, text_at}
@@ -22,7 +23,7 @@ use Rattle.sshc_wire.specs.declared.ticket.Ticket.{Ticket}
 use Rattle.sshc_key.specs.Asking.{Answer, Asking, done, asks, Always}
 use Rattle.sshc_key.specs.KeyGrammar.{Key}
 use Rattle.sshc_key.specs.PairCode.{KeyPair}
-use Rattle.sshc_auth_event.specs.HostKey.{host_key}
+use Rattle.sshc_auth_event.specs.HostKey.{host_key, is_same_key}
 use Rattle.sshc_key.specs.declared.identity.PublicKeyOrCertificate.{PublicKeyOrCertificate}
 use Rattle.sshc_wire.specs.Faults.{Rose}
 use Rattle.sshc_wire.specs.Outgoing.{Outgoing}
@@ -32,6 +33,8 @@ use Rattle.sshc_auth_event.specs.declared.method.Method.{Method}
 use Rattle.sshc_auth_event.specs.declared.method.Method.TheVariants as methods
 use Rattle.sshc_transport.specs.declared.exchange.ExchangeFlag.{ExchangeFlag}
 use Rattle.sshc_transport.specs.declared.exchange.ExchangeFlag.TheVariants as flags
+use Rattle.sshc_transport.specs.declared.exchange.ExchangeKey.{ExchangeKey}
+use Rattle.sshc_transport.specs.declared.exchange.ExchangeKey.TheVariants as keys
 use Rattle.sshc_transport.specs.declared.exchange.ExchangeResult.{ExchangeResult}
 use Rattle.sshc_auth.specs.declared.ended.Ended.TheVariants.{RemoteDisconnect}
 use Rattle.sshc_auth.specs.declared.ended.RemoteDisconnectInfo.{RemoteDisconnectInfo}
@@ -48,18 +51,17 @@ use Rattle.sshc_auth.specs.declared.step.Step.{Step}
 use Rattle.sshc_auth.specs.declared.step.Step.TheVariants as steps
 use Rattle.sshc_auth.specs.declared.step.Told.{Told}
 use Rattle.sshc_auth.specs.declared.step.Told.TheVariants as telling
-use Rattle.sshc_auth.specs.Causes.{Part, number, boolean, string, text, prompts, extensions, end, Breaks, BreaksBehind, after, after_prompts, rest_of, AreTooMany, HasTooManyPrompts, AreUnknown, IsInvalidReason, IsLocal, IsUnexpectedIn, IsCause, IsEarly, IsNotUsers, IsOutOfTurn, WasToldNo, Disconnects, ReadsTexts, Why, why, Caused, AllCaused, behind, auth_parts, answer_parts, parts_in, is_answer}
+use Rattle.sshc_auth.specs.Causes.{Part, number, boolean, string, text, prompts, extensions, end, Breaks, BreaksBehind, after, after_prompts, rest_of, AreTooMany, HasTooManyPrompts, AreUnknown, IsInvalidReason, IsLocal, IsUnexpectedIn, IsCause, IsKeptKey, IsEarly, IsNotUsers, IsOutOfTurn, WasToldNo, Disconnects, ReadsTexts, Why, why, Caused, AllCaused, behind, auth_parts, answer_parts, parts_in, is_answer}
 use Rattle.sshc_auth.specs.OpeningState.{OpeningState, is_awaiting}
 use Rattle.sshc_auth.specs.OpeningTable.{answer_row, auth_row, gssapi_row, is_pk_ok, auth_packet_row, packet_row_in, phase_packet_row, held_packet_row, is_exchanging, numbered_row, payload_row, authenticate_row_in, plain_row, user_row, unopened_row, event_row, turn_row, open_row, asked_of, event_asks, exchange_asks, key_asked, packet_asks, number_asks, is_held_back, banner_asks, banner_at_end, FitsAsked}
 use Rattle.sshc_auth.specs.OpeningTable.Order.{sort_of, is_early, is_early_at, is_early_awaiting, is_out_of_turn, packet_in}
-use Rattle.sshc_auth.specs.OpeningTable.Exchange.{peer_kexinit_row, peer_kexinit_row_at, accepted_row, first_exchange_row, exchange_row_in, exchange_done_row}
+use Rattle.sshc_auth.specs.OpeningTable.Exchange.{peer_kexinit_row, peer_kexinit_row_at, accepted_row, first_exchange_row, exchange_row_in, exchange_done_row, has_kept_key}
 use Rattle.sshc_auth.specs.OpeningTable.Auth.{userauth_failure_row, userauth_success_row, userauth_banner_row, authenticate_again_row, known_behind, known_methods, add_known, next_without}
 use Rattle.sshc_auth.specs.OpeningTable.AuthGssapi.{gssapi_step, gssapi_response_row, gssapi_token_row, gssapi_error_row, gssapi_errtok_row, is_gssapi, user_token_row, user_mic_row, user_complete_row}
 use Rattle.sshc_auth.specs.OpeningTable.AuthKey.{pk_ok_row, is_pk_ok_body, is_at_end, key_row, sign_row, signed_by_row}
 use Rattle.sshc_auth.specs.OpeningTable.AuthPrompts.{info_request_row, info_response_row, is_too_many, prompts_at, prompts_row}
 use Rattle.sshc_auth.specs.OpeningTable.Awaiting.{awaiting_row, answer_row_in, responses_row, signature_row, signed_row, is_signed}
 use Rattle.sshc_auth.specs.OpeningTable.Packets.{disconnect_row, disconnect_reason_row, is_ignored, waits_for_exchange, is_too_much, counted_with}
-use Rattle.sshc_auth.specs.declared.extension.TheConstants.{MOST_EXT_INFOS}
 use Rattle.sshc_auth.specs.Extensions.{extensions_at}
 use Rattle.sshc_auth.specs.OpeningTable.ExtInfo.{ext_info_row, extensions_row, is_third}
 use Rattle.sshc_auth.specs.OpeningTable.Service.{service_accept_row, service_packet_row, authenticate_first_row, stored_request}
@@ -223,7 +225,7 @@ error_cause P s body breaks =
 
 -- ---- extensions
 
-pub ext_info_cause : (P : Why) (s : OpeningState) (body : List ℕ) → (Breaks (extensions ∷ end ∷ []) body → P.refusal errors.SshEncoding) → (MOST_EXT_INFOS ≤ s.ext_infos → P.refusal errors.Inconsistent) → Caused P (ext_info_row s body).next
+pub ext_info_cause : (P : Why) (s : OpeningState) (body : List ℕ) → (Breaks (extensions ∷ end ∷ []) body → P.refusal errors.SshEncoding) → (2 ≤ s.ext_infos → P.refusal errors.Inconsistent) → Caused P (ext_info_row s body).next
 unfolding ext_info_row
 ext_info_cause P s body breaks third =
     cond_cause P (is_third s) _ _
@@ -422,9 +424,23 @@ first_cause s x told telling.Went is peer first = accepted_cause (why (WasToldNo
 first_cause s x told telling.No is peer first = by_error (why (WasToldNo told) s (events.ExchangeDone x)) errors.UnknownKey (peer, (first, λ went. let never : telling.No ≡ telling.Went = sym is ∙ went in cc))
 first_cause s x told telling.NotAsked is peer first = by_error (why (WasToldNo told) s (events.ExchangeDone x)) errors.UnknownKey (peer, (first, λ went. let never : telling.NotAsked ≡ telling.Went = sym is ∙ went in cc))
 
+-- the test says which host key is the one that the session has
+same_found : (key : ExchangeKey) → key ≢ keys.Missing → is_same_key key key ≡ true
+same_found keys.Missing there = absurd (there refl)
+same_found (keys.Key blob) there = (bytes_eq-Decides blob blob).1 refl
+same_found (keys.Certificate blob) there = (bytes_eq-Decides blob blob).1 refl
+
+pub not_kept : (s : OpeningState) (x : ExchangeResult) → has_kept_key s x ≡ false → IsKeptKey s x.key → ⊥
+not_kept s x other (same, there) =
+    let kept : has_kept_key s x ≡ true = subst (λ (key : ExchangeKey). is_same_key key x.key ≡ true) same (same_found x.key there) in
+    let clash : true ≡ false = sym kept ∙ other in absurd cc
+
 exchange_cause : (s : OpeningState) (x : ExchangeResult) (told : Told) (phase : Phase) → s.flag ≡ flags.Peer → s.phase ≡ phase → Caused (why (WasToldNo told) s (events.ExchangeDone x)) (exchange_row_in phase s x told).next
 exchange_cause s x told phases.Exchanging peer is = first_cause s x told told refl peer is
-exchange_cause s x told phase peer is = tt
+exchange_cause s x told phase peer is =
+    let P : Why = why (WasToldNo told) s (events.ExchangeDone x) in
+    cond_cause P (has_kept_key s x) _ _ (λ same. tt)
+    (λ other. by_error P errors.RekeyKey ((λ first. let clash : phase ≡ phases.Exchanging = sym is ∙ first in absurd cc), (peer, not_kept s x other)))
 
 request_cause : (P : Why) (s : OpeningState) (ticket : Ticket) (user : List ℕ) (method : Method) (phase : Phase) → Caused P (authenticate_row_in phase s ticket user method).next
 unfolding authenticate_first_row authenticate_again_row

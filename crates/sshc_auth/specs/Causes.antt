@@ -18,6 +18,8 @@ use Rattle.sshc_auth_event.specs.declared.method.Method.{Method}
 use Rattle.sshc_auth_event.specs.declared.method.Method.TheVariants as methods
 use Rattle.sshc_transport.specs.declared.exchange.ExchangeFlag.{ExchangeFlag}
 use Rattle.sshc_transport.specs.declared.exchange.ExchangeFlag.TheVariants as flags
+use Rattle.sshc_transport.specs.declared.exchange.ExchangeKey.{ExchangeKey}
+use Rattle.sshc_transport.specs.declared.exchange.ExchangeKey.TheVariants.{Missing}
 use Rattle.sshc_transport.specs.declared.exchange.ExchangeResult.{ExchangeResult}
 use Rattle.sshc_key.specs.Asking.{Asking, Always}
 use Rattle.sshc_auth.specs.declared.ended.Ended.{Ended}
@@ -33,7 +35,6 @@ use Rattle.sshc_auth.specs.declared.step.Step.{Step}
 use Rattle.sshc_auth.specs.declared.step.Step.TheVariants as steps
 use Rattle.sshc_auth.specs.declared.step.Told.{Told}
 use Rattle.sshc_auth.specs.declared.step.Told.TheVariants.{Went}
-use Rattle.sshc_auth.specs.declared.extension.TheConstants.{MOST_EXT_INFOS}
 use Rattle.sshc_auth.specs.Extensions.{extensions_at}
 use Rattle.sshc_auth.specs.OpeningState.{OpeningState, is_awaiting}
 use Rattle.sshc_auth.specs.OpeningTable.AuthPrompts.{prompts_at}
@@ -75,6 +76,17 @@ abbrev pub IsUnaccepted : (ExchangeResult → Type 0) → Phase → Event → Ty
 IsUnaccepted SaysNo phase (events.ExchangeDone x) = (phase ≡ phases.Exchanging) × SaysNo x
 IsUnaccepted SaysNo phase event = ⊥
 
+-- ---- later exchanges
+
+-- the host key that the session has: a key or a certificate, of the same bytes
+abbrev pub IsKeptKey : OpeningState → ExchangeKey → Type 0
+IsKeptKey s key = (key ≡ s.host_key) × (key ≢ Missing)
+
+-- an exchange that the peer began is done, with another host key
+abbrev pub HasOtherKey : OpeningState → Event → Type 0
+HasOtherKey s (events.ExchangeDone x) = (s.flag ≡ flags.Peer) × (IsKeptKey s x.key → ⊥)
+HasOtherKey s event = ⊥
+
 -- ---- packets that may not come
 
 -- the packets that a server sends to an authenticating user; those from 60 on by the class of the request
@@ -91,7 +103,7 @@ is_service number = (number == SERVICE_ACCEPT) || (number == EXT_INFO)
 
 -- a server sends two EXT_INFO at most (RFC 8308, section 2.4)
 abbrev pub IsThird : OpeningState → ℕ → Type 0
-IsThird s number = (number ≡ EXT_INFO) × (MOST_EXT_INFOS ≤ s.ext_infos)
+IsThird s number = (number ≡ EXT_INFO) × (2 ≤ s.ext_infos)
 
 -- a number of prompts that is too large for the remaining bytes, since a prompt has at least five
 abbrev pub AreTooMany : Result (ℕ × List ℕ) WireError → Type 0
@@ -242,6 +254,7 @@ IsCause SaysNo s event errors.SignerFault = IsSigned s event
 IsCause SaysNo s event errors.OutOfTurn = IsOutOfTurn s event
 IsCause SaysNo s event errors.TransportFailed = (event ≡ events.TransportFailed) × (is_awaiting s.phase ≡ false)
 IsCause SaysNo s event errors.UnknownKey = (s.flag ≡ flags.Peer) × IsUnaccepted SaysNo s.phase event
+IsCause SaysNo s event errors.RekeyKey = (s.phase ≢ phases.Exchanging) × HasOtherKey s event
 IsCause SaysNo s event errors.Inconsistent = IsUnexpected s event
 IsCause SaysNo s event errors.Pending = IsTooMuch s event
 IsCause SaysNo s event errors.NoAuthMethod = NamesNoMethod s event

@@ -1,7 +1,7 @@
 -- Extensions of a server and what they change (RFC 8308, sections 2.3 and 3.1): names that are seen, the signature
 -- names of `server-sig-algs`, and who waits for an extension.
 -- Extensions are read whole, and then taken in order.
-use Rattle.std.specs.Prelude.{ℕ, Bool, true, false, not, List, [], ◌∷◌, ◌++◌, Option, Some, None, Result, Ok, Err, filter, map, bytes_eq, codes, if◌then◌else◌}
+use Rattle.std.specs.Prelude.{ℕ, ◌+◌, Bool, true, false, not, List, [], ◌∷◌, ◌++◌, Option, Some, None, Result, Ok, Err, filter, map, bytes_eq, codes, if◌then◌else◌}
 use Rattle.std.specs.Int.{w32}
 use Rattle.sshc_wire.specs.Counted.{counted_at}
 use Rattle.sshc_wire.specs.Names.{names_at}
@@ -11,7 +11,6 @@ use Rattle.sshc_wire.specs.declared.error.WireError.TheVariants.{Short}
 use Rattle.sshc_wire.specs.declared.record.Record.{Record}
 use Rattle.sshc_wire.specs.declared.resolution.Resolution.TheVariants.{ExtInfoSeen}
 use Rattle.sshc_auth.specs.declared.extension.Extension.{Extension}
-use Rattle.sshc_auth.specs.declared.extension.TheConstants.{LEAST_EXTENSION}
 use Rattle.sshc_auth.specs.declared.opening.Waiter.{Waiter}
 use Rattle.sshc_auth.specs.Row.{resolved}
 use Rattle.sshc_auth.specs.SignatureNames.{is_signature_name}
@@ -40,9 +39,13 @@ named_as (Err e) = Err e
 abbrev pub extension_at : Reader WireError Extension
 extension_at body = named_as (text_at body)
 
+-- An extension has two strings, and a string has at least its length, which takes four bytes (RFC 4251, section 5).
+abbrev pub least_extension : ℕ
+least_extension = 4 + 4
+
 -- their number, and that many extensions; a number that is too large for the remaining bytes is refused at once
 unfoldable pub extensions_at : Reader WireError (List Extension)
-extensions_at body = counted_at LEAST_EXTENSION Short (number_at w32) extension_at body
+extensions_at body = counted_at least_extension Short (number_at w32) extension_at body
 
 -- ---- what they change
 

@@ -142,9 +142,9 @@ first_law s event told first denied =
 
 -- ---- the first exchange, whatever the gate returns
 
--- an exchange is done that was accepted, and its hash is the session id
+-- an exchange is done that was accepted; its hash is the session id, and its host key is kept
 abbrev pub TakesFirst : Event → Told → OpeningState → Type 0
-TakesFirst event told t = (x : ExchangeResult) × (event ≡ events.ExchangeDone x) × (told ≡ telling.Went) × (t.session_id ≡ x.session_hash)
+TakesFirst event told t = (x : ExchangeResult) × (event ≡ events.ExchangeDone x) × (told ≡ telling.Went) × (t.session_id ≡ x.session_hash) × (t.host_key ≡ x.key)
 
 abbrev pub FirstOrTaken : Event → Told → Next → Type 0
 FirstOrTaken event told (stays t) = IsFirst t ⊎ TakesFirst event told t
@@ -170,8 +170,8 @@ cond_row P true x y one other = one
 cond_row P false x y one other = other
 
 accepted_first : (s : OpeningState) (x : ExchangeResult) (anonymous : Bool) → FirstRow (events.ExchangeDone x) telling.Went (accepted_row anonymous s x)
-accepted_first s x false = (((λ never. never), tt), inr (x, refl, refl, refl))
-accepted_first s x true = (((λ never. never), ((λ never. never), tt)), (x, refl, refl, refl))
+accepted_first s x false = (((λ never. never), tt), inr (x, refl, refl, refl, refl))
+accepted_first s x true = (((λ never. never), ((λ never. never), tt)), (x, refl, refl, refl, refl))
 
 exchange_went : (s : OpeningState) (x : ExchangeResult) (phase : Phase) → phase ≡ phases.Exchanging → FirstRow (events.ExchangeDone x) telling.Went (exchange_row_in phase s x telling.Went)
 exchange_went s x phases.Exchanging is = accepted_first s x s.settings.anonymous

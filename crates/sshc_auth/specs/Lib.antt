@@ -12,6 +12,7 @@ pub mod CauseLaws
 pub mod AskedLaws
 pub mod SessionWords
 pub mod GateLaw
+pub mod OneKeyLaw
 pub mod KeepLaws
 pub mod Passwords
 pub mod PasswordLaw

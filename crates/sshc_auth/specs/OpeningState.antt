@@ -3,6 +3,8 @@ use Rattle.std.specs.Prelude.{ℕ, Bool, true, false, List, [], Option, None}
 use Rattle.sshc_wire.specs.declared.ticket.Ticket.{Ticket}
 use Rattle.sshc_transport.specs.declared.exchange.ExchangeFlag.{ExchangeFlag}
 use Rattle.sshc_transport.specs.declared.exchange.ExchangeFlag.TheVariants.{Ours}
+use Rattle.sshc_transport.specs.declared.exchange.ExchangeKey.{ExchangeKey}
+use Rattle.sshc_transport.specs.declared.exchange.ExchangeKey.TheVariants.{Missing}
 use Rattle.sshc_auth_event.specs.declared.method.Method.{Method}
 use Rattle.sshc_auth_event.specs.declared.method.Method.TheVariants as methods
 use Rattle.sshc_auth.specs.declared.opening.Class.{Class}
@@ -16,8 +18,9 @@ pub record OpeningState : Type 0 where
   pub settings : Settings
   pub phase : Phase
   pub flag : ExchangeFlag
-  -- the first exchange's hash
+  -- the first exchange's hash, and its host key
   pub session_id : List ℕ
+  pub host_key : ExchangeKey
   -- SERVICE_REQUEST was written
   pub requested : Bool
   -- the user of the last request to authenticate, and its method until the server has answered it
@@ -50,6 +53,7 @@ start settings = record {
   phase = phases.Exchanging;
   flag = Ours;
   session_id = [];
+  host_key = Missing;
   requested = false;
   user = [];
   method = None;

@@ -40,7 +40,7 @@ use Rattle.sshc_auth.specs.declared.step.Told.TheVariants as tells
 use Rattle.sshc_auth.specs.OpeningState.{OpeningState, is_awaiting}
 use Rattle.sshc_auth.specs.Row.{Row, goes, passed_over, refused, with_part}
 use Rattle.sshc_auth.specs.OpeningTable.Order.{is_out_of_turn, packet_in}
-use Rattle.sshc_auth.specs.OpeningTable.Exchange.{peer_kexinit_row, exchange_done_row}
+use Rattle.sshc_auth.specs.OpeningTable.Exchange.{peer_kexinit_row, exchange_done_row, has_kept_key}
 use Rattle.sshc_auth.specs.OpeningTable.Transport.{transport_failed_row, inactivity_timer_row}
 use Rattle.sshc_auth.specs.OpeningTable.Packets.{disconnect_row, is_ignored, waits_for_exchange, is_too_much, counted_with}
 use Rattle.sshc_auth.specs.OpeningTable.ExtInfo.{ext_info_row}
@@ -184,10 +184,10 @@ abbrev pub key_asked : Option PublicKeyOrCertificate → Asks
 key_asked None = asking.Nothing
 key_asked (Some key) = asking.HostKey key
 
--- a later exchange asks for no key
-abbrev pub exchange_asks : Phase → ExchangeResult → Asks
-exchange_asks phases.Exchanging x = key_asked (host_key x.key)
-exchange_asks phase x = asking.Exchange
+-- a later exchange asks for no key, and for nothing where its host key isn't the first exchange's
+abbrev pub exchange_asks : Phase → OpeningState → ExchangeResult → Asks
+exchange_asks phases.Exchanging s x = key_asked (host_key x.key)
+exchange_asks phase s x = if has_kept_key s x then asking.Exchange else asking.Nothing
 
 -- a banner is passed to the gate if its row isn't refused
 abbrev pub banner_at_end : List ℕ → List ℕ → Asks
@@ -216,7 +216,7 @@ packet_asks s [] = asking.Nothing
 packet_asks s (number ∷ body) = number_asks s.phase s (length body + 1) number body
 
 abbrev pub event_asks : OpeningState → Event → Asks
-event_asks s (events.ExchangeDone x) = exchange_asks s.phase x
+event_asks s (events.ExchangeDone x) = exchange_asks s.phase s x
 event_asks s (events.Payload packet) = packet_asks s packet
 event_asks s event = asking.Nothing
 

@@ -50,7 +50,7 @@ use Rattle.sshc_auth.specs.Extensions.{extensions_at, waits_for, answers_seen, a
 use Rattle.sshc_auth.specs.OpeningState.{OpeningState, is_awaiting}
 use Rattle.sshc_auth.specs.OpeningTable.{answer_row, auth_row, gssapi_row, is_pk_ok, auth_packet_row, packet_row_in, phase_packet_row, held_packet_row, is_exchanging, numbered_row, payload_row, authenticate_row_in, plain_row, user_row, unopened_row, event_row, turn_row, open_row}
 use Rattle.sshc_auth.specs.OpeningTable.Order.{is_out_of_turn, packet_in, ticket_of}
-use Rattle.sshc_auth.specs.OpeningTable.Exchange.{peer_kexinit_row, peer_kexinit_row_at, accepted_row, first_exchange_row, exchange_row_in, exchange_done_row}
+use Rattle.sshc_auth.specs.OpeningTable.Exchange.{peer_kexinit_row, peer_kexinit_row_at, accepted_row, first_exchange_row, exchange_row_in, exchange_done_row, has_kept_key}
 use Rattle.sshc_auth.specs.OpeningTable.ExtInfo.{ext_info_row, extensions_row, is_third}
 use Rattle.sshc_auth.specs.OpeningTable.Auth.{answered, userauth_failure_row, userauth_success_row, userauth_banner_row, authenticate_again_row, known_methods, next_without}
 use Rattle.sshc_auth.specs.OpeningTable.AuthGssapi.{gssapi_step, gssapi_response_row, gssapi_token_row, gssapi_error_row, gssapi_errtok_row, is_gssapi, last_token, user_token_row, user_mic_row, user_complete_row}
@@ -318,7 +318,7 @@ first_quiet packet s x told is fits = (refl, tt)
 
 exchange_quiet : (packet : List ℕ) (s : OpeningState) (x : ExchangeResult) (told : Told) (phase : Phase) → s.phase ≡ phase → FitsRequest s → Quiet packet s (exchange_row_in phase s x told)
 exchange_quiet packet s x told phases.Exchanging is fits = first_quiet packet s x told is fits
-exchange_quiet packet s x told phase is fits = (refl, (omega arith, fits))
+exchange_quiet packet s x told phase is fits = by_cases (Quiet packet s) (has_kept_key s x) _ _ (refl, (omega arith, fits)) (refl, tt)
 
 -- ---- what was handed out, and what follows the session id
 

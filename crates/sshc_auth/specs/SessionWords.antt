@@ -20,11 +20,13 @@ use Rattle.sshc_auth_event.specs.declared.method.Method.{Method}
 use Rattle.sshc_auth_event.specs.declared.method.Method.TheVariants as methods
 use Rattle.sshc_auth_request.specs.RequestTexts.{signed}
 use Rattle.sshc_transport.specs.declared.exchange.ExchangeFlag.TheVariants as flags
+use Rattle.sshc_transport.specs.declared.exchange.ExchangeKey.{ExchangeKey}
 use Rattle.sshc_transport.specs.declared.exchange.ExchangeResult.{ExchangeResult}
 use Rattle.sshc_auth.specs.declared.opening.Phase.{Phase}
 use Rattle.sshc_auth.specs.declared.opening.Phase.TheVariants as phases
 use Rattle.sshc_auth.specs.declared.step.Step.{Step}
 use Rattle.sshc_auth.specs.declared.step.Step.TheVariants as steps
+use Rattle.sshc_auth.specs.Causes.{IsKeptKey}
 use Rattle.sshc_auth.specs.OpeningState.{OpeningState}
 use Rattle.sshc_auth.specs.Stepping.{Lent, GateAnswers, gained}
 
@@ -38,15 +40,16 @@ AddsOnly P was is = (more : List Record) × (is.outbox.records ≡ was.outbox.re
 abbrev pub IsNoPacket : Record → Type 0
 IsNoPacket said = IsPayload said → ⊥
 
--- what is kept of the state before the step: its phase, the session id, and the request that is stored
+-- what is kept of the state before the step: its phase, the session id, the host key, and the request that is stored
 pub record Kept : Type 0 where
   pub phase : Phase
   pub session_id : List ℕ
+  pub host_key : ExchangeKey
   pub user : List ℕ
   pub method : Option Method
 
 abbrev pub kept_of : OpeningState → Kept
-kept_of s = record { phase = s.phase; session_id = s.session_id; user = s.user; method = s.method }
+kept_of s = record { phase = s.phase; session_id = s.session_id; host_key = s.host_key; user = s.user; method = s.method }
 
 -- ---- the first exchange
 
@@ -62,7 +65,8 @@ GoesOnFirst s steps.Went = IsFirst s
 GoesOnFirst s steps.Opened = ⊥
 GoesOnFirst s result = s.phase ≡ phases.Exchanging
 
--- an exchange is done whose host key is there and which the gate accepts, and its hash is the session id from now on
+-- an exchange is done whose host key is there and which the gate accepts; its hash is the session id and its host key
+-- the session's from now on
 pub record AcceptsFirst {E : Type 0} (gate : GateAnswers E) (event : Event) (s : OpeningState) : Type 0 where
   pub exchange : ExchangeResult
   pub came : event ≡ events.ExchangeDone exchange
@@ -70,6 +74,7 @@ pub record AcceptsFirst {E : Type 0} (gate : GateAnswers E) (event : Event) (s :
   pub is_there : host_key exchange.key ≡ Some key
   pub accepted : gate.judges key (Ok true)
   pub session_id : s.session_id ≡ exchange.session_hash
+  pub kept : s.host_key ≡ exchange.key
 
 -- while the first exchange runs no packet is written, and the session gets past it only with a host key that the gate
 -- accepts
@@ -77,9 +82,25 @@ pub record KeepsFirst {E : Type 0} (gate : GateAnswers E) (event : Event) (was i
   pub unwritten : AddsOnly IsNoPacket was is
   pub behind : GoesOnFirst is.opening result ⊎ AcceptsFirst gate event is.opening
 
--- after the first exchange the session id stays, and no first exchange comes again
+-- after the first exchange the session id and the host key stay, and no first exchange comes again
 abbrev pub KeepsSession : Kept → OpeningState → Type 0
-KeepsSession s t = s.phase ≢ phases.Exchanging → (t.session_id ≡ s.session_id) × (t.phase ≢ phases.Exchanging)
+KeepsSession s t =
+    s.phase ≢ phases.Exchanging → (◌≡◌ {A = List ℕ × ExchangeKey} (t.session_id, t.host_key) (s.session_id, s.host_key)) × (t.phase ≢ phases.Exchanging)
+
+-- the session continues
+abbrev pub Continues : {E : Type 0} → Step E → Type 0
+Continues steps.Went = Unit {0}
+Continues steps.Opened = Unit {0}
+Continues result = ⊥
+
+-- an event that is an exchange has the session's host key
+abbrev pub HasKeptKey : OpeningState → Event → Type 0
+HasKeptKey s (events.ExchangeDone x) = IsKeptKey s x.key
+HasKeptKey s event = Unit {0}
+
+-- after the first exchange the session continues behind another exchange only with the same host key
+abbrev pub KeepsKey : {E : Type 0} → Event → OpeningState → Step E → Type 0
+KeepsKey event s result = s.phase ≢ phases.Exchanging → Continues result → HasKeptKey s event
 
 -- ---- what is signed
 
@@ -130,8 +151,10 @@ KeepsRequest s event t = ((t.user ≡ s.user) × ((t.method ≡ s.method) ⊎ (t
 pub record KeepsTo {E : Type 0} (gate : GateAnswers E) (event : Event) (was is : Lent) (result : Step E) : Type 0 where
   -- no packet before the host key of the first exchange is accepted
   pub first : IsFirst was.opening → KeepsFirst gate event was is result
-  -- the session id is the first exchange's hash
+  -- the session id is the first exchange's hash, and the host key is its key
   pub session : KeepsSession (kept_of was.opening) is.opening
+  -- a later exchange has the same host key
+  pub key : KeepsKey event was.opening result
   -- the signer is asked once at most, for the signed text of the stored request
   pub asked : AsksOnce (kept_of was.opening) is.opening (gained was is)
   -- what an outside signer is handed is the signed text of the stored request

@@ -52,6 +52,9 @@ pub enum Error {
     /// Nothing came for too long.
     #[error("InactivityTimeout")]
     InactivityTimeout,
+    /// A later exchange has another host key than the first.
+    #[error("RekeyKey")]
+    RekeyKey,
     /// A proof of a host key doesn't verify.
     #[error("WrongServerSig")]
     WrongServerSig,

@@ -4,6 +4,7 @@ ghost use Rattle.std.specs.Prelude.{◌≡◌, option_copied};
 ghost use Rattle.sshc_wire.specs.Outgoing.{listed};
 ghost use Rattle.sshc_auth.specs.OpeningState.{start, shut, is_awaiting};
 ghost use Rattle.sshc_auth.specs.OpeningTable.{asked_of, FitsAsked};
+ghost use Rattle.sshc_auth.specs.OpeningTable.Exchange.{has_kept_key};
 ghost use Rattle.sshc_auth.specs.OpeningTable.User.{is_seen};
 ghost use Rattle.sshc_auth.specs.Promises.{Applied};
 ghost use Rattle.sshc_auth.specs.Row.{resolved};
@@ -11,9 +12,9 @@ ghost use Rattle.sshc_auth.specs.Stepping.{lent};
 
 use crate::error::Error;
 use crate::step::{Flow, Step, Told};
-use sshc_auth_event::{Event, SharedMethod};
+use sshc_auth_event::{Event, SharedMethod, is_same_key};
 use sshc_key::LocalSigner;
-use sshc_transport::{ExchangeFlag, PendingCount};
+use sshc_transport::{ExchangeFlag, ExchangeKey, ExchangeResult, PendingCount};
 use sshc_wire::{List, Octets, Outbox, Record, Resolution, Text, Ticket};
 use std::alloc::Global;
 use std::marker::Model;
@@ -87,6 +88,7 @@ pub struct Opening {
     phase: Phase,
     flag: ExchangeFlag,
     session_id: Octets,
+    host_key: ExchangeKey,
     requested: bool,
     user: Text,
     method: Option<SharedMethod>,
@@ -114,6 +116,7 @@ impl Model for Opening {
       phase = o.phase;
       flag = o.flag;
       session_id = o.session_id;
+      host_key = o.host_key;
       requested = o.requested;
       user = o.user;
       method = o.method;
@@ -145,6 +148,7 @@ impl Opening {
             phase: Phase::Exchanging,
             flag: ExchangeFlag::Ours,
             session_id: Octets::new(alloc),
+            host_key: ExchangeKey::Missing,
             requested: false,
             user: Text::new(alloc),
             method: None,
@@ -191,6 +195,20 @@ impl Opening {
         ensures { result.now ≡ self.now.session_id }
     {
         self.session_id.as_slice()
+    }
+
+    /// The first exchange's host key; missing before it.
+    pub fn host_key(&self) -> &ExchangeKey
+        ensures { result.now ≡ self.now.host_key }
+    {
+        &self.host_key
+    }
+
+    /// Whether a later exchange has the first exchange's host key.
+    pub fn has_kept_key(&self, exchange: &ExchangeResult) -> bool
+        ensures { result ≡ has_kept_key self.now exchange.now }
+    {
+        is_same_key(&self.host_key, &exchange.key)
     }
 
     /// The signature names of the server's last list, if it has sent one (RFC 8308, section 3.1).

@@ -1,6 +1,6 @@
 -- The host key of an exchange: the whole blob is one key of its sort (RFC 4253, section 8), else it counts as missing.
--- A case split on the blob's key; the code parses the blob.
-use Rattle.std.specs.Prelude.{ℕ, Bool, true, false, List, [], Option, Some, None, if◌then◌else◌}
+-- A case split on the blob's key; the code parses the blob. A session keeps the host key of its first exchange.
+use Rattle.std.specs.Prelude.{◌≡◌, ◌↔◌, ℕ, Bool, true, false, List, [], Option, Some, None, if◌then◌else◌, bytes_eq}
 use Rattle.sshc_key.specs.KeyGrammar.{Key, plain, certificate}
 use Rattle.sshc_key.specs.declared.identity.PublicKeyOrCertificate.{PublicKeyOrCertificate}
 use Rattle.sshc_key.specs.declared.identity.PublicKeyOrCertificate.TheVariants as identities
@@ -34,3 +34,15 @@ abbrev pub host_key : ExchangeKey → Option PublicKeyOrCertificate
 host_key keys.Missing = None
 host_key (keys.Key blob) = plain_identity (bare (whole_blob_key blob))
 host_key (keys.Certificate blob) = certificate_identity (bare (whole_blob_key blob))
+
+-- the host key of an exchange is the one that was kept: both are keys, or both are certificates, of the same bytes; a
+-- missing key is none
+abbrev pub is_same_key : ExchangeKey → ExchangeKey → Bool
+is_same_key (keys.Key kept) (keys.Key blob) = bytes_eq kept blob
+is_same_key (keys.Certificate kept) (keys.Certificate blob) = bytes_eq kept blob
+is_same_key kept key = false
+
+-- whether the bytes are the same says whether the keys are: of a kept key that can be read, only the same key is said to
+-- be the same
+abbrev pub TellsKeysApart : Bool → ExchangeKey → ExchangeKey → Type 0
+TellsKeysApart same kept key = (identity : PublicKeyOrCertificate) → host_key kept ≡ Some identity → (same ≡ true) ↔ (host_key key ≡ Some identity)

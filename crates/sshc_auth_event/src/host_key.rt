@@ -1,13 +1,14 @@
 //! The host key of an exchange.
 
-ghost use Rattle.std.specs.Prelude.{◌≡◌, IfOk, Some};
+ghost use Rattle.std.specs.Prelude.{◌≡◌, IfOk, Some, bytes_eq};
+ghost use Rattle.sshc_wire.specs.Wire.{IsBytes};
 ghost use Rattle.sshc_key.specs.Nesting.{whole_blob_key};
-ghost use Rattle.sshc_auth_event.specs.HostKey.{host_key, bare, is_plain, plain_identity, certificate_identity, certificate_case};
+ghost use Rattle.sshc_auth_event.specs.HostKey.{host_key, bare, is_plain, is_same_key, plain_identity, certificate_identity, certificate_case, TellsKeysApart};
 ghost use Rattle.sshc_key.specs.View.{view};
 
 use sshc_key::{Error, KeyData, PublicKey, PublicKeyOrCertificate, parse_whole_public_key};
 use sshc_transport::ExchangeKey;
-use sshc_wire::NoMemory;
+use sshc_wire::{NoMemory, Octets};
 use std::alloc::Global;
 
 /// The key that the whole blob encodes, if it is a key.
@@ -97,5 +98,49 @@ pub fn host_key_of(
             Some(key) => Ok(certificate_identity_of(key)),
             None => Ok(None),
         },
+    }
+}
+
+/// Whether two blobs have the same bytes.
+fn is_same_blob(kept: &Octets, blob: &Octets) -> bool
+    ensures same { result ≡ bytes_eq kept.now blob.now }
+    ensures kept { IsBytes kept.now }
+    ensures other { IsBytes blob.now }
+{
+    let bytes = kept.as_slice();
+    let others = blob.as_slice();
+    bytes == others
+}
+
+/// Whether the host key of an exchange is the one that was kept: both are keys, or both are certificates, of the same
+/// bytes. A missing key is never the one that was kept.
+#[tactic(auto, using(crate::proofs::SameKeyLemmas::plain_apart, crate::proofs::SameKeyLemmas::certificates_apart, crate::proofs::SameKeyLemmas::missing_kept, crate::proofs::SameKeyLemmas::missing_key, crate::proofs::SameKeyLemmas::plain_other, crate::proofs::SameKeyLemmas::certificate_other))]
+pub fn is_same_key(kept: &ExchangeKey, key: &ExchangeKey) -> bool
+    ensures same { result ≡ is_same_key kept.now key.now }
+    ensures keys { TellsKeysApart result kept.now key.now }
+{
+    match kept {
+        ExchangeKey::Missing => false,
+        ExchangeKey::Key(bytes) => match key {
+            ExchangeKey::Key(blob) => is_same_blob(bytes, blob),
+            ExchangeKey::Missing => false,
+            ExchangeKey::Certificate(_) => false,
+        },
+        ExchangeKey::Certificate(bytes) => match key {
+            ExchangeKey::Certificate(blob) => is_same_blob(bytes, blob),
+            ExchangeKey::Missing => false,
+            ExchangeKey::Key(_) => false,
+        },
+    }
+}
+
+/// A copy of the host key of an exchange.
+pub fn copied_host_key(key: &ExchangeKey) -> Result<ExchangeKey, NoMemory>
+    ensures { IfOk result (λ k. k ≡ key.now) }
+{
+    match key {
+        ExchangeKey::Missing => Ok(ExchangeKey::Missing),
+        ExchangeKey::Key(blob) => Ok(ExchangeKey::Key(blob.copy()?)),
+        ExchangeKey::Certificate(blob) => Ok(ExchangeKey::Certificate(blob.copy()?)),
     }
 }

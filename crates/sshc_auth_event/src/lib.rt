@@ -9,6 +9,6 @@ mod shared_method;
 
 pub use channel_msg::ChannelMsg;
 pub use event::Event;
-pub use host_key::host_key_of;
+pub use host_key::{copied_host_key, host_key_of, is_same_key};
 pub use method::Method;
 pub use shared_method::SharedMethod;

@@ -1,6 +1,6 @@
 //! Requests to authenticate (RFC 4252, section 5).
 
-ghost use Rattle.std.specs.Prelude.{◌≡◌, ◌<◌, ◌^◌, [], ◌∷◌, ◌++◌, length, codes, IfOk, OnOk};
+ghost use Rattle.std.specs.Prelude.{◌≡◌, ◌<◌, ◌^◌, [], ◌∷◌, ◌++◌, length, codes, IfOk, OnErr, OnOk};
 ghost use Rattle.sshc_wire.specs.Wire.{string_text};
 ghost use Rattle.sshc_key.specs.KeyGrammar.{key_text};
 ghost use Rattle.sshc_key.specs.LentNames.{spelled};
@@ -163,9 +163,9 @@ fn put_gssapi_request(
     put_gssapi(out, mechanism_oids)
 }
 
-/// Writes the request by which a user asks for a method (RFC 4252, section 5).
+/// Writes the request by which a user asks for a method. After an error it may be written in part.
 #[tactic(auto, unfolding(crate::specs::RequestTexts::request))]
-pub fn write_auth_request(out: &mut Vec<u8>, user: &str, m: &Method) -> Result<(), NoMemory>
+fn put_request(out: &mut Vec<u8>, user: &str, m: &Method) -> Result<(), NoMemory>
     requires { length user.now < 2 ^ 32 }
     ensures { OnOk result (out.new.items ≡ out.old.items ++ request user.now m.now) }
 {
@@ -190,11 +190,23 @@ pub fn write_auth_request(out: &mut Vec<u8>, user: &str, m: &Method) -> Result<(
     }
 }
 
+/// Writes the request by which a user asks for a method (RFC 4252, section 5), or nothing.
+pub fn write_auth_request(out: &mut Vec<u8>, user: &str, m: &Method) -> Result<(), NoMemory>
+    requires { length user.now < 2 ^ 32 }
+    ensures written { OnOk result (out.new.items ≡ out.old.items ++ request user.now m.now) }
+    ensures refused { OnErr result (out.new.items ≡ out.old.items) }
+{
+    let mut packet = Vec::new(*out.allocator());
+    put_request(&mut packet, user, m)?;
+    out.extend_from_slice(&packet)?;
+    Ok(())
+}
+
 /// The packet of a user's request.
 pub fn request_packet(alloc: Global, user: &Text, method: &Method) -> Result<Octets, NoMemory>
     ensures { IfOk result (λ packet. packet ≡ request user.now method.now) }
 {
     let mut packet = Vec::new(alloc);
-    write_auth_request(&mut packet, user.as_str(), method)?;
+    put_request(&mut packet, user.as_str(), method)?;
     Octets::from_vec(packet)
 }

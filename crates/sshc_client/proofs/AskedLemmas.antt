@@ -37,22 +37,23 @@ use Rattle.sshc_client.proofs.HandlerLemmas.{keeps_on, same_handler, rose_later,
 
 pub not_asked : {E : Type 0} (defaults : Type 0) (judges : PublicKeyOrCertificate → Result Bool E → Type 0) (h : HandlerAt) (s : SessionState) →
     AsksHandler {E = E} defaults judges asking.Nothing h h s s (Ok false)
-not_asked defaults judges h s = record { said = (refl, λ plain. refl); grown = grown_same s; keeps = same_handler h }
+not_asked defaults judges h s = record { said = (refl, λ plain. refl); grown = grown_same s; unlent = λ none. refl; keeps = same_handler h }
 
 -- called for an exchange, or for a banner
 pub told_exchange : {E : Type 0} (defaults : Type 0) (judges : PublicKeyOrCertificate → Result Bool E → Type 0) (was is : HandlerAt) (old new : SessionState) (u : Unit {0}) →
     Handles {E = E} defaults (Ok tt) was is old new (Ok u) → AsksHandler {E = E} defaults judges asking.Exchange was is old new (Ok false)
-told_exchange defaults judges was is old new u h = record { said = (refl, λ plain. (h.default_body plain).1); grown = h.grown; keeps = h.keeps }
+told_exchange defaults judges was is old new u h = record { said = (refl, λ plain. (h.default_body plain).1); grown = h.grown; unlent = λ none. absurd (none tt); keeps = h.keeps }
 
 pub told_banner : {E : Type 0} (defaults : Type 0) (judges : PublicKeyOrCertificate → Result Bool E → Type 0) (was is : HandlerAt) (old new : SessionState) (u : Unit {0}) (text : List ℕ) →
     Handles {E = E} defaults (Ok tt) was is old new (Ok u) → AsksHandler {E = E} defaults judges (asking.Banner text) was is old new (Ok false)
-told_banner defaults judges was is old new u text h = record { said = (refl, λ plain. (h.default_body plain).1); grown = h.grown; keeps = h.keeps }
+told_banner defaults judges was is old new u text h = record { said = (refl, λ plain. (h.default_body plain).1); grown = h.grown; unlent = λ none. absurd (none tt); keeps = h.keeps }
 
 pub refused_exchange : {E : Type 0} (defaults : Type 0) (judges : PublicKeyOrCertificate → Result Bool E → Type 0) (was is : HandlerAt) (old new : SessionState) (e : E) →
     Handles {T = Unit {0}} defaults (Ok tt) was is old new (Err e) → AsksHandler defaults judges asking.Exchange was is old new (Err e)
 refused_exchange defaults judges was is old new e h = record {
   said = (inr (tt, λ plain. no_default tt e (h.default_body plain).0), h.cause);
   grown = h.grown;
+  unlent = λ none. absurd (none tt);
   keeps = h.keeps;
 }
 
@@ -61,23 +62,25 @@ pub refused_banner : {E : Type 0} (defaults : Type 0) (judges : PublicKeyOrCerti
 refused_banner defaults judges was is old new e text h = record {
   said = (inr (tt, λ plain. no_default tt e (h.default_body plain).0), h.cause);
   grown = h.grown;
+  unlent = λ none. absurd (none tt);
   keeps = h.keeps;
 }
 
 -- the host key was judged
 pub key_said_no : {E : Type 0} (defaults : Type 0) (judges : PublicKeyOrCertificate → Result Bool E → Type 0) (key : PublicKeyOrCertificate) (was is : HandlerAt) (s : SessionState) →
     judges key (Ok false) → HandlerKeeps was is → AsksHandler {E = E} defaults judges (asking.HostKey key) was is s s (Ok false)
-key_said_no defaults judges key was is s says keeps = record { said = (says, λ plain. refl); grown = grown_same s; keeps = keeps }
+key_said_no defaults judges key was is s says keeps = record { said = (says, λ plain. refl); grown = grown_same s; unlent = λ none. refl; keeps = keeps }
 
 pub key_refused : {E : Type 0} (defaults : Type 0) (judges : PublicKeyOrCertificate → Result Bool E → Type 0) (key : PublicKeyOrCertificate) (was is : HandlerAt) (s : SessionState) (e : E) →
     judges key (Err e) → Rose was.refusals is.refusals → HandlerKeeps was is → AsksHandler defaults judges (asking.HostKey key) was is s s (Err e)
-key_refused defaults judges key was is s e says rose keeps = record { said = (inl (says, refl), rose); grown = grown_same s; keeps = keeps }
+key_refused defaults judges key was is s e says rose keeps = record { said = (inl (says, refl), rose); grown = grown_same s; unlent = λ none. refl; keeps = keeps }
 
 pub key_told : {E : Type 0} (defaults : Type 0) (judges : PublicKeyOrCertificate → Result Bool E → Type 0) (key : PublicKeyOrCertificate) (was mid is : HandlerAt) (old new : SessionState) (u : Unit {0}) →
     judges key (Ok true) → HandlerKeeps was mid → Handles {E = E} defaults (Ok tt) mid is old new (Ok u) → AsksHandler {E = E} defaults judges (asking.HostKey key) was is old new (Ok true)
 key_told defaults judges key was mid is old new u says keeps h = record {
   said = (says, λ plain. (h.default_body plain).1);
   grown = h.grown;
+  unlent = λ none. absurd (none tt);
   keeps = keeps_on was mid is keeps h.keeps;
 }
 
@@ -86,6 +89,7 @@ pub key_told_refused : {E : Type 0} (defaults : Type 0) (judges : PublicKeyOrCer
 key_told_refused defaults judges key was mid is old new e keeps h = record {
   said = (inr (tt, λ plain. no_default tt e (h.default_body plain).0), rose_later was.refusals mid.refusals is.refusals keeps.later h.cause);
   grown = h.grown;
+  unlent = λ none. absurd (none tt);
   keeps = keeps_on was mid is keeps h.keeps;
 }
 
@@ -173,6 +177,7 @@ accepted_first {E = E} told_as judges accepts event s t (asking.HostKey key) ask
       is_there = a.is_there;
       accepted = subst (λ (k : PublicKeyOrCertificate). judges k (Ok true)) same_key (subst (judges key) (sym a.accepted) said);
       session_id = a.session_id;
+      kept = a.kept;
     }
 accepted_first {E = E} told_as judges accepts event s t asking.Nothing asked said a = absurd (denied {E = E} a.key accepts said a.accepted)
 accepted_first {E = E} told_as judges accepts event s t asking.Exchange asked said a = absurd (denied {E = E} a.key accepts said a.accepted)
@@ -200,6 +205,7 @@ stepped_with told_as judges accepts event was is r r2 setting setting2 result sa
   laws = record {
     first = λ first. kept_first told_as judges accepts event was is result said (step.laws.first first);
     session = step.laws.session;
+    key = step.laws.key;
     asked = step.laws.asked;
     handed = step.laws.handed;
     request = step.laws.request;

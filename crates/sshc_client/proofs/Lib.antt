@@ -1,6 +1,7 @@
 mod AskedLemmas
 mod BeforeLemmas
 mod HandlerLemmas
+mod LawLemmas
 mod MethodLemmas
 mod RowLemmas
 mod StepLemmas

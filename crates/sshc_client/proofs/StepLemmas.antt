@@ -44,6 +44,7 @@ use Rattle.sshc_client.specs.HandledRow.{Cut, CutBehind, FollowsRow, FollowsWith
 use Rattle.sshc_client.specs.HandledStep.{Before, EndsBy, EndsRow, RefusedBefore, SessionSteps, StepsBehind, StepsOpen, WhyRefused, handler_of, has_left, shut_session}
 use Rattle.sshc_client.specs.Stepping.{SessionStepped, StepsRow}
 use Rattle.sshc_client.proofs.HandlerLemmas.{done_onto, same_handler}
+use Rattle.sshc_client.proofs.LawLemmas.{open_keeps}
 
 -- ---- in an open session
 
@@ -90,7 +91,7 @@ cut_so defaults row old new plain (inr c) =
 row_life : (accepts : Accepts) (o : Opinions) (s : SessionState) (event : Event) → is_open s.opening.phase ≡ true → (done (all_moves (session_row accepts o s event)) s).life ≡ s.life
 row_life accepts o s event is =
     let holds = session_holds accepts o s event is in
-    (moves_keep (all_moves (session_row accepts o s event)) s (all_keep (open_why s event) (session_row accepts o s event) Accept holds)).life
+    (moves_keep (all_moves (session_row accepts o s event)) s (all_keep s event (session_row accepts o s event) Accept holds)).life
 
 live_open : (a : Bool) (life : Life) → a && runs life ≡ true → a ≡ true
 live_open true life live = refl
@@ -225,6 +226,7 @@ shut_stepped gate event s out calls calls2 x r r2 setting setting2 e fresh same 
   laws = record {
     first = λ first. record { unwritten = ([], sym (append-nil out.records), tt); behind = inl first.exchanging };
     session = λ later. (refl, later);
+    key = λ later never. absurd never;
     asked = rw (none_since calls calls2 same) tt;
     handed = ([], sym (append-nil out.records), tt);
     request = inl (refl, inl refl);
@@ -316,6 +318,7 @@ over_steps defaults gate accepts event s calls x r setting over = record {
   opening = λ later. absurd (no_run _ s.life (ap runs over) later);
   row = λ live. absurd (no_run _ s.life (ap runs over) live);
   caused = λ live. absurd (no_run _ s.life (ap runs over) live);
+  laws = λ live. absurd (no_run _ s.life (ap runs over) live);
   keeps = same_handler (handler_at r setting);
 }
 
@@ -328,6 +331,7 @@ left_steps defaults gate accepts event s t calls x r setting left stopped = reco
   opening = λ later. absurd (no_run _ s.life (ap runs left) later);
   row = λ live. absurd (no_run _ s.life (ap runs left) live);
   caused = λ live. absurd (no_run _ s.life (ap runs left) live);
+  laws = λ live. absurd (no_run _ s.life (ap runs left) live);
   keeps = same_handler (handler_at r setting);
 }
 
@@ -341,6 +345,7 @@ live_steps defaults gate accepts event s t calls x r r2 setting setting2 result 
   opening = λ later. absurd (open_early _ (runs s.life) live later);
   row = λ is_so. (steps_so, refl);
   caused = λ is_so. open_caused defaults gate.told_as accepts event (handler_at r setting) (handler_at r2 setting2) s t result live steps_so;
+  laws = λ is_so. open_keeps defaults gate.told_as accepts event (handler_at r setting) (handler_at r2 setting2) s t result live steps_so;
   keeps = steps_so.follows.keeps;
 }
 
@@ -354,6 +359,7 @@ before_steps defaults gate accepts event s t calls calls2 x x2 r r2 setting sett
   opening = λ later. b.steps_on;
   row = λ live. absurd (not_both (is_live s) dead live);
   caused = λ live. absurd (not_both (is_live s) dead live);
+  laws = λ live. absurd (not_both (is_live s) dead live);
   keeps = b.keeps;
 }
 

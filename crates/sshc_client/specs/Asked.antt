@@ -44,6 +44,8 @@ Said defaults judges asks was is old new (Err e) = Refuses defaults judges asks 
 pub record AsksHandler {E : Type 0} (defaults : Type 0) (judges : PublicKeyOrCertificate → Result Bool E → Type 0) (asks : Asks) (was is : HandlerAt) (old new : SessionState) (result : Result Bool E) : Type 0 where
   pub said : Said defaults judges asks was is old new result
   pub grown : Grown old new
+  -- where the row makes no call, nobody is lent the session
+  pub unlent : (IsCall asks → ⊥) → new ≡ old
   pub keeps : HandlerKeeps was is
 
 -- the opening's step, and the end of a session that the user left meanwhile

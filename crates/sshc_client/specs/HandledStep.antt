@@ -23,6 +23,7 @@ use Rattle.sshc_client_table.specs.SessionState.{SessionState, is_live, opens_la
 use Rattle.sshc_client_table.specs.Moves.{Stops, after}
 use Rattle.sshc_client_table.specs.SessionTable.{session_row}
 use Rattle.sshc_client_table.specs.Grown.{Grown}
+use Rattle.sshc_client_table.specs.StepLaws.{OpenStepLaws}
 use Rattle.sshc_client_state.specs.OpeningStep.{Lent, StepsLent, goes_on}
 use Rattle.sshc_client_rows.specs.declared.flow.Flow.{Flow}
 use Rattle.sshc_client_rows.specs.declared.flow.Flow.TheVariants as flows
@@ -62,6 +63,11 @@ pub record StepsOpen {E : Type 0} (defaults : Type 0) (told_as : Error → E) (a
   pub follows : FollowsWith defaults was is (λ o. session_row accepts o old event) old last answer
   pub ends : EndsRow told_as last new answer result
 
+-- an open session goes on
+abbrev pub goes_on_open : {E : Type 0} → Step E → Bool
+goes_on_open steps.Went = true
+goes_on_open result = false
+
 -- ---- before the session is open
 
 -- What the handler does to the session is already in the session, so the opening gets no more records.
@@ -72,11 +78,17 @@ AddsNothing answer more = (answer ≡ Ok tt) × (more ≡ [])
 abbrev pub handler_gate : {E : Type 0} → (Error → E) → (PublicKeyOrCertificate → Result Bool E → Type 0) → GateAnswers E
 handler_gate told_as judges = gate_answers told_as judges (λ secret names. AddsNothing) (λ banner. AddsNothing)
 
--- the session is grown by the handler, and the opening's step continued from there
+-- the handler is called
+abbrev pub IsCall : Asks → Type 0
+IsCall asking.Nothing = ⊥
+IsCall asks = Unit {0}
+
+-- the session is grown by the handler, if the row calls it, and the opening's step continued from there
 pub record StepsBehind {E : Type 0} (defaults : Type 0) (gate : GateAnswers E) (event : Event) (was is : Lent) (result : Step E) : Type 0 where
   pub mid : SessionState
   pub grown : Grown (was.session) mid
   pub same : defaults → mid ≡ was.session
+  pub unlent : (IsCall (asked_of was.session.opening event) → ⊥) → mid ≡ was.session
   pub last : SessionState
   pub step : Step E
   pub stepped : StepsLent gate event (record was { session = mid }) (record is { session = last }) step
@@ -85,11 +97,6 @@ pub record StepsBehind {E : Type 0} (defaults : Type 0) (gate : GateAnswers E) (
 -- the session after a refusal before it is open
 abbrev pub shut_session : SessionState → SessionState
 shut_session s = record s { opening = shut s.opening; life = Over }
-
--- the handler is called
-abbrev pub IsCall : Asks → Type 0
-IsCall asking.Nothing = ⊥
-IsCall asks = Unit {0}
 
 -- why: memory ran out; the handler refused the host key that it was asked about; or it refused otherwise, from a call
 -- that the row asks, by a body of its own
@@ -134,5 +141,7 @@ pub record SessionSteps {E : Type 0} (defaults : Type 0) (gate : GateAnswers E) 
   -- in an open session, why it refuses or ends: by its state and the event alone, or by the handler
   pub caused : is_live (was.session) ≡ true →
       IsCausedOpen defaults gate.told_as (handler_of was) (handler_of is) (was.session) event result
+  -- in an open session, the laws of a step: of replies, opens, key exchanges and authentication
+  pub laws : is_live (was.session) ≡ true → OpenStepLaws accepts event was.session is.session (goes_on_open result)
   -- the handler's count of refusals never falls, and what it judges by doesn't change
   pub keeps : HandlerKeeps (handler_of was) (handler_of is)

@@ -1,4 +1,4 @@
 mod KeyLists
 mod PacketGrammar
-mod ProofLemmas
+pub mod ProofLemmas
 mod StandardFacts

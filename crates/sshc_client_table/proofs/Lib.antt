@@ -6,3 +6,10 @@ mod OpensLemmas
 mod StandardFacts
 mod StayLemmas
 mod KeptLemmas
+mod SaidLemmas
+mod StepMoves
+mod ReplyAnswers
+mod AnswerRows
+mod StepAdds
+mod OpenAnswers
+pub mod StepLawLemmas

@@ -11,8 +11,9 @@ use Rattle.sshc_wire.specs.declared.resolution.Resolution.TheVariants.{ChannelOp
 use Rattle.sshc_wire.specs.declared.ticket.Ticket.{Ticket}
 use Rattle.sshc_key.specs.KeyGrammar.{Key}
 use Rattle.sshc_transport.specs.declared.exchange.ExchangeFlag.TheVariants.{Idle, Ours, Peer}
+use Rattle.sshc_transport.specs.declared.exchange.ExchangeResult.{ExchangeResult}
 use Rattle.sshc_auth_event.specs.declared.event.Event.TheVariants as events
-use Rattle.sshc_auth.specs.declared.error.Error.TheVariants.{Inconsistent, KeepaliveTimeout, OutOfTurn, SshEncoding}
+use Rattle.sshc_auth.specs.declared.error.Error.TheVariants.{Inconsistent, KeepaliveTimeout, OutOfTurn, RekeyKey, SshEncoding}
 use Rattle.sshc_auth.specs.declared.opening.Phase.TheVariants.{Open}
 use Rattle.sshc_auth.specs.OpeningState.{start}
 use Rattle.sshc_mux.specs.ChannelAccount.{no_channels}
@@ -28,7 +29,7 @@ use Rattle.sshc_client_table.specs.SessionState.{SessionState}
 use Rattle.sshc_client_table.specs.Moves.{Asks, Begins, Confirms, Misses, Opens, PeerBegins, PeerCloses, Rejects, Replied, RequestsOn, Reserves, after, done}
 use Rattle.sshc_client_table.specs.SessionRow.{Opinions, behind_moves, passed_over, plain_row, refused}
 use Rattle.sshc_client_table.specs.SessionTable.{held_row, session_row}
-use Rattle.sshc_client_table.specs.SessionTable.Exchanges.{peer_kexinit_row}
+use Rattle.sshc_client_table.specs.SessionTable.Exchanges.{exchange_done_row, peer_kexinit_row}
 use Rattle.sshc_client_table.specs.SessionTable.Opens.{numbered_open_row}
 use Rattle.sshc_client_table.specs.SessionTable.Replies.{failure_for, success_for}
 use Rattle.sshc_client_table.specs.SessionTable.Timers.{missed_row}
@@ -90,6 +91,10 @@ second_kexinit = refl
 
 held : (s : SessionState) → held_row Peer s 1 passed_over ≡ refused Inconsistent
 held s = refl
+
+-- a later exchange with another host key than the first's is refused, whatever its secret and its names
+other_key : (x : ExchangeResult) → exchange_done_row Peer false x ≡ refused RekeyKey
+other_key x = refl
 
 -- the transport's request for a new exchange acts as the user's
 rekeyed : (accepts : Accepts) (o : Opinions) (s : SessionState) → session_row accepts o s events.RekeyLimit ≡ plain_row (Begins ∷ [])

@@ -18,6 +18,9 @@ pub mod SessionRecords
 pub mod OpeningStays
 pub mod KeptByMoves
 pub mod NoRequests
+pub mod RowMoves
 pub mod OpenCauses
 pub mod OpenCauseLaws
+pub mod OneKeyLaw
 pub mod RowLaws
+pub mod StepLaws

@@ -176,25 +176,27 @@ said_none moves s =
 
 -- ---- what is stored of the last request
 
--- its user, its method, the bytes that were handed out to be signed, the phase and the session id are as they were
+-- its user, its method, the bytes that were handed out to be signed, the phase, the session id and the host key are as
+-- they were
 pub record IsSameRequest (old new : OpeningState) : Type 0 where
   pub phase : new.phase ≡ old.phase
   pub session_id : new.session_id ≡ old.session_id
+  pub host_key : new.host_key ≡ old.host_key
   pub user : new.user ≡ old.user
   pub method : new.method ≡ old.method
   pub handed : new.handed ≡ old.handed
 
 unchanged : (o : OpeningState) → IsSameRequest o o
-unchanged o = record { phase = refl; session_id = refl; user = refl; method = refl; handed = refl }
+unchanged o = record { phase = refl; session_id = refl; host_key = refl; user = refl; method = refl; handed = refl }
 
 begins_request : (flag : ExchangeFlag) (o : OpeningState) → IsSameRequest o (peer_begins flag o)
-begins_request Idle o = record { phase = refl; session_id = refl; user = refl; method = refl; handed = refl }
-begins_request Ours o = record { phase = refl; session_id = refl; user = refl; method = refl; handed = refl }
-begins_request Peer o = record { phase = refl; session_id = refl; user = refl; method = refl; handed = refl }
+begins_request Idle o = record { phase = refl; session_id = refl; host_key = refl; user = refl; method = refl; handed = refl }
+begins_request Ours o = record { phase = refl; session_id = refl; host_key = refl; user = refl; method = refl; handed = refl }
+begins_request Peer o = record { phase = refl; session_id = refl; host_key = refl; user = refl; method = refl; handed = refl }
 
 deed_request : (m : Move) (s : SessionState) → IsSameRequest s.opening (deed m s).opening
 deed_request PeerBegins s = begins_request s.opening.flag s.opening
-deed_request m s = record { phase = refl; session_id = refl; user = refl; method = refl; handed = refl }
+deed_request m s = record { phase = refl; session_id = refl; host_key = refl; user = refl; method = refl; handed = refl }
 
 gated_request : (b : Bool) (m : Move) (s : SessionState) → IsSameRequest s.opening (done_if b (deed m s) s).opening
 gated_request true m s = deed_request m s
@@ -212,6 +214,7 @@ moves_request (m ∷ moves) s =
     record {
       phase = later.phase ∙ one.phase;
       session_id = later.session_id ∙ one.session_id;
+      host_key = later.host_key ∙ one.host_key;
       user = later.user ∙ one.user;
       method = later.method ∙ one.method;
       handed = later.handed ∙ one.handed;

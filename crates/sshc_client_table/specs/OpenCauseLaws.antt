@@ -24,11 +24,15 @@ use Rattle.sshc_transport.specs.declared.exchange.ExchangeFlag.{ExchangeFlag}
 use Rattle.sshc_transport.specs.declared.exchange.ExchangeFlag.TheVariants as flags
 use Rattle.sshc_transport.specs.declared.exchange.ExchangeResult.{ExchangeResult}
 use Rattle.sshc_wire.specs.declared.channel_open_failure.ChannelOpenFailure.{ChannelOpenFailure}
-use Rattle.sshc_auth.specs.Causes.{Breaks, BreaksBehind, IsEarly, IsEndCause, ReadsTexts, Part, Why, rest_of, text}
+use Rattle.sshc_auth.specs.Causes.{Breaks, BreaksBehind, IsEarly, IsEndCause, ReadsTexts, Part, rest_of, text}
 use Rattle.sshc_auth.specs.OpeningState.{is_awaiting}
+use Rattle.sshc_auth.specs.CauseLaws.{not_kept}
+use Rattle.sshc_auth.specs.OpeningTable.Exchange.{has_kept_key}
 use Rattle.sshc_auth.specs.OpeningTable.Packets.{is_ignored, is_too_much, waits_for_exchange}
 use Rattle.sshc_auth.specs.OpeningTable.User.{is_seen}
+use Rattle.sshc_auth.specs.declared.ended.Ended.{Ended}
 use Rattle.sshc_auth.specs.declared.ended.Ended.TheVariants.{RemoteDisconnect}
+use Rattle.sshc_auth.specs.declared.error.Error.{Error}
 use Rattle.sshc_auth.specs.declared.ended.RemoteDisconnectInfo.{RemoteDisconnectInfo}
 use Rattle.sshc_auth.specs.declared.error.Error.TheVariants as errors
 use Rattle.sshc_auth.specs.declared.opening.Phase.{Phase}
@@ -54,9 +58,9 @@ use Rattle.sshc_client_table.specs.declared.reply_entry.ReplyEntry.{ReplyEntry}
 use Rattle.sshc_client_table.specs.declared.open_answer.OpenAnswer.{OpenAnswer}
 use Rattle.sshc_client_table.specs.declared.open_answer.OpenAnswer.TheVariants as answers
 use Rattle.sshc_client_table.specs.ListLaws.{onto-append}
-use Rattle.sshc_client_table.specs.Moves.{Counts, Hears, Move, onto}
+use Rattle.sshc_client_table.specs.Moves.{Counts, Hears, Move, Tells, onto}
 use Rattle.sshc_client_table.specs.SessionState.{SessionState, exchanging, is_open, is_running, own_window}
-use Rattle.sshc_client_table.specs.SessionRow.{Next, Opinions, SessionRow, asking, behind_moves, ends, established_row, goes, plain_row, refuses, reports, with_kept, with_read}
+use Rattle.sshc_client_table.specs.SessionRow.{Next, Opinions, SessionRow, asking, behind_moves, ends, established_row, goes, on_channel, plain_row, refuses, reports, with_kept, with_read}
 use Rattle.sshc_client_table.specs.SessionTable.{disconnect_row, heard, held_row, numbered_row, packet_row, payload_row, reason_row, session_row}
 use Rattle.sshc_client_table.specs.SessionTable.Exchanges.{exchange_done_row, peer_kexinit_row}
 use Rattle.sshc_client_table.specs.SessionTable.Opens.{channel_open_row, confirmed_row, failed_row, numbered_open_row, open_confirmation_row, open_failure_row, served_row, serving_row, settled}
@@ -66,15 +70,26 @@ use Rattle.sshc_client_table.specs.SessionTable.Streams.{channel_close_row, chan
 use Rattle.sshc_client_table.specs.SessionTable.Timers.{are_too_many, inactivity_timer_row, keepalive_row, keepalive_timer_row}
 use Rattle.sshc_client_table.specs.SessionTable.Users.{asked_row, channel_moves, extension_moves, forward_moves, forwarded_moves, global_moves, open_moves, program_moves, prove_moves, reply_moves, settled_by, terminal_moves, user_moves, user_row}
 use Rattle.sshc_client_table.specs.KeptByMoves.{KeepsSession}
+use Rattle.sshc_client_table.specs.RowMoves.{Fits, fits_keeps}
 use Rattle.sshc_client_table.specs.OpenCauses.{Fails, FirstIsBare, IsBare, IsBroken, IsOpenCause, OpenFails, RequestFails, adjustment, bytes, confirmation, disconnection, extended_bytes, failure, global, number_alone, opening, refusal, request, success}
 
 -- ---- what the law says
 
--- why an open session refuses an event, and why it ends
-abbrev pub open_why : SessionState → Event → Why
-open_why s event = record { refusal = λ e. IsOpenCause s event e; end = λ e. IsEndCause s.opening event e }
+-- why a row may refuse and end, and which moves it may make
+pub record RowLaw : Type 1 where
+  pub refusal : Error → Type 0
+  pub end : Ended → Type 0
+  pub fits : Move → Type 0
 
-abbrev pub NextCaused : Why → Next → Type 0
+-- why an open session refuses an event, why it ends, and which moves the event's row makes
+abbrev pub open_why : SessionState → Event → RowLaw
+open_why s event = record {
+  refusal = λ e. IsOpenCause s event e;
+  end = λ e. IsEndCause s.opening event e;
+  fits = λ m. Fits event m;
+}
+
+abbrev pub NextCaused : RowLaw → Next → Type 0
 NextCaused P goes = Unit {0}
 NextCaused P (ends e) = P.end e
 NextCaused P (refuses e) = P.refusal e
@@ -82,58 +97,57 @@ NextCaused P (refuses e) = P.refusal e
 abbrev pub AllKeep : List Move → Type 0
 AllKeep moves = AllByRecursion KeepsSession moves
 
--- the row continues, or has its cause, and none of its moves leaves or stops the session or reports a record of an
--- agent, whatever a handler returns
-pub record RowHolds (P : Why) (row : SessionRow) : Type 0 where
+-- the row continues, or has its cause, and each of its moves is one that its event may bring, whatever a handler returns
+pub record RowHolds (P : RowLaw) (row : SessionRow) : Type 0 where
   pub caused : NextCaused P row.next
-  pub front : AllKeep row.front
-  pub back : (answer : OpenAnswer) → AllKeep (row.back answer)
+  pub front : AllByRecursion P.fits row.front
+  pub back : (answer : OpenAnswer) → AllByRecursion P.fits (row.back answer)
 
 -- ---- parts of rows
 
-plain_holds : (P : Why) (moves : List Move) → AllKeep moves → RowHolds P (plain_row moves)
+plain_holds : (P : RowLaw) (moves : List Move) → AllByRecursion P.fits moves → RowHolds P (plain_row moves)
 plain_holds P moves all = record { caused = tt; front = all; back = λ answer. tt }
 
-pub two_keep : (a b : List Move) → AllKeep a → AllKeep b → AllKeep (a ++ b)
-two_keep [] b one other = other
-two_keep (m ∷ a) b one other = (one.0, two_keep a b one.1 other)
+two_fit : (F : Move → Type 0) (a b : List Move) → AllByRecursion F a → AllByRecursion F b → AllByRecursion F (a ++ b)
+two_fit F [] b one other = other
+two_fit F (m ∷ a) b one other = (one.0, two_fit F a b one.1 other)
 
-behind_holds : (P : Why) (moves : List Move) (row : SessionRow) → AllKeep moves → RowHolds P row → RowHolds P (behind_moves moves row)
-behind_holds P moves row all holds = record { caused = holds.caused; front = two_keep moves row.front all holds.front; back = holds.back }
+behind_holds : (P : RowLaw) (moves : List Move) (row : SessionRow) → AllByRecursion P.fits moves → RowHolds P row → RowHolds P (behind_moves moves row)
+behind_holds P moves row all holds = record { caused = holds.caused; front = two_fit P.fits moves row.front all holds.front; back = holds.back }
 
-read_holds : {A : Type 0} (P : Why) (r : Result A WireError) (on : A → SessionRow) → (Fails r → P.refusal errors.SshEncoding) → ((x : A) → r ≡ Ok x → RowHolds P (on x)) → RowHolds P (with_read r on)
+read_holds : {A : Type 0} (P : RowLaw) (r : Result A WireError) (on : A → SessionRow) → (Fails r → P.refusal errors.SshEncoding) → ((x : A) → r ≡ Ok x → RowHolds P (on x)) → RowHolds P (with_read r on)
 read_holds P (Ok x) on broken each = each x refl
 read_holds P (Err e) on broken each = record { caused = broken tt; front = tt; back = λ answer. tt }
 
-kept_holds : {A : Type 0} (P : Why) (r : Result A PacketError) (on : A → SessionRow) → (Fails r → P.refusal errors.SshEncoding) → ((x : A) → r ≡ Ok x → RowHolds P (on x)) → RowHolds P (with_kept r on)
+kept_holds : {A : Type 0} (P : RowLaw) (r : Result A PacketError) (on : A → SessionRow) → (Fails r → P.refusal errors.SshEncoding) → ((x : A) → r ≡ Ok x → RowHolds P (on x)) → RowHolds P (with_kept r on)
 kept_holds P (Ok x) on broken each = each x refl
 kept_holds P (Err e) on broken each = record { caused = broken tt; front = tt; back = λ answer. tt }
 
-established_holds : (P : Why) (b : Bool) (row : SessionRow) → RowHolds P row → RowHolds P (established_row b row)
+established_holds : (P : RowLaw) (b : Bool) (row : SessionRow) → RowHolds P row → RowHolds P (established_row b row)
 established_holds P true row holds = holds
 established_holds P false row holds = plain_holds P [] tt
 
-cond_holds : (P : Why) (b : Bool) (x y : SessionRow) → (b ≡ true → RowHolds P x) → (b ≡ false → RowHolds P y) → RowHolds P (if b then x else y)
+cond_holds : (P : RowLaw) (b : Bool) (x y : SessionRow) → (b ≡ true → RowHolds P x) → (b ≡ false → RowHolds P y) → RowHolds P (if b then x else y)
 cond_holds P true x y one other = one refl
 cond_holds P false x y one other = other refl
 
-moves_by : (b : Bool) (x y : List Move) → AllKeep x → AllKeep y → AllKeep (if b then x else y)
-moves_by true x y one other = one
-moves_by false x y one other = other
+moves_by : (F : Move → Type 0) (b : Bool) (x y : List Move) → AllByRecursion F x → AllByRecursion F y → AllByRecursion F (if b then x else y)
+moves_by F true x y one other = one
+moves_by F false x y one other = other
 
-wanted_keep : (b : Bool) (m : Move) → KeepsSession m → AllKeep (if_wanted b m)
-wanted_keep true m keeps = (keeps, tt)
-wanted_keep false m keeps = tt
+wanted_fit : (F : Move → Type 0) (b : Bool) (m : Move) → F m → AllByRecursion F (if_wanted b m)
+wanted_fit F true m fits = (fits, tt)
+wanted_fit F false m fits = tt
 
 same_number : (n m : ℕ) → (n == m) ≡ true → n ≡ m
 same_number n m is = grind (arith, nat_tests)
 
-reports_holds : (P : Why) (front : List Move) (id : ℕ) (said : ChannelRecord) (back : List Move) → AllKeep front → AllKeep back → RowHolds P (reports front id said back)
+reports_holds : (P : RowLaw) (front : List Move) (id : ℕ) (said : ChannelRecord) (back : List Move) → P.fits (Tells (on_channel id said)) → AllByRecursion P.fits front → AllByRecursion P.fits back → RowHolds P (reports front id said back)
 unfolding asking
-reports_holds P front id said back all others = record { caused = tt; front = all; back = λ answer. (tt, others) }
+reports_holds P front id said back told all others = record { caused = tt; front = all; back = λ answer. (told, others) }
 
 -- a part that can't be read breaks the packet; else what follows it may break it
-part_holds : {A : Type 0} (P : Why) (parts : List Part) (r : Result (A × List ℕ) WireError) (on : A × List ℕ → SessionRow) → (BreaksBehind (λ rest. Breaks parts rest) (rest_of r) → P.refusal errors.SshEncoding) →
+part_holds : {A : Type 0} (P : RowLaw) (parts : List Part) (r : Result (A × List ℕ) WireError) (on : A × List ℕ → SessionRow) → (BreaksBehind (λ rest. Breaks parts rest) (rest_of r) → P.refusal errors.SshEncoding) →
     ((x : A × List ℕ) → r ≡ Ok x → (Breaks parts x.1 → P.refusal errors.SshEncoding) → RowHolds P (on x)) → RowHolds P (with_read r on)
 part_holds P parts (Ok x) on breaks each = each x refl breaks
 part_holds P parts (Err e) on breaks each = record { caused = breaks tt; front = tt; back = λ answer. tt }
@@ -141,7 +155,7 @@ part_holds P parts (Err e) on breaks each = record { caused = breaks tt; front =
 -- ---- packets
 
 module _ (accepts : Accepts) (o : Opinions) (s : SessionState) (n : ℕ) (body : List ℕ) where
-  abbrev P : Why
+  abbrev P : RowLaw
   P = open_why s (events.Payload (n ∷ body))
 
   -- 1
@@ -165,9 +179,9 @@ module _ (accepts : Accepts) (o : Opinions) (s : SessionState) (n : ℕ) (body :
   -- 80
   global_holds_so : (g : PeerGlobal) → RowHolds P (global_row g)
   unfolding asking
-  global_holds_so (globals.Keepalive want_reply) = plain_holds P _ (wanted_keep want_reply _ tt)
+  global_holds_so (globals.Keepalive want_reply) = plain_holds P _ (wanted_fit P.fits want_reply _ tt)
   global_holds_so (globals.HostKeys keys) = record { caused = tt; front = (tt, tt); back = λ answer. (tt, tt) }
-  global_holds_so (globals.Unknown want_reply) = plain_holds P _ (wanted_keep want_reply _ tt)
+  global_holds_so (globals.Unknown want_reply) = plain_holds P _ (wanted_fit P.fits want_reply _ tt)
 
   global_holds : n ≡ GLOBAL_REQUEST → RowHolds P (global_request_row body)
   unfolding global_request_row
@@ -178,13 +192,13 @@ module _ (accepts : Accepts) (o : Opinions) (s : SessionState) (n : ℕ) (body :
   bare_first replies first rest is bare = rw is bare
 
   asked_success : (first : ReplyEntry) (rest : List ReplyEntry) (kind : ReplyKind) → s.replies ≡ first ∷ rest → first.kind ≡ kind → n ≡ REQUEST_SUCCESS → RowHolds P (success_of accepts s.opening.session_id kind first.keys body)
-  asked_success first rest kinds.Forward is same number_is = plain_holds P _ (tt, tt)
-  asked_success first rest kinds.Done is same number_is = read_holds P (nothing_of body) _ (λ broken. success number_is (bare_first s.replies first rest is (rw same tt)) broken) (λ u read. plain_holds P _ (tt, tt))
-  asked_success first rest kinds.Ping is same number_is = read_holds P (nothing_of body) _ (λ broken. success number_is (bare_first s.replies first rest is (rw same tt)) broken) (λ u read. plain_holds P _ (tt, tt))
-  asked_success first rest kinds.Keepalive is same number_is = read_holds P (nothing_of body) _ (λ broken. success number_is (bare_first s.replies first rest is (rw same tt)) broken) (λ u read. plain_holds P _ (tt, tt))
-  asked_success first rest kinds.NoMoreSessions is same number_is = read_holds P (nothing_of body) _ (λ broken. success number_is (bare_first s.replies first rest is (rw same tt)) broken) (λ u read. plain_holds P _ (tt, tt))
-  asked_success first rest kinds.Proof is same number_is = plain_holds P _ (tt, tt)
-  asked_success first rest kinds.Own is same number_is = plain_holds P _ (tt, tt)
+  asked_success first rest kinds.Forward is same number_is = plain_holds P _ (inl number_is, tt)
+  asked_success first rest kinds.Done is same number_is = read_holds P (nothing_of body) _ (λ broken. success number_is (bare_first s.replies first rest is (rw same tt)) broken) (λ u read. plain_holds P _ (inl number_is, tt))
+  asked_success first rest kinds.Ping is same number_is = read_holds P (nothing_of body) _ (λ broken. success number_is (bare_first s.replies first rest is (rw same tt)) broken) (λ u read. plain_holds P _ (inl number_is, tt))
+  asked_success first rest kinds.Keepalive is same number_is = read_holds P (nothing_of body) _ (λ broken. success number_is (bare_first s.replies first rest is (rw same tt)) broken) (λ u read. plain_holds P _ (inl number_is, tt))
+  asked_success first rest kinds.NoMoreSessions is same number_is = read_holds P (nothing_of body) _ (λ broken. success number_is (bare_first s.replies first rest is (rw same tt)) broken) (λ u read. plain_holds P _ (inl number_is, tt))
+  asked_success first rest kinds.Proof is same number_is = plain_holds P _ (inl number_is, tt)
+  asked_success first rest kinds.Own is same number_is = plain_holds P _ (inl number_is, tt)
 
   success_holds_so : (replies : List ReplyEntry) → s.replies ≡ replies → n ≡ REQUEST_SUCCESS → RowHolds P (success_for accepts s.opening.session_id replies body)
   success_holds_so [] is number_is = plain_holds P [] tt
@@ -195,16 +209,16 @@ module _ (accepts : Accepts) (o : Opinions) (s : SessionState) (n : ℕ) (body :
   success_holds is = success_holds_so s.replies refl is
 
   -- 82
-  failure_holds_so : (replies : List ReplyEntry) → RowHolds P (failure_for replies)
-  failure_holds_so [] = plain_holds P [] tt
-  failure_holds_so (first ∷ rest) = plain_holds P _ (tt, tt)
+  failure_holds_so : (replies : List ReplyEntry) → n ≡ REQUEST_FAILURE → RowHolds P (failure_for replies)
+  failure_holds_so [] number_is = plain_holds P [] tt
+  failure_holds_so (first ∷ rest) number_is = plain_holds P _ (inr number_is, tt)
 
   failure_holds : n ≡ REQUEST_FAILURE → RowHolds P (request_failure_row s body)
   unfolding request_failure_row
-  failure_holds is = read_holds P (nothing_of body) _ (λ broken. failure is broken) (λ u read. failure_holds_so s.replies)
+  failure_holds is = read_holds P (nothing_of body) _ (λ broken. failure is broken) (λ u read. failure_holds_so s.replies is)
 
   -- 90
-  settled_keep : (id : ℕ) (answer : OpenAnswer) → AllKeep (settled id answer)
+  settled_keep : (id : ℕ) (answer : OpenAnswer) → AllByRecursion P.fits (settled id answer)
   settled_keep id answers.Accept = (tt, (tt, tt))
   settled_keep id (answers.Reject reason) = (tt, tt)
   settled_keep id answers.Later = tt
@@ -234,31 +248,31 @@ module _ (accepts : Accepts) (o : Opinions) (s : SessionState) (n : ℕ) (body :
   -- 91
   confirmed_holds : (waits : Option (Option Ticket)) (c : Confirmation) → awaited c.recipient s.table ≡ waits → confirmation_of body ≡ Ok c → n ≡ CHANNEL_OPEN_CONFIRMATION → RowHolds P (confirmed_row waits c)
   confirmed_holds None c none read is = record { caused = inr (is, rw read none); front = tt; back = λ answer. tt }
-  confirmed_holds (Some ticket) c waits read is = reports_holds P _ _ _ _ (tt, tt) (tt, tt)
+  confirmed_holds (Some ticket) c waits read is = reports_holds P _ _ _ _ tt (is, tt) (tt, tt)
 
   confirmation_holds : n ≡ CHANNEL_OPEN_CONFIRMATION → RowHolds P (open_confirmation_row s body)
   unfolding open_confirmation_row
   confirmation_holds is = read_holds P (confirmation_of body) _ (λ broken. confirmation is broken) (λ c read. confirmed_holds (awaited c.recipient s.table) c refl read is)
 
   -- 92
-  failed_holds : (waits : Option (Option Ticket)) (r : Refusal) → RowHolds P (failed_row waits r)
-  failed_holds None r = plain_holds P [] tt
-  failed_holds (Some ticket) r = reports_holds P _ _ _ _ (tt, tt) tt
+  failed_holds : (waits : Option (Option Ticket)) (r : Refusal) → n ≡ CHANNEL_OPEN_FAILURE → RowHolds P (failed_row waits r)
+  failed_holds None r is = plain_holds P [] tt
+  failed_holds (Some ticket) r is = reports_holds P _ _ _ _ tt (is, tt) tt
 
   refusal_holds : n ≡ CHANNEL_OPEN_FAILURE → RowHolds P (open_failure_row s body)
   unfolding open_failure_row
-  refusal_holds is = read_holds P (refusal_of body) _ (λ broken. refusal is broken) (λ r read. failed_holds (awaited r.id.0 s.table) r)
+  refusal_holds is = read_holds P (refusal_of body) _ (λ broken. refusal is broken) (λ r read. failed_holds (awaited r.id.0 s.table) r is)
 
   -- 93 to 97, 99 and 100
   adjust_holds : n ≡ CHANNEL_WINDOW_ADJUST → RowHolds P (window_adjust_row s body)
   unfolding window_adjust_row
-  adjust_holds is = read_holds P (window_adjust_of body) _ (λ broken. adjustment is broken) (λ a read. established_holds P (is_established a.id.0 s.table) _ (reports_holds P _ _ _ _ (tt, tt) tt))
+  adjust_holds is = read_holds P (window_adjust_of body) _ (λ broken. adjustment is broken) (λ a read. established_holds P (is_established a.id.0 s.table) _ (reports_holds P _ _ _ _ tt (tt, tt) tt))
 
-  retargets_keep : (id len : ℕ) → AllKeep (retargets o s id len)
-  retargets_keep id len = moves_by (adjusted_at id len (own_window s) s.table && nat_lt 0 o.window_target) _ _ (tt, tt) tt
+  retargets_keep : (id len : ℕ) → AllByRecursion P.fits (retargets o s id len)
+  retargets_keep id len = moves_by P.fits (adjusted_at id len (own_window s) s.table && nat_lt 0 o.window_target) _ _ (tt, tt) tt
 
   received_holds : (id len : ℕ) (said : ChannelRecord) → RowHolds P (received_row o s id len said)
-  received_holds id len said = established_holds P (is_established id s.table) _ (reports_holds P _ _ _ _ (tt, retargets_keep id len) tt)
+  received_holds id len said = established_holds P (is_established id s.table) _ (reports_holds P _ _ _ _ tt (tt, retargets_keep id len) tt)
 
   data_holds : n ≡ CHANNEL_DATA → RowHolds P (channel_data_row o s body)
   unfolding channel_data_row
@@ -270,19 +284,19 @@ module _ (accepts : Accepts) (o : Opinions) (s : SessionState) (n : ℕ) (body :
 
   report_holds : (said : ChannelRecord) → (Fails (channel_of body) → IsBroken s n body) → RowHolds P (channel_report_row s said body)
   unfolding channel_report_row
-  report_holds said breaks = read_holds P (channel_of body) _ breaks (λ id read. established_holds P (is_established id.0 s.table) _ (reports_holds P _ _ _ _ tt tt))
+  report_holds said breaks = read_holds P (channel_of body) _ breaks (λ id read. established_holds P (is_established id.0 s.table) _ (reports_holds P _ _ _ _ tt tt tt))
 
   close_holds : n ≡ CHANNEL_CLOSE → RowHolds P (channel_close_row s body)
   unfolding channel_close_row
-  close_holds is = read_holds P (channel_of body) _ (λ broken. number_alone (inr (inl is)) broken) (λ id read. established_holds P (is_established id.0 s.table) _ (reports_holds P _ _ _ _ (tt, tt) tt))
+  close_holds is = read_holds P (channel_of body) _ (λ broken. number_alone (inr (inl is)) broken) (λ id read. established_holds P (is_established id.0 s.table) _ (reports_holds P _ _ _ _ tt (tt, tt) tt))
 
   -- 98
   requested_holds : (id : ℕ) (asked : PeerRequest) → RowHolds P (requested_row id asked)
-  requested_holds id (requests.XonXoff can_do) = reports_holds P _ _ _ _ tt tt
-  requested_holds id (requests.ExitStatus status) = reports_holds P _ _ _ _ tt tt
-  requested_holds id (requests.ExitSignal signal dumped message language) = reports_holds P _ _ _ _ tt tt
-  requested_holds id (requests.Keepalive want_reply) = plain_holds P _ (wanted_keep want_reply _ tt)
-  requested_holds id (requests.Unknown want_reply) = plain_holds P _ (wanted_keep want_reply _ tt)
+  requested_holds id (requests.XonXoff can_do) = reports_holds P _ _ _ _ tt tt tt
+  requested_holds id (requests.ExitStatus status) = reports_holds P _ _ _ _ tt tt tt
+  requested_holds id (requests.ExitSignal signal dumped message language) = reports_holds P _ _ _ _ tt tt tt
+  requested_holds id (requests.Keepalive want_reply) = plain_holds P _ (wanted_fit P.fits want_reply _ tt)
+  requested_holds id (requests.Unknown want_reply) = plain_holds P _ (wanted_fit P.fits want_reply _ tt)
 
   request_fails : (r : Result RequestHead WireError) → Fails r → RequestFails r
   request_fails (Ok head) never = absurd never
@@ -338,7 +352,7 @@ module _ (accepts : Accepts) (o : Opinions) (s : SessionState) (n : ℕ) (body :
   unfolding payload_row
   some_packet_holds =
       cond_holds P (n == DISCONNECT) _ _ (λ is. disconnect_holds (same_number n DISCONNECT is)) (λ other.
-      behind_holds P (heard n) (packet_row accepts o s (length (n ∷ body)) n body) (moves_by (n == GLOBAL_REQUEST) [] (Hears ∷ []) tt (tt, tt)) packet_holds)
+      behind_holds P (heard n) (packet_row accepts o s (length (n ∷ body)) n body) (moves_by P.fits (n == GLOBAL_REQUEST) [] (Hears ∷ []) tt (tt, tt)) packet_holds)
 
 payload_holds : (accepts : Accepts) (o : Opinions) (s : SessionState) (packet : List ℕ) → RowHolds (open_why s (events.Payload packet)) (payload_row accepts o s packet)
 unfolding payload_row
@@ -352,11 +366,12 @@ kexinit_holds s flags.Idle is = plain_holds (open_why s events.PeerKexinit) _ (t
 kexinit_holds s flags.Ours is = plain_holds (open_why s events.PeerKexinit) _ (tt, tt)
 kexinit_holds s flags.Peer is = record { caused = is; front = tt; back = λ answer. tt }
 
-exchange_holds : (s : SessionState) (x : ExchangeResult) (flag : ExchangeFlag) → s.opening.flag ≡ flag → RowHolds (open_why s (events.ExchangeDone x)) (exchange_done_row flag x)
+exchange_holds : (s : SessionState) (x : ExchangeResult) (flag : ExchangeFlag) (same : Bool) → s.opening.flag ≡ flag → has_kept_key s.opening x ≡ same → RowHolds (open_why s (events.ExchangeDone x)) (exchange_done_row flag same x)
 unfolding asking
-exchange_holds s x flags.Idle is = record { caused = λ peer. let clash : flags.Idle ≡ flags.Peer = sym is ∙ peer in absurd cc; front = tt; back = λ answer. tt }
-exchange_holds s x flags.Ours is = record { caused = λ peer. let clash : flags.Ours ≡ flags.Peer = sym is ∙ peer in absurd cc; front = tt; back = λ answer. tt }
-exchange_holds s x flags.Peer is = record { caused = tt; front = tt; back = λ answer. (tt, (tt, tt)) }
+exchange_holds s x flags.Idle same is kept = record { caused = λ peer. let clash : flags.Idle ≡ flags.Peer = sym is ∙ peer in absurd cc; front = tt; back = λ answer. tt }
+exchange_holds s x flags.Ours same is kept = record { caused = λ peer. let clash : flags.Ours ≡ flags.Peer = sym is ∙ peer in absurd cc; front = tt; back = λ answer. tt }
+exchange_holds s x flags.Peer true is kept = record { caused = tt; front = tt; back = λ answer. (tt, (tt, tt)) }
+exchange_holds s x flags.Peer false is kept = record { caused = (is, not_kept s.opening x kept); front = tt; back = λ answer. tt }
 
 not_none : (most count : ℕ) → are_too_many most count ≡ true → most ≢ 0
 not_none zero count is = absurd cc
@@ -384,51 +399,54 @@ inactivity_holds s =
 
 -- ---- users
 
-program_keep : (id : ℕ) (msg : ChannelMsg) → AllKeep (program_moves id msg)
+abbrev AllFit : Event → List Move → Type 0
+AllFit event moves = AllByRecursion (λ m. Fits event m) moves
+
+program_keep : (event : Event) (id : ℕ) (msg : ChannelMsg) → AllFit event (program_moves id msg)
 unfolding program_moves
-program_keep id (msgs.SetEnv want_reply name value) = (tt, tt)
-program_keep id (msgs.RequestShell want_reply) = (tt, tt)
-program_keep id (msgs.Exec want_reply command) = (tt, tt)
-program_keep id (msgs.Signal signal) = (tt, tt)
-program_keep id (msgs.RequestSubsystem want_reply name) = (tt, tt)
-program_keep id msg = tt
+program_keep event id (msgs.SetEnv want_reply name value) = (tt, tt)
+program_keep event id (msgs.RequestShell want_reply) = (tt, tt)
+program_keep event id (msgs.Exec want_reply command) = (tt, tt)
+program_keep event id (msgs.Signal signal) = (tt, tt)
+program_keep event id (msgs.RequestSubsystem want_reply name) = (tt, tt)
+program_keep event id msg = tt
 
-forwarded_keep : (id : ℕ) (msg : ChannelMsg) → AllKeep (forwarded_moves id msg)
+forwarded_keep : (event : Event) (id : ℕ) (msg : ChannelMsg) → AllFit event (forwarded_moves id msg)
 unfolding forwarded_moves
-forwarded_keep id (msgs.RequestX11 want_reply single protocol cookie screen) = (tt, tt)
-forwarded_keep id (msgs.AgentForward want_reply) = (tt, tt)
-forwarded_keep id msg = program_keep id msg
+forwarded_keep event id (msgs.RequestX11 want_reply single protocol cookie screen) = (tt, tt)
+forwarded_keep event id (msgs.AgentForward want_reply) = (tt, tt)
+forwarded_keep event id msg = program_keep event id msg
 
-terminal_keep : (id : ℕ) (msg : ChannelMsg) → AllKeep (terminal_moves id msg)
+terminal_keep : (event : Event) (id : ℕ) (msg : ChannelMsg) → AllFit event (terminal_moves id msg)
 unfolding terminal_moves
-terminal_keep id (msgs.RequestPty want_reply term columns rows width height modes) = (tt, tt)
-terminal_keep id (msgs.WindowChange columns rows width height) = (tt, tt)
-terminal_keep id msg = forwarded_keep id msg
+terminal_keep event id (msgs.RequestPty want_reply term columns rows width height modes) = (tt, tt)
+terminal_keep event id (msgs.WindowChange columns rows width height) = (tt, tt)
+terminal_keep event id msg = forwarded_keep event id msg
 
-channel_keep : (id : ℕ) (msg : ChannelMsg) → AllKeep (channel_moves id msg)
+channel_keep : (event : Event) (id : ℕ) (msg : ChannelMsg) → AllFit event (channel_moves id msg)
 unfolding channel_moves
-channel_keep id (msgs.Data body) = (tt, tt)
-channel_keep id (msgs.ExtendedData ext body) = (tt, tt)
-channel_keep id msgs.Eof = (tt, tt)
-channel_keep id msgs.Close = (tt, tt)
-channel_keep id msg = terminal_keep id msg
+channel_keep event id (msgs.Data body) = (tt, tt)
+channel_keep event id (msgs.ExtendedData ext body) = (tt, tt)
+channel_keep event id msgs.Eof = (tt, tt)
+channel_keep event id msgs.Close = (tt, tt)
+channel_keep event id msg = terminal_keep event id msg
 
-settled_by_keep : (id : ℕ) (result : Result (Unit {0}) ChannelOpenFailure) → AllKeep (settled_by id result)
-settled_by_keep id (Ok u) = (tt, (tt, tt))
-settled_by_keep id (Err reason) = (tt, tt)
+settled_by_keep : (event : Event) (id : ℕ) (result : Result (Unit {0}) ChannelOpenFailure) → AllFit event (settled_by id result)
+settled_by_keep event id (Ok u) = (tt, (tt, tt))
+settled_by_keep event id (Err reason) = (tt, tt)
 
-reply_keep : (s : SessionState) (id : ℕ) (result : Result (Unit {0}) ChannelOpenFailure) → AllKeep (reply_moves s id result)
-reply_keep s id result = moves_by (is_some (unsettled_at id s.table)) _ _ (settled_by_keep id result) tt
+reply_keep : (event : Event) (s : SessionState) (id : ℕ) (result : Result (Unit {0}) ChannelOpenFailure) → AllFit event (reply_moves s id result)
+reply_keep event s id result = moves_by (λ m. Fits event m) (is_some (unsettled_at id s.table)) _ _ (settled_by_keep event id result) tt
 
-prove_keep : (ticket : Ticket) (keys : List (Key × List ℕ)) → AllKeep (prove_moves ticket keys)
-prove_keep ticket [] = (tt, tt)
-prove_keep ticket (key ∷ keys) = (tt, tt)
+prove_keep : (event : Event) (ticket : Ticket) (keys : List (Key × List ℕ)) → AllFit event (prove_moves ticket keys)
+prove_keep event ticket [] = (tt, tt)
+prove_keep event ticket (key ∷ keys) = (tt, tt)
 
-extension_keep : (seen : Bool) (ticket : Ticket) → AllKeep (extension_moves seen ticket)
-extension_keep true ticket = (tt, tt)
-extension_keep false ticket = (tt, tt)
+extension_keep : (event : Event) (seen : Bool) (ticket : Ticket) → AllFit event (extension_moves seen ticket)
+extension_keep event true ticket = (tt, tt)
+extension_keep event false ticket = (tt, tt)
 
-global_keep : (event : Event) → AllKeep (global_moves event)
+global_keep : (event : Event) → AllFit event (global_moves event)
 unfolding global_moves
 global_keep (events.Keepalive want_reply) = (tt, tt)
 global_keep (events.Ping ticket) = (tt, tt)
@@ -436,7 +454,7 @@ global_keep (events.NoMoreSessions want_reply) = (tt, tt)
 global_keep (events.SendGlobalRequest ticket name body) = (tt, tt)
 global_keep event = tt
 
-forward_keep : (event : Event) → AllKeep (forward_moves event)
+forward_keep : (event : Event) → AllFit event (forward_moves event)
 unfolding forward_moves
 forward_keep (events.TcpIpForward ticket address port) = (tt, tt)
 forward_keep (events.CancelTcpIpForward ticket address port) = (tt, tt)
@@ -444,7 +462,7 @@ forward_keep (events.StreamLocalForward ticket path) = (tt, tt)
 forward_keep (events.CancelStreamLocalForward ticket path) = (tt, tt)
 forward_keep event = global_keep event
 
-opens_keep : (event : Event) → AllKeep (open_moves event)
+opens_keep : (event : Event) → AllFit event (open_moves event)
 unfolding open_moves
 opens_keep (events.ChannelOpenSession ticket) = (tt, tt)
 opens_keep (events.ChannelOpenX11 ticket originator port) = (tt, tt)
@@ -452,16 +470,16 @@ opens_keep (events.ChannelOpenDirectTcpIp ticket host port originator originator
 opens_keep (events.ChannelOpenDirectStreamLocal ticket path) = (tt, tt)
 opens_keep event = forward_keep event
 
-users_keep : (s : SessionState) (event : Event) → AllKeep (user_moves s event)
+users_keep : (s : SessionState) (event : Event) → AllFit event (user_moves s event)
 unfolding user_moves
 users_keep s (events.Authenticate ticket user method) = (tt, tt)
 users_keep s (events.Close id) = (tt, tt)
-users_keep s (events.Channel id msg) = channel_keep id.0 msg
-users_keep s (events.ServerChannelOpenReply id result) = reply_keep s id.0 result
+users_keep s (events.Channel id msg) = channel_keep (events.Channel id msg) id.0 msg
+users_keep s (events.ServerChannelOpenReply id result) = reply_keep (events.ServerChannelOpenReply id result) s id.0 result
 users_keep s events.Rekey = (tt, tt)
-users_keep s (events.AwaitExtensionInfo ticket name) = extension_keep (is_seen s.opening.seen name) ticket
+users_keep s (events.AwaitExtensionInfo ticket name) = extension_keep (events.AwaitExtensionInfo ticket name) (is_seen s.opening.seen name) ticket
 users_keep s (events.GetServerSigAlgs ticket) = (tt, tt)
-users_keep s (events.HostKeysProve ticket keys) = prove_keep ticket keys
+users_keep s (events.HostKeysProve ticket keys) = prove_keep (events.HostKeysProve ticket keys) ticket keys
 users_keep s event = opens_keep event
 
 -- no answer is awaited in an open session
@@ -492,7 +510,7 @@ user_holds s event is early =
 pub session_holds : (accepts : Accepts) (o : Opinions) (s : SessionState) (event : Event) → is_open s.opening.phase ≡ true → RowHolds (open_why s event) (session_row accepts o s event)
 unfolding session_row keepalive_timer_row
 session_holds accepts o s events.PeerKexinit is = kexinit_holds s s.opening.flag refl
-session_holds accepts o s (events.ExchangeDone x) is = exchange_holds s x s.opening.flag refl
+session_holds accepts o s (events.ExchangeDone x) is = exchange_holds s x s.opening.flag (has_kept_key s.opening x) refl refl
 session_holds accepts o s (events.Payload packet) is = payload_holds accepts o s packet
 session_holds accepts o s events.TransportFailed is = record { caused = refl; front = tt; back = λ answer. tt }
 session_holds accepts o s events.RekeyLimit is = plain_holds (open_why s events.RekeyLimit) _ (tt, tt)
@@ -500,7 +518,16 @@ session_holds accepts o s events.KeepaliveTimer is = keepalive_holds s s.setting
 session_holds accepts o s events.InactivityTimer is = inactivity_holds s
 session_holds accepts o s event is = user_holds s event is (λ running. running)
 
--- none of all the moves of a row, with those after one answer of a handler, leaves or stops the session
-pub all_keep : (P : Why) (row : SessionRow) (answer : OpenAnswer) → RowHolds P row → AllKeep (onto row.front (row.back answer))
-all_keep P row answer holds =
-    subst (λ (moves : List Move). AllKeep moves) (sym (onto-append row.front (row.back answer))) (two_keep row.front (row.back answer) holds.front (holds.back answer))
+-- each of all the moves of a row, with those after one answer of a handler, is one that the event may bring
+pub all_fit : (s : SessionState) (event : Event) (row : SessionRow) (answer : OpenAnswer) → RowHolds (open_why s event) row → AllByRecursion (λ m. Fits event m) (onto row.front (row.back answer))
+all_fit s event row answer holds =
+    subst (λ (moves : List Move). AllByRecursion (λ m. Fits event m) moves) (sym (onto-append row.front (row.back answer)))
+    (two_fit (λ m. Fits event m) row.front (row.back answer) holds.front (holds.back answer))
+
+fits_all_keep : (event : Event) (moves : List Move) → AllByRecursion (λ m. Fits event m) moves → AllKeep moves
+fits_all_keep event [] all = tt
+fits_all_keep event (m ∷ moves) (fits, all) = (fits_keeps event m fits, fits_all_keep event moves all)
+
+-- so none of them leaves or stops the session, or reports a record of an agent
+pub all_keep : (s : SessionState) (event : Event) (row : SessionRow) (answer : OpenAnswer) → RowHolds (open_why s event) row → AllKeep (onto row.front (row.back answer))
+all_keep s event row answer holds = fits_all_keep event (onto row.front (row.back answer)) (all_fit s event row answer holds)

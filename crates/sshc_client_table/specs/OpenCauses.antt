@@ -8,7 +8,7 @@ use Rattle.sshc_auth_event.specs.declared.event.Event.{Event}
 use Rattle.sshc_auth_event.specs.declared.event.Event.TheVariants as events
 use Rattle.sshc_transport.specs.declared.exchange.ExchangeFlag.TheVariants as flags
 use Rattle.sshc_transport.specs.declared.exchange.ExchangeResult.{ExchangeResult}
-use Rattle.sshc_auth.specs.Causes.{Breaks, HasInvalidReason, IsCause, IsEarly, IsTooMuch, number, text}
+use Rattle.sshc_auth.specs.Causes.{Breaks, HasInvalidReason, HasOtherKey, IsCause, IsEarly, IsTooMuch, number, text}
 use Rattle.sshc_auth.specs.declared.error.Error.{Error}
 use Rattle.sshc_auth.specs.declared.error.Error.TheVariants as errors
 use Rattle.sshc_mux.specs.ChannelTable.Opens.{awaited}
@@ -98,6 +98,7 @@ abbrev pub IsOpenCause : SessionState → Event → Error → Type 0
 IsOpenCause s event errors.NoMemory = Unit {0}
 IsOpenCause s event errors.OutOfTurn = IsEarly s.opening.flag event
 IsOpenCause s event errors.TransportFailed = event ≡ events.TransportFailed
+IsOpenCause s event errors.RekeyKey = HasOtherKey s.opening event
 IsOpenCause s event errors.Inconsistent = IsUnexpected s event
 IsOpenCause s event errors.Pending = IsTooMuch s.opening event
 IsOpenCause s event errors.SshEncoding = IsBrokenPacket s event

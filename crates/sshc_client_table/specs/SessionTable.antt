@@ -20,6 +20,7 @@ use Rattle.sshc_auth_event.specs.declared.event.Event.{Event}
 use Rattle.sshc_auth_event.specs.declared.event.Event.TheVariants as events
 use Rattle.sshc_auth.specs.declared.ended.Ended.TheVariants.{RemoteDisconnect}
 use Rattle.sshc_auth.specs.declared.error.Error.TheVariants.{Inconsistent, InvalidDisconnect, Pending, TransportFailed}
+use Rattle.sshc_auth.specs.OpeningTable.Exchange.{has_kept_key}
 use Rattle.sshc_auth.specs.OpeningTable.Packets.{is_ignored, is_too_much, waits_for_exchange}
 use Rattle.sshc_client_packets.specs.HostKeyProof.{Accepts}
 use Rattle.sshc_client_table.specs.SessionState.{SessionState}
@@ -91,7 +92,7 @@ payload_row accepts o s (number ∷ body) =
 -- the row of an event in an open session
 unfoldable pub session_row : Accepts → Opinions → SessionState → Event → SessionRow
 session_row accepts o s events.PeerKexinit = peer_kexinit_row s.opening.flag
-session_row accepts o s (events.ExchangeDone x) = exchange_done_row s.opening.flag x
+session_row accepts o s (events.ExchangeDone x) = exchange_done_row s.opening.flag (has_kept_key s.opening x) x
 session_row accepts o s (events.Payload packet) = payload_row accepts o s packet
 session_row accepts o s events.TransportFailed = refused TransportFailed
 session_row accepts o s events.RekeyLimit = plain_row (Begins ∷ [])

@@ -21,5 +21,5 @@ mod KeptLemmas
 mod AccountLaw
 mod ClosingLaw
 mod AddressLemmas
-mod QuietLemmas
+pub mod QuietLemmas
 mod PiecesLemmas

@@ -1,7 +1,6 @@
 -- Tests that are true.
 use Rattle.std.proofs.Common.{◌≡◌, ℕ, suc, ◌<◌, ◌≤◌, Bool, true, false, not, ◌&&◌, List, [], ◌∷◌, length, eqb, if◌then◌else◌, refl, arith}
 use Rattle.std.proofs.Math.Dec.{eqb-suc-zero}
-use Rattle.sshc_wire.specs.Cases.{not_true}
 
 pub and_left : (a b : Bool) → (a && b) ≡ true → a ≡ true
 and_left true b h = refl

@@ -10,15 +10,14 @@ use Rattle.sshc_mux.specs.ChannelState.{Head, Flow, ChannelState, Waiting}
 use Rattle.sshc_mux.specs.Packets.{Packet, Piece, Eof, Close, Adjust}
 use Rattle.sshc_mux.specs.ChannelTable.{data_turn, eof_turn, close_turn, grant_turn, flush_turn, received_turn, accept_turn, confirm_turn}
 use Rattle.sshc_mux.specs.ChannelTable.Opens.{accepted, accepted_head, confirmed, confirmed_head, awaited_in, awaited_by, is_reserved}
-use Rattle.sshc_mux.specs.ChannelTable.Sending.{FlowTurn, still, pieces_of, cut, sent_of, room_of, emptied, may_end, is_due, due_of, ends_of, ended, ended_if, flushed}
+use Rattle.sshc_mux.specs.ChannelTable.Sending.{FlowTurn, still, pieces_of, cut, sent_of, room_of, emptied, may_end, is_due, ends_of, ended, ended_if, flushed}
 use Rattle.sshc_mux.specs.ChannelTable.Windows.{held, raised, is_low, refilled, adjust_of, adjust_packets}
 use Rattle.sshc_mux.specs.ChannelTable.Ends.{is_sent, is_unasked, asked, takes, with_pending, flush_with, with_eof, with_close}
-use Rattle.sshc_mux.specs.ChannelAccount.{bytes_in, amounts_in, pending, IsOrdered, IsSound, Part, no_part, bytes_part, eof_part, close_part, grant_part, flush_part, confirm_part, accept_part, received_part, AreLongest, Orderly, NoneDue, FlowMoves, answered, Moves}
-use Rattle.sshc_mux.proofs.SendingLemmas.{sent-nothing}
+use Rattle.sshc_mux.specs.ChannelAccount.{amounts_in, pending, IsOrdered, IsSound, Part, no_part, bytes_part, eof_part, close_part, grant_part, flush_part, confirm_part, accept_part, received_part, AreLongest, Orderly, NoneDue, FlowMoves, answered, Moves}
 use Rattle.sshc_mux.proofs.TestLemmas.{and_left, and_right, and-false, and-true, no_length, room_facts}
 use Rattle.sshc_wire.specs.Cases.{not_true}
 use Rattle.sshc_mux.proofs.PromptLemmas.{flush_empties, flush_longest}
-use Rattle.sshc_mux.proofs.AccountLemmas.{Kept, kept_then, emptied_kept, ended_kept, filled_append, pending-append, bytes-append, done_due, due_bytes}
+use Rattle.sshc_mux.proofs.AccountLemmas.{Kept, kept_then, emptied_kept, ended_kept, filled_append, pending-append, done_due}
 
 -- a flow's flush
 
@@ -393,19 +392,6 @@ confirmed_by false recipient window packet c is sound = still_moves c sound
 pub confirm_moves : (recipient window packet : ℕ) (c : ChannelState) → IsSound c → Moves c (confirm_turn recipient window packet c).channel [] (confirm_part recipient window packet c)
 confirm_moves recipient window packet c sound = confirmed_by (is_some (awaited_by (Some c))) recipient window packet c refl sound
 
--- while an exchange runs no bytes are sent
-
-ends_bytes : (may : Bool) (f : Flow) → bytes_in (if may then due_of f else []) ≡ []
-ends_bytes true f = due_bytes (is_due f.eof) (is_due f.close)
-ends_bytes false f = refl
-
-no_room : (h : Head) (f : Flow) → room_of true h f ≡ 0
+-- while an exchange runs there is room for no bytes
+pub no_room : (h : Head) (f : Flow) → room_of true h f ≡ 0
 no_room h f = ap (λ (b : Bool). if b && ltb 0 h.packet_size then f.window else 0) (and-false h.established)
-
-pub quiet_flush : (h : Head) (f : Flow) → bytes_in (flushed true h f).packets ≡ []
-unfolding flushed
-quiet_flush h f =
-    let empty : Flow = emptied (room_of true h f) f in
-    bytes-append (sent_of h.packet_size (room_of true h f) f.pending) (ends_of h empty)
-    ∙ ap (λ (ms : List (Stream × ℕ)). ms ++ bytes_in (ends_of h empty)) (ap (λ (r : ℕ). bytes_in (sent_of h.packet_size r f.pending)) (no_room h f) ∙ ap bytes_in (sent-nothing h.packet_size f.pending))
-    ∙ ends_bytes (may_end h empty) empty

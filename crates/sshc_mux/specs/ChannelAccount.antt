@@ -2,6 +2,7 @@
 -- granted (RFC 4254, sections 5.2 and 5.3). Lists and sums over the calls; the code keeps queues and windows, and no
 -- history.
 use Rattle.std.specs.Prelude.{◌≡◌, ℕ, ◌+◌, ◌-◌, min, sum, ◌≤◌, ◌⊎◌, Bool, true, false, not, ◌&&◌, ◌||◌, List, [], ◌∷◌, ◌++◌, length, Option, Some, None, is_some, Result, if◌then◌else◌, ◌==◌, ◌<◌}
+use Rattle.std.specs.List.{AllByRecursion}
 use Rattle.sshc_wire.specs.declared.error.NoMemory.{NoMemory}
 use Rattle.sshc_wire.specs.declared.ticket.Ticket.{Ticket}
 use Rattle.sshc_wire.specs.Outgoing.{Outgoing}
@@ -413,6 +414,16 @@ abbrev pub packets_in : List Said → List Packet
 packets_in [] = []
 packets_in (s ∷ said) = s.packet ∷ packets_in said
 
+-- a packet that isn't one of bytes
+abbrev pub IsNoData : Packet → Type 0
+IsNoData (Piece stream bytes) = ⊥
+IsNoData packet = Unit {0}
+
+-- any other call writes no packet of bytes
+abbrev pub ExchangesWriteNoData : Type 0
+ExchangesWriteNoData =
+    (call : Call) (t : TableState) → may_send call ≡ false → AllByRecursion IsNoData (packets_in (called call t).said)
+
 -- any other call sends no bytes
 abbrev pub ExchangesAreQuiet : Type 0
 ExchangesAreQuiet =
@@ -445,6 +456,7 @@ PacketsAreAddressed = (call : Call) (t : TableState) → IsLegal t → AllAddres
 -- what holds of every call
 pub record EachCallKeepsTheRules : Type 0 where
   pub quiet : ExchangesAreQuiet
+  pub silent : ExchangesWriteNoData
   pub addressed : PacketsAreAddressed
   pub numbers : NumbersGoOn
 

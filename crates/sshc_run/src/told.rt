@@ -46,6 +46,7 @@ fn error_name(alloc: Global, e: RunError) -> Result<String, NoMemory>
         RunError::RecvError => "recv-error",
         RunError::KeepaliveTimeout => "keepalive-timeout",
         RunError::InactivityTimeout => "inactivity-timeout",
+        RunError::RekeyKey => "rekey-key",
         RunError::Revoked { line } => return Ok(format!(in alloc; "revoked {line}")?),
     };
     Ok(format!(in alloc; "{name}")?)
@@ -96,6 +97,7 @@ fn error_status(e: RunError) -> u8
         RunError::KeepaliveTimeout => 39,
         RunError::InactivityTimeout => 40,
         RunError::Revoked { .. } => 42,
+        RunError::RekeyKey => 43,
     }
 }
 

@@ -74,6 +74,7 @@ module _ (hosts : Hosts) (w : SessionState) (frame : Frame) (event : Event) (rea
   refusal_shows b auths.RecvError is cause = (event, read, seen_so b auths.RecvError is cause)
   refusal_shows b auths.KeepaliveTimeout is cause = (event, read, seen_so b auths.KeepaliveTimeout is cause)
   refusal_shows b auths.InactivityTimeout is cause = (event, read, seen_so b auths.InactivityTimeout is cause)
+  refusal_shows b auths.RekeyKey is cause = (event, read, seen_so b auths.RekeyKey is cause)
   refusal_shows true e is cause = absurd cause
   refusal_shows false e is cause = absurd cause
 

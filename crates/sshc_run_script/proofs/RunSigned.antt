@@ -7,6 +7,7 @@ use Rattle.sshc_key.specs.Asking.{Answer, Asking, Always, Makes, done, asks, ask
 use Rattle.sshc_key.specs.AskingLaws.{always_makes}
 use Rattle.sshc_auth_event.specs.declared.event.Event.{Event}
 use Rattle.sshc_auth_event.specs.declared.event.Event.TheVariants as events
+use Rattle.sshc_transport.specs.declared.exchange.ExchangeKey.{ExchangeKey}
 use Rattle.sshc_transport.specs.declared.exchange.ExchangeResult.{ExchangeResult}
 use Rattle.sshc_auth.specs.declared.opening.Phase.{Phase}
 use Rattle.sshc_auth.specs.declared.opening.Phase.TheVariants as phases
@@ -16,6 +17,7 @@ use Rattle.sshc_auth.specs.declared.step.Told.{Told}
 use Rattle.sshc_auth.specs.declared.step.Told.TheVariants as telling
 use Rattle.sshc_auth.specs.GateLaw.{FirstNext, IsNoExchange, StaysFirst, first_law}
 use Rattle.sshc_auth.specs.KeepLaws.{Keeps, KeepsAsked, KeepsAsking, KeepsNext, KeepsState, open_keeps}
+use Rattle.sshc_auth.specs.OneKeyLaw.{HasKeyNext, HasKeyRow, later_row}
 use Rattle.sshc_auth.specs.OpeningState.{OpeningState, is_awaiting, shut}
 use Rattle.sshc_auth.specs.OpeningTable.{asked_of, open_row, plain_row, turn_row}
 use Rattle.sshc_auth.specs.OpeningTable.Exchange.{accepted_row, exchange_done_row, exchange_row_in}
@@ -26,6 +28,8 @@ use Rattle.sshc_auth.specs.SignedRuns.{IsAskedFor, IsHandedFor, IsSignedFor, ask
 use Rattle.sshc_client_packets.specs.HostKeyProof.{Accepts}
 use Rattle.sshc_client_table.specs.SessionState.{SessionState, is_open}
 use Rattle.sshc_client_table.specs.SessionTable.{session_row}
+use Rattle.sshc_client_table.specs.SessionRow.{Next as RowNext, goes as row_continues, ends as row_ends, refuses as row_refuses}
+use Rattle.sshc_client_table.specs.OneKeyLaw.{session_has}
 use Rattle.sshc_client.specs.Follows.{all_moves, default_opinions}
 use Rattle.sshc_client_state.specs.Start.{new_session}
 use Rattle.sshc_client_table.specs.NoRequests.{IsSameRequest, moves_request}
@@ -40,16 +44,17 @@ use Rattle.sshc_run_script.specs.KnownHosts.{Hosts, verdict}
 use Rattle.sshc_run_script.specs.Machine.{TurnOf, stop_next}
 use Rattle.sshc_run_script.specs.Part.{own_events}
 use Rattle.sshc_run_script.specs.SessionPart.{session_own}
-use Rattle.sshc_run_script.specs.SessionTurn.{SessionTurn, in_session, read_turn, session_turn, step_turn}
-use Rattle.sshc_run_script.specs.SignedRequests.{AreSigned, ComesBehind, behind, first_hash, or_hash}
+use Rattle.sshc_run_script.specs.SessionTurn.{SessionTurn, in_session, onward, read_turn, session_turn, step_turn}
+use Rattle.sshc_run_script.specs.SignedRequests.{AreSigned, ComesBehind, HasHostKey, behind, first_exchange, or_exchange}
 use Rattle.sshc_run_script.specs.Turn.{asked_turn, judged_turn, next_turn, row_turn}
 
 -- ---- what is true of a state, with the events before it
 
 record SignedSo (past : List Event) (o : OpeningState) : Type 0 where
   -- while the first exchange runs, no exchange was done
-  first : o.phase ≡ phases.Exchanging → IsFirst o × (first_hash past ≡ None)
-  session_id : o.phase ≢ phases.Exchanging → first_hash past ≡ Some o.session_id
+  first : o.phase ≡ phases.Exchanging → IsFirst o × (first_exchange past ≡ None)
+  session : o.phase ≢ phases.Exchanging → first_exchange past ≡ Some (o.session_id, o.host_key)
+  keys : o.phase ≢ phases.Exchanging → AllByRecursion (HasHostKey o.host_key) past
   asked : IsAskedFor past o.user o.method
 
 -- which phase it is
@@ -86,11 +91,15 @@ made_so k event (asks asked on) (call ∷ calls) row (by, signs, each) (is, make
 
 -- ---- the first exchange
 
+-- the session has the exchange's hash as its id, and its host key
+abbrev IsTaken : ExchangeResult → OpeningState → Type 0
+IsTaken x t = ◌≡◌ {A = List ℕ × ExchangeKey} (t.session_id, t.host_key) (x.session_hash, x.key)
+
 -- after an exchange that is done while the first one runs the session continues only if it is accepted, with its hash
--- as the session id
+-- as the session id and its host key
 abbrev TakesNext : ExchangeResult → Next → Type 0
-TakesNext x (stays t) = (t.session_id ≡ x.session_hash) × (t.phase ≢ phases.Exchanging)
-TakesNext x (opens t) = (t.session_id ≡ x.session_hash) × (t.phase ≢ phases.Exchanging)
+TakesNext x (stays t) = IsTaken x t × (t.phase ≢ phases.Exchanging)
+TakesNext x (opens t) = IsTaken x t × (t.phase ≢ phases.Exchanging)
 TakesNext x next = Unit {0}
 
 abbrev TakesRow : ExchangeResult → Row → Type 0
@@ -121,35 +130,72 @@ done_takes : (s : OpeningState) (x : ExchangeResult) (told : Told) → s.phase �
 unfolding open_row
 done_takes s x told first = cond_takes x (is_out_of_turn s (events.ExchangeDone x)) _ _ tt (turn_takes s x told (is_awaiting s.phase) refl first)
 
-no_hash : (event : Event) → IsNoExchange event → or_hash None event ≡ None
-no_hash (events.ExchangeDone x) never = absurd never
-no_hash event none = refl
+no_exchange : (event : Event) → IsNoExchange event → or_exchange None event ≡ None
+no_exchange (events.ExchangeDone x) never = absurd never
+no_exchange event none = refl
 
 -- the opening's next state while the first exchange runs
-first_next : (past : List Event) (s : OpeningState) (event : Event) (told : Told) (calls : List SignCall) (row : Row) (t : OpeningState) → IsFirst s → first_hash past ≡ None → Makes (open_row s event told) calls row →
-    (row.next ≡ stays t) ⊎ (row.next ≡ opens t) → (t.phase ≡ phases.Exchanging → IsFirst t × (first_hash (event ∷ past) ≡ None)) × (t.phase ≢ phases.Exchanging → first_hash (event ∷ past) ≡ Some t.session_id)
+first_next : (past : List Event) (s : OpeningState) (event : Event) (told : Told) (calls : List SignCall) (row : Row) (t : OpeningState) → IsFirst s → first_exchange past ≡ None → Makes (open_row s event told) calls row →
+    (row.next ≡ stays t) ⊎ (row.next ≡ opens t) → (t.phase ≡ phases.Exchanging → IsFirst t × (first_exchange (event ∷ past) ≡ None)) × (t.phase ≢ phases.Exchanging → first_exchange (event ∷ past) ≡ Some (t.session_id, t.host_key))
 first_next past s (events.ExchangeDone x) told calls row t first none makes next = by next
   where
     takes : TakesRow x row
     takes = always_makes (TakesRow x) (open_row s (events.ExchangeDone x) told) calls row (done_takes s x told first.exchanging) makes
 
-    found : or_hash (first_hash past) (events.ExchangeDone x) ≡ Some x.session_hash
+    found : or_exchange (first_exchange past) (events.ExchangeDone x) ≡ Some (x.session_hash, x.key)
     found = rw none refl
 
-    so : (t.session_id ≡ x.session_hash) × (t.phase ≢ phases.Exchanging) → (t.phase ≡ phases.Exchanging → IsFirst t × (first_hash (events.ExchangeDone x ∷ past) ≡ None)) × (t.phase ≢ phases.Exchanging → first_hash (events.ExchangeDone x ∷ past) ≡ Some t.session_id)
-    so taken = ((λ same. absurd (taken.1 same)), λ other. found ∙ ap (λ (h : List ℕ). Some h) (sym taken.0))
+    so : IsTaken x t × (t.phase ≢ phases.Exchanging) → (t.phase ≡ phases.Exchanging → IsFirst t × (first_exchange (events.ExchangeDone x ∷ past) ≡ None)) × (t.phase ≢ phases.Exchanging → first_exchange (events.ExchangeDone x ∷ past) ≡ Some (t.session_id, t.host_key))
+    so taken = ((λ same. absurd (taken.1 same)), λ other. found ∙ ap (λ (h : List ℕ × ExchangeKey). Some h) (sym taken.0))
 
-    by : (row.next ≡ stays t) ⊎ (row.next ≡ opens t) → (t.phase ≡ phases.Exchanging → IsFirst t × (first_hash (events.ExchangeDone x ∷ past) ≡ None)) × (t.phase ≢ phases.Exchanging → first_hash (events.ExchangeDone x ∷ past) ≡ Some t.session_id)
+    by : (row.next ≡ stays t) ⊎ (row.next ≡ opens t) → (t.phase ≡ phases.Exchanging → IsFirst t × (first_exchange (events.ExchangeDone x ∷ past) ≡ None)) × (t.phase ≢ phases.Exchanging → first_exchange (events.ExchangeDone x ∷ past) ≡ Some (t.session_id, t.host_key))
     by (inl is) = so (subst (TakesNext x) is takes)
     by (inr is) = so (subst (TakesNext x) is takes)
 first_next past s event told calls row t first none makes next = by next (always_makes (StaysFirst event) (open_row s event told) calls row (first_law s event told first (λ never. never)) makes).1
   where
-    goes : IsFirst t × IsNoExchange event → (t.phase ≡ phases.Exchanging → IsFirst t × (first_hash (event ∷ past) ≡ None)) × (t.phase ≢ phases.Exchanging → first_hash (event ∷ past) ≡ Some t.session_id)
-    goes on = ((λ same. (on.0, ap (λ (h : Option (List ℕ)). or_hash h event) none ∙ no_hash event on.1)), λ other. absurd (other on.0.exchanging))
+    goes : IsFirst t × IsNoExchange event → (t.phase ≡ phases.Exchanging → IsFirst t × (first_exchange (event ∷ past) ≡ None)) × (t.phase ≢ phases.Exchanging → first_exchange (event ∷ past) ≡ Some (t.session_id, t.host_key))
+    goes on = ((λ same. (on.0, ap (λ (h : Option (List ℕ × ExchangeKey)). or_exchange h event) none ∙ no_exchange event on.1)), λ other. absurd (other on.0.exchanging))
 
-    by : (row.next ≡ stays t) ⊎ (row.next ≡ opens t) → FirstNext event row.next → (t.phase ≡ phases.Exchanging → IsFirst t × (first_hash (event ∷ past) ≡ None)) × (t.phase ≢ phases.Exchanging → first_hash (event ∷ past) ≡ Some t.session_id)
+    by : (row.next ≡ stays t) ⊎ (row.next ≡ opens t) → FirstNext event row.next → (t.phase ≡ phases.Exchanging → IsFirst t × (first_exchange (event ∷ past) ≡ None)) × (t.phase ≢ phases.Exchanging → first_exchange (event ∷ past) ≡ Some (t.session_id, t.host_key))
     by (inl is) on = goes (subst (FirstNext event) is on)
     by (inr is) on = absurd (subst (FirstNext event) is on)
+
+-- no exchange was done until the first
+not_done : (event : Event) (key : ExchangeKey) → or_exchange None event ≡ None → HasHostKey key event
+not_done (events.ExchangeDone x) key none = absurd cc
+not_done event key none = tt
+
+none_before : (before : Option (List ℕ × ExchangeKey)) (event : Event) (key : ExchangeKey) → or_exchange before event ≡ None → (before ≡ None) × HasHostKey key event
+none_before (Some first) event key none = absurd cc
+none_before None event key none = (refl, not_done event key none)
+
+none_done : (past : List Event) (key : ExchangeKey) → first_exchange past ≡ None → AllByRecursion (HasHostKey key) past
+none_done [] key none = tt
+none_done (event ∷ past) key none = let one = none_before (first_exchange past) event key none in (one.1, none_done past key one.0)
+
+-- behind the first exchange its host key is the session's
+first_has : (s : OpeningState) (event : Event) (told : Told) (calls : List SignCall) (row : Row) (t : OpeningState) → IsFirst s → Makes (open_row s event told) calls row → (row.next ≡ stays t) ⊎ (row.next ≡ opens t) → HasHostKey t.host_key event
+first_has s (events.ExchangeDone x) told calls row t first makes next = by next
+  where
+    takes : TakesRow x row
+    takes = always_makes (TakesRow x) (open_row s (events.ExchangeDone x) told) calls row (done_takes s x told first.exchanging) makes
+
+    by : (row.next ≡ stays t) ⊎ (row.next ≡ opens t) → x.key ≡ t.host_key
+    by (inl is) = sym (ap (λ (p : List ℕ × ExchangeKey). p.1) (subst (TakesNext x) is takes).0)
+    by (inr is) = sym (ap (λ (p : List ℕ × ExchangeKey). p.1) (subst (TakesNext x) is takes).0)
+first_has s event told calls row t first makes next = tt
+
+-- and a later one has it too
+later_has : (s : OpeningState) (event : Event) (told : Told) (calls : List SignCall) (row : Row) (t : OpeningState) → s.phase ≢ phases.Exchanging → Makes (open_row s event told) calls row → (row.next ≡ stays t) ⊎ (row.next ≡ opens t) → HasHostKey s.host_key event
+later_has s (events.ExchangeDone x) told calls row t later makes next = by next
+  where
+    has : HasKeyRow s x row
+    has = always_makes (HasKeyRow s x) (open_row s (events.ExchangeDone x) told) calls row (later_row s x told later) makes
+
+    by : (row.next ≡ stays t) ⊎ (row.next ≡ opens t) → x.key ≡ s.host_key
+    by (inl is) = (subst (HasKeyNext s x) is has).0
+    by (inr is) = (subst (HasKeyNext s x) is has).0
+later_has s event told calls row t later makes next = tt
 
 early_opens : (s : OpeningState) (event : Event) (told : Told) (calls : List SignCall) (row : Row) (t : OpeningState) → IsFirst s → Makes (open_row s event told) calls row → row.next ≡ opens t → t.phase ≢ phases.Exchanging
 early_opens s (events.ExchangeDone x) told calls row t first makes is = (subst (TakesNext x) is (always_makes (TakesRow x) (open_row s (events.ExchangeDone x) told) calls row (done_takes s x told first.exchanging) makes)).1
@@ -172,17 +218,25 @@ module _ (past : List Event) (s : OpeningState) (event : Event) (so : SignedSo p
       by (Early early) =
           let here = so.first early in
           let on = first_next past s event told calls row t here.0 here.1 makes next in
-          record { first = on.0; session_id = on.1; asked = asked }
+          record {
+            first = on.0;
+            session = on.1;
+            keys = λ other. (first_has s event told calls row t here.0 makes next, none_done past t.host_key here.1);
+            asked = asked;
+          }
       by (Later later) =
           let kept = keeps.0 later in
           record {
             first = λ same. absurd (kept.1 same);
-            session_id = λ other. ap (λ (h : Option (List ℕ)). or_hash h event) (so.session_id later) ∙ ap (λ (h : List ℕ). Some h) (sym kept.0);
+            session = λ other. ap (λ (h : Option (List ℕ × ExchangeKey)). or_exchange h event) (so.session later) ∙ ap (λ (h : List ℕ × ExchangeKey). Some h) (sym kept.0);
+            keys = λ other.
+                subst (λ (key : ExchangeKey). AllByRecursion (HasHostKey key) (event ∷ past)) (sym (ap (λ (p : List ℕ × ExchangeKey). p.1) kept.0))
+                (later_has s event told calls row t later makes next, so.keys later);
             asked = asked;
           }
 
   shut_so : (t : OpeningState) → t.phase ≢ phases.Exchanging → SignedSo (event ∷ past) t → SignedSo (event ∷ past) (shut t)
-  shut_so t later signed = record { first = λ same. absurd (later same); session_id = signed.session_id; asked = signed.asked }
+  shut_so t later signed = record { first = λ same. absurd (later same); session = signed.session; keys = signed.keys; asked = signed.asked }
 
   opens_later : (told : Told) (calls : List SignCall) (row : Row) (t : OpeningState) → Makes (open_row s event told) calls row → row.next ≡ opens t → KeepsState (kept_of s) event t → t.phase ≢ phases.Exchanging
   opens_later told calls row t makes is keeps = by (stage_of s.phase)
@@ -247,13 +301,29 @@ open_later : (phase : Phase) → is_open phase ≡ true → phase ≢ phases.Exc
 open_later phases.Exchanging is = absurd cc
 open_later phase is = λ same. absurd cc
 
+both : {A B : Type 0} {a c : A} {b d : B} → a ≡ c → b ≡ d → ◌≡◌ {A = A × B} (a, b) (c, d)
+both one other = rw (one, other) refl
+
 -- moves of an open session don't change it
-moved_so : (past : List Event) (event : Event) (old new : OpeningState) → old.phase ≢ phases.Exchanging → SignedSo past old → IsSameRequest old new → SignedSo (event ∷ past) new
-moved_so past event old new later so same = record {
+moved_so : (past : List Event) (event : Event) (old new : OpeningState) → old.phase ≢ phases.Exchanging → HasHostKey old.host_key event → SignedSo past old → IsSameRequest old new → SignedSo (event ∷ past) new
+moved_so past event old new later has so same = record {
   first = λ first. absurd (later (sym same.phase ∙ first));
-  session_id = λ other. ap (λ (h : Option (List ℕ)). or_hash h event) (so.session_id later) ∙ ap (λ (h : List ℕ). Some h) (sym same.session_id);
+  session = λ other. ap (λ (h : Option (List ℕ × ExchangeKey)). or_exchange h event) (so.session later) ∙ ap (λ (h : List ℕ × ExchangeKey). Some h) (sym (both same.session_id same.host_key));
+  keys = λ other. subst (λ (key : ExchangeKey). AllByRecursion (HasHostKey key) (event ∷ past)) (sym same.host_key) (has, so.keys later);
   asked = asked_next old event past new so.asked (inl (same.user, inl same.method));
 }
+
+-- an open session goes on behind an exchange only with its host key
+row_goes : (place : ℕ) (next : RowNext) → stop_next (onward place next) ≡ None → next ≡ row_continues
+row_goes place row_continues on = refl
+row_goes place (row_ends e) on = absurd cc
+row_goes place (row_refuses e) on = absurd cc
+
+open_has : (hosts : Hosts) (accepts : Accepts) (place : ℕ) (s : SessionState) (event : Event) → stop_next (onward place (session_row accepts (default_opinions s) s event).next) ≡ None → HasHostKey s.opening.host_key event
+open_has hosts accepts place s (events.ExchangeDone x) on =
+    let row = session_row accepts (default_opinions s) s (events.ExchangeDone x) in
+    (session_has accepts (default_opinions s) s x (row_goes place row.next on)).0
+open_has hosts accepts place s event on = tt
 
 step_so : (open_now : Bool) (hosts : Hosts) (accepts : Accepts) (place : ℕ) (past : List Event) (s : SessionState) (event : Event) (calls : List SignCall) (t : SessionTurn) → is_open s.opening.phase ≡ open_now → SignedSo past s.opening →
     Makes (step_turn open_now hosts accepts place s event) calls t → StepSo past (Ok event) s calls t
@@ -265,7 +335,7 @@ step_so true hosts accepts place past s event [] t is so makes =
     let moves = all_moves (session_row accepts (default_opinions s) s event) in
     subst (StepSo past (Ok event) s []) makes
     (record {
-      goes = λ goes. moved_so past event s.opening _ (open_later s.opening.phase is) so (moves_request moves s);
+      goes = λ on. moved_so past event s.opening _ (open_later s.opening.phase is) (open_has hosts accepts place s event on) so (moves_request moves s);
       asked = tt;
       handed = λ unopened. let clash : true ≡ false = sym is ∙ unopened in absurd cc;
     })
@@ -299,12 +369,14 @@ pub signed_along : (hosts : Hosts) (accepts : Accepts) (settings : RunSettings) 
 signed_along hosts accepts settings max answers script = λ bytes is past s frame comes.
     let begins : SignedSo [] (new_session settings.session settings.opening).opening = record {
       first = λ same. (record { exchanging = refl; runs = λ idle. absurd cc; fresh = refl }, refl);
-      session_id = λ other. absurd (other refl);
+      session = λ other. absurd (other refl);
+      keys = λ other. absurd (other refl);
       asked = tt;
     } in
     let so = comes_so hosts accepts (own_events session_own (taken max bytes)) [] (new_session settings.session settings.opening) answers past s frame begins comes in
     record {
-      session_id = so.session_id;
+      session = so.session;
+      key = so.keys;
       asked = λ gained t makes. (turn_so hosts accepts past s frame gained t so makes).asked;
       handed = λ gained t unopened makes. (turn_so hosts accepts past s frame gained t so makes).handed unopened;
     }

@@ -52,7 +52,7 @@ module _ (hosts : Hosts) (accepts : Accepts) where
   step_says true place s event is =
       let row : SessionRow = session_row accepts (default_opinions s) s event in
       let holds : RowHolds (open_why s event) row = session_holds accepts (default_opinions s) s event is in
-      says_own (said_by (all_moves row) s) (said_session (all_moves row) s (all_keep (open_why s event) row Accept holds))
+      says_own (said_by (all_moves row) s) (said_session (all_moves row) s (all_keep s event row Accept holds))
   step_says false place s event is =
       always_on (TurnLeaves s.opening.closed) SaysOwn (in_session s) (asked_turn hosts place s.opening event (asked_of s.opening event)) (λ t so. says_own t.records so.1)
       (asked_leaves hosts place s.opening is event (asked_of s.opening event))

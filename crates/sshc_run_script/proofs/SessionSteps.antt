@@ -201,7 +201,7 @@ module _ (accepts : Accepts) (place : ℕ) (event : Event) (was is : Lent) (resu
   ready_on : is.session ≡ when_done (all_moves followed) was.session → IsReady (emptied is.session)
   ready_on same =
       let holds : RowHolds (open_why was.session event) followed = session_holds accepts (default_opinions was.session) was.session event on in
-      let kept = moves_keep (all_moves followed) was.session (all_keep (open_why was.session event) followed Accept holds) in
+      let kept = moves_keep (all_moves followed) was.session (all_keep was.session event followed Accept holds) in
       let phase : is_open is.session.opening.phase ≡ true = ap (λ (x : SessionState). is_open x.opening.phase) same ∙ ap is_open kept.phase ∙ on in
       record {
         runs = ap (λ (x : SessionState). x.life) same ∙ kept.life ∙ ready.runs;

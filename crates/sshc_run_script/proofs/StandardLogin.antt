@@ -68,7 +68,7 @@ abbrev pub exchanging : OpeningState
 exchanging = record (start default_settings) { flag = flags.Peer }
 
 abbrev pub in_service : OpeningState
-in_service = record (start default_settings) { phase = phases.Service; flag = flags.Idle; session_id = codes "session-id" }
+in_service = record (start default_settings) { phase = phases.Service; flag = flags.Idle; session_id = codes "session-id"; host_key = login_exchange.key }
 
 abbrev requested : OpeningState
 requested = record in_service { requested = true; ticket = record { 0 = 1 }; user = codes "alice"; method = Some (Password (codes "pw")) }

@@ -66,7 +66,7 @@ module _ (hosts : Hosts) (accepts : Accepts) (w : SessionState) (frame : Frame) 
   -- the phase hasn't changed after the row's moves
   row_unclosed : (row : SessionRow) → is_open w.opening.phase ≡ true → RowHolds (open_why w event) row → IsUnclosed (row_turn frame.place w row).state
   row_unclosed row is holds =
-      let kept = moves_keep (all_moves row) w (all_keep (open_why w event) row Accept holds) in
+      let kept = moves_keep (all_moves row) w (all_keep w event row Accept holds) in
       open_unclosed (row_turn frame.place w row).state (ap is_open kept.phase ∙ is)
 
   abbrev ShowsSo : SessionTurn → Type 0

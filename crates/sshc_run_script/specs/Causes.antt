@@ -78,6 +78,7 @@ IsEventCause hosts s frame errors.InvalidDisconnect = IsRefusedBy hosts s frame 
 IsEventCause hosts s frame errors.RecvError = IsRefusedBy hosts s frame auths.RecvError
 IsEventCause hosts s frame errors.KeepaliveTimeout = IsRefusedBy hosts s frame auths.KeepaliveTimeout
 IsEventCause hosts s frame errors.InactivityTimeout = IsRefusedBy hosts s frame auths.InactivityTimeout
+IsEventCause hosts s frame errors.RekeyKey = IsRefusedBy hosts s frame auths.RekeyKey
 IsEventCause hosts s frame e = ⊥
 
 -- why a run stops with an event of the session: the event is refused, or it ends the session

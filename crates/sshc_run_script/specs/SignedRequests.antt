@@ -9,6 +9,7 @@ use Rattle.sshc_auth_event.specs.declared.event.Event.{Event}
 use Rattle.sshc_auth_event.specs.declared.event.Event.TheVariants as events
 use Rattle.sshc_auth_event.specs.declared.method.Method.{Method}
 use Rattle.sshc_auth_event.specs.declared.method.Method.TheVariants as methods
+use Rattle.sshc_transport.specs.declared.exchange.ExchangeKey.{ExchangeKey}
 use Rattle.sshc_auth.specs.declared.opening.Phase.TheVariants as phases
 use Rattle.sshc_auth.specs.SignedRuns.{IsHandedFor, IsSignedFor}
 use Rattle.sshc_client_packets.specs.HostKeyProof.{Accepts}
@@ -31,15 +32,20 @@ abbrev pub behind : Result Event EventError → List Event → List Event
 behind (Ok event) past = event ∷ past
 behind (Err e) past = past
 
--- the hash of the first exchange that was done among them
-abbrev pub or_hash : Option (List ℕ) → Event → Option (List ℕ)
-or_hash (Some hash) event = Some hash
-or_hash None (events.ExchangeDone x) = Some x.session_hash
-or_hash None event = None
+-- the hash and the host key of the first exchange that was done among them
+abbrev pub or_exchange : Option (List ℕ × ExchangeKey) → Event → Option (List ℕ × ExchangeKey)
+or_exchange (Some first) event = Some first
+or_exchange None (events.ExchangeDone x) = Some (x.session_hash, x.key)
+or_exchange None event = None
 
-abbrev pub first_hash : List Event → Option (List ℕ)
-first_hash [] = None
-first_hash (event ∷ past) = or_hash (first_hash past) event
+abbrev pub first_exchange : List Event → Option (List ℕ × ExchangeKey)
+first_exchange [] = None
+first_exchange (event ∷ past) = or_exchange (first_exchange past) event
+
+-- an event that is an exchange has this host key
+abbrev pub HasHostKey : ExchangeKey → Event → Type 0
+HasHostKey key (events.ExchangeDone x) = x.key ≡ key
+HasHostKey key event = Unit {0}
 
 -- ---- over a run
 
@@ -53,8 +59,10 @@ ComesBehind hosts accepts past s (frame ∷ frames) answers past' s' frame' =
     × (stop_next t.next ≡ None) × ComesBehind hosts accepts (behind (event_of frame.kind frame.fields) past) t.state frames left past' s' frame')
 
 pub record IsSignedAt (hosts : Hosts) (accepts : Accepts) (past : List Event) (s : SessionState) (frame : Frame) : Type 0 where
-  -- after the first exchange its hash is the session id
-  pub session_id : s.opening.phase ≢ phases.Exchanging → first_hash past ≡ Some s.opening.session_id
+  -- after the first exchange its hash is the session id, and its host key the session's
+  pub session : s.opening.phase ≢ phases.Exchanging → first_exchange past ≡ Some (s.opening.session_id, s.opening.host_key)
+  -- and each exchange that was done had it
+  pub key : s.opening.phase ≢ phases.Exchanging → AllByRecursion (HasHostKey s.opening.host_key) past
   -- the signer is asked for the signed text of the session id and of a request among the events
   pub asked : (gained : List SignCall) (t : SessionTurn) → Makes (session_turn hosts accepts s frame) gained t → AllByRecursion (IsSignedFor s.opening.session_id past) gained
   -- the bytes that are output to be signed, until the session is open, are such a text too

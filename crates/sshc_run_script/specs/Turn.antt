@@ -42,6 +42,7 @@ error_of place auths.InvalidDisconnect = errors.InvalidDisconnect
 error_of place auths.RecvError = errors.RecvError
 error_of place auths.KeepaliveTimeout = errors.KeepaliveTimeout
 error_of place auths.InactivityTimeout = errors.InactivityTimeout
+error_of place auths.RekeyKey = errors.RekeyKey
 error_of place e = errors.Inconsistent
 
 -- a refusal of the known hosts text; the judgement returns no others than these

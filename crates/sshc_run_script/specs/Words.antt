@@ -58,6 +58,7 @@ error_name errors.RecvError = codes "recv-error"
 error_name errors.KeepaliveTimeout = codes "keepalive-timeout"
 error_name errors.InactivityTimeout = codes "inactivity-timeout"
 error_name (errors.Revoked line) = codes "revoked " ++ decimal line
+error_name errors.RekeyKey = codes "rekey-key"
 
 -- the line that reports a result
 abbrev pub answer_line : Result Ended RunError → List ℕ
@@ -88,6 +89,7 @@ error_status errors.RecvError = 38
 error_status errors.KeepaliveTimeout = 39
 error_status errors.InactivityTimeout = 40
 error_status (errors.Revoked line) = 42
+error_status errors.RekeyKey = 43
 
 abbrev pub status_of : Result Ended RunError → ℕ
 status_of (Ok e) = 0

@@ -71,4 +71,7 @@ pub enum RunError {
     /// A line of the known hosts text revokes the host key.
     #[error("Revoked")]
     Revoked { line: u64 },
+    /// A later exchange has another host key than the first.
+    #[error("RekeyKey")]
+    RekeyKey,
 }

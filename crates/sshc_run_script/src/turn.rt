@@ -46,6 +46,7 @@ fn error_at(place: u64, e: Error) -> RunError
         Error::RecvError => RunError::RecvError,
         Error::KeepaliveTimeout => RunError::KeepaliveTimeout,
         Error::InactivityTimeout => RunError::InactivityTimeout,
+        Error::RekeyKey => RunError::RekeyKey,
         // Errors of the handle's calls, which no step returns.
         Error::WrongServerSig
         | Error::RequestDenied

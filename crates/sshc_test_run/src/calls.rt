@@ -223,12 +223,26 @@ fn tells_exchange(out: &mut Outbox) -> bool {
     is_so
 }
 
-/// Whether an opening whose exchange is accepted asks for the user, in the session of that exchange.
+/// Whether the opening has the host key of the event's exchange.
+fn has_key_of(opening: &Opening, event: &Event) -> bool {
+    match event {
+        Event::ExchangeDone(done) => {
+            opening.has_kept_key(done) && *opening.host_key() == done.key
+        }
+        _ => false,
+    }
+}
+
+/// Whether an opening whose exchange is accepted asks for the user, in the session of that exchange and with its host key,
+/// which was missing before.
 fn asks_for_user(alloc: Global, exchange: &Event) -> bool {
     let mut out = Outbox::new(alloc);
     let mut opening = Opening::new(alloc, 2_097_152, false, false);
+    let had_none = matches!(opening.host_key(), ExchangeKey::Missing);
     open_service(&mut opening, alloc, exchange, &mut out);
-    opening.phase() == Phase::Service
+    had_none
+        && has_key_of(&opening, exchange)
+        && opening.phase() == Phase::Service
         && opening.session_id() == b"session-id".as_slice()
         && tells_exchange(&mut out)
 }

@@ -2,7 +2,6 @@
 use Rattle.std.specs.Prelude.{ℕ, ◌+◌, ◌++◌, nat_le, Bool, List, if◌then◌else◌}
 use Rattle.sshc_auth.specs.declared.error.Error.TheVariants.{Inconsistent}
 use Rattle.sshc_auth.specs.declared.extension.Extension.{Extension}
-use Rattle.sshc_auth.specs.declared.extension.TheConstants.{MOST_EXT_INFOS}
 use Rattle.sshc_auth.specs.Extensions.{extensions_at, answers_to, still_waiting, last_listed, names_of}
 use Rattle.sshc_auth.specs.OpeningState.{OpeningState}
 use Rattle.sshc_auth.specs.Row.{Row, goes, refused, with_part, broken_row, ends_at}
@@ -18,7 +17,7 @@ extensions_row s extensions = goes (answers_to extensions s.waiters) (record s {
 
 -- a server sends two of them at most
 abbrev pub is_third : OpeningState → Bool
-is_third s = nat_le MOST_EXT_INFOS s.ext_infos
+is_third s = nat_le 2 s.ext_infos
 
 -- 7, EXT_INFO (RFC 8308, section 2.3): the extensions' number and the extensions, end; who waited for one resolves as
 -- ExtInfoSeen

@@ -1,8 +1,9 @@
 //! What an event's row asks of the gate.
 
-ghost use Rattle.std.specs.Prelude.{◌≡◌, IfOk, false};
+ghost use Rattle.std.specs.Prelude.{◌≡◌, IfOk, false, if◌then◌else◌};
 ghost use Rattle.sshc_auth.specs.AskedLaws.{is_banner, may_ask};
 ghost use Rattle.sshc_auth.specs.OpeningTable.{asked_of, exchange_asks, banner_asks, is_held_back, number_asks, packet_asks};
+ghost use Rattle.sshc_auth.specs.OpeningTable.Exchange.{has_kept_key};
 
 use super::{Opening, Phase};
 use crate::step::Asks;
@@ -56,14 +57,25 @@ impl Opening {
     }
 
     fn exchange_asks(&self, exchange: &ExchangeResult) -> Result<Asks, NoMemory>
-        ensures { IfOk result (λ a. a ≡ exchange_asks self.now.phase exchange.now) }
+        ensures { IfOk result (λ a. a ≡ exchange_asks self.now.phase self.now exchange.now) }
     {
         match self.phase {
             Phase::Exchanging => match host_key_of(self.alloc, &exchange.key)? {
                 Some(key) => Ok(Asks::HostKey(key)),
                 None => Ok(Asks::Nothing),
             },
-            _ => Ok(Asks::Exchange),
+            _ => self.later_asks(exchange),
+        }
+    }
+
+    /// A later exchange asks for no key, and for nothing where its host key isn't the first exchange's.
+    fn later_asks(&self, exchange: &ExchangeResult) -> Result<Asks, NoMemory>
+        ensures { IfOk result (λ a. a ≡ (if has_kept_key self.now exchange.now then Asks.Exchange else Asks.Nothing)) }
+    {
+        if self.has_kept_key(exchange) {
+            Ok(Asks::Exchange)
+        } else {
+            Ok(Asks::Nothing)
         }
     }
 

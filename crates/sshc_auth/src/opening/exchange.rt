@@ -7,7 +7,8 @@ ghost use Rattle.sshc_auth.specs.OpeningTable.Exchange.{peer_kexinit_row, exchan
 use super::{Opening, Phase};
 use crate::error::Error;
 use crate::step::{Flow, Told};
-use sshc_transport::{ExchangeFlag, ExchangeResult};
+use sshc_auth_event::copied_host_key;
+use sshc_transport::{ExchangeFlag, ExchangeKey, ExchangeResult};
 use sshc_wire::{Octets, Outbox, Record};
 
 impl Opening {
@@ -61,24 +62,27 @@ impl Opening {
             return Err(Error::UnknownKey);
         }
         let session_id = exchange.session_hash.copy()?;
+        let host_key = copied_host_key(&exchange.key)?;
         let kex = exchange.names.kex().copy()?;
         let kex = Record::KexDone { kex };
         if self.settings.anonymous {
             out.push_both(Some(kex), Some(Record::Opened))?;
-            self.accepted(session_id, Phase::Open);
+            self.accepted(session_id, host_key, Phase::Open);
             Ok(Flow::Opened)
         } else {
             out.push(kex)?;
-            self.accepted(session_id, Phase::Service);
+            self.accepted(session_id, host_key, Phase::Service);
             Ok(Flow::Went)
         }
     }
 
-    /// Stores the session id, and continues in this phase.
-    fn accepted(&mut self, session_id: Octets, phase: Phase)
-        ensures { self.new ≡ record (exchanged self.old) { session_id = session_id; phase = phase } }
+    /// Stores the session id and the host key, and continues in this phase.
+    fn accepted(&mut self, session_id: Octets, host_key: ExchangeKey, phase: Phase)
+        ensures { self.new ≡ record (exchanged self.old)
+            { session_id = session_id; host_key = host_key; phase = phase } }
     {
         self.session_id = session_id;
+        self.host_key = host_key;
         self.exchanged();
         self.phase = phase;
     }
@@ -91,11 +95,15 @@ impl Opening {
         self.pending.reset();
     }
 
-    /// A later exchange keeps the session id, and its host key isn't judged.
+    /// A later exchange keeps the session id; its host key isn't judged, and is refused where it isn't the first
+    /// exchange's.
     fn later_exchange(&mut self, exchange: &ExchangeResult, out: &mut Outbox) -> Result<Flow, Error>
         ensures row { Follows (later_exchange_row self.old exchange.now)
             (span self.old self.new out.old out.new) result }
     {
+        if !self.has_kept_key(exchange) {
+            return Err(Error::RekeyKey);
+        }
         let kex = exchange.names.kex().copy()?;
         out.push(Record::KexDone { kex })?;
         self.exchanged();

@@ -3,7 +3,6 @@
 ghost use Rattle.std.specs.Prelude.{◌≡◌, ◌<◌};
 ghost use Rattle.sshc_auth.specs.OpeningTable.ExtInfo.{ext_info_row, extensions_row, is_third};
 ghost use Rattle.sshc_auth.specs.Row.{Follows, span};
-ghost use Rattle.sshc_auth.specs.declared.extension.TheConstants.{MOST_EXT_INFOS as most};
 
 use super::Opening;
 use crate::error::Error;
@@ -35,7 +34,7 @@ impl Opening {
 
     /// Takes the extensions in order, and resolves the tickets of those who waited for them. What can fail comes first.
     fn announce(&mut self, extensions: List<Extension>, out: &mut Outbox) -> Result<Flow, Error>
-        requires { self.old.ext_infos < most }
+        requires { self.old.ext_infos < 2 }
         ensures row { Follows (extensions_row self.old extensions) (span self.old self.new out.old out.new) result }
     {
         let extensions = extensions.into_vec();

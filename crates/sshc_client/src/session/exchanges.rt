@@ -1,9 +1,10 @@
 //! An exchange that is done in an open session (RFC 4253, section 7).
 
-ghost use Rattle.std.specs.Prelude.{◌≡◌, [], ◌∷◌, Ok, option_copied};
+ghost use Rattle.std.specs.Prelude.{◌≡◌, true, [], ◌∷◌, Ok, option_copied};
 ghost use Rattle.sshc_wire.specs.declared.record.Record.TheVariants.{KexDone as KexDoneRecord};
 ghost use Rattle.sshc_client_table.specs.Moves.{Does, Resumes, Tells};
-ghost use Rattle.sshc_client_table.specs.SessionTable.Exchanges.{exchange_done_row};
+ghost use Rattle.sshc_client_table.specs.SessionTable.Exchanges.{exchange_done_row, later_exchange_row};
+ghost use Rattle.sshc_auth.specs.OpeningTable.Exchange.{has_kept_key};
 ghost use Rattle.sshc_client.specs.Handling.{handler_at};
 ghost use Rattle.sshc_client.specs.HandledRow.{Calls, FollowsOne};
 
@@ -25,7 +26,7 @@ pub(super) fn secret_of(exchange: &ExchangeResult) -> Option<&[u8]>
 }
 
 impl Session {
-    /// An exchange is done. Its key isn't judged.
+    /// An exchange is done.
     #[tactic(auto, using(crate::proofs::HandlerLemmas::ran_out_with, crate::proofs::HandlerLemmas::refused_with))]
     pub(super) fn exchange_done<H: Handler>(
         &mut self,
@@ -35,13 +36,33 @@ impl Session {
         ensures { FollowsOne H.keeps_defaults
             (handler_at (H.refusals handler.old) (H.setting handler.old))
             (handler_at (H.refusals handler.new) (H.setting handler.new))
-            (exchange_done_row self.old.opening.flag exchange.now) self.old self.new result }
+            (exchange_done_row self.old.opening.flag (has_kept_key self.old.opening exchange.now) exchange.now)
+            self.old self.new result }
     {
         let flag = self.connection.opening().flag();
         match flag {
             ExchangeFlag::Idle => Err(Stop::Own(Error::OutOfTurn)),
             ExchangeFlag::Ours => Err(Stop::Own(Error::OutOfTurn)),
-            ExchangeFlag::Peer => self.go_on_behind(exchange, handler),
+            ExchangeFlag::Peer => self.later_exchange(exchange, handler),
+        }
+    }
+
+    /// The host key isn't judged again, and is refused where it isn't the first exchange's.
+    #[tactic(auto, using(crate::proofs::HandlerLemmas::refused_with))]
+    fn later_exchange<H: Handler>(
+        &mut self,
+        exchange: &ExchangeResult,
+        handler: &mut H,
+    ) -> Result<Flow, Stop<H::Error>>
+        ensures { FollowsOne H.keeps_defaults
+            (handler_at (H.refusals handler.old) (H.setting handler.old))
+            (handler_at (H.refusals handler.new) (H.setting handler.new))
+            (later_exchange_row (has_kept_key self.old.opening exchange.now) exchange.now) self.old self.new result }
+    {
+        let same = self.connection.opening().has_kept_key(exchange);
+        match same {
+            true => self.go_on_behind(exchange, handler),
+            false => Err(Stop::Own(Error::RekeyKey)),
         }
     }
 
@@ -54,7 +75,7 @@ impl Session {
         ensures { FollowsOne H.keeps_defaults
             (handler_at (H.refusals handler.old) (H.setting handler.old))
             (handler_at (H.refusals handler.new) (H.setting handler.new))
-            (exchange_done_row ExchangeFlag.Peer exchange.now) self.old self.new result }
+            (later_exchange_row true exchange.now) self.old self.new result }
     {
         let kex = exchange.names.kex().copy()?;
         self.go_on_with(kex, exchange, handler)
@@ -72,7 +93,7 @@ impl Session {
         ensures { FollowsOne H.keeps_defaults
             (handler_at (H.refusals handler.old) (H.setting handler.old))
             (handler_at (H.refusals handler.new) (H.setting handler.new))
-            (exchange_done_row ExchangeFlag.Peer exchange.now) self.old self.new result }
+            (later_exchange_row true exchange.now) self.old self.new result }
     {
         match self.call_kex_done(exchange, handler) {
             Ok(()) => went(self.resume(kex)),

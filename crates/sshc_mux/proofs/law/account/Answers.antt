@@ -3,7 +3,7 @@ use Rattle.sshc_mux.proofs.LegalLemmas.{legal_stays}
 use Rattle.sshc_mux.proofs.AddressLemmas.{addressed}
 use Rattle.sshc_mux.proofs.ClosingLaw.{closing}
 use Rattle.sshc_mux.proofs.LifeLemmas.{step_moves}
-use Rattle.sshc_mux.proofs.QuietLemmas.{quiet}
+use Rattle.sshc_mux.proofs.QuietLemmas.{quiet, silent}
 use Rattle.sshc_mux.proofs.NumberLemmas.{next_is}
 use Rattle.sshc_mux.proofs.law.account.Goals as goal
 
@@ -25,6 +25,7 @@ returns-clause-legal c = (λ last. record { apart = tt; sound = λ n channel no.
 pub returns-clause-rules : goal.returns-clause-rules
 returns-clause-rules c = record {
   quiet = λ call t h. quiet call t h;
+  silent = λ call t h. silent call t h;
   addressed = λ call t legal. addressed call t legal.apart;
   numbers = λ t n free. next_is t n free;
 }

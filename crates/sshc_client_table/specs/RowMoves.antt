@@ -1,0 +1,50 @@
+-- Which moves the row of an event may make in an open session (RFC 4254; RFC 4253, section 7): a request of ours is
+-- answered only by the peer's reply, an open of ours only by its own packet, what waits on channels is sent anew only after
+-- an exchange, and a row neither leaves nor stops the session.
+use Rattle.std.specs.Prelude.{◌≡◌, ◌⊎◌, ℕ, ◌∷◌}
+use Rattle.sshc_wire.specs.declared.msg.TheConstants.{REQUEST_SUCCESS, REQUEST_FAILURE, CHANNEL_OPEN_CONFIRMATION, CHANNEL_OPEN_FAILURE}
+use Rattle.sshc_wire.specs.declared.record.Record.{Record}
+use Rattle.sshc_wire.specs.declared.record.Record.TheVariants as said
+use Rattle.sshc_auth_event.specs.declared.event.Event.{Event}
+use Rattle.sshc_auth_event.specs.declared.event.Event.TheVariants as events
+use Rattle.sshc_client_table.specs.Moves as m
+use Rattle.sshc_client_table.specs.Moves.{Move}
+use Rattle.sshc_client_table.specs.KeptByMoves.{KeepsSession}
+
+-- the event is a packet of the peer's with this number
+abbrev pub IsPacket : ℕ → Event → Type 0
+IsPacket n (events.Payload (number ∷ body)) = number ≡ n
+IsPacket n event = ⊥
+
+-- a key exchange is done
+abbrev pub IsExchange : Event → Type 0
+IsExchange (events.ExchangeDone x) = Unit {0}
+IsExchange event = ⊥
+
+-- what a row reports: an exchange, what happened on a channel, an open of the peer's, announced host keys
+abbrev pub IsReport : Record → Type 0
+IsReport (said.KexDone kex) = Unit {0}
+IsReport (said.Channel id happened) = Unit {0}
+IsReport (said.ServerOpened id opened) = Unit {0}
+IsReport (said.HostKeysAnnounced blobs) = Unit {0}
+IsReport other = ⊥
+
+abbrev pub Fits : Event → Move → Type 0
+Fits event (m.Replied resolution) = IsPacket REQUEST_SUCCESS event ⊎ IsPacket REQUEST_FAILURE event
+Fits event (m.Confirms confirmation) = IsPacket CHANNEL_OPEN_CONFIRMATION event
+Fits event (m.Fails id reason) = IsPacket CHANNEL_OPEN_FAILURE event
+Fits event m.Resumes = IsExchange event
+Fits event (m.Tells record_) = IsReport record_
+Fits event m.Leaves = ⊥
+Fits event m.Stops = ⊥
+Fits event move = Unit {0}
+
+report_keeps : (record_ : Record) → IsReport record_ → KeepsSession (m.Tells record_)
+report_keeps (said.Agent conn answer) never = absurd never
+report_keeps record_ is = tt
+
+pub fits_keeps : (event : Event) (move : Move) → Fits event move → KeepsSession move
+fits_keeps event (m.Tells record_) is = report_keeps record_ is
+fits_keeps event m.Leaves never = absurd never
+fits_keeps event m.Stops never = absurd never
+fits_keeps event move is = tt
