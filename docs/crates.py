@@ -33,18 +33,20 @@ def groups():
 def readme():
     out = []
     for title, crates in groups():
-        out += [f"{title}:", ""]
-        out += [f"- `{name}`: {said[:1].lower() + said[1:]}" for name, said, _ in crates]
-        out += [""]
+        (first, said, _), rest = crates[0], crates[1:]
+        line = f"- {title.split(':')[0]}: `{first}` ({said[:1].lower() + said[1:].rstrip('.')})"
+        if rest:
+            line += "; " + ", ".join(f"`{name}`" for name, _, _ in rest)
+        out.append(line + ".")
     return "\n".join(out)
 
 
 def architecture():
-    out = ["| Crate | Depends on |", "|---|---|"]
+    out = ["| Crate | What it is | Depends on |", "|---|---|---|"]
     for _, crates in groups():
-        for name, _, libraries in crates:
+        for name, said, libraries in crates:
             short = [x.removeprefix("sshc_") if x.startswith("sshc_") else f"`{x}`" for x in libraries]
-            out.append(f"| `{name}` | {', '.join(short)} |")
+            out.append(f"| `{name}` | {said.rstrip('.')} | {', '.join(short)} |")
     return "\n".join(out) + "\n"
 
 
