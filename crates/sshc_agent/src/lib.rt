@@ -4,6 +4,8 @@
 
 mod accepting;
 mod fetching;
+mod generations;
+mod lasting;
 mod outside;
 mod seats;
 mod server;
@@ -11,12 +13,17 @@ mod serving;
 mod turn;
 
 pub use accepting::{Acceptor, LastingListener, NotAccepted};
+pub use generations::serve_generations;
+pub use lasting::serve_lasting_one;
 pub use outside::{Agent, Listener, Pause};
 pub use server::serve;
 pub use serving::serve_one;
 pub use sshc_agent_core::{
     AgentCore, AgentInput, AgentOutput, Cause, Entry, Frames, MessageType, ServerError,
 };
-pub use sshc_agent_shared::{AgentShared, AgentState, Call, CallRefused, CloseError, Seat};
+pub use sshc_agent_shared::{
+    AgentLasting, AgentShared, AgentState, Call, CallRefused, CloseError, Keeper, LastingRefused,
+    Past, Seat,
+};
 pub use sshc_key::agent_msg as msg;
 pub use sshc_wire::Clock;

@@ -46,7 +46,11 @@ fn write_answer<S: AgentStream>(stream: &mut S, frame: &[u8]) -> Result<(), Fail
 
 /// Writes an answer or asks the agent's user, outside the agent's lock.
 #[tactic(auto, using(crate::proofs::Talking::nothing_written))]
-fn follow<S: AgentStream, A: Agent>(output: AgentOutput, stream: &mut S, agent: &A) -> Next
+pub(crate) fn follow<S: AgentStream, A: Agent>(
+    output: AgentOutput,
+    stream: &mut S,
+    agent: &A,
+) -> Next
     ensures answered { Answered (A.allows agent.now) (A.confirms agent.now)
         (seen (S.left stream.old) (S.contents stream.old) (S.Source.faults stream.old) (S.Sink.faults stream.old))
         (seen (S.left stream.new) (S.contents stream.new) (S.Source.faults stream.new) (S.Sink.faults stream.new))

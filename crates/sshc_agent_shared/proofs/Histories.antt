@@ -7,7 +7,7 @@ use Rattle.sshc_agent_core.specs.declared.entry.Entry.{Entry}
 use Rattle.sshc_agent_core.specs.AgentHistory.{AreNumbered, IsEntry, Leads, count_of}
 use Rattle.sshc_agent_core.specs.AgentList.{AgentList}
 use Rattle.sshc_agent_shared.specs.Calls.{entry_weight, journal_weight}
-use Rattle.sshc_agent_shared.specs.Kept.{IsHistoryOf}
+use Rattle.sshc_agent_shared.specs.Kept.{IsHistoryFrom}
 
 pub leads_push : (entries : List Entry) (before mid after : AgentList) (e : Entry) → Leads before entries mid → IsEntry mid e after → Leads before (entries ++ e ∷ []) after
 leads_push [] before mid after e is entry = (after, subst (λ (l : AgentList). IsEntry l e after) (sym is) entry, refl)
@@ -18,8 +18,8 @@ numbers_push earlier [] e numbers number = (number ∙ ap (count_of e.conn) (app
 numbers_push earlier (x ∷ entries) e numbers number =
     (numbers.0, numbers_push (earlier ++ x ∷ []) entries e numbers.1 (number ∙ ap (count_of e.conn) (sym (append_assoc earlier (x ∷ []) entries))))
 
-pub history_push : (asks : Bool) (journal : List Entry) (list list' : AgentList) (e : Entry) → IsHistoryOf asks journal list → IsEntry list e list' → e.number ≡ count_of e.conn journal → IsHistoryOf asks (journal ++ e ∷ []) list'
-history_push asks journal list list' e history entry number =
+pub history_push : (start : AgentList) (journal : List Entry) (list list' : AgentList) (e : Entry) → IsHistoryFrom start journal list → IsEntry list e list' → e.number ≡ count_of e.conn journal → IsHistoryFrom start (journal ++ e ∷ []) list'
+history_push start journal list list' e history entry number =
     record { leads = leads_push journal _ list list' e history.leads entry; numbers = numbers_push [] journal e history.numbers number }
 
 one_or_none : (b : Bool) (e : Entry) → length (cond b (e ∷ []) []) ≡ cond b 1 0

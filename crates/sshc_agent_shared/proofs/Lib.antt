@@ -1,3 +1,4 @@
 mod Histories
 mod Keeping
 mod Parting
+mod Seams

@@ -1,7 +1,7 @@
 -- When a shared agent can be closed, and why not; and what a caller knows about a call.
 use Rattle.std.specs.Prelude.{◌≡◌, ◌≢◌, ◌≤◌, ℕ, Bool, List, [], ◌∷◌, ◌++◌, length, Option, slice_get, All, Contains, sum_by}
 use Rattle.sshc_agent_core.specs.declared.entry.Entry.{Entry}
-use Rattle.sshc_agent_core.specs.AgentHistory.{IsLegal, KeepsOthers, count_of}
+use Rattle.sshc_agent_core.specs.AgentHistory.{AreNumbered, IsLegal, KeepsOthers, Leads, count_of}
 use Rattle.sshc_agent_core.specs.AgentList.{AgentList}
 use Rattle.sshc_agent_core.specs.AgentTable.{Steps}
 use Rattle.sshc_key.specs.Signers.{SignCall}
@@ -26,6 +26,14 @@ pub record Accounts (asks : Bool) (limit : ℕ) (history : List Entry) (seats : 
   pub together : length history ≡ sum_by (λ seat. length seat.calls) seats
   pub within : journal_weight (length seats) history ≤ limit
 
+-- the same of a history that leads from one agent state to another
+pub record AccountsFrom (start last : AgentList) (limit : ℕ) (history : List Entry) (seats : List SeatState) : Type 0 where
+  pub leads : Leads start history last
+  pub numbers : AreNumbered [] history
+  pub each : All (λ seat. calls_of seat.conn history ≡ seat.calls) seats
+  pub together : length history ≡ sum_by (λ seat. length seat.calls) seats
+  pub within : journal_weight (length seats) history ≤ limit
+
 -- the seat's call at an index differs from the journal's
 pub record IsTorn (seat : SeatState) (conn at : ℕ) (got kept : Option Call) : Type 0 where
   pub whose : seat.conn ≡ conn
@@ -37,6 +45,12 @@ abbrev pub CloseCause : List SeatState → CloseError → Type 0
 CloseCause seats NoRoom = Unit {0}
 CloseCause seats (SeatsOut made given) = (made ≢ given) × (given ≡ length seats)
 CloseCause seats (Torn conn at got kept) = (seat : SeatState) × Contains seats seat × IsTorn seat conn at got kept
+
+-- a seat's call and the journal's differ
+abbrev pub TornCause : SharedState → List SeatState → CloseError → Type 0
+TornCause s seats (Torn conn at got kept) =
+    ((seat : SeatState) × Contains seats seat × IsTorn seat conn at got kept) × (kept ≡ slice_get (calls_of conn s.journal) at)
+TornCause s seats other = ⊥
 
 -- the same, with what the state behind the mutex shows
 abbrev pub LockedCause : SharedState → List SeatState → CloseError → Type 0

@@ -23,6 +23,12 @@ pub record SharedState : Type 0 where
   pub made : ℕ
   pub limit : ℕ
 
+-- the same of a generation: besides, the agent at which its journal begins, and the greatest number of a connection so far
+pub record GenerationState : Type 0 where
+  pub start : AgentList
+  pub last : ℕ
+  pub of : SharedState
+
 -- a seat: its connection, its calls, how many calls were refused, and its part of the ledger with the amount on it
 pub record SeatState : Type 0 where
   pub conn : ℕ
@@ -31,14 +37,18 @@ pub record SeatState : Type 0 where
   pub parts : ℕ
   pub amount : ℕ
 
--- a history leads from an agent that holds nothing to this agent state
-pub record IsHistoryOf (asks : Bool) (journal : List Entry) (list : AgentList) : Type 0 where
-  pub leads : Leads (empty_list asks) journal list
+-- a history leads from one agent state to another
+pub record IsHistoryFrom (start : AgentList) (journal : List Entry) (list : AgentList) : Type 0 where
+  pub leads : Leads start journal list
   pub numbers : AreNumbered [] journal
 
+-- a history leads from an agent that holds nothing to this agent state
+abbrev pub IsHistoryOf : Bool → List Entry → AgentList → Type 0
+IsHistoryOf asks journal list = IsHistoryFrom (empty_list asks) journal list
+
 -- the journal is legal and leads to the agent state; counts, ledger and weight agree with it
-pub record IsKept (asks : Bool) (list : AgentList) (journal : List Entry) (counts : Counts) (total amount parts made weight limit : ℕ) : Type 0 where
-  pub history : IsHistoryOf asks journal list
+pub record IsKept (start : AgentList) (list : AgentList) (journal : List Entry) (counts : Counts) (total amount parts made weight limit : ℕ) : Type 0 where
+  pub history : IsHistoryFrom start journal list
   pub counted : (conn : ℕ) → count_in counts conn ≡ count_of conn journal
   pub book : total ≡ length journal
   pub spare : amount ≡ 0

@@ -6,3 +6,4 @@ pub mod Rooms
 pub mod HeldBytes
 pub mod KeptForms
 pub mod Groups
+pub mod Generations

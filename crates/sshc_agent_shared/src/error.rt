@@ -12,6 +12,14 @@ pub enum CallRefused {
     Miscounted { seat: u32, kept: u32 },
 }
 
+/// Why an agent that lasts doesn't take a call or a connection.
+#[derive(Clone, Copy, PartialEq, Eq)]
+pub enum LastingRefused {
+    /// No connection that goes on has this number.
+    NotConnected,
+    Call(CallRefused),
+}
+
 /// Why a shared agent isn't closed.
 #[derive(Drop)]
 pub enum CloseError {

@@ -2,7 +2,7 @@ use Rattle.std.proofs.Common.{◌≤◌, length, arith}
 use Rattle.std.proofs.lemmas.List.{take_all}
 use Rattle.sshc_agent_shared.proofs.Histories.{count_at_most}
 use Rattle.sshc_agent_shared.proofs.Keeping.{journal_short}
-use Rattle.sshc_agent_shared.proofs.state.AgentState.torn.Goals as goal
+use Rattle.sshc_agent_shared.proofs.generation.Generation.torn.Goals as goal
 
 pub first_tear-requires : goal.first_tear-requires
 first_tear-requires g c =

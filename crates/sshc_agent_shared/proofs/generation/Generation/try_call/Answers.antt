@@ -4,7 +4,7 @@ use Rattle.sshc_agent_shared.specs.Calls.{entry_of, entry_weight}
 use Rattle.sshc_agent_shared.specs.Kept.{weight_of}
 use Rattle.sshc_agent_shared.proofs.Histories.{count_at_most, entries_weigh}
 use Rattle.sshc_agent_shared.proofs.Keeping.{due_none, kept_push, kept_same}
-use Rattle.sshc_agent_shared.proofs.state.AgentState.try_call.Goals as goal
+use Rattle.sshc_agent_shared.proofs.generation.Generation.try_call.Goals as goal
 
 pub overflow_cast-result : goal.overflow_cast-result
 overflow_cast-result g c =
@@ -54,8 +54,8 @@ returns-clause-ok g c =
 pub returns-clause-due : goal.returns-clause-due
 returns-clause-due g c =
     let k = c.self.invariant in
-    let same : length c.args.seat.now.calls ≡ count_of c.args.seat.now.conn c.args.self.now.journal =
+    let same : length c.args.seat.now.calls ≡ count_of c.args.seat.now.conn c.args.self.now.of.journal =
     rw (← c.self.view_is, ← c.seat.view_is) (omega (arith, c.if-own-kept.false, c.len-own.ensures, c.at-kept.ensures, k.counted c.seat.inside.conn)) in
-    let within : weight_of c.args.self.now + entry_weight c.args.input ≤ c.args.self.now.limit =
+    let within : weight_of c.args.self.now.of + entry_weight c.args.input ≤ c.args.self.now.of.limit =
     rw (← c.self.view_is) (omega (arith, k.weighs, c.frame_length-heavy.ensures, c.if-left-heavy.false, c.if-left-heavy-lt-ENTRY_WEIGHT.false)) in
-    rw (due_none c.args.self.now c.args.seat.now c.args.input same within) (search rules)
+    rw (due_none c.args.self.now.of c.args.seat.now c.args.input same within) (search rules)

@@ -1,5 +1,5 @@
 use Rattle.std.proofs.Common.{◌≤◌, ◌+◌, ◌<◌, vec_len}
-use Rattle.sshc_agent_shared.proofs.state.AgentState.counted.Given as goal
+use Rattle.sshc_agent_shared.proofs.generation.Generation.counted.Given as goal
 
 abbrev pub invariant-loop-seat : goal.invariant-loop-seat
 invariant-loop-seat g l = record {

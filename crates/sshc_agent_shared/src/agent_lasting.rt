@@ -1,0 +1,119 @@
+//! The agent that threads share, and that lasts.
+
+ghost use Rattle.std.specs.Prelude.{◌≡◌, ◌++◌, ◌≤◌, IfOk, OnErr, OnOk};
+ghost use Rattle.sshc_key.specs.Signers.{since};
+ghost use Rattle.sshc_wire.specs.Faults.{Rose};
+ghost use Rattle.sshc_agent_shared.specs.Calls.{call_of, journal_weight};
+ghost use Rattle.sshc_agent_shared.specs.Generations.{IsLastingStep, IsReached};
+ghost use Rattle.sshc_agent_shared.specs.Kept.{IsHistoryFrom};
+
+use crate::error::{CloseError, LastingRefused};
+use crate::lasting::LastingState;
+use crate::past::Past;
+use crate::settings::Settings;
+use sshc_agent_core::{AgentInput, AgentOutput, Cause};
+use sshc_key::LocalSigner;
+use std::alloc::Global;
+use std::sync::ledger::Blank;
+use std::sync::{Mutex, Wait};
+
+/// Is told of each generation that is closed, while the agent's mutex is held, so that they come in their order.
+pub trait Keeper: Sync {
+    /// A generation was closed, and the next one begins.
+    fn keep(&self, past: Past);
+
+    /// The full journal can't be closed, so calls are refused.
+    fn keeps_on(&self, why: CloseError);
+}
+
+/// Keeps nothing.
+impl Keeper for () {
+    fn keep(&self, _past: Past) {}
+
+    fn keeps_on(&self, _why: CloseError) {}
+}
+
+/// One agent for all connections, under one lock, which begins a new generation when its journal is full.
+#[derive(Drop)]
+pub struct AgentLasting<L: Settings> {
+    state: Mutex<LastingState<L>>,
+}
+
+/// Closes the journal, and begins the next generation.
+fn renew<L: Settings, K: Keeper>(state: &mut LastingState<L>, keeper: &K) {
+    match state.renew() {
+        Ok(past) => keeper.keep(past),
+        Err(why) => keeper.keeps_on(why),
+    }
+}
+
+impl<L: Settings> AgentLasting<L> {
+    /// An agent that was not called yet. If `asks`, the user is asked about each request. A journal weighs at most
+    /// `journal_limit`: 64 for each seat and each entry, plus the bytes of each entry's frame. The ledger has 2^26
+    /// parts.
+    pub fn new(alloc: Global, blank: Blank, asks: bool, journal_limit: u32) -> AgentLasting<L>
+        requires parts { blank.parts ≡ 67108864 }
+        requires ledger { (blank.name ≡ L.name) × (blank.parts ≡ L.parts) }
+        requires settings { (asks ≡ L.asks) × (journal_limit ≡ L.limit) }
+    {
+        AgentLasting {
+            state: Mutex::new(LastingState::new(alloc, blank, asks, journal_limit)),
+        }
+    }
+
+    /// Takes the lock, and returns the number of a new connection. A full journal is closed first.
+    pub fn connect<K: Keeper, R: Wait>(&self, rt: &R, keeper: &K) -> Result<u32, LastingRefused> {
+        let mut state = self.state.lock(rt);
+        if !state.has_seat() {
+            renew(&mut state, keeper);
+        }
+        state.connect()
+    }
+
+    /// Takes the lock, and takes the input of a connection at a moment in milliseconds. A full journal is closed first.
+    pub fn call<G: LocalSigner, K: Keeper, R: Wait>(
+        &self,
+        rt: &R,
+        conn: u32,
+        now: u64,
+        input: AgentInput,
+        signer: &mut G,
+        keeper: &K,
+    ) -> Result<AgentOutput, LastingRefused>
+        // The output is that of a step of an agent to which generations lead.
+        ensures tells { IfOk result (λ out. IsLastingStep L.asks conn (call_of now input out)
+            (since (G.calls signer.old) (G.calls signer.new))) }
+        ensures asked { OnOk result
+            (G.calls signer.new ≡ G.calls signer.old ++ since (G.calls signer.old) (G.calls signer.new)) }
+        ensures unasked { OnErr result (G.calls signer.new ≡ G.calls signer.old) }
+        // The connection is closed because the signer refused only where its count rose.
+        ensures cause { IfOk result (λ out. out ≡ AgentOutput.Closed Cause.SignerRefused
+            → Rose (G.refusals signer.old) (G.refusals signer.new)) }
+        ensures later { G.refusals signer.old ≤ G.refusals signer.new }
+    {
+        let mut state = self.state.lock(rt);
+        if !state.has_room(&input) {
+            renew(&mut state, keeper);
+        }
+        state.call(conn, now, input, signer)
+    }
+
+    /// Takes the lock. The connection ended.
+    pub fn leave<R: Wait>(&self, rt: &R, conn: u32) {
+        self.state.lock(rt).leave(conn);
+    }
+
+    /// The last generation, closed.
+    pub fn close(self) -> Result<Past, CloseError>
+        // Generations lead to its begin from an agent that holds nothing.
+        ensures reached { IfOk result (λ past. IsReached L.asks past.start) }
+        // Its history is a legal one, and weighs at most the limit.
+        ensures legal { IfOk result (λ past. IsHistoryFrom past.start past.entries past.last) }
+        ensures within { IfOk result (λ past. journal_weight 0 past.entries ≤ L.limit) }
+    {
+        let AgentLasting { state } = self;
+        let mut state = state.into_inner();
+        state.is_reached();
+        state.renew()
+    }
+}
