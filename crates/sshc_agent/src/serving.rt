@@ -1,7 +1,7 @@
 //! Serves one connection.
 
 ghost use Rattle.sshc_agent.specs.Moments.{Timed};
-ghost use Rattle.sshc_agent.specs.Signing.{Signs};
+ghost use Rattle.sshc_agent.specs.Signing.{Caused, Signs};
 ghost use Rattle.sshc_agent.specs.Talk.{Serves, seen};
 
 use crate::fetching::fetch;
@@ -44,6 +44,8 @@ pub fn serve_one<
     // The signer gets exactly the calls of the connection's steps, and each step leaves every other connection as it was:
     // so a fault of this stream closes no other.
     ensures signs { Signs (G.calls signer.old) (G.calls signer.new) seat result.0 }
+    // It is closed because the signer refused only where the signer's count of refusals rose.
+    ensures caused { Caused (G.refusals signer.old) (G.refusals signer.new) seat result.0 }
 {
     let mut frames = Frames::new(alloc);
     let mut seat = seat;

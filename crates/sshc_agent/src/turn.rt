@@ -5,7 +5,7 @@ ghost use Rattle.sshc_wire.specs.Contents.{WroteFront, append};
 ghost use Rattle.sshc_wire.specs.Faults.{HasCause};
 ghost use Rattle.sshc_agent_shared.specs.declared.call.Call.{Call as Kept};
 ghost use Rattle.sshc_agent.specs.Moments.{IsTick};
-ghost use Rattle.sshc_agent.specs.Signing.{Signs};
+ghost use Rattle.sshc_agent.specs.Signing.{Caused, Signs};
 ghost use Rattle.sshc_agent.specs.Talk.{Answered, Closes, IsCall, IsRefused, Turned, seen};
 
 use crate::outside::{Agent, Pause};
@@ -95,6 +95,7 @@ fn called<L: Settings, G: LocalSigner, P: Pause, C: Clock, R: Wait>(
     ensures refused { OnErr result.1 (IsRefused seat result.0) }
     ensures tick { IsTick (C.told clock.old) (C.told clock.new) seat result.0 }
     ensures signs { Signs (G.calls signer.old) (G.calls signer.new) seat result.0 }
+    ensures caused { Caused (G.refusals signer.old) (G.refusals signer.new) seat result.0 }
 {
     pause.before(seat.conn(), next_number(&seat));
     let now = clock.now();
@@ -130,6 +131,7 @@ pub(crate) fn turn<
     ensures later { S.Sink.faults stream.old ≤ S.Sink.faults stream.new }
     ensures tick { IsTick (C.told clock.old) (C.told clock.new) seat result.0 }
     ensures signs { Signs (G.calls signer.old) (G.calls signer.new) seat result.0 }
+    ensures caused { Caused (G.refusals signer.old) (G.refusals signer.new) seat result.0 }
 {
     let (seat, answer) = called(rt, shared, seat, input, signer, pause, clock);
     match answer {
@@ -153,6 +155,7 @@ pub(crate) fn close<L: Settings, G: LocalSigner, P: Pause, C: Clock, R: Wait>(
     ensures closes { Closes seat result }
     ensures tick { IsTick (C.told clock.old) (C.told clock.new) seat result }
     ensures signs { Signs (G.calls signer.old) (G.calls signer.new) seat result }
+    ensures caused { Caused (G.refusals signer.old) (G.refusals signer.new) seat result }
 {
     pause.before(seat.conn(), next_number(&seat));
     let now = clock.now();

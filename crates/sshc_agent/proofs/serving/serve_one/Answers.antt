@@ -1,11 +1,11 @@
 use Rattle.sshc_agent.specs.Talk.{seen}
 use Rattle.sshc_agent.proofs.Talking.{asks_turn, begun, closed_turn, goes_turn, gone, refused_turn, starved_turn, unfetched, write_failed_turn}
 use Rattle.sshc_agent.proofs.Ticking.{called_last, closed_last, no_call, one_more, refused_last, stopped}
-use Rattle.sshc_agent.proofs.Signed.{signs_nothing, signs_on}
+use Rattle.sshc_agent.proofs.Signed.{caused_nothing, caused_on, signs_nothing, signs_on}
 use Rattle.sshc_agent.proofs.serving.serve_one.Goals as goal
 
 pub loop-init : goal.loop-init
-loop-init g c = (tt, tt, rw c.new-frames.ensures (begun _ _ _ _), no_call _ _, signs_nothing _ _)
+loop-init g c = (tt, tt, rw c.new-frames.ensures (begun _ _ _ _), no_call _ _, signs_nothing _ _, caused_nothing _ _)
 
 pub returns-in-Err : goal.returns-in-Err
 returns-in-Err g c =
@@ -16,6 +16,7 @@ returns-in-Err g c =
           _ c.loop.frames c.fetch.new.frames c.loop.answer _ c.loop.invariant.2 c.in-Err.ensures.fetched c.fetch.ensures.unwritten.0;
       moments = stopped _ _ _ _ c.loop.invariant.3;
       signs = c.loop.invariant.4;
+      caused = c.loop.invariant.5;
     }
 
 pub returns-in-Ok-None : goal.returns-in-Ok-None
@@ -28,6 +29,7 @@ returns-in-Ok-None g c =
           _ c.close.result c.loop.frames c.fetch.new.frames c.loop.answer c.loop.invariant.2 f c.fetch.ensures.unwritten.0 c.close.ensures.closes;
       moments = closed_last _ _ _ _ _ _ c.loop.invariant.3 c.close.ensures.tick c.close.ensures.closes;
       signs = signs_on _ _ _ _ _ _ c.loop.invariant.4 c.close.ensures.signs;
+      caused = caused_on _ _ _ _ _ _ c.loop.invariant.5 c.close.ensures.caused;
     }
 
 pub loop-preserved-in-Goes : goal.loop-preserved-in-Goes
@@ -42,6 +44,7 @@ loop-preserved-in-Goes g c =
           _ _ c.loop.frames c.fetch.new.frames c.loop.answer c.in-Ok-Some.input c.loop.invariant.2 f c.fetch.ensures.later c.fetch.ensures.unwritten c.turn-next_seat.ensures.unread c.turn-next_seat.ensures.later t,
       one_more _ _ _ _ _ _ c.loop.invariant.3 c.turn-next_seat.ensures.tick _ t.0 t.1,
       signs_on _ _ _ _ _ _ c.loop.invariant.4 c.turn-next_seat.ensures.signs,
+      caused_on _ _ _ _ _ _ c.loop.invariant.5 c.turn-next_seat.ensures.caused,
     )
 
 pub loop-preserved : goal.loop-preserved
@@ -56,6 +59,7 @@ loop-preserved g c =
           _ _ c.loop.frames c.fetch.new.frames c.loop.answer c.in-Ok-Some.input c.loop.invariant.2 f c.fetch.ensures.later c.fetch.ensures.unwritten c.turn-next_seat.ensures.unread c.turn-next_seat.ensures.later c.in-Asks.input t,
       one_more _ _ _ _ _ _ c.loop.invariant.3 c.turn-next_seat.ensures.tick _ t.0 t.1,
       signs_on _ _ _ _ _ _ c.loop.invariant.4 c.turn-next_seat.ensures.signs,
+      caused_on _ _ _ _ _ _ c.loop.invariant.5 c.turn-next_seat.ensures.caused,
     )
 
 pub returns-in-Refused : goal.returns-in-Refused
@@ -70,6 +74,7 @@ returns-in-Refused g c =
           _ _ c.loop.frames c.fetch.new.frames c.loop.answer c.in-Ok-Some.input c.loop.invariant.2 f c.fetch.ensures.later c.fetch.ensures.unwritten c.turn-next_seat.ensures.unread c.turn-next_seat.ensures.later t;
       moments = refused_last _ _ _ _ _ _ c.loop.invariant.3 c.turn-next_seat.ensures.tick t.0;
       signs = signs_on _ _ _ _ _ _ c.loop.invariant.4 c.turn-next_seat.ensures.signs;
+      caused = caused_on _ _ _ _ _ _ c.loop.invariant.5 c.turn-next_seat.ensures.caused;
     }
 
 pub returns-in-Closed : goal.returns-in-Closed
@@ -84,6 +89,7 @@ returns-in-Closed g c =
           _ _ c.loop.frames c.fetch.new.frames c.loop.answer c.in-Ok-Some.input c.loop.invariant.2 f c.fetch.ensures.later c.fetch.ensures.unwritten c.turn-next_seat.ensures.unread c.turn-next_seat.ensures.later t;
       moments = called_last _ _ _ _ _ _ c.loop.invariant.3 c.turn-next_seat.ensures.tick _ t.0 t.1;
       signs = signs_on _ _ _ _ _ _ c.loop.invariant.4 c.turn-next_seat.ensures.signs;
+      caused = caused_on _ _ _ _ _ _ c.loop.invariant.5 c.turn-next_seat.ensures.caused;
     }
 
 pub returns-in-WriteFailed : goal.returns-in-WriteFailed
@@ -98,6 +104,7 @@ returns-in-WriteFailed g c =
           _ _ c.loop.frames c.fetch.new.frames c.loop.answer c.in-Ok-Some.input c.loop.invariant.2 f c.fetch.ensures.later c.fetch.ensures.unwritten c.turn-next_seat.ensures.unread c.turn-next_seat.ensures.later t;
       moments = called_last _ _ _ _ _ _ c.loop.invariant.3 c.turn-next_seat.ensures.tick _ t.0 t.1;
       signs = signs_on _ _ _ _ _ _ c.loop.invariant.4 c.turn-next_seat.ensures.signs;
+      caused = caused_on _ _ _ _ _ _ c.loop.invariant.5 c.turn-next_seat.ensures.caused;
     }
 
 pub returns-in-Starved : goal.returns-in-Starved
@@ -112,4 +119,5 @@ returns-in-Starved g c =
           _ _ c.loop.frames c.fetch.new.frames c.loop.answer c.in-Ok-Some.input c.loop.invariant.2 f c.fetch.ensures.later c.fetch.ensures.unwritten c.turn-next_seat.ensures.unread c.turn-next_seat.ensures.later _ t;
       moments = called_last _ _ _ _ _ _ c.loop.invariant.3 c.turn-next_seat.ensures.tick _ t.0 t.1;
       signs = signs_on _ _ _ _ _ _ c.loop.invariant.4 c.turn-next_seat.ensures.signs;
+      caused = caused_on _ _ _ _ _ _ c.loop.invariant.5 c.turn-next_seat.ensures.caused;
     }

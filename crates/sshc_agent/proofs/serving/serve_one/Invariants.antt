@@ -1,5 +1,5 @@
 use Rattle.sshc_agent.specs.Moments.{TimedSoFar}
-use Rattle.sshc_agent.specs.Signing.{Signs}
+use Rattle.sshc_agent.specs.Signing.{Caused, Signs}
 use Rattle.sshc_agent.specs.Talk.{Serving, seen}
 use Rattle.sshc_agent.proofs.serving.serve_one.Given as goal
 
@@ -12,3 +12,4 @@ invariant-loop g l =
     l.initial.seat l.seat l.frames l.answer
     × TimedSoFar (g.C.Clock.told l.initial.clock) (g.C.Clock.told l.clock) l.initial.seat l.seat
     × Signs (g.G.LocalSigner.calls l.initial.signer) (g.G.LocalSigner.calls l.signer) l.initial.seat l.seat
+    × Caused (g.G.LocalSigner.refusals l.initial.signer) (g.G.LocalSigner.refusals l.signer) l.initial.seat l.seat

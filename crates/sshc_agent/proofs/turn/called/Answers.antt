@@ -2,7 +2,7 @@ use Rattle.std.proofs.Common.{refl}
 use Rattle.std.proofs.lemmas.Result.{IfOk-weaker}
 use Rattle.sshc_agent_shared.specs.Calls.{call_of}
 use Rattle.sshc_agent.proofs.Quiet.{refused_from, told_call}
-use Rattle.sshc_agent.proofs.Signed.{signs_once}
+use Rattle.sshc_agent.proofs.Signed.{caused_once, signs_once}
 use Rattle.sshc_agent.proofs.Ticking.{ticked}
 use Rattle.sshc_agent.proofs.turn.called.Goals as goal
 
@@ -17,3 +17,6 @@ returns-clause-tick g c = ticked _ _ _ _ _ _ _ c.call.result.1 c.now-now.ensures
 
 pub returns-clause-signs : goal.returns-clause-signs
 returns-clause-signs g c = signs_once _ _ _ _ _ _ c.call.result.1 c.call.ensures.tells c.call.ensures.asked c.call.ensures.refused c.call.ensures.unasked
+
+pub returns-clause-caused : goal.returns-clause-caused
+returns-clause-caused g c = caused_once _ _ _ _ _ _ _ c.call.result.1 c.call.ensures.tells c.call.ensures.cause c.call.ensures.later c.call.ensures.refused
