@@ -108,15 +108,15 @@ event_send =
     search (octets.the_send, text.the_send, exchange.the_field_send, channel_msg.the_field_send, sendable, crosses) depth 90 fits 90000
 
 module _ (H E : RattleType) (g : Ghosts H.Denot E.Denot) where
-  pub state_send : IsSend H → IsSend (HandleState.the_row H E g)
+  pub state_send : IsSend H → IsSend (HandleState.the_row H)
   state_send h =
       let s = session_send in let e = event_send in
       search (octets.the_send, binding.the_field_send, tickets.the_send, end.the_field_send, timers.the_field_send, sendable, crosses) depth 60 fits 60000
 
-  shared_send : IsSend H → IsSend (Shared.the_row H E g)
+  shared_send : IsSend H → IsSend (Shared.the_row H)
   shared_send h = let s = state_send h in search (sendable, crosses) depth 60 fits 60000
 
-  shared_sync : IsSend H → IsSync (Shared.the_row H E g)
+  shared_sync : IsSend H → IsSync (Shared.the_row H)
   shared_sync h = let s = state_send h in search (sendable, crosses) depth 60 fits 60000
 
   pub handle_sync : IsSend H → IsSync (Handle.the_row H E g)

@@ -3,7 +3,8 @@
 ghost use Rattle.std.specs.Prelude.{◌≡◌, Err, IfErr, IfOk, IfSome, OnErr, true};
 ghost use Rattle.sshc_handle_tickets.specs.Tickets.{is_of};
 ghost use Rattle.sshc_handle_state.specs.Submission.{asks_answer};
-ghost use Rattle.sshc_handle.specs.Answering.{Given, IsDeclined, IsEndError};
+ghost use Rattle.sshc_handle.specs.Answering.{IsEndError};
+ghost use Rattle.sshc_handle_calls.specs.Lines.{Given, IsDeclined};
 
 use crate::channel::Channel;
 use crate::shared::Shared;
@@ -58,7 +59,7 @@ impl<H: Handler> Handle<H> {
             if let Some(ended) = state.ended()? {
                 return Ok(ended);
             }
-            state = self.shared.wait(rt, state);
+            state = self.shared.wait_for_end(rt, state);
         }
         unreachable!()
     }
@@ -73,6 +74,17 @@ impl<H: Handler> Handle<H> {
         ensures { IfOk result (λ c. c ≡ id) }
     {
         Ok(Channel::over(Arc::try_clone(&self.shared)?, id))
+    }
+
+    /// Whether bytes of ours wait on the channel for the peer's window, or for the end of a key exchange.
+    pub fn has_pending_data<R: Wait>(&self, rt: &R, id: ChannelId) -> bool {
+        self.shared.state.lock(rt).has_pending_data(id)
+    }
+
+    /// How many bytes the peer's window allows on the channel; 0 if there is no such channel, or if an open of ours
+    /// waits there.
+    pub fn sender_window_size<R: Wait>(&self, rt: &R, id: ChannelId) -> usize {
+        self.shared.state.lock(rt).sender_window_size(id)
     }
 
     /// The first exchange's host key, session id and signature; `None` before it is done.

@@ -4,9 +4,12 @@ ghost use Rattle.std.specs.Prelude.{◌≡◌, ◌<◌, ◌++◌, Some, IfOk, On
 ghost use Rattle.std.specs.List.{list_any};
 ghost use Rattle.std.specs.VecDeque.{deque_capacity, deque_len};
 ghost use Rattle.sshc_wire.specs.Outgoing.{listed};
+ghost use Rattle.sshc_mux.specs.ChannelState.{channel_of};
+ghost use Rattle.sshc_mux.specs.ChannelTable.{waits_in, window_in};
 ghost use Rattle.sshc_auth.specs.OpeningState.{is_awaiting};
 ghost use Rattle.sshc_handle_tickets.specs.Tickets.{closed_with, first_of, is_channel, is_of, is_on, is_ticket, without_first};
 ghost use Rattle.sshc_handle_state.specs.Asked.{Admits, PromptsAt, Responds, TellsEnd, kept_prompts};
+ghost use Rattle.sshc_handle_state.specs.Clocks.{due_in};
 ghost use Rattle.sshc_handle_state.specs.HandleAt.{new_handle};
 ghost use Rattle.sshc_handle_state.specs.Submitting.{Submits, SubmitsEvent};
 
@@ -15,7 +18,7 @@ use crate::ending::ended_copied;
 use crate::submission::{asks_answer, event_of};
 use crate::timers::Timers;
 use sshc_auth::{Ended, Error, Event, Method, SharedMethod};
-use sshc_client::{Config, Handler, Msg, Session};
+use sshc_client::{Config, Msg, Session};
 use sshc_handle_tickets::Tickets;
 use sshc_key::AgentSessionBinding;
 use sshc_wire::{ChannelId, List, NoMemory, Octets, Record, Text, Ticket};
@@ -26,7 +29,7 @@ use std::marker::{Model, PhantomData};
 /// A session with the events that are submitted to it, the records that are held for those who wait, and its timers.
 /// None of its calls waits for anything.
 #[derive(Drop)]
-pub struct HandleState<H: Handler> {
+pub struct HandleState<H> {
     pub(crate) session: Session,
     pub(crate) submitted: VecDeque<Event>,
     pub(crate) tickets: Tickets,
@@ -39,7 +42,7 @@ pub struct HandleState<H: Handler> {
     pub(crate) of: PhantomData<H>,
 }
 
-impl<H: Handler> Model for HandleState<H> {
+impl<H> Model for HandleState<H> {
     ghost use Rattle.sshc_handle_state.specs.HandleAt.{HandleAt};
     ghost use Rattle.sshc_handle_state.specs.HandleCode.{handle_code};
 
@@ -92,7 +95,7 @@ fn add(submitted: &mut VecDeque<Event>, event: Option<Event>)
     }
 }
 
-impl<H: Handler> HandleState<H> {
+impl<H> HandleState<H> {
     /// A new session, to which nothing was submitted yet, over a transport whose peer's version line is this.
     pub fn new(
         alloc: Global,
@@ -201,6 +204,20 @@ impl<H: Handler> HandleState<H> {
         Ok(due)
     }
 
+    /// The records that nobody has taken yet, the oldest first.
+    pub fn held(&self) -> &[Record]
+        ensures { result.now ≡ self.now.tickets.held }
+    {
+        self.tickets.held()
+    }
+
+    /// How many milliseconds after a moment the next timer runs out; 0 if one has run out, `None` if none is set.
+    pub fn due_in(&self, now: u64) -> Option<u64>
+        ensures { result ≡ due_in now self.now.timers }
+    {
+        self.timers.due_in(now)
+    }
+
     /// Takes the oldest record that is held for this ticket.
     pub fn poll(&mut self, ticket: Ticket) -> Option<Record>
         ensures taken { result ≡ first_of (is_of ticket.0) self.old.tickets.held }
@@ -223,6 +240,20 @@ impl<H: Handler> HandleState<H> {
         ensures { result ≡ list_any (is_channel id.0) self.now.tickets.closed }
     {
         self.tickets.is_closed(id)
+    }
+
+    /// Whether bytes of ours wait on the channel.
+    pub fn has_pending_data(&self, id: ChannelId) -> bool
+        ensures { result ≡ waits_in (channel_of id.0 self.now.session.table.channels) }
+    {
+        self.session.has_pending_data(id)
+    }
+
+    /// How many bytes the peer's window allows; 0 if there is no such channel, or if an open of ours waits there.
+    pub fn sender_window_size(&self, id: ChannelId) -> usize
+        ensures { result ≡ window_in (channel_of id.0 self.now.session.table.channels) }
+    {
+        self.session.sender_window_size(id)
     }
 
     /// Whether an answer of the user is awaited, so that only submitted events are taken.

@@ -33,7 +33,7 @@ impl Model for Tickets {
 }
 
 /// The number of the ticket that a record names.
-fn ticket_of(said: &Record) -> Option<u32>
+pub fn ticket_of(said: &Record) -> Option<u32>
     ensures { result ≡ ticket_of said.now }
 {
     match said {
@@ -44,7 +44,7 @@ fn ticket_of(said: &Record) -> Option<u32>
 }
 
 /// The number of the channel on which something happened.
-fn channel_of(said: &Record) -> Option<u32>
+pub fn channel_of(said: &Record) -> Option<u32>
     ensures { result ≡ channel_of said.now }
 {
     match said {
@@ -216,6 +216,13 @@ fn forget(closed: &mut Vec<ChannelId>, number: u32)
 }
 
 impl Tickets {
+    /// The records that nobody has taken yet, the oldest first.
+    pub fn held(&self) -> &[Record]
+        ensures { result.now ≡ self.now.held }
+    {
+        self.held.as_slice()
+    }
+
     /// Takes the oldest record that is held for this ticket.
     pub fn poll(&mut self, ticket: Ticket) -> Option<Record>
         ensures taken { result ≡ first_of (is_of ticket.0) self.old.held }
