@@ -11,10 +11,12 @@ use sshc_auth::{ChannelMsg, Error};
 use sshc_client::Handler;
 use sshc_handle_calls as calls;
 use sshc_handle_messages::channel_msg;
+use sshc_handle_state::HandleState;
 use sshc_wire::{ChannelId, Pty, Record, Sig};
 use std::alloc::Global;
 use std::marker::Model;
 use std::sync::{Arc, Wait};
+use std::time::{Clock, Duration};
 
 /// A channel (RFC 4254, section 5), which contracts see as its number. Requests and bytes are submitted, without
 /// waiting for an answer; what happens on the channel is returned in order.
@@ -54,11 +56,8 @@ impl<H: Handler> Channel<H> {
     {
         let mut state = self.shared.state.lock(rt);
         for _ in rt.forever() {
-            if let Some(Record::Channel { happened, .. }) = state.poll_channel(self.id) {
-                if state.is_channel_closed(self.id) {
-                    self.shared.wake_channel(self.id);
-                }
-                return Some(channel_msg(self.id, happened));
+            if let Some(msg) = self.take(&mut state) {
+                return Some(msg);
             }
             if state.is_channel_closed(self.id) || state.is_over() {
                 return None;
@@ -74,6 +73,24 @@ impl<H: Handler> Channel<H> {
         ensures same { self.new ≡ self.old }
     {
         let mut state = self.shared.state.lock(rt);
+        self.take(&mut state)
+    }
+
+    /// Waits for what happens next on the channel, and returns it. `None` where `wait` returns it, and if nothing is
+    /// held after this time; `is_at_end` tells the two apart.
+    pub fn wait_for<R: Wait + Clock>(&mut self, rt: &R, limit: Duration) -> Option<ChannelMsg>
+        ensures reported { IfSome result (λ msg. IsReported self.old msg) }
+        ensures same { self.new ≡ self.old }
+    {
+        let state = self.shared.state.lock(rt);
+        let mut state = self.shared.wait_for(rt, state, self.id, limit);
+        self.take(&mut state)
+    }
+
+    /// Takes what happened next, if something is held. With its close it wakes the others that wait for the channel.
+    fn take(&self, state: &mut HandleState<H>) -> Option<ChannelMsg>
+        ensures { IfSome result (λ msg. IsReported self.now msg) }
+    {
         match state.poll_channel(self.id) {
             Some(Record::Channel { happened, .. }) => {
                 if state.is_channel_closed(self.id) {

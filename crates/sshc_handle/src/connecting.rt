@@ -8,7 +8,7 @@ ghost use Rattle.sshc_handle.specs.Refused.{IsMakers};
 
 use crate::handle::Handle;
 use crate::runner::Runner;
-use crate::shared::Shared;
+use crate::shared::{RunnersPart, Shared};
 use sshc_auth::Error;
 use sshc_client::{Config, Handler};
 use sshc_handle_state::HandleState;
@@ -69,7 +69,7 @@ pub fn connect_stream<
         Ok((mine, shared)) => Ok((
             Handle { shared: mine },
             Runner {
-                shared,
+                part: RunnersPart { shared },
                 transport,
                 handler,
                 signer,

@@ -14,6 +14,7 @@ use sshc_key::AgentSessionBinding;
 use sshc_wire::{ChannelId, NoMemory, Record, Ticket};
 use std::alloc::Global;
 use std::sync::{Arc, Wait};
+use std::time::{Clock, Duration};
 
 /// A session that a runner takes turns with. Threads share it by reference; each call submits its message, and waits
 /// only for its own answer.
@@ -74,6 +75,29 @@ impl<H: Handler> Handle<H> {
         ensures { IfOk result (λ c. c ≡ id) }
     {
         Ok(Channel::over(Arc::try_clone(&self.shared)?, id))
+    }
+
+    /// Waits until something is held of what happened on some channel, and returns the channel of what happened first;
+    /// `poll` of that channel takes it. `None` if the session has ended and nothing more is held. So one thread serves
+    /// many channels, and takes what is held of those that nobody else asks for.
+    pub fn wait_any<R: Wait>(&self, rt: &R) -> Option<ChannelId> {
+        let mut state = self.shared.state.lock(rt);
+        for _ in rt.forever() {
+            let first = state.first_channel();
+            if first.is_some() || state.is_over() {
+                return first;
+            }
+            state = self.shared.wait_for_some(rt, state);
+        }
+        unreachable!()
+    }
+
+    /// The same, and `None` too if nothing is held after this time.
+    pub fn wait_any_for<R: Wait + Clock>(&self, rt: &R, limit: Duration) -> Option<ChannelId> {
+        let state = self.shared.state.lock(rt);
+        self.shared
+            .wait_for_some_within(rt, state, limit)
+            .first_channel()
     }
 
     /// Whether bytes of ours wait on the channel for the peer's window, or for the end of a key exchange.

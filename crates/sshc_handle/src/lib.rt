@@ -10,12 +10,15 @@ mod logins;
 mod requests;
 mod runner;
 mod shared;
+mod short;
 mod signing;
+mod stopping;
 
 pub use channel::Channel;
 pub use connecting::{Maker, connect, connect_stream};
 pub use handle::Handle;
 pub use runner::{Runner, Waker};
+pub use short::is_short;
 pub use sshc_handle_calls::WithError;
 pub use sshc_handle_state::{End, HandleState, Timers, Turn};
 pub use sshc_handle_tickets::{
@@ -23,3 +26,4 @@ pub use sshc_handle_tickets::{
     open_answer, port_answer, prompt_answer, reply_answer,
 };
 pub use sshc_wire::Clock;
+pub use stopping::{Stoppable, Stopper, with_stopper};

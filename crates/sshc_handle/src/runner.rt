@@ -3,7 +3,7 @@
 ghost use Rattle.std.specs.Prelude.{◌≡◌};
 ghost use Rattle.sshc_handle.specs.Refused.{reason_of};
 
-use crate::shared::Shared;
+use crate::shared::{RunnersPart, Shared};
 use sshc_auth::{Ended, Error};
 use sshc_client::{DisconnectReason, Handler};
 use sshc_handle_state::{HandleState, Turn};
@@ -22,7 +22,8 @@ const PAUSE: u64 = 1;
 const LONGEST: u64 = 3_600_000;
 
 /// Takes turns with a session until it has ended, in a thread of its own. It asks its transport once a millisecond, or
-/// when it is woken, once a waker was made.
+/// when it is woken, once a waker was made. Where a runner is dropped that hasn't run, its session is refused: calls that
+/// wait return, and nothing more is submitted.
 #[derive(Drop)]
 pub struct Runner<
     H: Handler + Drop,
@@ -31,7 +32,7 @@ pub struct Runner<
     V: Verifier + Drop,
     C: Clock + Drop,
 > {
-    pub(crate) shared: Arc<Shared<H>, Global>,
+    pub(crate) part: RunnersPart<H>,
     pub(crate) transport: T,
     pub(crate) handler: H,
     pub(crate) signer: S,
@@ -125,7 +126,7 @@ impl<
     /// woken, when something is submitted, and when a timer runs out, by a clock that counts real milliseconds. So the
     /// transport has to wake it for each event.
     pub fn waker(&mut self) -> Result<Waker, NoMemory> {
-        let runner = self.shared.runner()?;
+        let runner = self.part.shared.runner()?;
         self.is_woken = true;
         Ok(Waker { runner })
     }
@@ -134,7 +135,7 @@ impl<
     /// that returns. The handler's callbacks are called under the handle's lock, so they may not call the handle.
     pub fn run<R: Wait>(self, rt: &R) -> Result<(), H::Error> {
         let Runner {
-            shared,
+            part,
             transport,
             handler,
             signer,
@@ -146,7 +147,7 @@ impl<
         let mut handler = handler;
         let mut signer = signer;
         let mut clock = clock;
-        let last = shared.take_turns(
+        let last = part.shared.take_turns(
             rt,
             &mut transport,
             &mut handler,
@@ -155,7 +156,7 @@ impl<
             &mut clock,
             is_woken,
         );
-        shared.close();
+        drop(part);
         handler.disconnected(reason_of::<H>(last))
     }
 }

@@ -13,8 +13,8 @@ use sshc_wire::{ChannelId, List, NoMemory, Record, Resolution, Text, Ticket};
 use std::alloc::Global;
 use std::sync::atomic::{AtomicBool, Ordering};
 use std::sync::{Arc, Condvar, Mutex, MutexGuard, Wait};
-use std::thread::Parker;
-use std::time::Duration;
+use std::thread::{Parker, yield_now};
+use std::time::{Clock, Duration};
 
 /// Over how many conditions the calls that wait are spread, by the numbers of their tickets and channels.
 const PLACES: u32 = 256;
@@ -29,6 +29,8 @@ pub(crate) struct Shared<H> {
     runner: Arc<Parker, Global>,
     /// Each notified when a record of a ticket or a channel of its numbers is held, and at the runner's end.
     told: Vec<Condvar>,
+    /// Notified when a record of any channel is held, and at the runner's end.
+    happened: Condvar,
     /// Notified at the runner's end.
     ended: Condvar,
     closed: AtomicBool,
@@ -45,6 +47,7 @@ impl<H> Shared<H> {
             state: Mutex::new(state),
             runner: Arc::new(alloc, Parker::new())?,
             told,
+            happened: Condvar::new(),
             ended: Condvar::new(),
             closed: AtomicBool::new(false),
         })
@@ -56,12 +59,25 @@ impl<H> Shared<H> {
     }
 
     /// Marks that the runner has come to its end, and wakes those that wait.
-    pub(crate) fn close(&self) {
+    fn close(&self) {
         self.closed.store(true, Ordering::SeqCst);
         for place in self.told.iter() {
             place.notify_all();
         }
+        self.happened.notify_all();
         self.ended.notify_all();
+    }
+
+    /// No turn will be taken any more: a session that hasn't ended is refused. It takes the lock without the means to
+    /// wait for it, which a drop doesn't have, so it tries again until nobody else holds it.
+    fn leave(&self) {
+        for _ in 0..u64::MAX {
+            if let Some(mut state) = self.state.try_lock() {
+                state.leave();
+                return;
+            }
+            yield_now();
+        }
     }
 
     /// Wakes the runner: something was submitted, or the transport has something.
@@ -85,15 +101,20 @@ impl<H> Shared<H> {
     /// Wakes those that wait for the records that are held behind the first of this number.
     pub(crate) fn wake_behind(&self, state: MutexGuard<'_, HandleState<H>>, before: usize) {
         let mut last = None;
+        let mut on_channel = false;
         for said in state.held().iter().skip(before) {
             if let Some(number) = last {
                 self.place(number).notify_all();
             }
             last = number_of(said);
+            on_channel = on_channel || channel_of(said).is_some();
         }
         drop(state);
         if let Some(number) = last {
             self.place(number).notify_all();
+        }
+        if on_channel {
+            self.happened.notify_all();
         }
     }
 
@@ -110,6 +131,48 @@ impl<H> Shared<H> {
         number: u32,
     ) -> MutexGuard<'a, HandleState<H>> {
         self.place(number).wait(rt, state)
+    }
+
+    /// Waits until a record is held of what happened on this channel, the session has ended, or the limit is over.
+    pub(crate) fn wait_for<'a, R: Wait + Clock>(
+        &self,
+        rt: &R,
+        state: MutexGuard<'a, HandleState<H>>,
+        id: ChannelId,
+        limit: Duration,
+    ) -> MutexGuard<'a, HandleState<H>> {
+        let (state, _is_over) = self.place(id.0).wait_timeout_while(
+            rt,
+            state,
+            limit,
+            |state| !state.holds_of(id) && !state.is_channel_closed(id) && !state.is_over(),
+        );
+        state
+    }
+
+    /// Waits until a record of some channel may be held.
+    pub(crate) fn wait_for_some<'a, R: Wait>(
+        &self,
+        rt: &R,
+        state: MutexGuard<'a, HandleState<H>>,
+    ) -> MutexGuard<'a, HandleState<H>> {
+        self.happened.wait(rt, state)
+    }
+
+    /// Waits until a record of some channel is held, the session has ended, or the limit is over.
+    pub(crate) fn wait_for_some_within<'a, R: Wait + Clock>(
+        &self,
+        rt: &R,
+        state: MutexGuard<'a, HandleState<H>>,
+        limit: Duration,
+    ) -> MutexGuard<'a, HandleState<H>> {
+        let (state, _is_over) = self.happened.wait_timeout_while(
+            rt,
+            state,
+            limit,
+            |state| state.first_channel().is_none() && !state.is_over(),
+        );
+        state
     }
 
     /// Waits until the session may have ended.
@@ -185,6 +248,19 @@ impl<H> Shared<H> {
             state = self.wait(rt, state, ticket.0);
         }
         unreachable!()
+    }
+}
+
+/// A runner's part of what is shared. When it goes, no turn will be taken any more, and those that wait are told.
+pub(crate) struct RunnersPart<H> {
+    pub(crate) shared: Arc<Shared<H>, Global>,
+}
+
+impl<H> Drop for RunnersPart<H> {
+    fn drop(self) {
+        let RunnersPart { shared } = self;
+        shared.leave();
+        shared.close();
     }
 }
 

@@ -10,6 +10,7 @@ use Rattle.sshc_client.specs.declared.config.Config.{Config}
 use Rattle.sshc_client.specs.Configured.{session_settings_of, settings_of}
 use Rattle.sshc_handle_tickets.specs.Tickets.{TicketState, dropped}
 use Rattle.sshc_handle_state.specs.declared.end.End.{End}
+use Rattle.sshc_handle_state.specs.declared.end.End.TheVariants.{Refused}
 use Rattle.sshc_handle_state.specs.declared.timers.Timers.{Timers}
 
 pub record HandleAt : Type 0 where
@@ -62,3 +63,11 @@ all_dropped t = record t { due = []; held = t.held ++ map dropped t.due }
 -- the session has ended so, and nobody waits for an answer any more
 abbrev pub ended_with : End → HandleAt → HandleAt
 ended_with end s = record s { tickets = all_dropped s.tickets; end = Some end }
+
+-- no turn will be taken any more: a session that hasn't ended is refused
+abbrev pub left_by : Option End → HandleAt → HandleAt
+left_by None s = ended_with Refused s
+left_by (Some end) s = s
+
+abbrev pub left : HandleAt → HandleAt
+left s = left_by s.end s

@@ -7,7 +7,7 @@ ghost use Rattle.sshc_wire.specs.Outgoing.{listed};
 ghost use Rattle.sshc_mux.specs.ChannelState.{channel_of};
 ghost use Rattle.sshc_mux.specs.ChannelTable.{waits_in, window_in};
 ghost use Rattle.sshc_auth.specs.OpeningState.{is_awaiting};
-ghost use Rattle.sshc_handle_tickets.specs.Tickets.{closed_with, first_of, is_channel, is_of, is_on, is_ticket, without_first};
+ghost use Rattle.sshc_handle_tickets.specs.Tickets.{channel_in, closed_with, first_of, is_channel, is_of, is_on, is_on_some, is_ticket, without_first};
 ghost use Rattle.sshc_handle_state.specs.Asked.{Admits, PromptsAt, Responds, TellsEnd, kept_prompts};
 ghost use Rattle.sshc_handle_state.specs.Clocks.{due_in};
 ghost use Rattle.sshc_handle_state.specs.HandleAt.{new_handle};
@@ -233,6 +233,20 @@ impl<H> HandleState<H> {
         ensures rest { self.new ≡ record self.old { tickets = record (self.old.tickets) { held = without_first (is_on id.0) self.old.tickets.held; closed = closed_with result self.old.tickets.closed } } }
     {
         self.tickets.poll_channel(id)
+    }
+
+    /// Whether a record is held of what happened on this channel.
+    pub fn holds_of(&self, id: ChannelId) -> bool
+        ensures { result ≡ list_any (is_on id.0) self.now.tickets.held }
+    {
+        self.tickets.holds_of(id)
+    }
+
+    /// The channel of the oldest record that is held of what happened on a channel; `None` if none is held.
+    pub fn first_channel(&self) -> Option<ChannelId>
+        ensures { result ≡ channel_in (first_of is_on_some self.now.tickets.held) }
+    {
+        self.tickets.first_channel()
     }
 
     /// Whether the close of this channel was taken.
