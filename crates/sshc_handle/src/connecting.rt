@@ -41,7 +41,7 @@ fn shared_over<H: Handler, T: Transport>(
     transport: &T,
 ) -> Result<(Arc<Shared<H>, Global>, Arc<Shared<H>, Global>), NoMemory> {
     let remote_sshid = Octets::from_slice(alloc, transport.remote_sshid())?;
-    let state = HandleState::new(alloc, config, remote_sshid)?;
+    let state = HandleState::new(config, remote_sshid)?;
     let shared = Arc::new(alloc, Shared::new(alloc, state)?)?;
     let other = Arc::try_clone(&shared)?;
     Ok((shared, other))

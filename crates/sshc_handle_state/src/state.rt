@@ -22,7 +22,6 @@ use sshc_client::{Config, Msg, Session};
 use sshc_handle_tickets::Tickets;
 use sshc_key::AgentSessionBinding;
 use sshc_wire::{ChannelId, List, NoMemory, Octets, Record, Text, Ticket};
-use std::alloc::Global;
 use std::collections::VecDeque;
 use std::marker::{Model, PhantomData};
 
@@ -35,7 +34,6 @@ pub struct HandleState<H> {
     pub(crate) tickets: Tickets,
     pub(crate) prompts: Option<Ticket>,
     pub(crate) binding: Option<AgentSessionBinding>,
-    pub(crate) remote_sshid: Octets,
     pub(crate) timers: Timers,
     pub(crate) failed: bool,
     pub(crate) end: Option<End>,
@@ -56,7 +54,6 @@ impl<H> Model for HandleState<H> {
       tickets = s.tickets;
       prompts = s.prompts;
       binding = s.binding;
-      remote_sshid = s.remote_sshid;
       timers = s.timers;
       failed = s.failed;
       end = s.end;
@@ -97,27 +94,23 @@ fn add(submitted: &mut VecDeque<Event>, event: Option<Event>)
 
 impl<H> HandleState<H> {
     /// A new session, to which nothing was submitted yet, over a transport whose peer's version line is this.
-    pub fn new(
-        alloc: Global,
-        config: Config,
-        remote_sshid: Octets,
-    ) -> Result<HandleState<H>, NoMemory>
+    pub fn new(config: Config, remote_sshid: Octets) -> Result<HandleState<H>, NoMemory>
         ensures { IfOk result (λ s. s ≡ new_handle config remote_sshid) }
     {
-        let session = Session::new(alloc, config.session_settings(), config.opening_settings())?;
+        let alloc = remote_sshid.allocator();
         let timers = Timers {
             inactivity_timeout: config.inactivity_timeout,
             keepalive_interval: config.keepalive_interval,
             heard: None,
             beat: 0,
         };
+        let session = Session::new(config, remote_sshid)?;
         Ok(HandleState {
             session,
             submitted: VecDeque::new(alloc),
             tickets: Tickets::new(alloc),
             prompts: None,
             binding: None,
-            remote_sshid,
             timers,
             failed: false,
             end: None,
@@ -307,8 +300,8 @@ impl<H> HandleState<H> {
 
     /// The peer's version line (RFC 4253, section 4.2).
     pub fn remote_sshid(&self) -> &[u8]
-        ensures { result.now ≡ self.now.remote_sshid }
+        ensures { result.now ≡ self.now.session.settings.remote_sshid }
     {
-        self.remote_sshid.as_slice()
+        self.session.remote_sshid()
     }
 }
