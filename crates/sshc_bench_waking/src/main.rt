@@ -7,7 +7,7 @@
 use crossbeam_channel::{Receiver, Sender, unbounded};
 use sshc_client::{Config, Error};
 use sshc_handle::{Handle, Runner, Waker, connect_stream};
-use sshc_sample_fakes::{FarServer, FarTransport, Host, Keeper, StillClock, far};
+use sshc_sample_fakes::{FarServer, FarTransport, Host, Keeper, StillClock, across_threads};
 use sshc_toy::{RefusingVerifier, ToySigner};
 use sshc_wire::{ChannelId, Disconnect};
 use std::alloc::Global;
@@ -26,7 +26,7 @@ type Far = FarServer<Host>;
 fn session(alloc: Global) -> Result<(Handle<Keeper>, FarRunner, Far), Error> {
     let host = Host::granting(alloc, 1);
     let coming = host.greeting()?;
-    let (transport, server) = far(alloc, host, coming)?;
+    let (transport, server) = across_threads(alloc, host, coming)?;
     let mut config = Config::default_in(alloc)?;
     config.anonymous = true;
     let (handle, runner) = connect_stream(

@@ -54,7 +54,7 @@ pub struct FarServer<P: Server + Drop> {
 }
 
 /// A transport and the thread's part behind it, which is this server with these first events.
-pub fn far<P: Server + Drop>(
+pub fn across_threads<P: Server + Drop>(
     alloc: Global,
     server: P,
     coming: Coming,

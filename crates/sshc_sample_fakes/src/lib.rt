@@ -14,7 +14,7 @@ mod transport;
 
 pub use beside::{FakeRunner, at_once, run_beside};
 pub use clock::{StillClock, TickingClock};
-pub use far::{FarServer, FarTransport, far};
+pub use far::{FarServer, FarTransport, across_threads};
 pub use host::{HOST_KEY, Host};
 pub use keeper::Keeper;
 pub use keys::{fake_certificate, fake_key, fake_pair};

@@ -32,7 +32,7 @@ pub struct Arrivals {
 }
 
 /// A handler that accepts this key, and what it tells of connections.
-pub fn doorman(alloc: Global, pinned: [u8; 32]) -> Result<(Doorman, Arrivals), NoMemory> {
+pub fn watch_door(alloc: Global, pinned: [u8; 32]) -> Result<(Doorman, Arrivals), NoMemory> {
     let (told, heard) = RingBuffer::new(alloc, PLACES)?;
     let bell = Arc::new(alloc, Parker::new())?;
     let other = Arc::try_clone(&bell)?;

@@ -5,11 +5,11 @@
 mod doorman;
 mod server;
 
-use doorman::{Arrivals, Doorman, doorman};
+use doorman::{Arrivals, Doorman, watch_door};
 use server::Forwarding;
 use sshc_client::{ChannelMsg, Config, Error};
 use sshc_handle::{AuthResult, Channel, Handle, connect_stream};
-use sshc_sample_fakes::{Host, StillClock, far};
+use sshc_sample_fakes::{Host, StillClock, across_threads};
 use sshc_toy::{RefusingVerifier, ToySigner};
 use sshc_wire::{ChannelId, Disconnect};
 use std::alloc::Global;
@@ -77,8 +77,8 @@ fn knocked_and_left<R: Wait>(
 fn main(rt: HostRuntime) -> anyhow::Result<()> {
     let alloc = rt.alloc();
     let greeting = Host::new(alloc, 1).greeting()?;
-    let (transport, server) = far(alloc, Forwarding, greeting)?;
-    let (doorman, arrivals) = doorman(alloc, [8; 32])?;
+    let (transport, server) = across_threads(alloc, Forwarding, greeting)?;
+    let (doorman, arrivals) = watch_door(alloc, [8; 32])?;
     let (handle, runner) = connect_stream(
         alloc,
         Config::default_in(alloc)?,

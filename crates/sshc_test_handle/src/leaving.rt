@@ -1,7 +1,7 @@
 //! Ways to end a session that takes nothing that is submitted, and one that never runs.
 
 use crate::answers::{GONE, leave};
-use crate::script::{Line, Script, script};
+use crate::script::{Line, Script, awaiting};
 use sshc_auth::{Ended, Error};
 use sshc_client::Config;
 use sshc_handle::{Handle, Runner, Stoppable, Stopper, connect_stream, with_stopper};
@@ -33,7 +33,7 @@ fn narrow(alloc: Global) -> Result<(Handle<Keeper>, StoppableRunner, Stopper), E
     let coming = Host::new(alloc, 1).greeting()?;
     let mut config = Config::default_in(alloc)?;
     config.anonymous = true;
-    let transport = FakeTransport::new(script(alloc, NARROW_LINES), coming, 1000);
+    let transport = FakeTransport::new(awaiting(alloc, NARROW_LINES), coming, 1000);
     let (transport, stopper) = with_stopper(alloc, transport)?;
     let (handle, runner) = connect_stream(
         alloc,

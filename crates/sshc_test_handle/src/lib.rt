@@ -24,6 +24,8 @@ mod packets;
 #[cfg(test)]
 mod payloads;
 #[cfg(test)]
+mod proving;
+#[cfg(test)]
 mod rules;
 #[cfg(test)]
 mod runs;

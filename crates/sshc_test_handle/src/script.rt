@@ -50,7 +50,7 @@ impl Server for Script {
 }
 
 /// A server that awaits these packets, and goes on behind an exchange that the client begins.
-pub(crate) fn script(alloc: Global, lines: &'static [Line]) -> Script {
+pub(crate) fn awaiting(alloc: Global, lines: &'static [Line]) -> Script {
     script_with(alloc, lines, b"")
 }
 
