@@ -4,7 +4,6 @@
 
 mod beside;
 mod clock;
-mod far;
 mod host;
 mod keeper;
 mod keys;
@@ -14,7 +13,6 @@ mod transport;
 
 pub use beside::{FakeRunner, at_once, run_beside};
 pub use clock::{StillClock, TickingClock};
-pub use far::{FarServer, FarTransport, across_threads};
 pub use host::{HOST_KEY, Host};
 pub use keeper::Keeper;
 pub use keys::{fake_certificate, fake_key, fake_pair};
