@@ -2,7 +2,6 @@
 use Rattle.std.proofs.Common.{◌≡◌, refl, ℕ, Bool, true, false, List, [], ◌∷◌, Option, Some, None, Result, Ok, Err, sym}
 use Rattle.std.proofs.lemmas.Bool.{eq-eqb}
 use Rattle.std.specs.Prelude.{IfErr, if◌then◌else◌, nat_eq}
-use Rattle.sshc_wire.specs.declared.record.Record.{Record}
 use Rattle.sshc_wire.specs.declared.ticket.Ticket.{Ticket}
 use Rattle.sshc_auth_event.specs.declared.event.Event.{Event}
 use Rattle.sshc_auth_event.specs.declared.method.Method.TheVariants.{KeyboardInteractive}
@@ -17,7 +16,8 @@ use Rattle.sshc_handle_state.specs.Asked.{PromptsAt, Responds, TellsEnd}
 use Rattle.sshc_handle_state.specs.HandleAt.{HandleAt}
 use Rattle.sshc_handle_state.specs.Submission.{asks_answer}
 use Rattle.sshc_handle_state.specs.Submitting.{Declines, Submits, SubmitsEvent}
-use Rattle.sshc_handle.specs.Answering.{Answers, AnswersPrompts, CannotRespond, Given, IsDeclined, IsEndError, IsRead}
+use Rattle.sshc_handle_calls.specs.Lines.{CannotRespond, Given, IsDeclined}
+use Rattle.sshc_handle.specs.Answering.{IsEndError}
 
 -- ---- records of a ticket
 
@@ -65,19 +65,6 @@ responded responses old new (Err RecvError) h = tt
 responded responses old new (Err SendError) h = tt
 responded responses old new (Err NoMemory) h = tt
 responded responses old new (Err e) h = absurd h
-
--- ---- answers
-
-pub answered : {A : Type 0} (reads : Record → Option (Result A Error)) (ticket : Ticket) (answer : Result A Error)
-    → IsRead reads ticket answer → Answers reads answer
-answered reads ticket (Err NoMemory) h = tt
-answered reads ticket (Err SendError) h = tt
-answered reads ticket answer h = (ticket, h)
-
-pub prompts_answered : {A : Type 0} (reads : Record → Option (Result A Error)) (ticket : Ticket) (answer : Result A Error)
-    → IsRead reads ticket answer → AnswersPrompts reads answer
-prompts_answered reads ticket (Err RecvError) h = tt
-prompts_answered reads ticket answer h = answered reads ticket answer h
 
 pub told_end : (end : Option End) (result : Result (Option Ended) Error) → TellsEnd end result → IfErr result IsEndError
 told_end end (Ok ended) h = tt

@@ -33,7 +33,6 @@ use Rattle.sshc_client_table.specs.contracts.reply_entry.ReplyEntry as ReplyEntr
 use Rattle.sshc_client_table.proofs.settings.SessionSettings.TheSendSync as session_settings
 use Rattle.sshc_client_state.specs.contracts.connection.Connection as Connection
 use Rattle.sshc_client.specs.contracts.session.Session as Session
-use Rattle.sshc_client.specs.declared.handler.Handler.{Ghosts}
 use Rattle.sshc_handle_tickets.proofs.tickets.Tickets.TheSendSync as tickets
 use Rattle.sshc_handle_state.proofs.end.End.TheSendSync as end
 use Rattle.sshc_handle_state.proofs.timers.Timers.TheSendSync as timers
@@ -107,20 +106,20 @@ event_send =
     let m = method_shared in let k = public_send in
     search (octets.the_send, text.the_send, exchange.the_field_send, channel_msg.the_field_send, sendable, crosses) depth 90 fits 90000
 
-module _ (H E : RattleType) (g : Ghosts H.Denot E.Denot) where
-  pub state_send : IsSend H → IsSend (HandleState.the_row H E g)
+module _ (H E : RattleType) where
+  pub state_send : IsSend H → IsSend (HandleState.the_row H)
   state_send h =
       let s = session_send in let e = event_send in
       search (octets.the_send, binding.the_field_send, tickets.the_send, end.the_field_send, timers.the_field_send, sendable, crosses) depth 60 fits 60000
 
-  shared_send : IsSend H → IsSend (Shared.the_row H E g)
+  shared_send : IsSend H → IsSend (Shared.the_row H)
   shared_send h = let s = state_send h in search (sendable, crosses) depth 60 fits 60000
 
-  shared_sync : IsSend H → IsSync (Shared.the_row H E g)
+  shared_sync : IsSend H → IsSync (Shared.the_row H)
   shared_sync h = let s = state_send h in search (sendable, crosses) depth 60 fits 60000
 
-  pub handle_sync : IsSend H → IsSync (Handle.the_row H E g)
+  pub handle_sync : IsSend H → IsSync (Handle.the_row H E)
   handle_sync h = let s = shared_send h in let t = shared_sync h in search (sendable, crosses) depth 60 fits 60000
 
-  pub handle_send : IsSend H → IsSend (Handle.the_row H E g)
+  pub handle_send : IsSend H → IsSend (Handle.the_row H E)
   handle_send h = let s = shared_send h in let t = shared_sync h in search (sendable, crosses) depth 60 fits 60000

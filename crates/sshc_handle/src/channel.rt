@@ -1,19 +1,22 @@
-//! One channel of a handle.
+//! One channel of a handle. Which message each call submits is a clause of the function of its name in
+//! `sshc_handle_calls`.
+#![tactic(auto, using(sshc_handle_calls::proofs::Answering::declined, sshc_handle_calls::proofs::Answering::declined_at_once))]
 
 ghost use Rattle.std.specs.Prelude.{◌≡◌, IfErr, IfSome};
-ghost use Rattle.sshc_handle.specs.Answering.{IsDeclined, IsReported};
+ghost use Rattle.sshc_handle.specs.Answering.{IsReported};
+ghost use Rattle.sshc_handle_calls.specs.Lines.{IsDeclined};
 
 use crate::shared::Shared;
 use sshc_auth::{ChannelMsg, Error};
-use sshc_client::{Handler, Msg};
-use sshc_handle_messages::{
-    bytes_sent, channel_msg, command, environment, extended_bytes, signal_sent, subsystem,
-    terminal, x11_forwarding,
-};
+use sshc_client::Handler;
+use sshc_handle_calls as calls;
+use sshc_handle_messages::channel_msg;
+use sshc_handle_state::HandleState;
 use sshc_wire::{ChannelId, Pty, Record, Sig};
 use std::alloc::Global;
 use std::marker::Model;
 use std::sync::{Arc, Wait};
+use std::time::{Clock, Duration};
 
 /// A channel (RFC 4254, section 5), which contracts see as its number. Requests and bytes are submitted, without
 /// waiting for an answer; what happens on the channel is returned in order.
@@ -53,51 +56,90 @@ impl<H: Handler> Channel<H> {
     {
         let mut state = self.shared.state.lock(rt);
         for _ in rt.forever() {
-            if let Some(Record::Channel { happened, .. }) = state.poll_channel(self.id) {
-                return Some(channel_msg(self.id, happened));
+            if let Some(msg) = self.take(&mut state) {
+                return Some(msg);
             }
             if state.is_channel_closed(self.id) || state.is_over() {
                 return None;
             }
-            state = self.shared.wait(rt, state);
+            state = self.shared.wait(rt, state, self.id.0);
         }
         unreachable!()
     }
 
-    fn submit<R: Wait>(&self, rt: &R, msg: ChannelMsg) -> Result<(), Error>
-        ensures { IfErr result IsDeclined }
+    /// What happened next on the channel, if something is held now. It waits for nobody beyond the lock.
+    pub fn poll<R: Wait>(&mut self, rt: &R) -> Option<ChannelMsg>
+        ensures reported { IfSome result (λ msg. IsReported self.old msg) }
+        ensures same { self.new ≡ self.old }
     {
-        self.shared.tell(rt, Msg::Channel(self.id, msg))
+        let mut state = self.shared.state.lock(rt);
+        self.take(&mut state)
+    }
+
+    /// Waits for what happens next on the channel, and returns it. `None` where `wait` returns it, and if nothing is
+    /// held after this time; `is_at_end` tells the two apart.
+    pub fn wait_for<R: Wait + Clock>(&mut self, rt: &R, limit: Duration) -> Option<ChannelMsg>
+        ensures reported { IfSome result (λ msg. IsReported self.old msg) }
+        ensures same { self.new ≡ self.old }
+    {
+        let state = self.shared.state.lock(rt);
+        let mut state = self.shared.wait_for(rt, state, self.id, limit);
+        self.take(&mut state)
+    }
+
+    /// Takes what happened next, if something is held. With its close it wakes the others that wait for the channel.
+    fn take(&self, state: &mut HandleState<H>) -> Option<ChannelMsg>
+        ensures { IfSome result (λ msg. IsReported self.now msg) }
+    {
+        match state.poll_channel(self.id) {
+            Some(Record::Channel { happened, .. }) => {
+                if state.is_channel_closed(self.id) {
+                    self.shared.wake_channel(self.id);
+                }
+                Some(channel_msg(self.id, happened))
+            }
+            other => {
+                drop(other);
+                None
+            }
+        }
+    }
+
+    /// Whether nothing more can happen on the channel: its close was returned, or the session has ended and nothing is
+    /// held any more where `poll` returns `None`.
+    pub fn is_at_end<R: Wait>(&self, rt: &R) -> bool {
+        let state = self.shared.state.lock(rt);
+        state.is_channel_closed(self.id) || state.is_over()
     }
 
     /// Bytes for the peer (RFC 4254, section 5.2).
     pub fn data<R: Wait>(&self, rt: &R, body: &[u8]) -> Result<(), Error>
         ensures { IfErr result IsDeclined }
     {
-        let msg = bytes_sent(self.shared.alloc, body)?;
-        self.submit(rt, msg)
+        let alloc = self.shared.alloc;
+        calls::data(rt, &mut self.shared.line(), alloc, self.id, body)
     }
 
     /// Bytes for the peer with a type code (RFC 4254, section 5.2).
     pub fn extended_data<R: Wait>(&self, rt: &R, ext: u32, body: &[u8]) -> Result<(), Error>
         ensures { IfErr result IsDeclined }
     {
-        let msg = extended_bytes(self.shared.alloc, ext, body)?;
-        self.submit(rt, msg)
+        let alloc = self.shared.alloc;
+        calls::extended_data(rt, &mut self.shared.line(), alloc, self.id, ext, body)
     }
 
     /// No more bytes will be sent (RFC 4254, section 5.3).
     pub fn eof<R: Wait>(&self, rt: &R) -> Result<(), Error>
         ensures { IfErr result IsDeclined }
     {
-        self.submit(rt, ChannelMsg::Eof)
+        calls::eof(rt, &mut self.shared.line(), self.id)
     }
 
     /// The channel is to be closed (RFC 4254, section 5.3).
     pub fn close<R: Wait>(&self, rt: &R) -> Result<(), Error>
         ensures { IfErr result IsDeclined }
     {
-        self.submit(rt, ChannelMsg::Close)
+        calls::close(rt, &mut self.shared.line(), self.id)
     }
 
     /// A terminal (RFC 4254, section 6.2): width and height in characters, then in pixels, and its modes.
@@ -114,8 +156,11 @@ impl<H: Handler> Channel<H> {
     ) -> Result<(), Error>
         ensures { IfErr result IsDeclined }
     {
-        let msg = terminal(
+        calls::request_pty(
+            rt,
+            &mut self.shared.line(),
             self.shared.alloc,
+            self.id,
             want_reply,
             term,
             col_width,
@@ -123,8 +168,7 @@ impl<H: Handler> Channel<H> {
             pix_width,
             pix_height,
             modes,
-        )?;
-        self.submit(rt, msg)
+        )
     }
 
     /// X11 forwarding (RFC 4254, section 6.3.1).
@@ -139,15 +183,17 @@ impl<H: Handler> Channel<H> {
     ) -> Result<(), Error>
         ensures { IfErr result IsDeclined }
     {
-        let msg = x11_forwarding(
+        calls::request_x11(
+            rt,
+            &mut self.shared.line(),
             self.shared.alloc,
+            self.id,
             want_reply,
             single_connection,
             protocol,
             cookie,
             screen,
-        )?;
-        self.submit(rt, msg)
+        )
     }
 
     /// A variable of the environment (RFC 4254, section 6.4).
@@ -160,31 +206,45 @@ impl<H: Handler> Channel<H> {
     ) -> Result<(), Error>
         ensures { IfErr result IsDeclined }
     {
-        let msg = environment(self.shared.alloc, want_reply, name, value)?;
-        self.submit(rt, msg)
+        let alloc = self.shared.alloc;
+        calls::set_env(
+            rt,
+            &mut self.shared.line(),
+            alloc,
+            self.id,
+            want_reply,
+            name,
+            value,
+        )
     }
 
     /// The user's shell (RFC 4254, section 6.5).
     pub fn request_shell<R: Wait>(&self, rt: &R, want_reply: bool) -> Result<(), Error>
         ensures { IfErr result IsDeclined }
     {
-        self.submit(rt, ChannelMsg::RequestShell { want_reply })
+        calls::request_shell(rt, &mut self.shared.line(), self.id, want_reply)
     }
 
     /// A command (RFC 4254, section 6.5).
     pub fn exec<R: Wait>(&self, rt: &R, want_reply: bool, words: &[u8]) -> Result<(), Error>
         ensures { IfErr result IsDeclined }
     {
-        let msg = command(self.shared.alloc, want_reply, words)?;
-        self.submit(rt, msg)
+        let alloc = self.shared.alloc;
+        calls::exec(
+            rt,
+            &mut self.shared.line(),
+            alloc,
+            self.id,
+            want_reply,
+            words,
+        )
     }
 
     /// A signal for the remote process (RFC 4254, section 6.9).
     pub fn signal<R: Wait>(&self, rt: &R, signal: &Sig) -> Result<(), Error>
         ensures { IfErr result IsDeclined }
     {
-        let msg = signal_sent(signal)?;
-        self.submit(rt, msg)
+        calls::signal(rt, &mut self.shared.line(), self.id, signal)
     }
 
     /// A subsystem by its name (RFC 4254, section 6.5).
@@ -196,8 +256,15 @@ impl<H: Handler> Channel<H> {
     ) -> Result<(), Error>
         ensures { IfErr result IsDeclined }
     {
-        let msg = subsystem(self.shared.alloc, want_reply, name)?;
-        self.submit(rt, msg)
+        let alloc = self.shared.alloc;
+        calls::request_subsystem(
+            rt,
+            &mut self.shared.line(),
+            alloc,
+            self.id,
+            want_reply,
+            name,
+        )
     }
 
     /// The terminal's new size (RFC 4254, section 6.7), in characters, then in pixels.
@@ -211,14 +278,14 @@ impl<H: Handler> Channel<H> {
     ) -> Result<(), Error>
         ensures { IfErr result IsDeclined }
     {
-        self.submit(
+        calls::window_change(
             rt,
-            ChannelMsg::WindowChange {
-                col_width,
-                row_height,
-                pix_width,
-                pix_height,
-            },
+            &mut self.shared.line(),
+            self.id,
+            col_width,
+            row_height,
+            pix_width,
+            pix_height,
         )
     }
 
@@ -226,6 +293,6 @@ impl<H: Handler> Channel<H> {
     pub fn agent_forward<R: Wait>(&self, rt: &R, want_reply: bool) -> Result<(), Error>
         ensures { IfErr result IsDeclined }
     {
-        self.submit(rt, ChannelMsg::AgentForward { want_reply })
+        calls::agent_forward(rt, &mut self.shared.line(), self.id, want_reply)
     }
 }

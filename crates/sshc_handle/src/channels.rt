@@ -1,16 +1,16 @@
-//! How channels are opened.
+//! How channels are opened. Which message each call submits is a clause of the function of its name in
+//! `sshc_handle_calls`.
+#![tactic(auto, using(sshc_handle_calls::proofs::Answering::answers, sshc_handle_calls::proofs::Answering::answers_at_once))]
 
 ghost use Rattle.sshc_handle_tickets.specs.Answers.{open_answer};
-ghost use Rattle.sshc_handle.specs.Answering.{Answers};
-ghost use Rattle.sshc_handle_state.specs.Submission.{asks_answer};
-ghost use Rattle.std.specs.Prelude.{◌≡◌, true};
+ghost use Rattle.sshc_handle_calls.specs.Answering.{Answers};
 
-use crate::answering::Opened;
 use crate::channel::Channel;
 use crate::handle::Handle;
 use sshc_auth::Error;
-use sshc_client::{Handler, Msg};
-use sshc_handle_messages::{asked, direct_streamlocal, direct_tcpip, x11};
+use sshc_client::Handler;
+use sshc_handle_calls as calls;
+use sshc_wire::ChannelId;
 use std::sync::Wait;
 
 impl<H: Handler> Handle<H> {
@@ -18,7 +18,7 @@ impl<H: Handler> Handle<H> {
     pub fn channel_open_session<R: Wait>(&self, rt: &R) -> Result<Channel<H>, Error>
         ensures { Answers open_answer result }
     {
-        self.open(rt, Msg::ChannelOpenSession { ticket: asked() })
+        self.opened(calls::channel_open_session(rt, &mut self.shared.line()))
     }
 
     /// Opens a channel of X11 (RFC 4254, section 6.3.2).
@@ -30,8 +30,13 @@ impl<H: Handler> Handle<H> {
     ) -> Result<Channel<H>, Error>
         ensures { Answers open_answer result }
     {
-        let msg = x11(self.shared.alloc, originator_address, originator_port)?;
-        self.open(rt, msg)
+        self.opened(calls::channel_open_x11(
+            rt,
+            &mut self.shared.line(),
+            self.shared.alloc,
+            originator_address,
+            originator_port,
+        ))
     }
 
     /// Opens a connection from the server to a host (RFC 4254, section 7.2).
@@ -45,14 +50,15 @@ impl<H: Handler> Handle<H> {
     ) -> Result<Channel<H>, Error>
         ensures { Answers open_answer result }
     {
-        let msg = direct_tcpip(
+        self.opened(calls::channel_open_direct_tcpip(
+            rt,
+            &mut self.shared.line(),
             self.shared.alloc,
             host,
             port,
             originator_address,
             originator_port,
-        )?;
-        self.open(rt, msg)
+        ))
     }
 
     /// Opens a connection from the server to a Unix socket (OpenSSH's PROTOCOL, section 2.4).
@@ -63,15 +69,19 @@ impl<H: Handler> Handle<H> {
     ) -> Result<Channel<H>, Error>
         ensures { Answers open_answer result }
     {
-        let msg = direct_streamlocal(self.shared.alloc, socket_path)?;
-        self.open(rt, msg)
+        self.opened(calls::channel_open_direct_streamlocal(
+            rt,
+            &mut self.shared.line(),
+            self.shared.alloc,
+            socket_path,
+        ))
     }
 
-    fn open<R: Wait>(&self, rt: &R, msg: Msg) -> Result<Channel<H>, Error>
-        requires { asks_answer msg ≡ true }
+    /// The channel that was opened.
+    fn opened(&self, opened: Result<ChannelId, Error>) -> Result<Channel<H>, Error>
+        requires { Answers open_answer opened }
         ensures { Answers open_answer result }
     {
-        let id = self.shared.ask::<Opened, R>(rt, msg)?;
-        Ok(self.channel(id)?)
+        Ok(self.channel(opened?)?)
     }
 }

@@ -8,7 +8,7 @@ ghost use Rattle.sshc_handle.specs.Refused.{IsMakers};
 
 use crate::handle::Handle;
 use crate::runner::Runner;
-use crate::shared::Shared;
+use crate::shared::{RunnersPart, Shared};
 use sshc_auth::Error;
 use sshc_client::{Config, Handler};
 use sshc_handle_state::HandleState;
@@ -41,8 +41,8 @@ fn shared_over<H: Handler, T: Transport>(
     transport: &T,
 ) -> Result<(Arc<Shared<H>, Global>, Arc<Shared<H>, Global>), NoMemory> {
     let remote_sshid = Octets::from_slice(alloc, transport.remote_sshid())?;
-    let state = HandleState::new(alloc, config, remote_sshid)?;
-    let shared = Arc::new(alloc, Shared::new(alloc, state))?;
+    let state = HandleState::new(config, remote_sshid)?;
+    let shared = Arc::new(alloc, Shared::new(alloc, state)?)?;
     let other = Arc::try_clone(&shared)?;
     Ok((shared, other))
 }
@@ -69,12 +69,13 @@ pub fn connect_stream<
         Ok((mine, shared)) => Ok((
             Handle { shared: mine },
             Runner {
-                shared,
+                part: RunnersPart { shared },
                 transport,
                 handler,
                 signer,
                 verifier,
                 clock,
+                is_woken: false,
             },
         )),
         Err(NoMemory) => Err(Error::NoMemory),

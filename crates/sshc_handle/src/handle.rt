@@ -3,7 +3,8 @@
 ghost use Rattle.std.specs.Prelude.{◌≡◌, Err, IfErr, IfOk, IfSome, OnErr, true};
 ghost use Rattle.sshc_handle_tickets.specs.Tickets.{is_of};
 ghost use Rattle.sshc_handle_state.specs.Submission.{asks_answer};
-ghost use Rattle.sshc_handle.specs.Answering.{Given, IsDeclined, IsEndError};
+ghost use Rattle.sshc_handle.specs.Answering.{IsEndError};
+ghost use Rattle.sshc_handle_calls.specs.Lines.{Given, IsDeclined};
 
 use crate::channel::Channel;
 use crate::shared::Shared;
@@ -13,6 +14,7 @@ use sshc_key::AgentSessionBinding;
 use sshc_wire::{ChannelId, NoMemory, Record, Ticket};
 use std::alloc::Global;
 use std::sync::{Arc, Wait};
+use std::time::{Clock, Duration};
 
 /// A session that a runner takes turns with. Threads share it by reference; each call submits its message, and waits
 /// only for its own answer.
@@ -58,7 +60,7 @@ impl<H: Handler> Handle<H> {
             if let Some(ended) = state.ended()? {
                 return Ok(ended);
             }
-            state = self.shared.wait(rt, state);
+            state = self.shared.wait_for_end(rt, state);
         }
         unreachable!()
     }
@@ -73,6 +75,40 @@ impl<H: Handler> Handle<H> {
         ensures { IfOk result (λ c. c ≡ id) }
     {
         Ok(Channel::over(Arc::try_clone(&self.shared)?, id))
+    }
+
+    /// Waits until something is held of what happened on some channel, and returns the channel of what happened first;
+    /// `poll` of that channel takes it. `None` if the session has ended and nothing more is held. So one thread serves
+    /// many channels, and takes what is held of those that nobody else asks for.
+    pub fn wait_any<R: Wait>(&self, rt: &R) -> Option<ChannelId> {
+        let mut state = self.shared.state.lock(rt);
+        for _ in rt.forever() {
+            let first = state.first_channel();
+            if first.is_some() || state.is_over() {
+                return first;
+            }
+            state = self.shared.wait_for_some(rt, state);
+        }
+        unreachable!()
+    }
+
+    /// The same, and `None` too if nothing is held after this time.
+    pub fn wait_any_for<R: Wait + Clock>(&self, rt: &R, limit: Duration) -> Option<ChannelId> {
+        let state = self.shared.state.lock(rt);
+        self.shared
+            .wait_for_some_within(rt, state, limit)
+            .first_channel()
+    }
+
+    /// Whether bytes of ours wait on the channel for the peer's window, or for the end of a key exchange.
+    pub fn has_pending_data<R: Wait>(&self, rt: &R, id: ChannelId) -> bool {
+        self.shared.state.lock(rt).has_pending_data(id)
+    }
+
+    /// How many bytes the peer's window allows on the channel; 0 if there is no such channel, or if an open of ours
+    /// waits there.
+    pub fn sender_window_size<R: Wait>(&self, rt: &R, id: ChannelId) -> usize {
+        self.shared.state.lock(rt).sender_window_size(id)
     }
 
     /// The first exchange's host key, session id and signature; `None` before it is done.

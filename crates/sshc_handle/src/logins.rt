@@ -1,16 +1,17 @@
-//! Logins that involve only the server, the local signer and the user.
+//! Logins that involve only the server, the local signer and the user. Which message each submits is a clause of the
+//! function of its name in `sshc_handle_calls`.
+#![tactic(auto, using(sshc_handle_calls::proofs::Answering::answers, sshc_handle_calls::proofs::Answering::answers_prompts))]
 
 ghost use Rattle.sshc_handle_tickets.specs.Answers.{auth_answer, prompt_answer};
-ghost use Rattle.sshc_handle.specs.Answering.{Answers, AnswersPrompts};
+ghost use Rattle.sshc_handle_calls.specs.Answering.{Answers, AnswersPrompts};
 
-use crate::answering::{Login, Prompted};
 use crate::handle::Handle;
-use sshc_auth::{Error, Method};
+use sshc_auth::Error;
 use sshc_client::Handler;
-use sshc_handle_messages::login;
+use sshc_handle_calls as calls;
 use sshc_handle_tickets::{AuthResult, KeyboardInteractiveAuthResponse};
 use sshc_key::{Certificate, PrivateKey, PrivateKeyWithHashAlg};
-use sshc_wire::{List, Text};
+use sshc_wire::Text;
 use std::sync::Wait;
 
 impl<H: Handler> Handle<H> {
@@ -18,7 +19,7 @@ impl<H: Handler> Handle<H> {
     pub fn authenticate_none<R: Wait>(&self, rt: &R, user: &str) -> Result<AuthResult, Error>
         ensures { Answers auth_answer result }
     {
-        self.log_in(rt, user, Method::None)
+        calls::authenticate_none(rt, &mut self.shared.line(), self.shared.alloc, user)
     }
 
     /// Logs in by a password (RFC 4252, section 8).
@@ -30,8 +31,8 @@ impl<H: Handler> Handle<H> {
     ) -> Result<AuthResult, Error>
         ensures { Answers auth_answer result }
     {
-        let password = Text::from_str(self.shared.alloc, password)?;
-        self.log_in(rt, user, Method::Password { password })
+        let alloc = self.shared.alloc;
+        calls::authenticate_password(rt, &mut self.shared.line(), alloc, user, password)
     }
 
     /// Logs in by a key pair, with which the session's local signer signs (RFC 4252, section 7).
@@ -43,7 +44,7 @@ impl<H: Handler> Handle<H> {
     ) -> Result<AuthResult, Error>
         ensures { Answers auth_answer result }
     {
-        self.log_in(rt, user, Method::PublicKey { key })
+        calls::authenticate_publickey(rt, &mut self.shared.line(), self.shared.alloc, user, key)
     }
 
     /// Logs in by a certificate, with whose pair the session's local signer signs.
@@ -56,18 +57,11 @@ impl<H: Handler> Handle<H> {
     ) -> Result<AuthResult, Error>
         ensures { Answers auth_answer result }
     {
-        self.log_in(rt, user, Method::OpenSshCertificate { key, cert })
-    }
-
-    fn log_in<R: Wait>(&self, rt: &R, user: &str, method: Method) -> Result<AuthResult, Error>
-        ensures { Answers auth_answer result }
-    {
-        let msg = login(self.shared.alloc, user, method)?;
-        self.shared.ask::<Login, R>(rt, msg)
+        let alloc = self.shared.alloc;
+        calls::authenticate_openssh_cert(rt, &mut self.shared.line(), alloc, user, key, cert)
     }
 
     /// Begins a login with prompts (RFC 4256, section 3.1). `None` as the submethods is sent as the empty text.
-    #[tactic(auto, using(crate::proofs::AnsweringLemmas::answered))]
     pub fn authenticate_keyboard_interactive_start<R: Wait>(
         &self,
         rt: &R,
@@ -76,17 +70,13 @@ impl<H: Handler> Handle<H> {
     ) -> Result<KeyboardInteractiveAuthResponse, Error>
         ensures { Answers prompt_answer result }
     {
-        let user = Text::from_str(self.shared.alloc, user)?;
-        let submethods = Text::from_str(self.shared.alloc, submethods.unwrap_or(""))?;
-        match self.shared.start_prompts(rt, user, submethods)? {
-            Some(ticket) => self.shared.answer::<Prompted, R>(rt, ticket),
-            None => unreachable!(),
-        }
+        let alloc = self.shared.alloc;
+        let submethods = submethods.unwrap_or("");
+        calls::start_prompts(rt, &mut self.shared.line(), alloc, user, submethods)
     }
 
     /// Answers the prompts (RFC 4256, section 3.4) of the login with prompts that was begun last, and waits for its
     /// result or its next prompts. `RecvError` if no such login is open.
-    #[tactic(auto, using(crate::proofs::AnsweringLemmas::prompts_answered))]
     pub fn authenticate_keyboard_interactive_respond<R: Wait>(
         &self,
         rt: &R,
@@ -94,8 +84,6 @@ impl<H: Handler> Handle<H> {
     ) -> Result<KeyboardInteractiveAuthResponse, Error>
         ensures { AnswersPrompts prompt_answer result }
     {
-        let responses = List::from_vec(responses)?;
-        let ticket = self.shared.respond(rt, responses)?;
-        self.shared.answer::<Prompted, R>(rt, ticket)
+        calls::respond(rt, &mut self.shared.line(), responses)
     }
 }

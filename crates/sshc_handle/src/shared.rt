@@ -3,40 +3,54 @@
 ghost use Rattle.std.specs.Prelude.{◌≡◌, IfErr, true};
 ghost use Rattle.sshc_handle_tickets.specs.Tickets.{is_of};
 ghost use Rattle.sshc_handle_state.specs.Submission.{asks_answer};
-ghost use Rattle.sshc_handle.specs.Answering.{Answers, CannotRespond, Given, IsDeclined, IsRead};
+ghost use Rattle.sshc_handle_calls.specs.Lines.{CannotRespond, Given};
 
-use crate::answering::Reader;
 use sshc_auth::Error;
-use sshc_client::{Handler, Msg};
+use sshc_client::Msg;
 use sshc_handle_state::HandleState;
-use sshc_wire::{List, Record, Resolution, Text, Ticket};
+use sshc_handle_tickets::{channel_of, ticket_of};
+use sshc_wire::{ChannelId, List, NoMemory, Record, Resolution, Text, Ticket};
 use std::alloc::Global;
 use std::sync::atomic::{AtomicBool, Ordering};
-use std::sync::{Condvar, Mutex, MutexGuard, Wait};
+use std::sync::{Arc, Condvar, Mutex, MutexGuard, Wait};
+use std::thread::{Parker, yield_now};
 use std::time::{Clock, Duration};
 
-/// The session under its lock. A thread that submits wakes the runner, and the runner wakes those that wait for
-/// records.
+/// Over how many conditions the calls that wait are spread, by the numbers of their tickets and channels.
+const PLACES: u32 = 256;
+
+/// The session under its lock. A thread that submits wakes the runner, and the runner wakes those that wait for a
+/// record of a ticket or a channel that it holds.
 #[derive(Drop)]
-pub(crate) struct Shared<H: Handler> {
+pub(crate) struct Shared<H> {
     pub(crate) alloc: Global,
     pub(crate) state: Mutex<HandleState<H>>,
-    /// Notified when something was submitted.
-    submitted: Condvar,
-    /// Notified when a turn was taken, or the runner has come to its end.
-    told: Condvar,
+    /// Where the runner rests. It is woken when something was submitted, or the transport has something.
+    runner: Arc<Parker, Global>,
+    /// Each notified when a record of a ticket or a channel of its numbers is held, and at the runner's end.
+    told: Vec<Condvar>,
+    /// Notified when a record of any channel is held, and at the runner's end.
+    happened: Condvar,
+    /// Notified at the runner's end.
+    ended: Condvar,
     closed: AtomicBool,
 }
 
-impl<H: Handler> Shared<H> {
-    pub(crate) fn new(alloc: Global, state: HandleState<H>) -> Shared<H> {
-        Shared {
+impl<H> Shared<H> {
+    pub(crate) fn new(alloc: Global, state: HandleState<H>) -> Result<Shared<H>, NoMemory> {
+        let mut told = Vec::new(alloc);
+        for _ in 0..PLACES {
+            told.push(Condvar::new())?;
+        }
+        Ok(Shared {
             alloc,
             state: Mutex::new(state),
-            submitted: Condvar::new(),
-            told: Condvar::new(),
+            runner: Arc::new(alloc, Parker::new())?,
+            told,
+            happened: Condvar::new(),
+            ended: Condvar::new(),
             closed: AtomicBool::new(false),
-        }
+        })
     }
 
     /// Whether the runner has come to its end.
@@ -45,39 +59,137 @@ impl<H: Handler> Shared<H> {
     }
 
     /// Marks that the runner has come to its end, and wakes those that wait.
-    pub(crate) fn close(&self) {
+    fn close(&self) {
         self.closed.store(true, Ordering::SeqCst);
-        self.told.notify_all();
+        for place in self.told.iter() {
+            place.notify_all();
+        }
+        self.happened.notify_all();
+        self.ended.notify_all();
     }
 
-    /// Wakes the runner: something was submitted.
+    /// No turn will be taken any more: a session that hasn't ended is refused. It takes the lock without the means to
+    /// wait for it, which a drop doesn't have, so it tries again until nobody else holds it.
+    fn leave(&self) {
+        for _ in 0..u64::MAX {
+            if let Some(mut state) = self.state.try_lock() {
+                state.leave();
+                return;
+            }
+            yield_now();
+        }
+    }
+
+    /// Wakes the runner: something was submitted, or the transport has something.
     pub(crate) fn wake_runner(&self) {
-        self.submitted.notify_all();
+        self.runner.unpark();
     }
 
-    /// Wakes those that wait for records: a turn was taken.
-    pub(crate) fn wake_waiters(&self) {
-        self.told.notify_all();
+    /// Where the runner rests, for one who wakes it.
+    pub(crate) fn runner(&self) -> Result<Arc<Parker, Global>, NoMemory> {
+        Ok(Arc::try_clone(&self.runner)?)
     }
 
-    /// Waits until a turn was taken.
+    /// Where those wait that wait for a record of the ticket or the channel of this number.
+    fn place(&self, number: u32) -> &Condvar {
+        match self.told.get((number % PLACES) as usize) {
+            Some(place) => place,
+            None => &self.ended,
+        }
+    }
+
+    /// Wakes those that wait for the records that are held behind the first of this number.
+    pub(crate) fn wake_behind(&self, state: MutexGuard<'_, HandleState<H>>, before: usize) {
+        let mut last = None;
+        let mut on_channel = false;
+        for said in state.held().iter().skip(before) {
+            if let Some(number) = last {
+                self.place(number).notify_all();
+            }
+            last = number_of(said);
+            on_channel = on_channel || channel_of(said).is_some();
+        }
+        drop(state);
+        if let Some(number) = last {
+            self.place(number).notify_all();
+        }
+        if on_channel {
+            self.happened.notify_all();
+        }
+    }
+
+    /// Wakes those that wait for what happens on this channel.
+    pub(crate) fn wake_channel(&self, id: ChannelId) {
+        self.place(id.0).notify_all();
+    }
+
+    /// Waits until a record may be held for the ticket or the channel of this number.
     pub(crate) fn wait<'a, R: Wait>(
         &self,
         rt: &R,
         state: MutexGuard<'a, HandleState<H>>,
+        number: u32,
     ) -> MutexGuard<'a, HandleState<H>> {
-        self.told.wait(rt, state)
+        self.place(number).wait(rt, state)
     }
 
-    /// Lets other threads run when there was nothing to take: until something is submitted, and for a millisecond at
-    /// most if the transport may have something too.
-    pub(crate) fn rest<R: Wait + Clock>(&self, rt: &R, state: MutexGuard<'_, HandleState<H>>) {
-        if state.awaits_answer() {
-            let _state = self.submitted.wait(rt, state);
-        } else {
-            let (_state, _timed) = self
-                .submitted
-                .wait_timeout(rt, state, Duration::from_millis(1));
+    /// Waits until a record is held of what happened on this channel, the session has ended, or the limit is over.
+    pub(crate) fn wait_for<'a, R: Wait + Clock>(
+        &self,
+        rt: &R,
+        state: MutexGuard<'a, HandleState<H>>,
+        id: ChannelId,
+        limit: Duration,
+    ) -> MutexGuard<'a, HandleState<H>> {
+        let (state, _is_over) = self.place(id.0).wait_timeout_while(
+            rt,
+            state,
+            limit,
+            |state| !state.holds_of(id) && !state.is_channel_closed(id) && !state.is_over(),
+        );
+        state
+    }
+
+    /// Waits until a record of some channel may be held.
+    pub(crate) fn wait_for_some<'a, R: Wait>(
+        &self,
+        rt: &R,
+        state: MutexGuard<'a, HandleState<H>>,
+    ) -> MutexGuard<'a, HandleState<H>> {
+        self.happened.wait(rt, state)
+    }
+
+    /// Waits until a record of some channel is held, the session has ended, or the limit is over.
+    pub(crate) fn wait_for_some_within<'a, R: Wait + Clock>(
+        &self,
+        rt: &R,
+        state: MutexGuard<'a, HandleState<H>>,
+        limit: Duration,
+    ) -> MutexGuard<'a, HandleState<H>> {
+        let (state, _is_over) = self.happened.wait_timeout_while(
+            rt,
+            state,
+            limit,
+            |state| state.first_channel().is_none() && !state.is_over(),
+        );
+        state
+    }
+
+    /// Waits until the session may have ended.
+    pub(crate) fn wait_for_end<'a, R: Wait>(
+        &self,
+        rt: &R,
+        state: MutexGuard<'a, HandleState<H>>,
+    ) -> MutexGuard<'a, HandleState<H>> {
+        self.ended.wait(rt, state)
+    }
+
+    /// Rests the runner until something is submitted or the transport wakes it, and at most until this limit. It doesn't
+    /// rest if it was woken since it rested last.
+    pub(crate) fn rest<R: Wait>(&self, rt: &R, limit: Option<Duration>) {
+        match limit {
+            None => self.runner.park(rt),
+            Some(limit) => self.runner.park_timeout(rt, limit),
         }
     }
 
@@ -133,44 +245,29 @@ impl<H: Handler> Shared<H> {
                     resolution: Resolution::Dropped,
                 };
             }
-            state = self.wait(rt, state);
+            state = self.wait(rt, state, ticket.0);
         }
         unreachable!()
     }
+}
 
-    /// Waits for the answer with this ticket; records that the reader doesn't read are passed over.
-    pub(crate) fn answer<A: Reader, R: Wait>(
-        &self,
-        rt: &R,
-        ticket: Ticket,
-    ) -> Result<A::Answer, Error>
-        ensures { IsRead A.reads ticket result }
-    {
-        for _ in rt.forever() {
-            if let Some(answer) = A::read(self.record(rt, ticket)) {
-                return answer;
-            }
-        }
-        unreachable!()
+/// A runner's part of what is shared. When it goes, no turn will be taken any more, and those that wait are told.
+pub(crate) struct RunnersPart<H> {
+    pub(crate) shared: Arc<Shared<H>, Global>,
+}
+
+impl<H> Drop for RunnersPart<H> {
+    fn drop(self) {
+        let RunnersPart { shared } = self;
+        shared.leave();
+        shared.close();
     }
+}
 
-    /// Submits a message that asks for an answer, and waits for it.
-    #[tactic(auto, using(crate::proofs::AnsweringLemmas::answered))]
-    pub(crate) fn ask<A: Reader, R: Wait>(&self, rt: &R, msg: Msg) -> Result<A::Answer, Error>
-        requires { asks_answer msg ≡ true }
-        ensures { Answers A.reads result }
-    {
-        match self.submit(rt, msg)? {
-            Some(ticket) => self.answer::<A, R>(rt, ticket),
-            None => unreachable!(),
-        }
-    }
-
-    /// Submits a message, without waiting for an answer.
-    pub(crate) fn tell<R: Wait>(&self, rt: &R, msg: Msg) -> Result<(), Error>
-        ensures { IfErr result IsDeclined }
-    {
-        let _ticket = self.submit(rt, msg)?;
-        Ok(())
+/// The number of the ticket or the channel of a record.
+fn number_of(said: &Record) -> Option<u32> {
+    match ticket_of(said) {
+        Some(number) => Some(number),
+        None => channel_of(said),
     }
 }

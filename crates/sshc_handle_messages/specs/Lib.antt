@@ -1,3 +1,2 @@
 pub mod Happened
 pub mod Messages
-pub mod Signing

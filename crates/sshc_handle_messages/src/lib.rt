@@ -7,8 +7,6 @@ mod channel_requests;
 mod happened;
 mod logins;
 mod requests;
-mod signing;
-mod with_error;
 
 pub use channel_opens::{direct_streamlocal, direct_tcpip, x11};
 pub use channel_requests::{
@@ -21,5 +19,3 @@ pub use requests::{
     cancel_forward, cancel_streamlocal, disconnection, forward, global_request, prove_keys,
     streamlocal,
 };
-pub use signing::{authenticated, gssapi_said, signed, to_sign};
-pub use with_error::WithError;

@@ -10,6 +10,7 @@ use Rattle.sshc_client.specs.declared.config.Config.{Config}
 use Rattle.sshc_client.specs.Configured.{session_settings_of, settings_of}
 use Rattle.sshc_handle_tickets.specs.Tickets.{TicketState, dropped}
 use Rattle.sshc_handle_state.specs.declared.end.End.{End}
+use Rattle.sshc_handle_state.specs.declared.end.End.TheVariants.{Refused}
 use Rattle.sshc_handle_state.specs.declared.timers.Timers.{Timers}
 
 pub record HandleAt : Type 0 where
@@ -18,7 +19,6 @@ pub record HandleAt : Type 0 where
   pub tickets : TicketState  -- the tickets whose answer is due, and the records that are held
   pub prompts : Option Ticket  -- the ticket of the login with prompts that was begun last
   pub binding : Option AgentSessionBinding  -- the first exchange's host key, session id and signature
-  pub remote_sshid : List ℕ  -- the peer's version line (RFC 4253, section 4.2)
   pub timers : Timers
   pub failed : Bool  -- a call of the transport has failed
   pub end : Option End  -- how the session has ended
@@ -29,15 +29,14 @@ no_tickets = record { due = []; held = []; closed = []; last = 0 }
 abbrev pub new_timers : Config → Timers
 new_timers c = record { inactivity_timeout = c.inactivity_timeout; keepalive_interval = c.keepalive_interval; heard = None; beat = 0 }
 
--- a new session; nothing is submitted, open or held
+-- a new session over a transport whose peer's version line is this; nothing is submitted, open or held
 abbrev pub new_handle : Config → List ℕ → HandleAt
 new_handle c sshid = record {
-  session = new_session (session_settings_of c) (settings_of c);
+  session = new_session (session_settings_of c sshid) (settings_of c);
   submitted = [];
   tickets = no_tickets;
   prompts = None;
   binding = None;
-  remote_sshid = sshid;
   timers = new_timers c;
   failed = false;
   end = None;
@@ -62,3 +61,11 @@ all_dropped t = record t { due = []; held = t.held ++ map dropped t.due }
 -- the session has ended so, and nobody waits for an answer any more
 abbrev pub ended_with : End → HandleAt → HandleAt
 ended_with end s = record s { tickets = all_dropped s.tickets; end = Some end }
+
+-- no turn will be taken any more: a session that hasn't ended is refused
+abbrev pub left_by : Option End → HandleAt → HandleAt
+left_by None s = ended_with Refused s
+left_by (Some end) s = s
+
+abbrev pub left : HandleAt → HandleAt
+left s = left_by s.end s

@@ -35,19 +35,21 @@ use Rattle.sshc_handle_state.specs.Dealing.{DealsBy}
 
 -- ---- the signer and the handler in a turn
 
--- the signer's calls and refusals, and the handler's refusals with what it judges by
+-- the signer's calls and refusals, and the handler's refusals with what it judges by, and how many host keys it was
+-- asked about
 pub record CallersAt : Type 0 where
   pub calls : List SignCall
   pub signer_refusals : ℕ
   pub refusals : ℕ
   pub setting : List (List ℕ)
+  pub asked : ℕ
 
-abbrev pub callers_at : List SignCall → ℕ → ℕ → List (List ℕ) → CallersAt
-callers_at calls signer_refusals refusals setting =
-    record { calls = calls; signer_refusals = signer_refusals; refusals = refusals; setting = setting }
+abbrev pub callers_at : List SignCall → ℕ → ℕ → List (List ℕ) → ℕ → CallersAt
+callers_at calls signer_refusals refusals setting asked =
+    record { calls = calls; signer_refusals = signer_refusals; refusals = refusals; setting = setting; asked = asked }
 
 abbrev pub lent_to : SessionState → CallersAt → Lent
-lent_to session c = lent_session session c.calls c.signer_refusals c.refusals c.setting
+lent_to session c = lent_session session c.calls c.signer_refusals c.refusals c.setting c.asked
 
 -- ---- the binding of the first exchange
 

@@ -4,9 +4,12 @@ ghost use Rattle.std.specs.Prelude.{◌≡◌, ◌<◌, ◌++◌, Some, IfOk, On
 ghost use Rattle.std.specs.List.{list_any};
 ghost use Rattle.std.specs.VecDeque.{deque_capacity, deque_len};
 ghost use Rattle.sshc_wire.specs.Outgoing.{listed};
+ghost use Rattle.sshc_mux.specs.ChannelState.{channel_of};
+ghost use Rattle.sshc_mux.specs.ChannelTable.{waits_in, window_in};
 ghost use Rattle.sshc_auth.specs.OpeningState.{is_awaiting};
-ghost use Rattle.sshc_handle_tickets.specs.Tickets.{closed_with, first_of, is_channel, is_of, is_on, is_ticket, without_first};
+ghost use Rattle.sshc_handle_tickets.specs.Tickets.{channel_in, closed_with, first_of, is_channel, is_of, is_on, is_on_some, is_ticket, without_first};
 ghost use Rattle.sshc_handle_state.specs.Asked.{Admits, PromptsAt, Responds, TellsEnd, kept_prompts};
+ghost use Rattle.sshc_handle_state.specs.Clocks.{due_in};
 ghost use Rattle.sshc_handle_state.specs.HandleAt.{new_handle};
 ghost use Rattle.sshc_handle_state.specs.Submitting.{Submits, SubmitsEvent};
 
@@ -15,31 +18,29 @@ use crate::ending::ended_copied;
 use crate::submission::{asks_answer, event_of};
 use crate::timers::Timers;
 use sshc_auth::{Ended, Error, Event, Method, SharedMethod};
-use sshc_client::{Config, Handler, Msg, Session};
+use sshc_client::{Config, Msg, Session};
 use sshc_handle_tickets::Tickets;
 use sshc_key::AgentSessionBinding;
 use sshc_wire::{ChannelId, List, NoMemory, Octets, Record, Text, Ticket};
-use std::alloc::Global;
 use std::collections::VecDeque;
 use std::marker::{Model, PhantomData};
 
 /// A session with the events that are submitted to it, the records that are held for those who wait, and its timers.
 /// None of its calls waits for anything.
 #[derive(Drop)]
-pub struct HandleState<H: Handler> {
+pub struct HandleState<H> {
     pub(crate) session: Session,
     pub(crate) submitted: VecDeque<Event>,
     pub(crate) tickets: Tickets,
     pub(crate) prompts: Option<Ticket>,
     pub(crate) binding: Option<AgentSessionBinding>,
-    pub(crate) remote_sshid: Octets,
     pub(crate) timers: Timers,
     pub(crate) failed: bool,
     pub(crate) end: Option<End>,
     pub(crate) of: PhantomData<H>,
 }
 
-impl<H: Handler> Model for HandleState<H> {
+impl<H> Model for HandleState<H> {
     ghost use Rattle.sshc_handle_state.specs.HandleAt.{HandleAt};
     ghost use Rattle.sshc_handle_state.specs.HandleCode.{handle_code};
 
@@ -53,7 +54,6 @@ impl<H: Handler> Model for HandleState<H> {
       tickets = s.tickets;
       prompts = s.prompts;
       binding = s.binding;
-      remote_sshid = s.remote_sshid;
       timers = s.timers;
       failed = s.failed;
       end = s.end;
@@ -92,29 +92,25 @@ fn add(submitted: &mut VecDeque<Event>, event: Option<Event>)
     }
 }
 
-impl<H: Handler> HandleState<H> {
+impl<H> HandleState<H> {
     /// A new session, to which nothing was submitted yet, over a transport whose peer's version line is this.
-    pub fn new(
-        alloc: Global,
-        config: Config,
-        remote_sshid: Octets,
-    ) -> Result<HandleState<H>, NoMemory>
+    pub fn new(config: Config, remote_sshid: Octets) -> Result<HandleState<H>, NoMemory>
         ensures { IfOk result (λ s. s ≡ new_handle config remote_sshid) }
     {
-        let session = Session::new(alloc, config.session_settings(), config.opening_settings())?;
+        let alloc = remote_sshid.allocator();
         let timers = Timers {
             inactivity_timeout: config.inactivity_timeout,
             keepalive_interval: config.keepalive_interval,
             heard: None,
             beat: 0,
         };
+        let session = Session::new(config, remote_sshid)?;
         Ok(HandleState {
             session,
             submitted: VecDeque::new(alloc),
             tickets: Tickets::new(alloc),
             prompts: None,
             binding: None,
-            remote_sshid,
             timers,
             failed: false,
             end: None,
@@ -201,6 +197,20 @@ impl<H: Handler> HandleState<H> {
         Ok(due)
     }
 
+    /// The records that nobody has taken yet, the oldest first.
+    pub fn held(&self) -> &[Record]
+        ensures { result.now ≡ self.now.tickets.held }
+    {
+        self.tickets.held()
+    }
+
+    /// How many milliseconds after a moment the next timer runs out; 0 if one has run out, `None` if none is set.
+    pub fn due_in(&self, now: u64) -> Option<u64>
+        ensures { result ≡ due_in now self.now.timers }
+    {
+        self.timers.due_in(now)
+    }
+
     /// Takes the oldest record that is held for this ticket.
     pub fn poll(&mut self, ticket: Ticket) -> Option<Record>
         ensures taken { result ≡ first_of (is_of ticket.0) self.old.tickets.held }
@@ -218,11 +228,39 @@ impl<H: Handler> HandleState<H> {
         self.tickets.poll_channel(id)
     }
 
+    /// Whether a record is held of what happened on this channel.
+    pub fn holds_of(&self, id: ChannelId) -> bool
+        ensures { result ≡ list_any (is_on id.0) self.now.tickets.held }
+    {
+        self.tickets.holds_of(id)
+    }
+
+    /// The channel of the oldest record that is held of what happened on a channel; `None` if none is held.
+    pub fn first_channel(&self) -> Option<ChannelId>
+        ensures { result ≡ channel_in (first_of is_on_some self.now.tickets.held) }
+    {
+        self.tickets.first_channel()
+    }
+
     /// Whether the close of this channel was taken.
     pub fn is_channel_closed(&self, id: ChannelId) -> bool
         ensures { result ≡ list_any (is_channel id.0) self.now.tickets.closed }
     {
         self.tickets.is_closed(id)
+    }
+
+    /// Whether bytes of ours wait on the channel.
+    pub fn has_pending_data(&self, id: ChannelId) -> bool
+        ensures { result ≡ waits_in (channel_of id.0 self.now.session.table.channels) }
+    {
+        self.session.has_pending_data(id)
+    }
+
+    /// How many bytes the peer's window allows; 0 if there is no such channel, or if an open of ours waits there.
+    pub fn sender_window_size(&self, id: ChannelId) -> usize
+        ensures { result ≡ window_in (channel_of id.0 self.now.session.table.channels) }
+    {
+        self.session.sender_window_size(id)
     }
 
     /// Whether an answer of the user is awaited, so that only submitted events are taken.
@@ -262,8 +300,8 @@ impl<H: Handler> HandleState<H> {
 
     /// The peer's version line (RFC 4253, section 4.2).
     pub fn remote_sshid(&self) -> &[u8]
-        ensures { result.now ≡ self.now.remote_sshid }
+        ensures { result.now ≡ self.now.session.settings.remote_sshid }
     {
-        self.remote_sshid.as_slice()
+        self.session.remote_sshid()
     }
 }

@@ -1,7 +1,7 @@
 //! The moments by which the two timers of a session run.
 
 ghost use Rattle.std.specs.Prelude.{◌≡◌, Some};
-ghost use Rattle.sshc_handle_state.specs.Clocks.{begun, has_passed, is_inactive, is_keepalive_due};
+ghost use Rattle.sshc_handle_state.specs.Clocks.{begun, due_in, has_passed, is_inactive, is_keepalive_due, left_of, sooner};
 
 /// The two timers of a session, with the moments by which they run, in milliseconds.
 #[derive(Clone, Copy, PartialEq, Eq)]
@@ -22,6 +22,27 @@ fn has_passed(span: Option<u64>, since: u64, now: u64) -> bool
     match span {
         Some(span) => now.saturating_sub(since) >= span,
         None => false,
+    }
+}
+
+/// How much of a span since a moment is left.
+fn left_of(span: Option<u64>, since: u64, now: u64) -> Option<u64>
+    ensures { result ≡ left_of span since now }
+{
+    match span {
+        Some(span) => Some(span.saturating_sub(now.saturating_sub(since))),
+        None => None,
+    }
+}
+
+/// The sooner of two, if there is one.
+fn sooner(one: Option<u64>, other: Option<u64>) -> Option<u64>
+    ensures { result ≡ sooner one other }
+{
+    match (one, other) {
+        (Some(one), Some(other)) => Some(one.min(other)),
+        (Some(one), None) => Some(one),
+        (None, other) => other,
     }
 }
 
@@ -54,6 +75,16 @@ impl Timers {
         ensures { result ≡ is_inactive now self.now }
     {
         has_passed(self.inactivity_timeout, self.heard.unwrap_or(now), now)
+    }
+
+    /// How long after a moment the next timer runs out; 0 if one has run out, `None` if none is set.
+    pub(crate) fn due_in(&self, now: u64) -> Option<u64>
+        ensures { result ≡ due_in now self.now }
+    {
+        let heard = self.heard.unwrap_or(now);
+        let inactive = left_of(self.inactivity_timeout, heard, now);
+        let keepalive = left_of(self.keepalive_interval, heard.max(self.beat), now);
+        sooner(inactive, keepalive)
     }
 
     /// Whether it is time for a keepalive.

@@ -2,7 +2,7 @@
 
 ghost use Rattle.std.specs.Prelude.{◌≡◌, None, IfOk};
 ghost use Rattle.sshc_client.specs.HandledStep.{handler_gate};
-ghost use Rattle.sshc_handle_state.specs.HandleAt.{ended_with};
+ghost use Rattle.sshc_handle_state.specs.HandleAt.{ended_with, left};
 ghost use Rattle.sshc_handle_state.specs.Picking.{link_at};
 ghost use Rattle.sshc_handle_state.specs.Turning.{Binds, Closes, DealsWith, TakesEvent, Turns, binding_of, both, callers_at, key_blob, turn_by};
 ghost use Rattle.sshc_client_state.specs.OpeningStep.{goes_on};
@@ -72,7 +72,7 @@ fn turn_by<H: Handler>(step: Step<H::Error>, dealt: Result<(), NoMemory>) -> Tur
     }
 }
 
-impl<H: Handler> HandleState<H> {
+impl<H> HandleState<H> {
     /// The session has ended: each open ticket is resolved as dropped.
     fn finish(&mut self, end: End)
         ensures { self.new ≡ ended_with end self.old }
@@ -81,6 +81,17 @@ impl<H: Handler> HandleState<H> {
         self.end = Some(end);
     }
 
+    /// No turn will be taken any more: a session that hasn't ended is refused.
+    pub fn leave(&mut self)
+        ensures { self.new ≡ left self.old }
+    {
+        if self.end.is_none() {
+            self.finish(End::Refused);
+        }
+    }
+}
+
+impl<H: Handler> HandleState<H> {
     fn close_ended(&mut self, ended: Ended) -> Turn<H::Error>
         ensures { Closes H.told_as (Turn.Ended ended) self.old self.new result }
     {
@@ -144,8 +155,10 @@ impl<H: Handler> HandleState<H> {
     ) -> Turn<H::Error>
         ensures { TakesEvent H.keeps_defaults (handler_gate H.told_as (H.judges handler.old))
             (V.accepts verifier.now) event self.old self.new
-            (callers_at (S.calls signer.old) (S.refusals signer.old) (H.refusals handler.old) (H.setting handler.old))
-            (callers_at (S.calls signer.new) (S.refusals signer.new) (H.refusals handler.new) (H.setting handler.new))
+            (callers_at (S.calls signer.old) (S.refusals signer.old)
+            (H.refusals handler.old) (H.setting handler.old) (H.asked handler.old))
+            (callers_at (S.calls signer.new) (S.refusals signer.new)
+            (H.refusals handler.new) (H.setting handler.new) (H.asked handler.new))
             (link_at (T.answers transport.old) (T.handed transport.old) (T.faults transport.old))
             (link_at (T.answers transport.new) (T.handed transport.new) (T.faults transport.new)) result }
     {
@@ -169,8 +182,10 @@ impl<H: Handler> HandleState<H> {
         requires { self.old.end ≡ None }
         ensures { Turns H.keeps_defaults (handler_gate H.told_as (H.judges handler.old)) (V.accepts verifier.now) now
             self.old self.new
-            (callers_at (S.calls signer.old) (S.refusals signer.old) (H.refusals handler.old) (H.setting handler.old))
-            (callers_at (S.calls signer.new) (S.refusals signer.new) (H.refusals handler.new) (H.setting handler.new))
+            (callers_at (S.calls signer.old) (S.refusals signer.old)
+            (H.refusals handler.old) (H.setting handler.old) (H.asked handler.old))
+            (callers_at (S.calls signer.new) (S.refusals signer.new)
+            (H.refusals handler.new) (H.setting handler.new) (H.asked handler.new))
             (link_at (T.answers transport.old) (T.handed transport.old) (T.faults transport.old))
             (link_at (T.answers transport.new) (T.handed transport.new) (T.faults transport.new)) result }
     {

@@ -1,5 +1,5 @@
 -- The tickets that are open, and the records that are held until someone asks for them.
-use Rattle.std.specs.Prelude.{◌≡◌, ℕ, zero, suc, ◌+◌, ◌-◌, ◌<◌, ◌^◌, Bool, true, false, nat_eq, if◌then◌else◌, not, ◌&&◌, ◌||◌, List, [], ◌∷◌, ◌++◌, Option, Some, None, filter}
+use Rattle.std.specs.Prelude.{◌≡◌, ℕ, zero, suc, ◌+◌, ◌-◌, ◌<◌, ◌^◌, Bool, true, false, nat_eq, if◌then◌else◌, not, ◌&&◌, ◌||◌, List, [], ◌∷◌, ◌++◌, Option, Some, None, is_some, filter}
 use Rattle.std.specs.List.{list_any}
 use Rattle.sshc_wire.specs.declared.record.Record.{Record}
 use Rattle.sshc_wire.specs.declared.record.Record.TheVariants.{Auth, Channel, Resolved, ServerOpened}
@@ -40,6 +40,15 @@ channel_of said = None
 
 abbrev pub is_on : ℕ → Record → Bool
 is_on number said = is_number number (channel_of said)
+
+-- whether the record is of what happened on some channel
+abbrev pub is_on_some : Record → Bool
+is_on_some said = is_some (channel_of said)
+
+-- the channel on which it happened
+abbrev pub channel_in : Option Record → Option ChannelId
+channel_in (Some (Channel id happened)) = Some id
+channel_in said = None
 
 abbrev pub is_ticket : ℕ → Ticket → Bool
 is_ticket number ticket = nat_eq ticket.0 number

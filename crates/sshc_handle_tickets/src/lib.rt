@@ -8,4 +8,4 @@ pub use answers::{
     algs_answer, auth_answer, done_answer, open_answer, port_answer, prompt_answer, reply_answer,
 };
 pub use sshc_auth::{AuthResult, KeyboardInteractiveAuthResponse};
-pub use tickets::Tickets;
+pub use tickets::{Tickets, channel_of, ticket_of};

@@ -1,10 +1,10 @@
 //! The tickets that are open, and the records that are held until someone asks for them.
 
-ghost use Rattle.std.specs.Prelude.{◌≡◌, ◌+◌, ◌≤◌, ◌++◌, [], ◌∷◌, false, length, map, filter, not, IfOk, IfSome, OnErr, OnOk};
+ghost use Rattle.std.specs.Prelude.{◌≡◌, ◌+◌, ◌≤◌, ◌++◌, [], ◌∷◌, Some, false, length, map, filter, not, IfOk, IfSome, OnErr, OnOk};
 ghost use Rattle.std.specs.List.{list_any};
 ghost use Rattle.std.specs.Vec.{vec_capacity, vec_len};
 ghost use Rattle.sshc_wire.specs.declared.channel_id.ChannelId.{ChannelId};
-ghost use Rattle.sshc_handle_tickets.specs.Tickets.{channel_of, closed_behind, closed_with, dropped, first_of, free_within, is_channel, is_of, is_on, is_taken, is_ticket, number_after, opened_by, due_behind, ticket_of, without_first};
+ghost use Rattle.sshc_handle_tickets.specs.Tickets.{channel_in, channel_of, closed_behind, closed_with, dropped, first_of, free_within, is_channel, is_of, is_on, is_on_some, is_taken, is_ticket, number_after, opened_by, due_behind, ticket_of, without_first};
 
 use sshc_wire::{ChannelId, ChannelRecord, NoMemory, Record, Resolution, Ticket};
 use std::alloc::Global;
@@ -33,7 +33,7 @@ impl Model for Tickets {
 }
 
 /// The number of the ticket that a record names.
-fn ticket_of(said: &Record) -> Option<u32>
+pub fn ticket_of(said: &Record) -> Option<u32>
     ensures { result ≡ ticket_of said.now }
 {
     match said {
@@ -44,7 +44,7 @@ fn ticket_of(said: &Record) -> Option<u32>
 }
 
 /// The number of the channel on which something happened.
-fn channel_of(said: &Record) -> Option<u32>
+pub fn channel_of(said: &Record) -> Option<u32>
     ensures { result ≡ channel_of said.now }
 {
     match said {
@@ -73,6 +73,23 @@ fn is_on(number: u32, said: &Record) -> bool
     match channel_of(said) {
         Some(named) => named == number,
         None => false,
+    }
+}
+
+/// Whether the record is of what happened on a channel.
+fn is_on_some(said: &Record) -> bool
+    ensures { result ≡ is_on_some said.now }
+{
+    channel_of(said).is_some()
+}
+
+/// The channel on which something happened.
+fn channel_in(said: &Record) -> Option<ChannelId>
+    ensures { result ≡ channel_in (Some said.now) }
+{
+    match said {
+        Record::Channel { id, .. } => Some(*id),
+        _ => None,
     }
 }
 
@@ -216,6 +233,13 @@ fn forget(closed: &mut Vec<ChannelId>, number: u32)
 }
 
 impl Tickets {
+    /// The records that nobody has taken yet, the oldest first.
+    pub fn held(&self) -> &[Record]
+        ensures { result.now ≡ self.now.held }
+    {
+        self.held.as_slice()
+    }
+
     /// Takes the oldest record that is held for this ticket.
     pub fn poll(&mut self, ticket: Ticket) -> Option<Record>
         ensures taken { result ≡ first_of (is_of ticket.0) self.old.held }
@@ -241,6 +265,26 @@ impl Tickets {
             self.closed.push_reserved(*id);
         }
         said
+    }
+
+    /// Whether a record is held of what happened on this channel.
+    pub fn holds_of(&self, id: ChannelId) -> bool
+        ensures { result ≡ list_any (is_on id.0) self.now.held }
+    {
+        self.held.iter().any(|said| is_on(id.0, said))
+    }
+
+    #[tactic(auto, using(crate::proofs::Happened::channel_found, crate::proofs::Happened::no_channel, crate::proofs::Firsts::passed_on))]
+    /// The channel of the oldest record that is held of what happened on a channel; `None` if none is held.
+    pub fn first_channel(&self) -> Option<ChannelId>
+        ensures { result ≡ channel_in (first_of is_on_some self.now.held) }
+    {
+        for at in 0..self.held.len() {
+            if is_on_some(&self.held[at]) {
+                return channel_in(&self.held[at]);
+            }
+        }
+        None
     }
 
     /// Whether the close of this channel was taken.

@@ -4,7 +4,7 @@ use crate::answers::leave;
 use sshc_auth::Error;
 use sshc_handle::{Channel, Handle};
 use sshc_sample_fakes::{Host, Keeper, at_once, fake_key, opened, run_beside};
-use sshc_wire::{ChannelOpenFailure, NoMemory};
+use sshc_wire::{ChannelOpenFailure, HashAlg, NoMemory};
 use std::alloc::Global;
 use std::sync::Wait;
 use std::test::*;
@@ -13,7 +13,7 @@ use std::time::Clock;
 
 /// A call with a ticket.
 #[derive(Clone, Copy)]
-enum Call {
+pub(crate) enum Call {
     Forward,
     CancelForward,
     Streamlocal,
@@ -25,11 +25,17 @@ enum Call {
     DirectStreamlocal,
     Prove,
     Ping,
+    RsaHash,
 }
 
 impl Call {
     /// Makes the call. Returns its number, if it has one, else 0.
-    fn make<R: Wait>(self, rt: &R, alloc: Global, handle: &Handle<Keeper>) -> Result<u32, Error> {
+    pub(crate) fn make<R: Wait>(
+        self,
+        rt: &R,
+        alloc: Global,
+        handle: &Handle<Keeper>,
+    ) -> Result<u32, Error> {
         match self {
             Call::Forward => handle.tcpip_forward(rt, "", 0),
             Call::CancelForward => numbered(handle.cancel_tcpip_forward(rt, "", 1)),
@@ -37,11 +43,12 @@ impl Call {
             Call::CancelStreamlocal => numbered(handle.cancel_streamlocal_forward(rt, "/s")),
             Call::Global => numbered(asks_globally(rt, handle)),
             Call::Session => number_of(handle.channel_open_session(rt)),
-            Call::X11 => number_of(handle.channel_open_x11(rt, "a", 1)),
-            Call::Direct => number_of(handle.channel_open_direct_tcpip(rt, "h", 1, "a", 2)),
+            Call::X11 => number_of(handle.channel_open_x11(rt, "a", 6000)),
+            Call::Direct => number_of(handle.channel_open_direct_tcpip(rt, "h", 80, "a", 22)),
             Call::DirectStreamlocal => number_of(handle.channel_open_direct_streamlocal(rt, "/s")),
             Call::Prove => numbered(proves(rt, alloc, handle)),
             Call::Ping => numbered(handle.send_ping(rt)),
+            Call::RsaHash => hash_number(handle.best_supported_rsa_hash(rt)),
         }
     }
 }
@@ -49,6 +56,15 @@ impl Call {
 fn numbered(answer: Result<(), Error>) -> Result<u32, Error> {
     answer?;
     Ok(0)
+}
+
+/// 0 where no list of names is known, 1 where it names no hash, else 2.
+fn hash_number(answer: Result<Option<Option<HashAlg>>, Error>) -> Result<u32, Error> {
+    match answer? {
+        None => Ok(0),
+        Some(None) => Ok(1),
+        Some(Some(_)) => Ok(2),
+    }
 }
 
 fn number_of(channel: Result<Channel<Keeper>, Error>) -> Result<u32, Error> {
@@ -139,13 +155,13 @@ fn answered<R: Threads + Wait + Sync + Clock>(
 }
 
 /// The number of a call that has one, or its error.
-type Answer = Result<u32, Error>;
+pub(crate) type Answer = Result<u32, Error>;
 
 /// What refuses a request.
-const DENIED: Answer = Err(Error::RequestDenied);
+pub(crate) const DENIED: Answer = Err(Error::RequestDenied);
 
 /// What refuses a channel.
-const PROHIBITED: Answer = Err(Error::ChannelOpenFailure(
+pub(crate) const PROHIBITED: Answer = Err(Error::ChannelOpenFailure(
     ChannelOpenFailure::AdministrativelyProhibited,
 ));
 
@@ -206,6 +222,8 @@ const OF_ONE_KIND: &[(&str, Kind, Call, Answer, Answer)] = &[
         Err(Error::SshEncoding),
         DENIED,
     ),
+    // No host is asked: the server has sent no list of names.
+    ("rsa hash", Kind::GrantsFirst, Call::RsaHash, Ok(0), Ok(0)),
     // The host answers the first ping, and the other is open at the end.
     (
         "ping",

@@ -14,6 +14,8 @@ mod logins;
 #[cfg(test)]
 mod maker;
 #[cfg(test)]
+mod packets;
+#[cfg(test)]
 mod payloads;
 #[cfg(test)]
 mod rules;
@@ -25,3 +27,5 @@ mod script;
 mod sending;
 #[cfg(test)]
 mod turns;
+#[cfg(test)]
+mod waking;

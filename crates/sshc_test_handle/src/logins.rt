@@ -94,7 +94,7 @@ impl GssapiAuthenticator for Seal {
 
 /// How a user logs in.
 #[derive(Clone, Copy)]
-enum Way {
+pub(crate) enum Way {
     None,
     Password(&'static str),
     Pair,
@@ -181,7 +181,7 @@ fn sealing(refuses: bool) -> Seal {
     }
 }
 
-fn tried<R: Wait>(rt: &R, alloc: Global, handle: &Handle<Keeper>, way: Way) -> Came {
+pub(crate) fn tried<R: Wait>(rt: &R, alloc: Global, handle: &Handle<Keeper>, way: Way) -> Came {
     match way {
         Way::None => logged_in(handle.authenticate_none(rt, "alice")),
         Way::Password(user) => logged_in(handle.authenticate_password(rt, user, "pw")),
@@ -334,5 +334,51 @@ fn logs_in_behind_a_refusal(rt: HostRuntime) -> Result<(), Fail> {
         let came = comes_in(&rt, rt.alloc(), *way, Way::Password("alice"))?;
         assert!(&rt; came_so(came, *first, *second), "{name}");
     }
+    Ok(())
+}
+
+/// Responds to the prompts, and leaves.
+fn respond_and_leave<R: Wait>(rt: &R, alloc: Global, handle: &Handle<Keeper>) -> Came {
+    let came = respond(rt, alloc, handle);
+    let _ = leave(rt, handle);
+    came
+}
+
+/// Begins a login by prompts, and responds from two threads at once.
+fn respond_twice<R: Threads + Wait + Sync>(
+    rt: &R,
+    alloc: Global,
+    handle: &Handle<Keeper>,
+) -> (Came, (Came, Came)) {
+    let begun = prompted(handle.authenticate_keyboard_interactive_start(rt, "alice", None));
+    let both = at_once(
+        rt,
+        handle,
+        |handle| respond_and_leave(rt, alloc, handle),
+        |handle| respond_and_leave(rt, alloc, handle),
+    );
+    (begun, both)
+}
+
+/// Whether responses came too late: the login had its answer, or the session had ended.
+fn is_late(came: Came) -> bool {
+    came == Came::Failed(Error::RecvError)
+        || came == Came::Failed(Error::Disconnect)
+        || came == Came::Failed(Error::SendError)
+}
+
+/// Of two responses at once one has the login's answer, and the other comes too late.
+#[test]
+fn responds_from_two_threads(rt: HostRuntime) -> Result<(), Fail> {
+    let alloc = rt.alloc();
+    let (handle, runner) = greeted(alloc, Host::new(alloc, 1))?;
+    let ((begun, (one, two)), _left) = run_beside(
+        &rt,
+        &handle,
+        runner,
+        |handle| respond_twice(&rt, alloc, handle),
+    );
+    assert!(&rt; begun == Came::Prompted);
+    assert!(&rt; (one == Came::In && is_late(two)) || (is_late(one) && two == Came::In));
     Ok(())
 }

@@ -204,7 +204,7 @@ fn transport_of(alloc: Global, scene: Scene) -> Result<Box<FakeTransport<Host>>,
 
 fn state_of(alloc: Global, scene: Scene) -> Result<Box<HandleState<Keeper>>, NoMemory> {
     let config = config_of(alloc, scene)?;
-    let state = HandleState::new(alloc, config, Octets::new(alloc))?;
+    let state = HandleState::new(config, Octets::new(alloc))?;
     Ok(Box::new(alloc, state)?)
 }
 

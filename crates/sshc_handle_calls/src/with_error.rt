@@ -1,7 +1,7 @@
 //! The errors of a login with a signer or an authenticator of the caller's.
 
 ghost use Rattle.std.specs.Prelude.{◌≡◌};
-ghost use Rattle.sshc_handle_messages.specs.declared.with_error.WithError.TheVariants as errors;
+ghost use Rattle.sshc_handle_calls.specs.declared.with_error.WithError.TheVariants as errors;
 
 use sshc_auth::Error;
 

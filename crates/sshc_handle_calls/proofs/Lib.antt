@@ -1,0 +1,4 @@
+pub mod Answering
+mod AskingLemmas
+mod RoundLemmas
+pub mod SigningAnswers

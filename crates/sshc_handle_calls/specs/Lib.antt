@@ -1,0 +1,6 @@
+pub mod Answering
+pub mod Asking
+pub mod Gssapi
+pub mod Lines
+pub mod Rounds
+pub mod Signing
