@@ -4,6 +4,7 @@ use Rattle.std.proofs.Math.Seq.{drop-length}
 use Rattle.std.specs.List.{AllByRecursion}
 use Rattle.sshc_wire.specs.Outgoing.{Outgoing, kept, shown}
 use Rattle.sshc_wire.specs.Records.{IsResolved}
+use Rattle.sshc_wire.specs.declared.auth_record.AuthRecord.TheVariants.{SignRequest, SignRequestCert}
 use Rattle.sshc_wire.specs.declared.record.Record.{Record}
 use Rattle.sshc_wire.specs.declared.record.Record.TheVariants as records
 use Rattle.sshc_key.specs.Asking.{Asking, done, asks, call_of, Makes, MakesFirst}
@@ -27,11 +28,12 @@ use Rattle.sshc_auth.specs.AskedLaws.{AsksFor, IsKeyAtMost, asks_for, first_at_m
 use Rattle.sshc_auth.specs.GateLaw.{FirstRow, FirstOrTaken, TakesFirst, first_row}
 use Rattle.sshc_auth.specs.Causes.{IsKeptKey}
 use Rattle.sshc_auth.specs.OneKeyLaw.{HasKeyNext, HasKeyRow, later_row}
-use Rattle.sshc_auth.specs.KeepLaws.{Keeps, KeepsNext, KeepsState, KeepsAsked, KeepsAsking, SettledNext, open_keeps}
+use Rattle.sshc_auth.specs.KeepLaws.{HandsAll, HandsBytes, Keeps, KeepsNext, KeepsState, KeepsAsked, KeepsAsking, SettledNext, open_keeps}
 use Rattle.sshc_auth.specs.OpeningState.{OpeningState, shut}
 use Rattle.sshc_auth.specs.OpeningTable.{open_row, asked_of}
 use Rattle.sshc_auth.specs.Row.{Row, Next, Span, Did, Steps, stays, opens, ends, refuses}
-use Rattle.sshc_auth.specs.SessionWords.{Kept, kept_of, AddsOnly, IsNoPacket, IsFirst, GoesOnFirst, AcceptsFirst, KeepsFirst, KeepsKey, KeepsSession, HasKeptKey, Continues, KeepsRequest, SignsStored, HandsStored, IsSettled, AsksOnce, Stores, KeepsTo}
+use Rattle.sshc_auth.specs.SessionWords.{Kept, kept_of, IsReported, reported, AddsHandedOnce, AddsOnly, HandsLast, HandsNothing, HandsOnce, IsNoPacket, IsFirst, GoesOnFirst, AcceptsFirst, KeepsFirst, KeepsKey, KeepsSession, HasKeptKey, Continues, KeepsRequest, SignsStored, HandsStored, IsSettled, AsksOnce, Stores, KeepsTo}
+use Rattle.sshc_auth.specs.ToldLaw.{Reports, ReportsNext, ReportsRow, row_reports}
 use Rattle.sshc_auth.specs.Stepping.{Lent, GateAnswers, Adds, Answered, Judged, Tells, GateRefused, StepsBy, StaysClosed, exchange_in, gained, map_step, span_of, told_of}
 
 -- ---- what was added
@@ -85,12 +87,75 @@ none_handed : (k : Kept) (said : Record) → IsResolved said → HandsStored k s
 none_handed k (records.Resolved ticket resolution) is = tt
 none_handed k said never = absurd never
 
+nothing_handed : (said : Record) → IsResolved said → HandsNothing said
+nothing_handed (records.Resolved ticket resolution) is = tt
+nothing_handed said never = absurd never
+
+-- ---- bytes that are handed out
+
+stored_bytes : (k : Kept) (next : Next) (said : Record) (later : List Record) → HandsBytes k next said later → HandsStored k said
+stored_bytes k next (records.Auth ticket (SignRequest blob hash bytes)) later hands = hands.0
+stored_bytes k next (records.Auth ticket (SignRequestCert blob hash bytes)) later hands = hands.0
+stored_bytes k next said later hands = tt
+
+stored_all : (k : Kept) (next : Next) (said : List Record) → HandsAll k next said → AllByRecursion (HandsStored k) said
+stored_all k next [] hands = tt
+stored_all k next (one ∷ said) hands = (stored_bytes k next one said hands.0, stored_all k next said hands.1)
+
+nothing_last : (t : OpeningState) (calls : List SignCall) (said : Record) (later : List Record) → HandsNothing said → HandsLast t calls said later
+nothing_last t calls (records.Auth ticket (SignRequest blob hash bytes)) later never = absurd never
+nothing_last t calls (records.Auth ticket (SignRequestCert blob hash bytes)) later never = absurd never
+nothing_last t calls said later none = tt
+
+none_once : (t : OpeningState) (calls : List SignCall) (said : List Record) → AllByRecursion HandsNothing said → HandsOnce t calls said
+none_once t calls [] none = tt
+none_once t calls (one ∷ said) none = (nothing_last t calls one said none.0, none_once t calls said none.1)
+
+behind_once : (t : OpeningState) (calls : List SignCall) (a b : List Record) → AllByRecursion HandsNothing a → HandsOnce t calls b → HandsOnce t calls (a ++ b)
+behind_once t calls [] b none once = once
+behind_once t calls (one ∷ a) b none once = (nothing_last t calls one (a ++ b) none.0, behind_once t calls a b none.1 once)
+
+bytes_last : (k : Kept) (next : Next) (t : OpeningState) (calls : List SignCall) (said : Record) (later : List Record) → calls ≡ [] → (SettledNext next → IsSettled t) → HandsBytes k next said later → HandsLast t calls said later
+bytes_last k next t calls (records.Auth ticket (SignRequest blob hash bytes)) later none settles hands = (none, settles hands.1, hands.2)
+bytes_last k next t calls (records.Auth ticket (SignRequestCert blob hash bytes)) later none settles hands = (none, settles hands.1, hands.2)
+bytes_last k next t calls said later none settles hands = tt
+
+all_once : (k : Kept) (next : Next) (t : OpeningState) (calls : List SignCall) (said : List Record) → (SettledNext next → IsSettled t) → (calls ≡ []) ⊎ AllByRecursion HandsNothing said → HandsAll k next said → HandsOnce t calls said
+all_once k next t calls [] settles which hands = tt
+all_once k next t calls (one ∷ said) settles (inl none) hands = (bytes_last k next t calls one said none settles hands.0, all_once k next t calls said settles (inl none) hands.1)
+all_once k next t calls (one ∷ said) settles (inr none) hands = none_once t calls (one ∷ said) none
+
+last_shown : (muted : Bool) (t : OpeningState) (calls : List SignCall) (said : Record) (later : List Record) → HandsLast t calls said later → HandsLast t calls said (shown muted later)
+last_shown muted t calls (records.Auth ticket (SignRequest blob hash bytes)) later last = (last.0, last.1, shown_all HandsNothing muted later last.2)
+last_shown muted t calls (records.Auth ticket (SignRequestCert blob hash bytes)) later last = (last.0, last.1, shown_all HandsNothing muted later last.2)
+last_shown muted t calls said later last = tt
+
+kept_once : (muted : Bool) (t : OpeningState) (calls : List SignCall) (said : Record) (later : List Record) → HandsLast t calls said later → HandsOnce t calls later → HandsOnce t calls (kept muted said ++ later)
+kept_once false t calls said later last once = (last, once)
+kept_once true t calls (records.Payload packet) later last once = once
+kept_once true t calls said later last once = (last, once)
+
+shown_once : (muted : Bool) (t : OpeningState) (calls : List SignCall) (said : List Record) → HandsOnce t calls said → HandsOnce t calls (shown muted said)
+shown_once muted t calls [] once = tt
+shown_once muted t calls (one ∷ said) once = kept_once muted t calls one (shown muted said) (last_shown muted t calls one said once.0) (shown_once muted t calls said once.1)
+
 -- the gate's records, and then the row's
+added_behind : (was is : Lent) (mid : Outgoing) (said : List Record) (gate : GateAdds was.outbox mid) → is.outbox.records ≡ mid.records ++ shown mid.muted said → is.outbox.records ≡ was.outbox.records ++ (gate.more ++ shown mid.muted said)
+added_behind was is mid said gate added = added ∙ ap (λ (before : List Record). before ++ shown mid.muted said) gate.added ∙ append_assoc was.outbox.records gate.more (shown mid.muted said)
+
 adds_both : (P : Record → Type 0) (was is : Lent) (mid : Outgoing) (said : List Record) → ((one : Record) → IsResolved one → P one) → GateAdds was.outbox mid → is.outbox.records ≡ mid.records ++ shown mid.muted said → AllByRecursion P said → AddsOnly P was is
 adds_both P was is mid said each gate added holds = (
   gate.more ++ shown mid.muted said,
-  added ∙ ap (λ (before : List Record). before ++ shown mid.muted said) gate.added ∙ append_assoc was.outbox.records gate.more (shown mid.muted said),
+  added_behind was is mid said gate added,
   all_two P gate.more (shown mid.muted said) (resolved_all P each gate.more gate.answers) (shown_all P mid.muted said holds),
+)
+
+-- the same of bytes that are handed out: the gate's records hand out none
+adds_once : (was is : Lent) (mid : Outgoing) (said : List Record) → GateAdds was.outbox mid → is.outbox.records ≡ mid.records ++ shown mid.muted said → HandsOnce is.opening (gained was is) said → AddsHandedOnce (gained was is) was is
+adds_once was is mid said gate added once = (
+  gate.more ++ shown mid.muted said,
+  added_behind was is mid said gate added,
+  behind_once is.opening (gained was is) gate.more (shown mid.muted said) (resolved_all HandsNothing nothing_handed gate.more gate.answers) (shown_once mid.muted is.opening (gained was is) said once),
 )
 
 adds_gate : (P : Record → Type 0) (was is : Lent) (mid : Outgoing) → ((one : Record) → IsResolved one → P one) → GateAdds was.outbox mid → is.outbox ≡ mid → AddsOnly P was is
@@ -117,21 +182,21 @@ one_call k event (asks asked on) (call ∷ calls) (by, signs, each) (is, first) 
     let none : calls ≡ [] = asked_first k event (on call.answer) calls (each call.answer) first in
     rw none (ap (λ (c : SignCall). c.by) is ∙ by, subst (λ (c : SignCall). SignsStored k.method k c.key c.hash c.bytes) (sym is) signs)
 
-asked_settles : (k : Kept) (event : Event) (row : Asking Row) (calls : List SignCall) (to : Row) → KeepsAsked k event row → Makes row calls to → Keeps k event to × SettledNext to.next
-asked_settles k event (done row) [] to keeps is = subst (λ (r : Row). Keeps k event r × SettledNext r.next) is keeps
+asked_settles : (k : Kept) (event : Event) (row : Asking Row) (calls : List SignCall) (to : Row) → KeepsAsked k event row → Makes row calls to → KeepsAsked k event (done to)
+asked_settles k event (done row) [] to keeps is = subst (λ (r : Row). KeepsAsked k event (done r)) is keeps
 asked_settles k event (done row) (call ∷ calls) to keeps never = absurd never
 asked_settles k event (asks asked on) calls to never is = absurd never
 
--- a call settles the request
-abbrev Settles : List SignCall → Next → Type 0
-Settles [] next = Unit {0}
-Settles (call ∷ calls) next = SettledNext next
+-- a call settles the request, and then nothing is handed out
+abbrev Settles : List SignCall → Row → Type 0
+Settles [] row = Unit {0}
+Settles (call ∷ calls) row = SettledNext row.next × AllByRecursion HandsNothing row.records
 
-made_keeps : (k : Kept) (event : Event) (row : Asking Row) (calls : List SignCall) (to : Row) → KeepsAsking k event row → Makes row calls to → Keeps k event to × Settles calls to.next
+made_keeps : (k : Kept) (event : Event) (row : Asking Row) (calls : List SignCall) (to : Row) → KeepsAsking k event row → Makes row calls to → Keeps k event to × Settles calls to
 made_keeps k event (done row) [] to keeps is = (subst (Keeps k event) is keeps, tt)
 made_keeps k event (done row) (call ∷ calls) to keeps never = absurd never
 made_keeps k event (asks asked on) [] to keeps never = absurd never
-made_keeps k event (asks asked on) (call ∷ calls) to (by, signs, each) (is, makes) = asked_settles k event (on call.answer) calls to (each call.answer) makes
+made_keeps k event (asks asked on) (call ∷ calls) to (by, signs, each) (is, makes) = let made = asked_settles k event (on call.answer) calls to (each call.answer) makes in (made.0, (made.1, made.2))
 
 asks_once : (k : Kept) (t : OpeningState) (calls : List SignCall) → OneCall k calls → (IsSettled t ⊎ (calls ≡ [])) → AsksOnce k t calls
 asks_once k t [] one settled = tt
@@ -139,9 +204,13 @@ asks_once k t (call ∷ []) one (inl settled) = (one.0, one.1, settled)
 asks_once k t (call ∷ []) one (inr none) = absurd cc
 asks_once k t (call ∷ other ∷ calls) never settled = absurd never
 
-settled_by : (t : OpeningState) (calls : List SignCall) (next : Next) → Settles calls next → (SettledNext next → IsSettled t) → IsSettled t ⊎ (calls ≡ [])
-settled_by t [] next settles is = inr refl
-settled_by t (call ∷ calls) next settles is = inl (is settles)
+settled_by : (t : OpeningState) (calls : List SignCall) (row : Row) → Settles calls row → (SettledNext row.next → IsSettled t) → IsSettled t ⊎ (calls ≡ [])
+settled_by t [] row settles is = inr refl
+settled_by t (call ∷ calls) row settles is = inl (is settles.0)
+
+nothing_by : (calls : List SignCall) (row : Row) → Settles calls row → (calls ≡ []) ⊎ AllByRecursion HandsNothing row.records
+nothing_by [] row settles = inl refl
+nothing_by (call ∷ calls) row settles = inr settles.1
 
 -- ---- a step by its result
 
@@ -171,7 +240,7 @@ kept_by s event told calls at steps.Went same (row, (makes, adds), next) =
       session = state.0;
       request = state.1;
       asked = asks_once k at.after calls (one_call k event (open_row s event told) calls (open_keeps s event told) (all_first (open_row s event told) calls row makes))
-          (settled_by at.after calls row.next made.1 (λ settled. inl (subst SettledNext next settled)));
+          (settled_by at.after calls row made.1 (λ settled. inl (subst SettledNext next settled)));
     }
 kept_by s event told calls at steps.Opened same (row, to, (makes, adds), next, after) =
     let k : Kept = kept_of s in
@@ -199,6 +268,24 @@ row_adds Q row calls at (steps.Ended e) each (to, (makes, adds), next, after) = 
 row_adds Q row calls at (steps.Refused e) each (after, inl (memory, adds, first)) = ([], adds.0, tt)
 row_adds Q row calls at (steps.Refused e) each (after, inr (to, (makes, adds), next)) = (to.records, adds.0, each to makes)
 row_adds Q row calls at steps.Closed each never = absurd never
+
+-- the records of the row hand bytes out once at most
+row_once : (k : Kept) (event : Event) (row : Asking Row) (calls : List SignCall) (at : Span) (answer : Step Error) → KeepsAsking k event row → Steps row calls at answer →
+    (said : List Record) × (at.new.records ≡ at.old.records ++ shown at.old.muted said) × HandsOnce at.after calls said
+row_once k event row calls at steps.Went keeps (to, (makes, adds), next) =
+    let made = made_keeps k event row calls to keeps makes in
+    (to.records, adds.0, all_once k to.next at.after calls to.records (λ settled. inl (subst SettledNext next settled)) (nothing_by calls to made.1) made.0.0)
+row_once k event row calls at steps.Opened keeps (to, s, (makes, adds), next, after) =
+    let made = made_keeps k event row calls to keeps makes in
+    (to.records, adds.0, all_once k to.next at.after calls to.records (λ settled. rw after (inr refl)) (nothing_by calls to made.1) made.0.0)
+row_once k event row calls at (steps.Ended e) keeps (to, (makes, adds), next, after) =
+    let made = made_keeps k event row calls to keeps makes in
+    (to.records, adds.0, all_once k to.next at.after calls to.records (λ settled. rw after (inr refl)) (nothing_by calls to made.1) made.0.0)
+row_once k event row calls at (steps.Refused e) keeps (after, inl (memory, adds, first)) = ([], adds.0, tt)
+row_once k event row calls at (steps.Refused e) keeps (after, inr (to, (makes, adds), next)) =
+    let made = made_keeps k event row calls to keeps makes in
+    (to.records, adds.0, all_once k to.next at.after calls to.records (λ settled. rw after (inr refl)) (nothing_by calls to made.1) made.0.0)
+row_once k event row calls at steps.Closed keeps never = absurd never
 
 -- ---- the first exchange
 
@@ -270,6 +357,7 @@ refused_keeps gate event e was is mid result adds (refused, shut_so, outbox, cal
   key = rw refused (λ later never. absurd never);
   asked = rw none tt;
   handed = adds_gate (HandsStored (kept_of was.opening)) was is mid (none_handed (kept_of was.opening)) adds outbox;
+  once = let only = adds_gate HandsNothing was is mid nothing_handed adds outbox in (only.0, only.1, none_once is.opening (gained was is) only.0 only.2);
   request = rw shut_so (inl (refl, inl refl));
 }
   where
@@ -284,7 +372,8 @@ told_keeps gate event was is mid told answer result answered same steps_so =
     let adds = gate_adds gate event was.outbox mid (Ok told) (asked_of s event) answered in
     let kept_so = kept_by s event told (gained was is) at answer refl steps_so in
     let handed = row_adds (HandsStored (kept_of s)) (open_row s event told) (gained was is) at answer
-    (λ row makes. (made_keeps (kept_of s) event (open_row s event told) (gained was is) row (open_keeps s event told) makes).0.0) steps_so in
+    (λ row makes. stored_all (kept_of s) row.next row.records (made_keeps (kept_of s) event (open_row s event told) (gained was is) row (open_keeps s event told) makes).0.0) steps_so in
+    let once = row_once (kept_of s) event (open_row s event told) (gained was is) at answer (open_keeps s event told) steps_so in
     record {
       first = λ first.
           let unwritten = row_adds IsNoPacket (open_row s event told) (gained was is) at answer
@@ -297,6 +386,7 @@ told_keeps gate event was is mid told answer result answered same steps_so =
       key = key_of gate s event told (gained was is) at answer result same steps_so;
       asked = kept_so.asked;
       handed = adds_both (HandsStored (kept_of s)) was is mid handed.0 (none_handed (kept_of s)) adds handed.1 handed.2;
+      once = adds_once was is mid once.0 adds once.1 once.2;
       request = kept_so.request;
     }
 
@@ -314,6 +404,7 @@ closed_keeps gate event was is result shut_before closed =
       key = rw so.0 (λ later never. absurd never);
       asked = rw (ap (since was.calls) so.3 ∙ drop-length was.calls) tt;
       handed = ([], ap (λ (o : Outgoing). o.records) so.2 ∙ sym (append-nil was.outbox.records), tt);
+      once = ([], ap (λ (o : Outgoing). o.records) so.2 ∙ sym (append-nil was.outbox.records), tt);
       request = rw so.1 (inl (refl, inl refl));
     }
 
@@ -324,3 +415,51 @@ by_closed gate event was is result false is_so closed row = by_told gate event w
 -- a step of the table satisfies it
 pub step_keeps : {E : Type 0} (gate : GateAnswers E) (event : Event) (was is : Lent) (result : Step E) → StaysClosed was is result → (was.opening.closed ≡ false → StepsBy gate event was is result) → KeepsTo gate event was is result
 step_keeps gate event was is result closed row = by_closed gate event was is result was.opening.closed refl closed row
+
+-- ---- what the gate was notified of
+
+-- a record that isn't for the transport is shown
+shown_first : (muted : Bool) (wanted : Asks) (x : Option ExchangeResult) (one : Record) (more : List Record) → reported wanted x ≡ Some one → shown muted (one ∷ more) ≡ one ∷ shown muted more
+shown_first false wanted x one more is = refl
+shown_first true asking.Nothing x one more is = absurd cc
+shown_first true (asking.Banner text) x one more is = let same : records.AuthBanner text ≡ one = cc in rw (sym same) refl
+shown_first true (asking.HostKey key) (Some x) one more is = let same : records.KexDone x.names.kex ≡ one = cc in rw (sym same) refl
+shown_first true asking.Exchange (Some x) one more is = let same : records.KexDone x.names.kex ≡ one = cc in rw (sym same) refl
+shown_first true wanted None one more is = absurd cc
+
+reported_by : (event : Event) (was is : Lent) (mid : Outgoing) (said : List Record) (one : Option Record) → reported (asked_of was.opening event) (exchange_in event) ≡ one → GateAdds was.outbox mid →
+    is.outbox.records ≡ mid.records ++ shown mid.muted said → Reports one said → IsReported one was is
+reported_by event was is mid said None which adds added first = tt
+reported_by event was is mid said (Some one) which adds added (more, is_so) = (
+  adds.more,
+  shown mid.muted more,
+  added_behind was is mid said adds added ∙ ap (λ (rest : List Record). was.outbox.records ++ (adds.more ++ rest)) (ap (shown mid.muted) is_so ∙ shown_first mid.muted (asked_of was.opening event) (exchange_in event) one more which),
+)
+
+told_reports : {E : Type 0} (gate : GateAnswers E) (event : Event) (was is : Lent) (mid : Outgoing) (told : Told) (answer : Step Error) (result : Step E) → was.opening.closed ≡ false → GateAdds was.outbox mid → result ≡ map_step gate.told_as answer →
+    Steps (open_row was.opening event told) (gained was is) (span_of (record was { outbox = mid }) is) answer → Continues result → IsReported (reported (asked_of was.opening event) (exchange_in event)) was is
+told_reports gate event was is mid told steps.Went result fresh adds same (row, (makes, added), next) goes =
+    let one : Option Record = reported (asked_of was.opening event) (exchange_in event) in
+    let says : ReportsRow one row = always_makes (ReportsRow one) (open_row was.opening event told) (gained was is) row (row_reports was.opening event told fresh) makes in
+    reported_by event was is mid row.records one refl adds added.0 (subst (ReportsNext one row.records) next says)
+told_reports gate event was is mid told steps.Opened result fresh adds same (row, to, (makes, added), next, after) goes =
+    let one : Option Record = reported (asked_of was.opening event) (exchange_in event) in
+    let says : ReportsRow one row = always_makes (ReportsRow one) (open_row was.opening event told) (gained was is) row (row_reports was.opening event told fresh) makes in
+    reported_by event was is mid row.records one refl adds added.0 (subst (ReportsNext one row.records) next says)
+told_reports gate event was is mid told (steps.Ended e) result fresh adds same steps_so goes = absurd (subst Continues same goes)
+told_reports gate event was is mid told (steps.Refused e) result fresh adds same steps_so goes = absurd (subst Continues same goes)
+told_reports gate event was is mid told steps.Closed result fresh adds same never goes = absurd never
+
+row_told : {E : Type 0} (gate : GateAnswers E) (event : Event) (was is : Lent) (result : Step E) → was.opening.closed ≡ false → StepsBy gate event was is result → Continues result → IsReported (reported (asked_of was.opening event) (exchange_in event)) was is
+row_told gate event was is result fresh (inl refused) goes = absurd (subst Continues refused.0 goes)
+row_told gate event was is result fresh (inr (Ok told, mid, answered, (answer, same, steps_so))) goes =
+    told_reports gate event was is mid told answer result fresh (gate_adds gate event was.outbox mid (Ok told) (asked_of was.opening event) answered) same steps_so goes
+row_told gate event was is result fresh (inr (Err e, mid, answered, refused)) goes = absurd (subst Continues refused.0 goes)
+
+told_by : {E : Type 0} (gate : GateAnswers E) (event : Event) (was is : Lent) (result : Step E) (closed : Bool) → was.opening.closed ≡ closed → StaysClosed was is result → (was.opening.closed ≡ false → StepsBy gate event was is result) → Continues result → IsReported (reported (asked_of was.opening event) (exchange_in event)) was is
+told_by gate event was is result true is_so stays_so row goes = absurd (subst Continues (stays_so is_so).0 goes)
+told_by gate event was is result false is_so stays_so row goes = row_told gate event was is result is_so (row is_so) goes
+
+-- a step of the table reports it
+pub step_reports : {E : Type 0} (gate : GateAnswers E) (event : Event) (was is : Lent) (result : Step E) → StaysClosed was is result → (was.opening.closed ≡ false → StepsBy gate event was is result) → Continues result → IsReported (reported (asked_of was.opening event) (exchange_in event)) was is
+step_reports gate event was is result stays_so row = told_by gate event was is result was.opening.closed refl stays_so row

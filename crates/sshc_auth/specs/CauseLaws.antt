@@ -51,7 +51,7 @@ use Rattle.sshc_auth.specs.declared.step.Step.{Step}
 use Rattle.sshc_auth.specs.declared.step.Step.TheVariants as steps
 use Rattle.sshc_auth.specs.declared.step.Told.{Told}
 use Rattle.sshc_auth.specs.declared.step.Told.TheVariants as telling
-use Rattle.sshc_auth.specs.Causes.{Part, number, boolean, string, text, prompts, extensions, end, Breaks, BreaksBehind, after, after_prompts, rest_of, AreTooMany, HasTooManyPrompts, AreUnknown, IsInvalidReason, IsLocal, IsUnexpectedIn, IsCause, IsKeptKey, IsEarly, IsNotUsers, IsOutOfTurn, WasToldNo, Disconnects, ReadsTexts, Why, why, Caused, AllCaused, behind, auth_parts, answer_parts, parts_in, is_answer}
+use Rattle.sshc_auth.specs.Causes.{Part, number, boolean, string, text, prompts, extensions, end, Breaks, BreaksBehind, after, after_prompts, rest_of, AreTooMany, HasTooManyPrompts, AreUnknown, IsInvalidReason, IsLocal, IsUnexpectedIn, IsCause, IsKeptKey, IsEarly, IsNotUsers, IsOutOfTurn, WasToldNo, Disconnects, ReadsTexts, Why, why, Caused, AllCaused, behind, accept_parts, auth_parts, answer_parts, parts_in, is_answer}
 use Rattle.sshc_auth.specs.OpeningState.{OpeningState, is_awaiting}
 use Rattle.sshc_auth.specs.OpeningTable.{answer_row, auth_row, gssapi_row, is_pk_ok, auth_packet_row, packet_row_in, phase_packet_row, held_packet_row, is_exchanging, numbered_row, payload_row, authenticate_row_in, plain_row, user_row, unopened_row, event_row, turn_row, open_row, asked_of, event_asks, exchange_asks, key_asked, packet_asks, number_asks, is_held_back, banner_asks, banner_at_end, FitsAsked}
 use Rattle.sshc_auth.specs.OpeningTable.Order.{sort_of, is_early, is_early_at, is_early_awaiting, is_out_of_turn, packet_in}
@@ -114,21 +114,27 @@ cond_cause P false x y yes_cause no_cause = no_cause refl
 
 -- ---- Service
 
-named_cause : (P : Why) (s to : OpeningState) (records : List Record) (rest : List ℕ) (known : Bool) → (Breaks (end ∷ []) rest → P.refusal errors.SshEncoding) →
-    Caused P (if known then ends_at rest (goes records to) else passed_over s).next
-named_cause P s to records rest true breaks = end_cause P rest (goes records to) breaks (goes_on P records to)
-named_cause P s to records rest false breaks = tt
+-- a SERVICE_ACCEPT is broken where its name can't be read, or bytes follow the name of the service that was asked for
+named_cause : (P : Why) (to other : OpeningState) (records : List Record) (body : List ℕ) (x : List ℕ × List ℕ) (known : Bool) → string_at body ≡ Ok x → bytes_eq x.0 (codes "ssh-userauth") ≡ known →
+    (Breaks (accept_parts (Ok x)) body → P.refusal errors.SshEncoding) → Caused P (if known then ends_at x.1 (goes records to) else passed_over other).next
+named_cause P to other records body x true read name breaks = end_cause P x.1 (goes records to) (λ broken. breaks (rw (name, read) broken)) (goes_on P records to)
+named_cause P to other records body x false read name breaks = tt
+
+read_cause : (P : Why) (to other : OpeningState) (records : List Record) (body : List ℕ) (read : Result (List ℕ × List ℕ) WireError) → string_at body ≡ read → (Breaks (accept_parts read) body → P.refusal errors.SshEncoding) →
+    Caused P (with_part broken_row read (λ name rest. if bytes_eq name (codes "ssh-userauth") then ends_at rest (goes records to) else passed_over other)).next
+read_cause P to other records body (Ok x) is breaks = named_cause P to other records body x (bytes_eq x.0 (codes "ssh-userauth")) is refl breaks
+read_cause P to other records body (Err e) is breaks = by_error P errors.SshEncoding (breaks (rw is tt))
 
 unasked_is : (requested : Bool) → not requested ≡ true → requested ≡ false
 unasked_is true is = let clash : false ≡ true = is in absurd cc
 unasked_is false is = refl
 
-pub accept_cause : (P : Why) (s : OpeningState) (body : List ℕ) → (Breaks (string ∷ end ∷ []) body → P.refusal errors.SshEncoding) → (s.requested ≡ false → P.refusal errors.Inconsistent) → Caused P (service_accept_row s body).next
+pub accept_cause : (P : Why) (s : OpeningState) (body : List ℕ) → (Breaks (accept_parts (string_at body)) body → P.refusal errors.SshEncoding) → (s.requested ≡ false → P.refusal errors.Inconsistent) → Caused P (service_accept_row s body).next
 unfolding service_accept_row
 accept_cause P s body breaks unasked =
     cond_cause P (not s.requested) _ _
     (λ is. by_error P errors.Inconsistent (unasked (unasked_is s.requested is)))
-    (λ is. part_cause P (end ∷ []) (string_at body) _ breaks (λ name rest read breaks. named_cause P s (record s { phase = phases.Auth }) (stored_request s.user s.method) rest (bytes_eq name (codes "ssh-userauth")) breaks))
+    (λ is. read_cause P (record s { phase = phases.Auth }) s (stored_request s.user s.method) body (string_at body) refl breaks)
 
 -- ---- Auth
 
@@ -248,7 +254,7 @@ other_number n m is = λ same. let yes_is : (n == m) ≡ true = grind (arith, na
 
 -- what the causes of a packet's refusals are, by the phase's parts
 pub record PacketCauses (P : Why) (s : OpeningState) (n : ℕ) (body : List ℕ) : Type 0 where
-  pub breaks : Breaks (parts_in s.phase s.class n) body → P.refusal errors.SshEncoding
+  pub breaks : Breaks (parts_in s.phase s.class n body) body → P.refusal errors.SshEncoding
   pub unexpected : IsUnexpectedIn s.phase s n body → P.refusal errors.Inconsistent
   pub unknown : s.phase ≡ phases.Auth → n ≡ USERAUTH_FAILURE → AreUnknown (text_at body) → P.refusal errors.NoAuthMethod
   pub signs : s.phase ≡ phases.Auth → s.class ≡ classes.Key → n ≡ USERAUTH_PK_OK → IsLocal s.method → P.refusal errors.SignerFault
@@ -388,6 +394,10 @@ length_more n body = omega arith
 from_fifty : (n : ℕ) → waits_for_exchange n ≡ true → 50 ≤ n
 from_fifty n is = grind (arith, nat_tests)
 
+behind_first : (phase : Phase) → is_exchanging phase ≡ false → phase ≢ phases.Exchanging
+behind_first phases.Exchanging is = let clash : true ≡ false = is in absurd cc
+behind_first phase is = λ same. absurd cc
+
 too_much : (s : OpeningState) (n : ℕ) (body : List ℕ) → is_too_much s (length body + 1) ≡ true → 2 * s.settings.window_size < min (s.counted + length (n ∷ body)) (2 ^ 64 - 1)
 too_much s n body is = rw (length_more n body) (grind (arith, nat_tests))
 
@@ -400,7 +410,7 @@ numbered_cause SaysNo s n body =
     (λ other. cond_all P (is_ignored n) _ _ (λ ignored. tt)
     (λ heeded. cond_all P (is_exchanging s.phase) _ _ (λ first. tt)
     (λ later. cond_all P (waits_for_exchange n) _ _
-    (λ waits. held_cause P s (length body + 1) n body s.flag refl (packet_causes SaysNo s n body other) (λ peer. inl (peer, from_fifty n waits)) (λ ours much. (ours, too_much s n body much)))
+    (λ waits. held_cause P s (length body + 1) n body s.flag refl (packet_causes SaysNo s n body other) (λ peer. inl (peer, behind_first s.phase later, from_fifty n waits)) (λ ours much. (ours, too_much s n body much)))
     (λ goes. phase_cause P s n body s.phase refl (packet_causes SaysNo s n body other)))))
 
 packet_cause : (SaysNo : ExchangeResult → Type 0) (s : OpeningState) (packet : List ℕ) → AllCaused (why SaysNo s (events.Payload packet)) (payload_row s packet)
@@ -472,10 +482,10 @@ plain_cause s (events.Authenticate ticket user method) told calm early = request
 plain_cause s (events.AuthGssapiToken token) told calm early = cond_cause (why (WasToldNo told) s (events.AuthGssapiToken token)) (is_gssapi s.phase s.class) _ _ (λ is. tt) (λ is. tt)
 plain_cause s (events.AuthGssapiMic token code) told calm early = cond_cause (why (WasToldNo told) s (events.AuthGssapiMic token code)) (is_gssapi s.phase s.class) _ _ (λ is. tt) (λ is. tt)
 plain_cause s (events.AuthGssapiExchangeComplete token) told calm early = cond_cause (why (WasToldNo told) s (events.AuthGssapiExchangeComplete token)) (is_gssapi s.phase s.class) _ _ (λ is. tt) (λ is. tt)
-plain_cause s (events.ChannelOpenSession ticket) told calm early = by_error (why (WasToldNo told) s (events.ChannelOpenSession ticket)) errors.NotAuthenticated (idle s s.flag refl early, tt)
-plain_cause s (events.ChannelOpenX11 ticket address port) told calm early = by_error (why (WasToldNo told) s (events.ChannelOpenX11 ticket address port)) errors.NotAuthenticated (idle s s.flag refl early, tt)
-plain_cause s (events.ChannelOpenDirectTcpIp ticket host port address own) told calm early = by_error (why (WasToldNo told) s (events.ChannelOpenDirectTcpIp ticket host port address own)) errors.NotAuthenticated (idle s s.flag refl early, tt)
-plain_cause s (events.ChannelOpenDirectStreamLocal ticket path) told calm early = by_error (why (WasToldNo told) s (events.ChannelOpenDirectStreamLocal ticket path)) errors.NotAuthenticated (idle s s.flag refl early, tt)
+plain_cause s (events.ChannelOpenSession ticket) told calm early = by_error (why (WasToldNo told) s (events.ChannelOpenSession ticket)) errors.NotAuthenticated (idle s s.flag refl early, calm, tt)
+plain_cause s (events.ChannelOpenX11 ticket address port) told calm early = by_error (why (WasToldNo told) s (events.ChannelOpenX11 ticket address port)) errors.NotAuthenticated (idle s s.flag refl early, calm, tt)
+plain_cause s (events.ChannelOpenDirectTcpIp ticket host port address own) told calm early = by_error (why (WasToldNo told) s (events.ChannelOpenDirectTcpIp ticket host port address own)) errors.NotAuthenticated (idle s s.flag refl early, calm, tt)
+plain_cause s (events.ChannelOpenDirectStreamLocal ticket path) told calm early = by_error (why (WasToldNo told) s (events.ChannelOpenDirectStreamLocal ticket path)) errors.NotAuthenticated (idle s s.flag refl early, calm, tt)
 plain_cause s (events.AwaitExtensionInfo ticket name) told calm early = cond_cause (why (WasToldNo told) s (events.AwaitExtensionInfo ticket name)) (is_seen s.seen name) _ _ (λ is. tt) (λ is. tt)
 plain_cause s (events.Disconnect reason description language) told calm early = tt
 plain_cause s events.Gone told calm early = (refl, calm)

@@ -1,6 +1,6 @@
 -- Why the opening refuses, by its state and the event alone (RFC 4252, sections 5 to 8; RFC 4253, sections 7, 10 and
 -- 11; RFC 4256; RFC 4462, section 3). Stated apart from the table of rows, so that an error made in both shows.
-use Rattle.std.specs.Prelude.{◌≡◌, ◌≢◌, ◌⊎◌, ℕ, ◌+◌, ◌-◌, ◌*◌, ◌/◌, ◌^◌, ◌<◌, ◌≤◌, min, Bool, true, false, ◌||◌, List, [], ◌∷◌, length, Option, Some, None, Result, Ok, Err, ◌==◌, if◌then◌else◌}
+use Rattle.std.specs.Prelude.{◌≡◌, ◌≢◌, ◌⊎◌, ℕ, ◌+◌, ◌-◌, ◌*◌, ◌/◌, ◌^◌, ◌<◌, ◌≤◌, min, Bool, true, false, ◌||◌, List, [], ◌∷◌, length, Option, Some, None, Result, Ok, Err, ◌==◌, bytes_eq, codes, if◌then◌else◌}
 use Rattle.std.specs.Int.{w32}
 use Rattle.std.specs.List.{AllByRecursion}
 use Rattle.sshc_wire.specs.Faults.{Rose}
@@ -123,9 +123,9 @@ IsUnexpectedIn phases.Service s number body = (is_service number ≡ false) ⊎ 
 IsUnexpectedIn phases.Auth s number body = (is_answer s.class number ≡ false) ⊎ (((s.class ≡ classes.Prompts) × (number ≡ USERAUTH_PK_OK) × HasTooManyPrompts body) ⊎ IsThird s number)
 IsUnexpectedIn phase s number body = ⊥
 
--- a packet from 50 on once the peer has begun an exchange, or one that its phase doesn't have
+-- a packet from 50 on once the peer has begun an exchange behind the first, or one that its phase doesn't have
 abbrev pub IsUnexpected : OpeningState → Event → Type 0
-IsUnexpected s (events.Payload (number ∷ body)) = ((s.flag ≡ flags.Peer) × (50 ≤ number)) ⊎ IsUnexpectedIn s.phase s number body
+IsUnexpected s (events.Payload (number ∷ body)) = ((s.flag ≡ flags.Peer) × (s.phase ≢ phases.Exchanging) × (50 ≤ number)) ⊎ IsUnexpectedIn s.phase s number body
 IsUnexpected s event = ⊥
 
 -- more than twice our window came while an exchange of ours runs, this packet included
@@ -183,6 +183,15 @@ answer_parts classes.Prompts = text ∷ text ∷ text ∷ prompts ∷ end ∷ []
 answer_parts classes.Gssapi = string ∷ end ∷ []
 answer_parts class = []
 
+-- 61, 64 and 65 belong to GSSAPI; the parts of no other packet are read
+abbrev pub gssapi_parts : Class → ℕ → List Part
+gssapi_parts classes.Gssapi n =
+    if n == USERAUTH_GSSAPI_TOKEN then string ∷ end ∷ []
+    else (if n == USERAUTH_GSSAPI_ERROR then number ∷ number ∷ text ∷ text ∷ end ∷ []
+    else (if n == USERAUTH_GSSAPI_ERRTOK then string ∷ end ∷ []
+    else []))
+gssapi_parts class n = []
+
 abbrev pub auth_parts : Class → ℕ → List Part
 auth_parts class n =
     if n == USERAUTH_FAILURE then text ∷ boolean ∷ end ∷ []
@@ -190,20 +199,25 @@ auth_parts class n =
     else (if n == USERAUTH_BANNER then text ∷ text ∷ end ∷ []
     else (if n == USERAUTH_PK_OK then answer_parts class
     else (if n == EXT_INFO then extensions ∷ end ∷ []
-    else (if n == USERAUTH_GSSAPI_ERROR then number ∷ number ∷ text ∷ text ∷ end ∷ []
-    else string ∷ end ∷ [])))))
+    else gssapi_parts class n))))
 
-abbrev pub parts_in : Phase → Class → ℕ → List Part
-parts_in phases.Service class n = if n == SERVICE_ACCEPT then string ∷ end ∷ [] else (if n == EXT_INFO then extensions ∷ end ∷ [] else [])
-parts_in phases.Auth class n = auth_parts class n
-parts_in phase class n = []
+-- a SERVICE_ACCEPT is read to its end if it names the service that was asked for
+abbrev pub accept_parts : Result (List ℕ × List ℕ) WireError → List Part
+accept_parts (Ok name) = if bytes_eq name.0 (codes "ssh-userauth") then string ∷ end ∷ [] else string ∷ []
+accept_parts (Err e) = string ∷ []
 
--- the parts of a packet of this number; a disconnection may come in any phase, and the bytes after it are ignored
-abbrev pub parts_of : OpeningState → ℕ → List Part
-parts_of s n = if n == DISCONNECT then number ∷ text ∷ text ∷ [] else parts_in s.phase s.class n
+abbrev pub parts_in : Phase → Class → ℕ → List ℕ → List Part
+parts_in phases.Service class n body = if n == SERVICE_ACCEPT then accept_parts (string_at body) else (if n == EXT_INFO then extensions ∷ end ∷ [] else [])
+parts_in phases.Auth class n body = auth_parts class n
+parts_in phase class n body = []
+
+-- the parts that are read of a packet of this number; a disconnection may come in any phase, and the bytes after it are
+-- ignored
+abbrev pub parts_of : OpeningState → ℕ → List ℕ → List Part
+parts_of s n body = if n == DISCONNECT then number ∷ text ∷ text ∷ [] else parts_in s.phase s.class n body
 
 abbrev pub IsBrokenPacket : OpeningState → Event → Type 0
-IsBrokenPacket s (events.Payload (n ∷ body)) = Breaks (parts_of s n) body
+IsBrokenPacket s (events.Payload (n ∷ body)) = Breaks (parts_of s n body) body
 IsBrokenPacket s event = ⊥
 
 -- ---- single events and packets
@@ -258,7 +272,7 @@ IsCause SaysNo s event errors.RekeyKey = (s.phase ≢ phases.Exchanging) × HasO
 IsCause SaysNo s event errors.Inconsistent = IsUnexpected s event
 IsCause SaysNo s event errors.Pending = IsTooMuch s event
 IsCause SaysNo s event errors.NoAuthMethod = NamesNoMethod s event
-IsCause SaysNo s event errors.NotAuthenticated = (s.flag ≡ flags.Idle) × IsChannelOpen event
+IsCause SaysNo s event errors.NotAuthenticated = (s.flag ≡ flags.Idle) × (is_awaiting s.phase ≡ false) × IsChannelOpen event
 IsCause SaysNo s event errors.SshEncoding = IsBrokenPacket s event
 IsCause SaysNo s event errors.InvalidDisconnect = HasInvalidReason event
 IsCause SaysNo s event errors.RecvError = (event ≡ events.Gone) × (is_awaiting s.phase ≡ true)

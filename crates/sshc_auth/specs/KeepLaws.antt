@@ -8,7 +8,7 @@ use Rattle.sshc_wire.specs.Cases.{by_cases}
 use Rattle.sshc_wire.specs.Names.{names_in}
 use Rattle.sshc_wire.specs.Reads.{boolean_at, number_at, string_at, text_at}
 use Rattle.sshc_wire.specs.Reasons.{disconnect_of}
-use Rattle.sshc_wire.specs.declared.auth_record.AuthRecord.TheVariants.{AuthInfoRequest}
+use Rattle.sshc_wire.specs.declared.auth_record.AuthRecord.TheVariants.{AuthInfoRequest, SignRequest, SignRequestCert}
 use Rattle.sshc_wire.specs.declared.auth_record.GssapiRecord.TheVariants as gssapi
 use Rattle.sshc_wire.specs.declared.disconnect.Disconnect.{Disconnect}
 use Rattle.sshc_wire.specs.declared.error.WireError.{WireError}
@@ -19,7 +19,7 @@ use Rattle.sshc_wire.specs.declared.record.Record.TheVariants as records
 use Rattle.sshc_wire.specs.declared.resolution.Resolution.{Resolution}
 use Rattle.sshc_wire.specs.declared.resolution.Resolution.TheVariants as answers
 use Rattle.sshc_wire.specs.declared.ticket.Ticket.{Ticket}
-use Rattle.sshc_key.specs.Asking.{Answer, Asking, SignRequest, done, asks}
+use Rattle.sshc_key.specs.Asking.{Answer, Asking, done, asks}
 use Rattle.sshc_key.specs.declared.signer.Asker.TheVariants.{Session}
 use Rattle.sshc_auth_event.specs.declared.event.Event.{Event}
 use Rattle.sshc_auth_event.specs.declared.event.Event.TheVariants as events
@@ -53,7 +53,7 @@ use Rattle.sshc_auth.specs.OpeningTable.Packets.{disconnect_row, disconnect_reas
 use Rattle.sshc_auth.specs.OpeningTable.Service.{service_accept_row, service_packet_row, authenticate_first_row, asked_for_service, stored_request}
 use Rattle.sshc_auth.specs.OpeningTable.User.{rekey_row, await_extension_info_row, get_server_sig_algs_row, is_seen, sig_algs_answer, host_keys_answer, user_disconnect_row}
 use Rattle.sshc_auth.specs.Row.{Row, Next, stays, opens, ends, refuses, refused, goes, passed_over, resolved, ends_at, with_part, broken_row}
-use Rattle.sshc_auth.specs.SessionWords.{Kept, kept_of, HandsStored, HandsKey, HandsCertificate, SignsStored, KeepsSession, KeepsRequest, Stores}
+use Rattle.sshc_auth.specs.SessionWords.{Kept, kept_of, HandsNothing, HandsKey, HandsCertificate, SignsStored, KeepsSession, KeepsRequest, Stores}
 
 -- ---- what the law says
 
@@ -66,19 +66,30 @@ KeepsNext s event (opens t) = KeepsState s event t
 KeepsNext s event (ends e) = Unit {0}
 KeepsNext s event (refuses e) = Unit {0}
 
--- what is handed out belongs to the stored request, and what is kept is as it was or comes from the event
-abbrev pub Keeps : Kept → Event → Row → Type 0
-Keeps s event row = AllByRecursion (HandsStored s) row.records × KeepsNext s event row.next
-
 -- no request is stored any more, or the session is over
 abbrev pub SettledNext : Next → Type 0
 SettledNext (stays t) = t.method ≡ None
 SettledNext (opens t) = t.method ≡ None
 SettledNext next = Unit {0}
 
--- a row that satisfies this and asks nothing; or one question for the stored request, and then a row that settles it
+-- bytes that a record hands out are the stored request's, which is settled by it, and no later record hands out any
+abbrev pub HandsBytes : Kept → Next → Record → List Record → Type 0
+HandsBytes s next (records.Auth ticket (SignRequest blob hash bytes)) later = HandsKey s.method s blob hash bytes × SettledNext next × AllByRecursion HandsNothing later
+HandsBytes s next (records.Auth ticket (SignRequestCert blob hash bytes)) later = HandsCertificate s.method s blob hash bytes × SettledNext next × AllByRecursion HandsNothing later
+HandsBytes s next said later = Unit {0}
+
+abbrev pub HandsAll : Kept → Next → List Record → Type 0
+HandsAll s next [] = Unit {0}
+HandsAll s next (said ∷ later) = HandsBytes s next said later × HandsAll s next later
+
+-- what is handed out belongs to the stored request, and what is kept is as it was or comes from the event
+abbrev pub Keeps : Kept → Event → Row → Type 0
+Keeps s event row = HandsAll s row.next row.records × KeepsNext s event row.next
+
+-- a row that satisfies this and asks nothing; or one question for the stored request, and then a row that settles it and
+-- hands nothing out
 abbrev pub KeepsAsked : Kept → Event → Asking Row → Type 0
-KeepsAsked s event (done row) = Keeps s event row × SettledNext row.next
+KeepsAsked s event (done row) = Keeps s event row × SettledNext row.next × AllByRecursion HandsNothing row.records
 KeepsAsked s event (asks asked on) = ⊥
 
 abbrev pub KeepsAsking : Kept → Event → Asking Row → Type 0
@@ -107,12 +118,27 @@ end_keeps : (s : OpeningState) (event : Event) (left : List ℕ) (row : Row) →
 end_keeps s event [] row keeps = keeps
 end_keeps s event (b ∷ left) row keeps = (tt, tt)
 
-two_keep : (s : OpeningState) (a b : List Record) → AllByRecursion (HandsStored (kept_of s)) a → AllByRecursion (HandsStored (kept_of s)) b → AllByRecursion (HandsStored (kept_of s)) (a ++ b)
-two_keep s [] b one other = other
-two_keep s (said ∷ a) b one other = (one.0, two_keep s a b one.1 other)
+-- ---- records that hand out nothing
 
-resolved_keeps : (s : OpeningState) (ticket : Ticket) (resolution : Resolution) → AllByRecursion (HandsStored (kept_of s)) (resolved ticket resolution)
-resolved_keeps s ticket resolution = by_cases (λ (said : List Record). AllByRecursion (HandsStored (kept_of s)) said) (ticket.0 == 0) _ _ tt (tt, tt)
+two_nothing : (a b : List Record) → AllByRecursion HandsNothing a → AllByRecursion HandsNothing b → AllByRecursion HandsNothing (a ++ b)
+two_nothing [] b one other = other
+two_nothing (said ∷ a) b one other = (one.0, two_nothing a b one.1 other)
+
+nothing_hands : (s : Kept) (next : Next) (said : Record) (later : List Record) → HandsNothing said → HandsBytes s next said later
+nothing_hands s next (records.Auth ticket (SignRequest blob hash bytes)) later never = absurd never
+nothing_hands s next (records.Auth ticket (SignRequestCert blob hash bytes)) later never = absurd never
+nothing_hands s next said later none = tt
+
+pub none_hands : (s : Kept) (next : Next) (said : List Record) → AllByRecursion HandsNothing said → HandsAll s next said
+none_hands s next [] none = tt
+none_hands s next (said ∷ later) none = (nothing_hands s next said later none.0, none_hands s next later none.1)
+
+-- a row that hands out nothing
+none_keeps : (s : OpeningState) (event : Event) (row : Row) → AllByRecursion HandsNothing row.records → KeepsNext (kept_of s) event row.next → Keeps (kept_of s) event row
+none_keeps s event row none next = (none_hands (kept_of s) row.next row.records none, next)
+
+resolved_nothing : (ticket : Ticket) (resolution : Resolution) → AllByRecursion HandsNothing (resolved ticket resolution)
+resolved_nothing ticket resolution = by_cases (λ (said : List Record). AllByRecursion HandsNothing said) (ticket.0 == 0) _ _ tt (tt, tt)
 
 -- ---- packets
 
@@ -124,27 +150,27 @@ disconnect_keeps : (s : OpeningState) (event : Event) (body : List ℕ) → Keep
 unfolding disconnect_row
 disconnect_keeps s event body = part_keeps s event (number_at w32 body) _ (λ code rest. reason_keeps s event (disconnect_of code) rest)
 
-seen_keeps : (s : OpeningState) (name : List ℕ) (waiters : List Waiter) → AllByRecursion (HandsStored (kept_of s)) (answers_seen name waiters)
-seen_keeps s name [] = tt
-seen_keeps s name (waiter ∷ waiters) =
-    two_keep s (if waits_for name waiter then resolved waiter.ticket answers.ExtInfoSeen else []) (answers_seen name waiters)
-    (by_cases (λ (said : List Record). AllByRecursion (HandsStored (kept_of s)) said) (waits_for name waiter) _ _ (resolved_keeps s waiter.ticket answers.ExtInfoSeen) tt)
-    (seen_keeps s name waiters)
+seen_nothing : (name : List ℕ) (waiters : List Waiter) → AllByRecursion HandsNothing (answers_seen name waiters)
+seen_nothing name [] = tt
+seen_nothing name (waiter ∷ waiters) =
+    two_nothing (if waits_for name waiter then resolved waiter.ticket answers.ExtInfoSeen else []) (answers_seen name waiters)
+    (by_cases (λ (said : List Record). AllByRecursion HandsNothing said) (waits_for name waiter) _ _ (resolved_nothing waiter.ticket answers.ExtInfoSeen) tt)
+    (seen_nothing name waiters)
 
-told_keeps : (s : OpeningState) (extensions : List Extension) (waiters : List Waiter) → AllByRecursion (HandsStored (kept_of s)) (answers_to extensions waiters)
-told_keeps s [] waiters = tt
-told_keeps s (extension ∷ extensions) waiters =
-    two_keep s (answers_seen extension.name waiters) (answers_to extensions (others extension.name waiters)) (seen_keeps s extension.name waiters) (told_keeps s extensions (others extension.name waiters))
+told_nothing : (extensions : List Extension) (waiters : List Waiter) → AllByRecursion HandsNothing (answers_to extensions waiters)
+told_nothing [] waiters = tt
+told_nothing (extension ∷ extensions) waiters =
+    two_nothing (answers_seen extension.name waiters) (answers_to extensions (others extension.name waiters)) (seen_nothing extension.name waiters) (told_nothing extensions (others extension.name waiters))
 
 ext_info_keeps : (s : OpeningState) (event : Event) (body : List ℕ) → Keeps (kept_of s) event (ext_info_row s body)
 unfolding ext_info_row
 ext_info_keeps s event body =
     by_cases (Keeps (kept_of s) event) (is_third s) _ _ (tt, tt)
-    (part_keeps s event (extensions_at body) _ (λ told left. end_keeps s event left (extensions_row s told) (told_keeps s told s.waiters, ((λ later. (refl, later)), inl (refl, inl refl)))))
+    (part_keeps s event (extensions_at body) _ (λ told left. end_keeps s event left (extensions_row s told) (none_keeps s event (extensions_row s told) (told_nothing told s.waiters) ((λ later. (refl, later)), inl (refl, inl refl)))))
 
-stored_keeps : (s : OpeningState) (method : Option Method) → AllByRecursion (HandsStored (kept_of s)) (stored_request s.user method)
-stored_keeps s None = tt
-stored_keeps s (Some method) = (tt, tt)
+stored_nothing : (user : List ℕ) (method : Option Method) → AllByRecursion HandsNothing (stored_request user method)
+stored_nothing user None = tt
+stored_nothing user (Some method) = (tt, tt)
 
 accept_keeps : (s : OpeningState) (event : Event) (body : List ℕ) → Keeps (kept_of s) event (service_accept_row s body)
 unfolding service_accept_row
@@ -152,7 +178,8 @@ accept_keeps s event body =
     by_cases (Keeps (kept_of s) event) (not s.requested) _ _ (tt, tt)
     (part_keeps s event (string_at body) _ (λ name rest.
     by_cases (Keeps (kept_of s) event) (bytes_eq name (codes "ssh-userauth")) _ _
-    (end_keeps s event rest (goes (stored_request s.user s.method) (record s { phase = phases.Auth })) (stored_keeps s s.method, moved s event phases.Auth in_auth))
+    (let row : Row = goes (stored_request s.user s.method) (record s { phase = phases.Auth }) in
+    end_keeps s event rest row (none_keeps s event row (stored_nothing s.user s.method) (moved s event phases.Auth in_auth)))
     (tt, still s event)))
 
 service_keeps : (s : OpeningState) (event : Event) (n : ℕ) (body : List ℕ) → Keeps (kept_of s) event (service_packet_row s n body)
@@ -170,13 +197,14 @@ unfolding userauth_failure_row
 failure_keeps s event body =
     part_keeps s event (text_at body) _ (λ list rest.
     part_keeps s event (boolean_at rest) _ (λ partial left.
-    end_keeps s event left _ (resolved_keeps s s.ticket (answers.AuthFailure (known_methods (names_in list)) partial), without_keeps s event (known_methods (names_in list)))))
+    end_keeps s event left _ (none_keeps s event _ (resolved_nothing s.ticket (answers.AuthFailure (known_methods (names_in list)) partial)) (without_keeps s event (known_methods (names_in list))))))
 
 success_keeps : (s : OpeningState) (event : Event) (body : List ℕ) → Keeps (kept_of s) event (userauth_success_row s body)
 unfolding userauth_success_row
 success_keeps s event body =
-    end_keeps s event body _
-    (two_keep s (resolved s.ticket answers.AuthSuccess) (records.Opened ∷ []) (resolved_keeps s s.ticket answers.AuthSuccess) (tt, tt), ((λ later. (refl, λ same. absurd cc)), inl (refl, inr refl)))
+    let row : Row = record { records = resolved s.ticket answers.AuthSuccess ++ records.Opened ∷ []; next = opens (record (answered s) { phase = phases.Open }) } in
+    end_keeps s event body row
+    (none_keeps s event row (two_nothing (resolved s.ticket answers.AuthSuccess) (records.Opened ∷ []) (resolved_nothing s.ticket answers.AuthSuccess) (tt, tt)) ((λ later. (refl, λ same. absurd cc)), inl (refl, inr refl)))
 
 banner_keeps : (s : OpeningState) (event : Event) (body : List ℕ) → Keeps (kept_of s) event (userauth_banner_row s body)
 unfolding userauth_banner_row
@@ -241,15 +269,15 @@ unfolding key_row
 key_keeps s event (Some (methods.PublicKey key)) is = (refl, rw is (refl, refl, refl), λ answer. by answer)
   where
     by : (answer : Answer) → KeepsAsked (kept_of s) event (done (signed_by_row s key.0.public.0 key.1 answer))
-    by None = ((tt, tt), tt)
-    by (Some signature) = (((tt, tt), ((λ later. (refl, later)), inl (refl, inr refl))), refl)
+    by None = ((tt, tt), tt, tt)
+    by (Some signature) = (((tt, tt), ((λ later. (refl, later)), inl (refl, inr refl))), refl, (tt, tt))
 key_keeps s event (Some (methods.OpenSshCertificate key cert)) is = (refl, rw is (refl, refl, refl), λ answer. by answer)
   where
     by : (answer : Answer) → KeepsAsked (kept_of s) event (done (signed_by_row s cert None answer))
-    by None = ((tt, tt), tt)
-    by (Some signature) = (((tt, tt), ((λ later. (refl, later)), inl (refl, inr refl))), refl)
-key_keeps s event (Some (methods.FuturePublicKey key hash)) is = ((rw is (refl, refl, refl), tt), ((λ later. (refl, λ same. absurd cc)), inl (refl, inr refl)))
-key_keeps s event (Some (methods.FutureCertificate cert hash)) is = ((rw is (refl, refl, refl), tt), ((λ later. (refl, λ same. absurd cc)), inl (refl, inr refl)))
+    by None = ((tt, tt), tt, tt)
+    by (Some signature) = (((tt, tt), ((λ later. (refl, later)), inl (refl, inr refl))), refl, (tt, tt))
+key_keeps s event (Some (methods.FuturePublicKey key hash)) is = (((rw is (refl, refl, refl), refl, tt), tt), ((λ later. (refl, λ same. absurd cc)), inl (refl, inr refl)))
+key_keeps s event (Some (methods.FutureCertificate cert hash)) is = (((rw is (refl, refl, refl), refl, tt), tt), ((λ later. (refl, λ same. absurd cc)), inl (refl, inr refl)))
 key_keeps s event method is = (tt, ((λ later. (refl, later)), inl (refl, inr refl)))
 
 pk_ok_keeps : (s : OpeningState) (event : Event) (body : List ℕ) → KeepsAsking (kept_of s) event (pk_ok_row s body)
@@ -307,22 +335,23 @@ exchange_keeps s event x told phase is = by_cases (Keeps (kept_of s) event) (has
 
 request_keeps : (s : OpeningState) (ticket : Ticket) (user : List ℕ) (method : Method) (phase : Phase) → s.phase ≡ phase → Keeps (kept_of s) (events.Authenticate ticket user method) (authenticate_row_in phase s ticket user method)
 unfolding authenticate_first_row authenticate_again_row
-request_keeps s ticket user method phases.Service is = (
-  two_keep s (resolved s.ticket answers.Dropped) (asked_for_service s.requested) (resolved_keeps s s.ticket answers.Dropped)
-      (by_cases (λ (said : List Record). AllByRecursion (HandsStored (kept_of s)) said) s.requested _ _ tt (tt, tt)),
-  ((λ later. (refl, later)), inr (refl, refl)),
-)
+request_keeps s ticket user method phases.Service is =
+    none_keeps s (events.Authenticate ticket user method) (authenticate_first_row s ticket user method)
+    (two_nothing (resolved s.ticket answers.Dropped) (asked_for_service s.requested) (resolved_nothing s.ticket answers.Dropped)
+    (by_cases (λ (said : List Record). AllByRecursion HandsNothing said) s.requested _ _ tt (tt, tt)))
+    ((λ later. (refl, later)), inr (refl, refl))
 request_keeps s ticket user method phases.Auth is =
-    (two_keep s (resolved s.ticket answers.Dropped) (records.Payload (request user method) ∷ []) (resolved_keeps s s.ticket answers.Dropped) (tt, tt), ((λ later. (refl, later)), inr (refl, refl)))
+    none_keeps s (events.Authenticate ticket user method) (authenticate_again_row s ticket user method)
+    (two_nothing (resolved s.ticket answers.Dropped) (records.Payload (request user method) ∷ []) (resolved_nothing s.ticket answers.Dropped) (tt, tt)) ((λ later. (refl, later)), inr (refl, refl))
 request_keeps s ticket user method phase is = (tt, still s (events.Authenticate ticket user method))
 
-token_keeps : (s : OpeningState) (token : Option (List ℕ)) → AllByRecursion (HandsStored (kept_of s)) (last_token token)
-token_keeps s None = tt
-token_keeps s (Some []) = tt
-token_keeps s (Some (b ∷ token)) = (tt, tt)
+token_nothing : (token : Option (List ℕ)) → AllByRecursion HandsNothing (last_token token)
+token_nothing None = tt
+token_nothing (Some []) = tt
+token_nothing (Some (b ∷ token)) = (tt, tt)
 
 answered_keeps : (s : OpeningState) (event : Event) (ticket : Ticket) (resolution : Resolution) → Keeps (kept_of s) event (goes (resolved ticket resolution) s)
-answered_keeps s event ticket resolution = (resolved_keeps s ticket resolution, still s event)
+answered_keeps s event ticket resolution = none_keeps s event (goes (resolved ticket resolution) s) (resolved_nothing ticket resolution) (still s event)
 
 unopened_keeps : (s : OpeningState) (event : Event) → Keeps (kept_of s) event (unopened_row s event)
 unfolding unopened_row
@@ -345,10 +374,10 @@ user_keeps s (events.Authenticate ticket user method) = request_keeps s ticket u
 user_keeps s (events.AuthGssapiToken token) = by_cases (Keeps (kept_of s) (events.AuthGssapiToken token)) (is_gssapi s.phase s.class) _ _ ((tt, tt), still s (events.AuthGssapiToken token)) (tt, still s (events.AuthGssapiToken token))
 user_keeps s (events.AuthGssapiMic token code) =
     by_cases (Keeps (kept_of s) (events.AuthGssapiMic token code)) (is_gssapi s.phase s.class) _ _
-    (two_keep s (last_token token) (records.Payload (gssapi_mic code) ∷ []) (token_keeps s token) (tt, tt), still s (events.AuthGssapiMic token code)) (tt, still s (events.AuthGssapiMic token code))
+    (none_keeps s (events.AuthGssapiMic token code) (goes (last_token token ++ records.Payload (gssapi_mic code) ∷ []) s) (two_nothing (last_token token) (records.Payload (gssapi_mic code) ∷ []) (token_nothing token) (tt, tt)) (still s (events.AuthGssapiMic token code))) (tt, still s (events.AuthGssapiMic token code))
 user_keeps s (events.AuthGssapiExchangeComplete token) =
     by_cases (Keeps (kept_of s) (events.AuthGssapiExchangeComplete token)) (is_gssapi s.phase s.class) _ _
-    (two_keep s (last_token token) (records.Payload gssapi_complete ∷ []) (token_keeps s token) (tt, tt), still s (events.AuthGssapiExchangeComplete token)) (tt, still s (events.AuthGssapiExchangeComplete token))
+    (none_keeps s (events.AuthGssapiExchangeComplete token) (goes (last_token token ++ records.Payload gssapi_complete ∷ []) s) (two_nothing (last_token token) (records.Payload gssapi_complete ∷ []) (token_nothing token) (tt, tt)) (still s (events.AuthGssapiExchangeComplete token))) (tt, still s (events.AuthGssapiExchangeComplete token))
 user_keeps s (events.Disconnect reason description language) = ((tt, tt), tt)
 user_keeps s events.Rekey = ((tt, tt), still s events.Rekey)
 user_keeps s (events.AwaitExtensionInfo ticket name) =
@@ -368,7 +397,7 @@ plain_keeps s event told = user_keeps s event
 -- ---- while an answer is awaited
 
 unsigned_keeps : (s : OpeningState) (event : Event) → Keeps (kept_of s) event (unsigned_row s)
-unsigned_keeps s event = (resolved_keeps s s.ticket answers.Dropped, ((λ later. (refl, in_auth)), inl (refl, inl refl)))
+unsigned_keeps s event = none_keeps s event (unsigned_row s) (resolved_nothing s.ticket answers.Dropped) ((λ later. (refl, in_auth)), inl (refl, inl refl))
 
 responses_keep : (s : OpeningState) (event : Event) → Keeps (kept_of s) event (responses_row s event)
 unfolding info_response_row

@@ -18,4 +18,5 @@ pub mod Passwords
 pub mod PasswordLaw
 pub mod SignedRuns
 pub mod AskerLaw
+pub mod ToldLaw
 pub mod Promises

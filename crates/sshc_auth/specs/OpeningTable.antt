@@ -224,6 +224,11 @@ event_asks s event = asking.Nothing
 unfoldable pub asked_of : OpeningState → Event → Asks
 asked_of s event = if s.closed then asking.Nothing else (if is_out_of_turn s event then asking.Nothing else event_asks s event)
 
+-- how many host keys the gate is asked about: one at most
+abbrev pub keys_asked : Asks → ℕ
+keys_asked (asking.HostKey key) = 1
+keys_asked asks = 0
+
 -- what the gate returned fits what it was asked
 abbrev pub FitsAsked : Asks → Told → Type 0
 FitsAsked asking.Nothing told = told ≡ tells.NotAsked

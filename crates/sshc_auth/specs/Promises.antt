@@ -5,11 +5,11 @@ use Rattle.sshc_auth_event.specs.declared.event.Event.{Event}
 use Rattle.sshc_auth.specs.declared.step.Step.{Step}
 use Rattle.sshc_auth.specs.declared.step.Told.{Told}
 use Rattle.sshc_auth.specs.Causes.{HasCause, HasGateCause}
-use Rattle.sshc_auth.specs.OpeningTable.{open_row}
+use Rattle.sshc_auth.specs.OpeningTable.{asked_of, open_row}
 use Rattle.sshc_auth.specs.Passwords.{KeepsPasswords}
 use Rattle.sshc_auth.specs.Row.{Steps}
-use Rattle.sshc_auth.specs.SessionWords.{KeepsTo}
-use Rattle.sshc_auth.specs.Stepping.{Lent, LentGate, GateAnswers, span_of, gained, StaysClosed, StepsBy, SignerGrows, GateKeeps}
+use Rattle.sshc_auth.specs.SessionWords.{Continues, IsReported, KeepsTo, reported}
+use Rattle.sshc_auth.specs.Stepping.{Lent, LentGate, GateAnswers, exchange_in, span_of, gained, StaysClosed, StepsBy, SignerGrows, GateKeeps}
 
 -- the rest of an event's row, with what the gate returned
 pub record Applied (told : Told) (event : Event) (was is : Lent) (result : Step Error) : Type 0 where
@@ -45,3 +45,5 @@ pub record Stepped {E : Type 0} (gate : GateAnswers E) (event : Event) (was is :
   pub laws : KeepsTo gate event was.rest is.rest result
   -- how often a password is written
   pub passwords : KeepsPasswords event was.rest is.rest
+  -- where the session continues, a record says what the gate was notified of
+  pub reports : Continues result → IsReported (reported (asked_of was.rest.opening event) (exchange_in event)) was.rest is.rest

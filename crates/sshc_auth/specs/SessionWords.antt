@@ -7,7 +7,7 @@ use Rattle.sshc_wire.specs.Records.{IsPayload}
 use Rattle.sshc_wire.specs.declared.auth_record.AuthRecord.TheVariants.{SignRequest, SignRequestCert}
 use Rattle.sshc_wire.specs.declared.hash_alg.HashAlg.{HashAlg}
 use Rattle.sshc_wire.specs.declared.record.Record.{Record}
-use Rattle.sshc_wire.specs.declared.record.Record.TheVariants.{Auth}
+use Rattle.sshc_wire.specs.declared.record.Record.TheVariants.{Auth, AuthBanner, KexDone}
 use Rattle.sshc_key.specs.KeyGrammar.{Key, key_text}
 use Rattle.sshc_key.specs.PairCode.{KeyPair}
 use Rattle.sshc_key.specs.Signers.{SignCall}
@@ -24,6 +24,8 @@ use Rattle.sshc_transport.specs.declared.exchange.ExchangeKey.{ExchangeKey}
 use Rattle.sshc_transport.specs.declared.exchange.ExchangeResult.{ExchangeResult}
 use Rattle.sshc_auth.specs.declared.opening.Phase.{Phase}
 use Rattle.sshc_auth.specs.declared.opening.Phase.TheVariants as phases
+use Rattle.sshc_auth.specs.declared.step.Asks.{Asks}
+use Rattle.sshc_auth.specs.declared.step.Asks.TheVariants as asking
 use Rattle.sshc_auth.specs.declared.step.Step.{Step}
 use Rattle.sshc_auth.specs.declared.step.Step.TheVariants as steps
 use Rattle.sshc_auth.specs.Causes.{IsKeptKey}
@@ -125,6 +127,12 @@ HandsStored s (Auth ticket (SignRequest blob hash bytes)) = HandsKey s.method s 
 HandsStored s (Auth ticket (SignRequestCert blob hash bytes)) = HandsCertificate s.method s blob hash bytes
 HandsStored s said = Unit {0}
 
+-- a record that hands out no bytes to be signed
+abbrev pub HandsNothing : Record → Type 0
+HandsNothing (Auth ticket (SignRequest blob hash bytes)) = ⊥
+HandsNothing (Auth ticket (SignRequestCert blob hash bytes)) = ⊥
+HandsNothing said = Unit {0}
+
 -- the request isn't stored any more, or the session is over
 abbrev pub IsSettled : OpeningState → Type 0
 IsSettled s = (s.method ≡ None) ⊎ (s.closed ≡ true)
@@ -134,6 +142,21 @@ abbrev pub AsksOnce : Kept → OpeningState → List SignCall → Type 0
 AsksOnce s t [] = Unit {0}
 AsksOnce s t (call ∷ []) = (call.by ≡ Session) × SignsStored s.method s call.key call.hash call.bytes × IsSettled t
 AsksOnce s t (call ∷ other ∷ calls) = ⊥
+
+-- where a record hands out bytes, the signer isn't asked too, the request is settled, and no later record does
+abbrev pub HandsLast : OpeningState → List SignCall → Record → List Record → Type 0
+HandsLast t calls (Auth ticket (SignRequest blob hash bytes)) later = (calls ≡ []) × IsSettled t × AllByRecursion HandsNothing later
+HandsLast t calls (Auth ticket (SignRequestCert blob hash bytes)) later = (calls ≡ []) × IsSettled t × AllByRecursion HandsNothing later
+HandsLast t calls said later = Unit {0}
+
+-- bytes are handed out once at most
+abbrev pub HandsOnce : OpeningState → List SignCall → List Record → Type 0
+HandsOnce t calls [] = Unit {0}
+HandsOnce t calls (said ∷ later) = HandsLast t calls said later × HandsOnce t calls later
+
+-- the same of the records that a step added
+abbrev pub AddsHandedOnce : List SignCall → Lent → Lent → Type 0
+AddsHandedOnce calls was is = (more : List Record) × (is.outbox.records ≡ was.outbox.records ++ more) × HandsOnce is.opening calls more
 
 -- ---- whose request is stored
 
@@ -145,6 +168,21 @@ Stores event t = ⊥
 -- the request stays or is taken out, or that of the event takes its place
 abbrev pub KeepsRequest : Kept → Event → OpeningState → Type 0
 KeepsRequest s event t = ((t.user ≡ s.user) × ((t.method ≡ s.method) ⊎ (t.method ≡ None))) ⊎ Stores event t
+
+-- ---- what the gate is notified of
+
+-- the record that says it: 20 of an exchange, 21 of a banner
+abbrev pub reported : Asks → Option ExchangeResult → Option Record
+reported asking.Nothing x = None
+reported (asking.Banner text) x = Some (AuthBanner text)
+reported (asking.HostKey key) (Some x) = Some (KexDone x.names.kex)
+reported asking.Exchange (Some x) = Some (KexDone x.names.kex)
+reported asks None = None
+
+-- it is among the records that were added
+abbrev pub IsReported : Option Record → Lent → Lent → Type 0
+IsReported None was is = Unit {0}
+IsReported (Some said) was is = (before after : List Record) × (is.outbox.records ≡ was.outbox.records ++ (before ++ (said ∷ after)))
 
 -- ---- what a step satisfies
 
@@ -159,5 +197,7 @@ pub record KeepsTo {E : Type 0} (gate : GateAnswers E) (event : Event) (was is :
   pub asked : AsksOnce (kept_of was.opening) is.opening (gained was is)
   -- what an outside signer is handed is the signed text of the stored request
   pub handed : AddsOnly (HandsStored (kept_of was.opening)) was is
+  -- it is handed that once at most, and then the signer isn't asked, and the request isn't stored any more
+  pub once : AddsHandedOnce (gained was is) was is
   -- the request that is stored is that of an event
   pub request : KeepsRequest (kept_of was.opening) event is.opening

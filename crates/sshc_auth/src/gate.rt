@@ -1,6 +1,6 @@
 //! The gate: it judges host keys, and is notified of key exchanges and banners.
 
-ghost use Rattle.std.specs.Prelude.{◌≡◌, ◌≤◌, ℕ, List, Option, Result, Bool, OnErr, option_copied};
+ghost use Rattle.std.specs.Prelude.{◌≡◌, ◌≤◌, ◌+◌, ℕ, List, Option, Result, Bool, OnErr, option_copied};
 ghost use Rattle.sshc_wire.specs.Faults.{Rose};
 ghost use Rattle.sshc_wire.specs.declared.record.Record.{Record as Said};
 ghost use Rattle.sshc_key.specs.declared.identity.PublicKeyOrCertificate.{PublicKeyOrCertificate as HostKey};
@@ -35,12 +35,16 @@ pub trait Gate {
     /// How often the gate has refused.
     ghost refusals: { Self → ℕ };
 
+    /// How many host keys the gate was asked about, as far as it counts them. A step asks about one at most.
+    ghost asked: { Self → ℕ } = { λ _. 0 };
+
     /// Whether the host key is accepted.
     fn check_server_key(&mut self, key: &PublicKeyOrCertificate) -> Result<bool, Self::Error>
         ensures judged { judges self.old key.now result }
         ensures cause { OnErr result (Rose (refusals self.old) (refusals self.new)) }
         ensures later { refusals self.old ≤ refusals self.new }
-        ensures kept { setting self.new ≡ setting self.old };
+        ensures kept { setting self.new ≡ setting self.old }
+        ensures counted { asked self.new ≤ asked self.old + 1 };
 
     /// A key exchange is done. It may add answers to tickets.
     fn kex_done(
@@ -52,14 +56,16 @@ pub trait Gate {
         ensures added { Adds (tells (option_copied secret.entry) names.now) out.old out.new result }
         ensures cause { OnErr result (Rose (refusals self.old) (refusals self.new)) }
         ensures later { refusals self.old ≤ refusals self.new }
-        ensures kept { setting self.new ≡ setting self.old };
+        ensures kept { setting self.new ≡ setting self.old }
+        ensures counted { asked self.new ≤ asked self.old };
 
     /// The server's banner (RFC 4252, section 5.4). It may add answers to tickets.
     fn auth_banner(&mut self, banner: &str, out: &mut Outbox) -> Result<(), Self::Error>
         ensures added { Adds (tells_banner banner.now) out.old out.new result }
         ensures cause { OnErr result (Rose (refusals self.old) (refusals self.new)) }
         ensures later { refusals self.old ≤ refusals self.new }
-        ensures kept { setting self.new ≡ setting self.old };
+        ensures kept { setting self.new ≡ setting self.old }
+        ensures counted { asked self.new ≤ asked self.old };
 
     /// The gate's error for an error of the opening.
     fn from_auth(e: Error) -> Self::Error

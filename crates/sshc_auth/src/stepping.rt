@@ -1,8 +1,8 @@
 //! A step of the opening: what the row asks, the gate's answers, and the rest of the row.
 
-ghost use Rattle.std.specs.Prelude.{◌≡◌, Result, Bool, false, OnErr, option_copied};
+ghost use Rattle.std.specs.Prelude.{◌≡◌, ◌≤◌, ◌+◌, Result, Bool, false, OnErr, option_copied};
 ghost use Rattle.sshc_wire.specs.Faults.{Rose};
-ghost use Rattle.sshc_auth.specs.OpeningTable.{asked_of};
+ghost use Rattle.sshc_auth.specs.OpeningTable.{asked_of, keys_asked};
 ghost use Rattle.sshc_auth.specs.Promises.{ByTable, Stepped};
 ghost use Rattle.sshc_auth.specs.Stepping.{gate_answers, lent, with_gate, map_step, exchange_in, Answered, Judged, Tells, HasExchange, GateKeeps};
 
@@ -57,6 +57,7 @@ fn tell_exchange<G: Gate>(
     ensures told { Tells (G.tells exchange.now.secret exchange.now.names) out.old out.new result }
     ensures cause { OnErr result (Rose (G.refusals gate.old) (G.refusals gate.new)) }
     ensures keeps { GateKeeps (G.refusals gate.old) (G.refusals gate.new) (G.setting gate.old) (G.setting gate.new) }
+    ensures counted { G.asked gate.new ≤ G.asked gate.old }
 {
     match gate.kex_done(secret_of(exchange), &exchange.names, out) {
         Ok(()) => Ok(Told::Went),
@@ -69,6 +70,7 @@ fn tell_banner<G: Gate>(text: &Text, gate: &mut G, out: &mut Outbox) -> Result<T
     ensures told { Tells (G.tells_banner text.now) out.old out.new result }
     ensures cause { OnErr result (Rose (G.refusals gate.old) (G.refusals gate.new)) }
     ensures keeps { GateKeeps (G.refusals gate.old) (G.refusals gate.new) (G.setting gate.old) (G.setting gate.new) }
+    ensures counted { G.asked gate.new ≤ G.asked gate.old }
 {
     match gate.auth_banner(text.as_str(), out) {
         Ok(()) => Ok(Told::Went),
@@ -87,6 +89,7 @@ fn judge<G: Gate>(
         × Judged (G.tells exchange.now.secret exchange.now.names) out.old out.new result verdict }
     ensures cause { OnErr result (Rose (G.refusals gate.old) (G.refusals gate.new)) }
     ensures keeps { GateKeeps (G.refusals gate.old) (G.refusals gate.new) (G.setting gate.old) (G.setting gate.new) }
+    ensures counted { G.asked gate.new ≤ G.asked gate.old + 1 }
 {
     match gate.check_server_key(key) {
         Ok(true) => tell_exchange(exchange, gate, out),
@@ -107,6 +110,7 @@ fn ask_gate<G: Gate>(
         (exchange_in event.now) out.old out.new result asks.now }
     ensures cause { OnErr result (Rose (G.refusals gate.old) (G.refusals gate.new)) }
     ensures keeps { GateKeeps (G.refusals gate.old) (G.refusals gate.new) (G.setting gate.old) (G.setting gate.new) }
+    ensures counted { G.asked gate.new ≤ G.asked gate.old + keys_asked asks.now }
 {
     match asks {
         Asks::Nothing => Ok(Told::NotAsked),
@@ -131,12 +135,14 @@ impl Opening {
         signer: &mut S,
         out: &mut Outbox,
     ) -> Step<G::Error>
-        ensures { Stepped (gate_answers G.told_as (G.judges gate.old) G.tells G.tells_banner) event.now
+        ensures stepped { Stepped (gate_answers G.told_as (G.judges gate.old) G.tells G.tells_banner) event.now
             (with_gate (lent self.old out.old (S.calls signer.old) (S.refusals signer.old)) (G.refusals gate.old)
             (G.setting gate.old))
             (with_gate (lent self.new out.new (S.calls signer.new) (S.refusals signer.new)) (G.refusals gate.new)
             (G.setting gate.new))
             result }
+        // The gate is asked about as many host keys at most as the row asks for: one, or none.
+        ensures counted { G.asked gate.new ≤ G.asked gate.old + keys_asked (asked_of self.old event.now) }
     {
         self.step_by_table(event, gate, signer, out)
     }
@@ -149,12 +155,13 @@ impl Opening {
         signer: &mut S,
         out: &mut Outbox,
     ) -> Step<G::Error>
-        ensures { ByTable (gate_answers G.told_as (G.judges gate.old) G.tells G.tells_banner) event.now
+        ensures stepped { ByTable (gate_answers G.told_as (G.judges gate.old) G.tells G.tells_banner) event.now
             (with_gate (lent self.old out.old (S.calls signer.old) (S.refusals signer.old)) (G.refusals gate.old)
             (G.setting gate.old))
             (with_gate (lent self.new out.new (S.calls signer.new) (S.refusals signer.new)) (G.refusals gate.new)
             (G.setting gate.new))
             result }
+        ensures counted { G.asked gate.new ≤ G.asked gate.old + keys_asked (asked_of self.old event.now) }
     {
         if self.is_closed() {
             return Step::Closed;
@@ -186,12 +193,13 @@ impl Opening {
     ) -> Step<G::Error>
         requires fresh { self.old.closed ≡ false }
         requires asked { asked_of self.old event.now ≡ asks.now }
-        ensures { ByTable (gate_answers G.told_as (G.judges gate.old) G.tells G.tells_banner) event.now
+        ensures stepped { ByTable (gate_answers G.told_as (G.judges gate.old) G.tells G.tells_banner) event.now
             (with_gate (lent self.old out.old (S.calls signer.old) (S.refusals signer.old)) (G.refusals gate.old)
             (G.setting gate.old))
             (with_gate (lent self.new out.new (S.calls signer.new) (S.refusals signer.new)) (G.refusals gate.new)
             (G.setting gate.new))
             result }
+        ensures counted { G.asked gate.new ≤ G.asked gate.old + keys_asked asks.now }
     {
         match ask_gate(asks, event, gate, out) {
             Ok(told) => as_told::<G>(self.apply(event, told, signer, out)),

@@ -7,7 +7,9 @@ ghost use Rattle.sshc_key.specs.LentNames.{spelled};
 ghost use Rattle.sshc_auth_request.specs.KeyParts.{IsKeyPart, key_lent};
 ghost use Rattle.sshc_auth_request.specs.RequestTexts.{counted_strings, request_head};
 
-use sshc_key::{AlgorithmName, Certificate, HashAlg, KeyData, PublicKey, put_certificate, put_key};
+use sshc_key::{
+    AlgorithmName, Certificate, HashAlg, KeyData, PublicKey, append_certificate, append_key,
+};
 use sshc_wire::{
     List, NoMemory, Octets, Text, begin_string, end_string, msg, put_bytes, put_text, put_u32,
     string_size,
@@ -105,8 +107,8 @@ impl<'a> LentKey<'a> {
         ensures { OnOk result (out.new.items ≡ out.old.items ++ key_text (key_lent self.now)) }
     {
         match self {
-            LentKey::Key(key) => put_key(out, key),
-            LentKey::Certificate(certificate) => put_certificate(out, certificate),
+            LentKey::Key(key) => append_key(out, key),
+            LentKey::Certificate(certificate) => append_certificate(out, certificate),
         }
     }
 }

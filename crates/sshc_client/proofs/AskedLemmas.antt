@@ -29,7 +29,7 @@ use Rattle.sshc_client_table.specs.Grown.{Grown}
 use Rattle.sshc_client_table.specs.GrownLaws.{grown_same}
 use Rattle.sshc_client_state.specs.OpeningStep.{StepsLent, goes_on, lent_session, outbox_of}
 use Rattle.sshc_client.specs.Asked.{AsksHandler, IsVerdict, Said, Says, StepsBefore, verdict_gate}
-use Rattle.sshc_client.specs.Handling.{HandlerAt, HandlerKeeps, Handles}
+use Rattle.sshc_client.specs.Handling.{HandlerAsked, HandlerAt, HandlerKeeps, Handles}
 use Rattle.sshc_client.specs.HandledStep.{AddsNothing, EndsBy, handler_gate, has_left}
 use Rattle.sshc_client.proofs.HandlerLemmas.{keeps_on, same_handler, rose_later, no_default}
 
@@ -68,15 +68,15 @@ refused_banner defaults judges was is old new e text h = record {
 
 -- the host key was judged
 pub key_said_no : {E : Type 0} (defaults : Type 0) (judges : PublicKeyOrCertificate → Result Bool E → Type 0) (key : PublicKeyOrCertificate) (was is : HandlerAt) (s : SessionState) →
-    judges key (Ok false) → HandlerKeeps was is → AsksHandler {E = E} defaults judges (asking.HostKey key) was is s s (Ok false)
+    judges key (Ok false) → HandlerAsked 1 was is → AsksHandler {E = E} defaults judges (asking.HostKey key) was is s s (Ok false)
 key_said_no defaults judges key was is s says keeps = record { said = (says, λ plain. refl); grown = grown_same s; unlent = λ none. refl; keeps = keeps }
 
 pub key_refused : {E : Type 0} (defaults : Type 0) (judges : PublicKeyOrCertificate → Result Bool E → Type 0) (key : PublicKeyOrCertificate) (was is : HandlerAt) (s : SessionState) (e : E) →
-    judges key (Err e) → Rose was.refusals is.refusals → HandlerKeeps was is → AsksHandler defaults judges (asking.HostKey key) was is s s (Err e)
+    judges key (Err e) → Rose was.refusals is.refusals → HandlerAsked 1 was is → AsksHandler defaults judges (asking.HostKey key) was is s s (Err e)
 key_refused defaults judges key was is s e says rose keeps = record { said = (inl (says, refl), rose); grown = grown_same s; unlent = λ none. refl; keeps = keeps }
 
 pub key_told : {E : Type 0} (defaults : Type 0) (judges : PublicKeyOrCertificate → Result Bool E → Type 0) (key : PublicKeyOrCertificate) (was mid is : HandlerAt) (old new : SessionState) (u : Unit {0}) →
-    judges key (Ok true) → HandlerKeeps was mid → Handles {E = E} defaults (Ok tt) mid is old new (Ok u) → AsksHandler {E = E} defaults judges (asking.HostKey key) was is old new (Ok true)
+    judges key (Ok true) → HandlerAsked 1 was mid → Handles {E = E} defaults (Ok tt) mid is old new (Ok u) → AsksHandler {E = E} defaults judges (asking.HostKey key) was is old new (Ok true)
 key_told defaults judges key was mid is old new u says keeps h = record {
   said = (says, λ plain. (h.default_body plain).1);
   grown = h.grown;
@@ -85,7 +85,7 @@ key_told defaults judges key was mid is old new u says keeps h = record {
 }
 
 pub key_told_refused : {E : Type 0} (defaults : Type 0) (judges : PublicKeyOrCertificate → Result Bool E → Type 0) (key : PublicKeyOrCertificate) (was mid is : HandlerAt) (old new : SessionState) (e : E) →
-    HandlerKeeps was mid → Handles {T = Unit {0}} defaults (Ok tt) mid is old new (Err e) → AsksHandler defaults judges (asking.HostKey key) was is old new (Err e)
+    HandlerAsked 1 was mid → Handles {T = Unit {0}} defaults (Ok tt) mid is old new (Err e) → AsksHandler defaults judges (asking.HostKey key) was is old new (Err e)
 key_told_refused defaults judges key was mid is old new e keeps h = record {
   said = (inr (tt, λ plain. no_default tt e (h.default_body plain).0), rose_later was.refusals mid.refusals is.refusals keeps.later h.cause);
   grown = h.grown;
@@ -208,15 +208,17 @@ stepped_with told_as judges accepts event was is r r2 setting setting2 result sa
     key = step.laws.key;
     asked = step.laws.asked;
     handed = step.laws.handed;
+    once = step.laws.once;
     request = step.laws.request;
   };
   passwords = step.passwords;
+  reports = step.reports;
 }
 
-pub lent_with : {E : Type 0} (told_as : Error → E) (judges : PublicKeyOrCertificate → Result Bool E → Type 0) (accepts : Bool) (event : Event) (s t : SessionState) (calls calls2 : List SignCall) (refusals refusals2 r r2 : ℕ) (setting setting2 : List (List ℕ)) (result : Step E) →
+pub lent_with : {E : Type 0} (told_as : Error → E) (judges : PublicKeyOrCertificate → Result Bool E → Type 0) (accepts : Bool) (event : Event) (s t : SessionState) (calls calls2 : List SignCall) (refusals refusals2 r r2 : ℕ) (setting setting2 : List (List ℕ)) (result : Step E) {count count2 : ℕ} →
     IsVerdict judges (asked_of s.opening event) accepts → GateKeeps r r2 setting setting2 →
-    StepsLent (verdict_gate told_as accepts) event (lent_session s calls refusals 0 []) (lent_session t calls2 refusals2 0 []) result →
-    StepsLent (handler_gate told_as judges) event (lent_session s calls refusals r setting) (lent_session t calls2 refusals2 r2 setting2) result
+    StepsLent (verdict_gate told_as accepts) event (lent_session s calls refusals 0 [] 0) (lent_session t calls2 refusals2 0 [] 0) result →
+    StepsLent (handler_gate told_as judges) event (lent_session s calls refusals r setting count) (lent_session t calls2 refusals2 r2 setting2 count2) result
 lent_with told_as judges accepts event s t calls calls2 refusals refusals2 r r2 setting setting2 result said keeps step = record {
   opening = step.opening;
   said = step.said;
@@ -225,8 +227,8 @@ lent_with told_as judges accepts event s t calls calls2 refusals refusals2 r r2 
 }
 
 -- the opening's step, and the end of a session that the user left
-pub ended_before : {E : Type 0} (gate : GateAnswers E) (event : Event) (s last t : SessionState) (calls calls2 : List SignCall) (x x2 r r2 : ℕ) (setting setting2 : List (List ℕ)) (step result : Step E) →
-    StepsLent gate event (lent_session s calls x r setting) (lent_session last calls2 x2 r2 setting2) step →
+pub ended_before : {E : Type 0} (gate : GateAnswers E) (event : Event) (s last t : SessionState) (calls calls2 : List SignCall) (x x2 r r2 : ℕ) (setting setting2 : List (List ℕ)) (step result : Step E) {count count2 : ℕ} →
+    StepsLent gate event (lent_session s calls x r setting count) (lent_session last calls2 x2 r2 setting2 count2) step →
     EndsBy (goes_on step && has_left last.life) last t step result →
-    StepsBefore gate event (lent_session s calls x r setting) (lent_session t calls2 x2 r2 setting2) result
+    StepsBefore gate event (lent_session s calls x r setting count) (lent_session t calls2 x2 r2 setting2 count2) result
 ended_before gate event s last t calls calls2 x x2 r r2 setting setting2 step result stepped ends = record { last = last; step = step; stepped = stepped; ends = ends }

@@ -30,7 +30,7 @@ use Rattle.sshc_client_rows.specs.declared.flow.Flow.TheVariants as flows
 use Rattle.sshc_client_rows.specs.Follows.{Follows, all_moves, default_opinions}
 use Rattle.sshc_client.specs.declared.stop.Stop.{Stop}
 use Rattle.sshc_client.specs.declared.stop.Stop.TheVariants.{Own, Handler}
-use Rattle.sshc_client.specs.Handling.{HandlerAt, HandlerKeeps, Handles, Opines}
+use Rattle.sshc_client.specs.Handling.{HandlerAsked, HandlerAt, HandlerKeeps, Handles, Opines}
 use Rattle.sshc_client.specs.HandledRow.{Accepts, Calls, Cut, CutBehind, FollowsOne, FollowsRow, FollowsWith, Handled, HandlerRefused, LetGo, Retargets, default_answer, is_unknown, lent_result, own_result, served, target_moves, went_result}
 
 -- ---- the handler's result
@@ -47,12 +47,29 @@ reflexive : (n : ℕ) → n ≤ n
 reflexive n = omega arith
 
 pub same_handler : (h : HandlerAt) → HandlerKeeps h h
-same_handler h = record { later = reflexive h.refusals; kept = refl }
+same_handler h = record { later = reflexive h.refusals; kept = refl; counted = none_more h.asked }
+  where
+    none_more : (n : ℕ) → n ≤ n + 0
+    none_more n = omega arith
+
+-- a call that asks about no host key asks about so many at most
+pub asked_none : (keys : ℕ) (was is : HandlerAt) → HandlerKeeps was is → HandlerAsked keys was is
+asked_none keys was is keeps = record { later = keeps.later; kept = keeps.kept; counted = no_more was.asked is.asked keeps.counted }
+  where
+    no_more : (a b : ℕ) → b ≤ a + 0 → b ≤ a + keys
+    no_more a b fewer = omega (arith, fewer)
 
 -- one call after another
-pub keeps_on : (was mid is : HandlerAt) → HandlerKeeps was mid → HandlerKeeps mid is → HandlerKeeps was is
-keeps_on was mid is first second = record { later = not_less was.refusals mid.refusals is.refusals first.later second.later; kept = second.kept ∙ first.kept }
+pub keeps_on : {keys : ℕ} (was mid is : HandlerAt) → HandlerAsked keys was mid → HandlerKeeps mid is → HandlerAsked keys was is
+keeps_on {keys = keys} was mid is first second = record {
+  later = not_less was.refusals mid.refusals is.refusals first.later second.later;
+  kept = second.kept ∙ first.kept;
+  counted = no_more was.asked mid.asked is.asked first.counted second.counted;
+}
   where
+    no_more : (a b c : ℕ) → b ≤ a + keys → c ≤ b + 0 → c ≤ a + keys
+    no_more a b c one two = omega (arith, one, two)
+
     not_less : (a b c : ℕ) → a ≤ b → b ≤ c → a ≤ c
     not_less a b c one two = omega (arith, one, two)
 

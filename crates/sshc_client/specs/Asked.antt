@@ -7,11 +7,12 @@ use Rattle.sshc_auth.specs.declared.error.Error.{Error}
 use Rattle.sshc_auth.specs.declared.step.Asks.{Asks}
 use Rattle.sshc_auth.specs.declared.step.Asks.TheVariants as asking
 use Rattle.sshc_auth.specs.declared.step.Step.{Step}
+use Rattle.sshc_auth.specs.OpeningTable.{keys_asked}
 use Rattle.sshc_auth.specs.Stepping.{GateAnswers, gate_answers}
 use Rattle.sshc_client_table.specs.SessionState.{SessionState}
 use Rattle.sshc_client_table.specs.Grown.{Grown}
 use Rattle.sshc_client_state.specs.OpeningStep.{Lent, StepsLent, goes_on}
-use Rattle.sshc_client.specs.Handling.{HandlerAt, HandlerKeeps}
+use Rattle.sshc_client.specs.Handling.{HandlerAsked, HandlerAt}
 use Rattle.sshc_client.specs.HandledStep.{AddsNothing, EndsBy, IsCall, has_left}
 
 -- the verdict
@@ -46,7 +47,8 @@ pub record AsksHandler {E : Type 0} (defaults : Type 0) (judges : PublicKeyOrCer
   pub grown : Grown old new
   -- where the row makes no call, nobody is lent the session
   pub unlent : (IsCall asks → ⊥) → new ≡ old
-  pub keeps : HandlerKeeps was is
+  -- it is asked about as many host keys at most as the row asks for: one, or none
+  pub keeps : HandlerAsked (keys_asked asks) was is
 
 -- the opening's step, and the end of a session that the user left meanwhile
 pub record StepsBefore {E : Type 0} (gate : GateAnswers E) (event : Event) (was is : Lent) (result : Step E) : Type 0 where

@@ -1,5 +1,5 @@
 -- The default settings of a client, and which of them a session and its opening keep.
-use Rattle.std.specs.Prelude.{◌≡◌, false, None, is_some, codes}
+use Rattle.std.specs.Prelude.{◌≡◌, ℕ, List, false, None, is_some, codes}
 use Rattle.sshc_auth.specs.declared.opening.Settings.{Settings}
 use Rattle.sshc_client_table.specs.declared.settings.SessionSettings.{SessionSettings}
 use Rattle.sshc_client.specs.declared.config.Config.{Config}
@@ -21,10 +21,11 @@ pub record IsDefault (c : Config) : Type 0 where
 abbrev pub settings_of : Config → Settings
 settings_of c = record { window_size = c.window_size; anonymous = c.anonymous; inactivity = is_some c.inactivity_timeout }
 
--- which settings an open session keeps
-abbrev pub session_settings_of : Config → SessionSettings
-session_settings_of c = record {
+-- which settings an open session keeps, beside the server's identification string
+abbrev pub session_settings_of : Config → List ℕ → SessionSettings
+session_settings_of c remote_sshid = record {
   max_packet_size = c.maximum_packet_size;
   keepalive_interval = c.keepalive_interval;
   keepalive_max = c.keepalive_max;
+  remote_sshid = remote_sshid;
 }

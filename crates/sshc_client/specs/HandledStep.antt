@@ -14,7 +14,7 @@ use Rattle.sshc_auth.specs.declared.step.Asks.TheVariants as asking
 use Rattle.sshc_auth.specs.declared.step.Step.{Step}
 use Rattle.sshc_auth.specs.declared.step.Step.TheVariants as steps
 use Rattle.sshc_auth.specs.OpeningState.{shut}
-use Rattle.sshc_auth.specs.OpeningTable.{asked_of}
+use Rattle.sshc_auth.specs.OpeningTable.{asked_of, keys_asked}
 use Rattle.sshc_auth.specs.Stepping.{GateAnswers, gate_answers}
 use Rattle.sshc_client_packets.specs.HostKeyProof.{Accepts}
 use Rattle.sshc_client_table.specs.declared.life.Life.{Life}
@@ -29,13 +29,13 @@ use Rattle.sshc_client_rows.specs.declared.flow.Flow.{Flow}
 use Rattle.sshc_client_rows.specs.declared.flow.Flow.TheVariants as flows
 use Rattle.sshc_client.specs.declared.stop.Stop.{Stop}
 use Rattle.sshc_client.specs.declared.stop.Stop.TheVariants.{Own, Handler}
-use Rattle.sshc_client.specs.Handling.{HandlerAt, HandlerKeeps, handler_at}
+use Rattle.sshc_client.specs.Handling.{HandlerAsked, HandlerAt, handler_at}
 use Rattle.sshc_client.specs.CausedStep.{IsCausedOpen}
 use Rattle.sshc_client.specs.HandledRow.{FollowsWith}
 
 -- the handler, as it is at one moment
 abbrev pub handler_of : Lent → HandlerAt
-handler_of l = handler_at l.gate_refusals l.setting
+handler_of l = handler_at l.gate_refusals l.setting l.asked
 
 -- ---- how a step ends
 
@@ -117,10 +117,14 @@ pub record RefusedBefore {E : Type 0} (defaults : Type 0) (gate : GateAnswers E)
   pub calls : is.calls ≡ was.calls
   pub refusals : is.signer_refusals ≡ was.signer_refusals
 
--- a step before the session is open, and the handler's count and setting
+-- how many host keys a step asks the handler about: one at most, and that of the first exchange
+abbrev pub keys_of : SessionState → Event → ℕ
+keys_of s event = keys_asked (asked_of s.opening event)
+
+-- a step before the session is open, and the handler's counts and setting
 pub record Before {E : Type 0} (defaults : Type 0) (gate : GateAnswers E) (event : Event) (was is : Lent) (result : Step E) : Type 0 where
   pub steps_on : StepsBehind defaults gate event was is result ⊎ RefusedBefore defaults gate event was is result
-  pub keeps : HandlerKeeps (handler_of was) (handler_of is)
+  pub keeps : HandlerAsked (keys_of was.session event) (handler_of was) (handler_of is)
 
 -- ---- the step
 
@@ -143,5 +147,6 @@ pub record SessionSteps {E : Type 0} (defaults : Type 0) (gate : GateAnswers E) 
       IsCausedOpen defaults gate.told_as (handler_of was) (handler_of is) (was.session) event result
   -- in an open session, the laws of a step: of replies, opens, key exchanges and authentication
   pub laws : is_live (was.session) ≡ true → OpenStepLaws accepts event was.session is.session (goes_on_open result)
-  -- the handler's count of refusals never falls, and what it judges by doesn't change
-  pub keeps : HandlerKeeps (handler_of was) (handler_of is)
+  -- the handler is asked about one host key at most, and only where the row of the first exchange asks for it; its count
+  -- of refusals never falls, and what it judges by doesn't change
+  pub keeps : HandlerAsked (keys_of was.session event) (handler_of was) (handler_of is)

@@ -1,24 +1,31 @@
 -- What a call of a handler does: what it may do to a session that it is lent, how often it refused, and what its
 -- default body returns. Stated by relations between two moments; the code is any handler's.
-use Rattle.std.specs.Prelude.{◌≡◌, ◌≤◌, ℕ, List, Result, Ok, Err, Bool, OnErr}
+use Rattle.std.specs.Prelude.{◌≡◌, ◌≤◌, ◌+◌, ℕ, List, Result, Ok, Err, Bool, OnErr}
 use Rattle.sshc_wire.specs.Faults.{Rose}
 use Rattle.sshc_client_table.specs.SessionState.{SessionState}
 use Rattle.sshc_client_table.specs.Grown.{Grown}
 use Rattle.sshc_client.specs.declared.answers.DisconnectReason.{DisconnectReason}
 use Rattle.sshc_client.specs.declared.answers.DisconnectReason.TheVariants as reasons
 
--- what is known of a handler at one moment: how often it refused, and what it judges host keys by
+-- what is known of a handler at one moment: how often it refused, what it judges host keys by, and how many host keys it
+-- was asked about
 pub record HandlerAt : Type 0 where
   pub refusals : ℕ
   pub setting : List (List ℕ)
+  pub asked : ℕ
 
-abbrev pub handler_at : ℕ → List (List ℕ) → HandlerAt
-handler_at refusals setting = record { refusals = refusals; setting = setting }
+abbrev pub handler_at : ℕ → List (List ℕ) → ℕ → HandlerAt
+handler_at refusals setting asked = record { refusals = refusals; setting = setting; asked = asked }
 
--- its count of refusals never falls, and what it judges by doesn't change
-pub record HandlerKeeps (was is : HandlerAt) : Type 0 where
+-- it was asked about so many host keys at most, its count of refusals never falls, and what it judges by doesn't change
+pub record HandlerAsked (keys : ℕ) (was is : HandlerAt) : Type 0 where
   pub later : was.refusals ≤ is.refusals
   pub kept : is.setting ≡ was.setting
+  pub counted : is.asked ≤ was.asked + keys
+
+-- the same of calls that ask about no host key
+abbrev pub HandlerKeeps : HandlerAt → HandlerAt → Type 0
+HandlerKeeps was is = HandlerAsked 0 was is
 
 -- After a call that is lent the session, the session is grown from the one before, and the call returns an error only
 -- if the count of refusals rose. A handler that keeps its defaults returns the default, and does nothing to the

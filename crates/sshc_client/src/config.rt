@@ -5,7 +5,7 @@ ghost use Rattle.sshc_client.specs.Configured.{IsDefault, session_settings_of, s
 
 use sshc_auth::Settings;
 use sshc_client_table::SessionSettings;
-use sshc_wire::{NoMemory, Text};
+use sshc_wire::{NoMemory, Octets, Text};
 use std::alloc::Global;
 
 /// The settings of a session. Times are milliseconds.
@@ -52,14 +52,15 @@ impl Config {
         })
     }
 
-    /// The settings that an open session keeps.
-    pub fn session_settings(&self) -> SessionSettings
-        ensures { result ≡ session_settings_of self.now }
+    /// The settings that an open session keeps, with the server's identification string.
+    pub fn session_settings(&self, remote_sshid: Octets) -> SessionSettings
+        ensures { result ≡ session_settings_of self.now remote_sshid }
     {
         SessionSettings {
             max_packet_size: self.maximum_packet_size,
             keepalive_interval: self.keepalive_interval,
             keepalive_max: self.keepalive_max,
+            remote_sshid,
         }
     }
 

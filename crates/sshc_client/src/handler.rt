@@ -1,6 +1,6 @@
 //! The trait of a session's handler.
 
-ghost use Rattle.std.specs.Prelude.{◌≡◌, ◌≤◌, ℕ, List, Result, Bool, false, Ok, OnErr};
+ghost use Rattle.std.specs.Prelude.{◌≡◌, ◌≤◌, ◌+◌, ℕ, List, Result, Bool, false, Ok, OnErr};
 ghost use Rattle.sshc_wire.specs.Faults.{Rose};
 ghost use Rattle.sshc_key.specs.declared.identity.PublicKeyOrCertificate.{PublicKeyOrCertificate as HostKey};
 ghost use Rattle.sshc_auth.specs.declared.error.Error.{Error as Refusal};
@@ -34,6 +34,9 @@ pub trait Handler: Send {
     /// How often the handler has refused.
     ghost refusals: { Self → ℕ };
 
+    /// How many host keys the handler was asked about, as far as it counts them. A session asks about one at most.
+    ghost asked: { Self → ℕ } = { λ _. 0 };
+
     /// Whether the handler keeps the default bodies below: `Unit {0}` if it does, else `⊥`.
     ghost keeps_defaults: { Type 0 };
 
@@ -46,7 +49,8 @@ pub trait Handler: Send {
         ensures judged { judges self.old key.now result }
         ensures cause { OnErr result (Rose (refusals self.old) (refusals self.new)) }
         ensures later { refusals self.old ≤ refusals self.new }
-        ensures kept { setting self.new ≡ setting self.old };
+        ensures kept { setting self.new ≡ setting self.old }
+        ensures counted { asked self.new ≤ asked self.old + 1 };
 
     /// The session has ended. Whoever runs a session calls it once, after the last step.
     fn disconnected(&mut self, reason: DisconnectReason<Self::Error>) -> Result<(), Self::Error>
@@ -62,7 +66,7 @@ pub trait Handler: Send {
     /// `false` the channel is refused.
     fn should_accept_unknown_server_channel(&mut self, id: ChannelId, kind: &str) -> bool
         ensures { Opines keeps_defaults false
-            (handler_at (refusals self.old) (setting self.old)) (handler_at (refusals self.new) (setting self.new))
+            (handler_at (refusals self.old) (setting self.old) (asked self.old)) (handler_at (refusals self.new) (setting self.new) (asked self.new))
             result }
     {
         false
@@ -72,7 +76,7 @@ pub trait Handler: Send {
     /// that the next call is made with; the result doesn't change the window itself.
     fn adjust_window(&mut self, id: ChannelId, window: u32) -> u32
         ensures { Opines keeps_defaults window
-            (handler_at (refusals self.old) (setting self.old)) (handler_at (refusals self.new) (setting self.new))
+            (handler_at (refusals self.old) (setting self.old) (asked self.old)) (handler_at (refusals self.new) (setting self.new) (asked self.new))
             result }
     {
         window
@@ -82,7 +86,7 @@ pub trait Handler: Send {
     #[tactic(auto, using(sshc_client_table::specs::GrownLaws::grown_same))]
     fn auth_banner(&mut self, banner: &str, session: &mut Session) -> Result<(), Self::Error>
         ensures { Handles keeps_defaults (Ok tt)
-            (handler_at (refusals self.old) (setting self.old)) (handler_at (refusals self.new) (setting self.new))
+            (handler_at (refusals self.old) (setting self.old) (asked self.old)) (handler_at (refusals self.new) (setting self.new) (asked self.new))
             session.old session.new result }
     {
         Ok(())
@@ -98,7 +102,7 @@ pub trait Handler: Send {
         session: &mut Session,
     ) -> Result<(), Self::Error>
         ensures { Handles keeps_defaults (Ok tt)
-            (handler_at (refusals self.old) (setting self.old)) (handler_at (refusals self.new) (setting self.new))
+            (handler_at (refusals self.old) (setting self.old) (asked self.old)) (handler_at (refusals self.new) (setting self.new) (asked self.new))
             session.old session.new result }
     {
         Ok(())
@@ -114,7 +118,7 @@ pub trait Handler: Send {
         session: &mut Session,
     ) -> Result<(), Self::Error>
         ensures { Handles keeps_defaults (Ok tt)
-            (handler_at (refusals self.old) (setting self.old)) (handler_at (refusals self.new) (setting self.new))
+            (handler_at (refusals self.old) (setting self.old) (asked self.old)) (handler_at (refusals self.new) (setting self.new) (asked self.new))
             session.old session.new result }
     {
         Ok(())
@@ -128,7 +132,7 @@ pub trait Handler: Send {
         session: &mut Session,
     ) -> Result<(), Self::Error>
         ensures { Handles keeps_defaults (Ok tt)
-            (handler_at (refusals self.old) (setting self.old)) (handler_at (refusals self.new) (setting self.new))
+            (handler_at (refusals self.old) (setting self.old) (asked self.old)) (handler_at (refusals self.new) (setting self.new) (asked self.new))
             session.old session.new result }
     {
         Ok(())
@@ -142,7 +146,7 @@ pub trait Handler: Send {
         session: &mut Session,
     ) -> Result<(), Self::Error>
         ensures { Handles keeps_defaults (Ok tt)
-            (handler_at (refusals self.old) (setting self.old)) (handler_at (refusals self.new) (setting self.new))
+            (handler_at (refusals self.old) (setting self.old) (asked self.old)) (handler_at (refusals self.new) (setting self.new) (asked self.new))
             session.old session.new result }
     {
         Ok(())
@@ -156,7 +160,7 @@ pub trait Handler: Send {
         session: &mut Session,
     ) -> Result<(), Self::Error>
         ensures { Handles keeps_defaults (Ok tt)
-            (handler_at (refusals self.old) (setting self.old)) (handler_at (refusals self.new) (setting self.new))
+            (handler_at (refusals self.old) (setting self.old) (asked self.old)) (handler_at (refusals self.new) (setting self.new) (asked self.new))
             session.old session.new result }
     {
         Ok(())
@@ -166,7 +170,7 @@ pub trait Handler: Send {
     #[tactic(auto, using(sshc_client_table::specs::GrownLaws::grown_same))]
     fn channel_eof(&mut self, channel: ChannelId, session: &mut Session) -> Result<(), Self::Error>
         ensures { Handles keeps_defaults (Ok tt)
-            (handler_at (refusals self.old) (setting self.old)) (handler_at (refusals self.new) (setting self.new))
+            (handler_at (refusals self.old) (setting self.old) (asked self.old)) (handler_at (refusals self.new) (setting self.new) (asked self.new))
             session.old session.new result }
     {
         Ok(())
@@ -183,7 +187,7 @@ pub trait Handler: Send {
         session: &mut Session,
     ) -> Result<(), Self::Error>
         ensures { Handles keeps_defaults (Ok tt)
-            (handler_at (refusals self.old) (setting self.old)) (handler_at (refusals self.new) (setting self.new))
+            (handler_at (refusals self.old) (setting self.old) (asked self.old)) (handler_at (refusals self.new) (setting self.new) (asked self.new))
             session.old session.new result }
     {
         Ok(())
@@ -197,7 +201,7 @@ pub trait Handler: Send {
         session: &mut Session,
     ) -> Result<OpenAnswer, Self::Error>
         ensures { Handles keeps_defaults (Ok OpenAnswer.Accept)
-            (handler_at (refusals self.old) (setting self.old)) (handler_at (refusals self.new) (setting self.new))
+            (handler_at (refusals self.old) (setting self.old) (asked self.old)) (handler_at (refusals self.new) (setting self.new) (asked self.new))
             session.old session.new result }
     {
         Ok(OpenAnswer::Accept)
@@ -215,7 +219,7 @@ pub trait Handler: Send {
         session: &mut Session,
     ) -> Result<OpenAnswer, Self::Error>
         ensures { Handles keeps_defaults (Ok OpenAnswer.Accept)
-            (handler_at (refusals self.old) (setting self.old)) (handler_at (refusals self.new) (setting self.new))
+            (handler_at (refusals self.old) (setting self.old) (asked self.old)) (handler_at (refusals self.new) (setting self.new) (asked self.new))
             session.old session.new result }
     {
         Ok(OpenAnswer::Accept)
@@ -230,7 +234,7 @@ pub trait Handler: Send {
         session: &mut Session,
     ) -> Result<OpenAnswer, Self::Error>
         ensures { Handles keeps_defaults (Ok OpenAnswer.Accept)
-            (handler_at (refusals self.old) (setting self.old)) (handler_at (refusals self.new) (setting self.new))
+            (handler_at (refusals self.old) (setting self.old) (asked self.old)) (handler_at (refusals self.new) (setting self.new) (asked self.new))
             session.old session.new result }
     {
         Ok(OpenAnswer::Accept)
@@ -246,7 +250,7 @@ pub trait Handler: Send {
         session: &mut Session,
     ) -> Result<OpenAnswer, Self::Error>
         ensures { Handles keeps_defaults (Ok OpenAnswer.Accept)
-            (handler_at (refusals self.old) (setting self.old)) (handler_at (refusals self.new) (setting self.new))
+            (handler_at (refusals self.old) (setting self.old) (asked self.old)) (handler_at (refusals self.new) (setting self.new) (asked self.new))
             session.old session.new result }
     {
         Ok(OpenAnswer::Accept)
@@ -264,7 +268,7 @@ pub trait Handler: Send {
         session: &mut Session,
     ) -> Result<OpenAnswer, Self::Error>
         ensures { Handles keeps_defaults (Ok OpenAnswer.Accept)
-            (handler_at (refusals self.old) (setting self.old)) (handler_at (refusals self.new) (setting self.new))
+            (handler_at (refusals self.old) (setting self.old) (asked self.old)) (handler_at (refusals self.new) (setting self.new) (asked self.new))
             session.old session.new result }
     {
         Ok(OpenAnswer::Accept)
@@ -279,7 +283,7 @@ pub trait Handler: Send {
         session: &mut Session,
     ) -> Result<OpenAnswer, Self::Error>
         ensures { Handles keeps_defaults (Ok OpenAnswer.Accept)
-            (handler_at (refusals self.old) (setting self.old)) (handler_at (refusals self.new) (setting self.new))
+            (handler_at (refusals self.old) (setting self.old) (asked self.old)) (handler_at (refusals self.new) (setting self.new) (asked self.new))
             session.old session.new result }
     {
         Ok(OpenAnswer::Accept)
@@ -293,7 +297,7 @@ pub trait Handler: Send {
         session: &mut Session,
     ) -> Result<OpenAnswer, Self::Error>
         ensures { Handles keeps_defaults (Ok OpenAnswer.Accept)
-            (handler_at (refusals self.old) (setting self.old)) (handler_at (refusals self.new) (setting self.new))
+            (handler_at (refusals self.old) (setting self.old) (asked self.old)) (handler_at (refusals self.new) (setting self.new) (asked self.new))
             session.old session.new result }
     {
         Ok(OpenAnswer::Accept)
@@ -307,7 +311,7 @@ pub trait Handler: Send {
         session: &mut Session,
     ) -> Result<OpenAnswer, Self::Error>
         ensures { Handles keeps_defaults (Ok (OpenAnswer.Reject ChannelOpenFailure.AdministrativelyProhibited))
-            (handler_at (refusals self.old) (setting self.old)) (handler_at (refusals self.new) (setting self.new))
+            (handler_at (refusals self.old) (setting self.old) (asked self.old)) (handler_at (refusals self.new) (setting self.new) (asked self.new))
             session.old session.new result }
     {
         Ok(OpenAnswer::Reject(ChannelOpenFailure::AdministrativelyProhibited))
@@ -322,7 +326,7 @@ pub trait Handler: Send {
         session: &mut Session,
     ) -> Result<(), Self::Error>
         ensures { Handles keeps_defaults (Ok tt)
-            (handler_at (refusals self.old) (setting self.old)) (handler_at (refusals self.new) (setting self.new))
+            (handler_at (refusals self.old) (setting self.old) (asked self.old)) (handler_at (refusals self.new) (setting self.new) (asked self.new))
             session.old session.new result }
     {
         Ok(())
@@ -338,7 +342,7 @@ pub trait Handler: Send {
         session: &mut Session,
     ) -> Result<(), Self::Error>
         ensures { Handles keeps_defaults (Ok tt)
-            (handler_at (refusals self.old) (setting self.old)) (handler_at (refusals self.new) (setting self.new))
+            (handler_at (refusals self.old) (setting self.old) (asked self.old)) (handler_at (refusals self.new) (setting self.new) (asked self.new))
             session.old session.new result }
     {
         Ok(())
@@ -353,7 +357,7 @@ pub trait Handler: Send {
         session: &mut Session,
     ) -> Result<(), Self::Error>
         ensures { Handles keeps_defaults (Ok tt)
-            (handler_at (refusals self.old) (setting self.old)) (handler_at (refusals self.new) (setting self.new))
+            (handler_at (refusals self.old) (setting self.old) (asked self.old)) (handler_at (refusals self.new) (setting self.new) (asked self.new))
             session.old session.new result }
     {
         Ok(())
@@ -368,7 +372,7 @@ pub trait Handler: Send {
         session: &mut Session,
     ) -> Result<(), Self::Error>
         ensures { Handles keeps_defaults (Ok tt)
-            (handler_at (refusals self.old) (setting self.old)) (handler_at (refusals self.new) (setting self.new))
+            (handler_at (refusals self.old) (setting self.old) (asked self.old)) (handler_at (refusals self.new) (setting self.new) (asked self.new))
             session.old session.new result }
     {
         Ok(())
@@ -386,7 +390,7 @@ pub trait Handler: Send {
         session: &mut Session,
     ) -> Result<(), Self::Error>
         ensures { Handles keeps_defaults (Ok tt)
-            (handler_at (refusals self.old) (setting self.old)) (handler_at (refusals self.new) (setting self.new))
+            (handler_at (refusals self.old) (setting self.old) (asked self.old)) (handler_at (refusals self.new) (setting self.new) (asked self.new))
             session.old session.new result }
     {
         Ok(())
@@ -402,7 +406,7 @@ pub trait Handler: Send {
         session: &mut Session,
     ) -> Result<(), Self::Error>
         ensures { Handles keeps_defaults (Ok tt)
-            (handler_at (refusals self.old) (setting self.old)) (handler_at (refusals self.new) (setting self.new))
+            (handler_at (refusals self.old) (setting self.old) (asked self.old)) (handler_at (refusals self.new) (setting self.new) (asked self.new))
             session.old session.new result }
     {
         Ok(())
@@ -416,7 +420,7 @@ pub trait Handler: Send {
         session: &mut Session,
     ) -> Result<(), Self::Error>
         ensures { Handles keeps_defaults (Ok tt)
-            (handler_at (refusals self.old) (setting self.old)) (handler_at (refusals self.new) (setting self.new))
+            (handler_at (refusals self.old) (setting self.old) (asked self.old)) (handler_at (refusals self.new) (setting self.new) (asked self.new))
             session.old session.new result }
     {
         Ok(())

@@ -4,12 +4,14 @@ ghost use Rattle.std.specs.Prelude.{◌≡◌, [], IfOk};
 ghost use Rattle.sshc_auth.specs.OpeningState.{is_awaiting};
 ghost use Rattle.sshc_client_state.specs.Start.{new_session};
 ghost use Rattle.sshc_client.specs.Asking.{wants_user_events};
+ghost use Rattle.sshc_client.specs.Configured.{session_settings_of, settings_of};
 
+use crate::config::Config;
 use circular_buffer::HeapCircularBuffer;
 use sshc_auth::Settings;
 use sshc_client_state::Connection;
 use sshc_client_table::{Life, ReplyEntry, SessionSettings};
-use sshc_wire::{NoMemory, Outbox};
+use sshc_wire::{NoMemory, Octets, Outbox};
 use std::alloc::Global;
 use std::marker::Model;
 
@@ -46,8 +48,19 @@ impl Model for Session {
 }
 
 impl Session {
-    /// The session at the start of its connection.
-    pub fn new(
+    /// The session at the start of its connection, with the server's identification string.
+    pub fn new(config: Config, remote_sshid: Octets) -> Result<Session, NoMemory>
+        ensures { IfOk result (λ s. s ≡ new_session (session_settings_of config remote_sshid) (settings_of config)) }
+    {
+        let alloc = remote_sshid.allocator();
+        let settings = config.session_settings(remote_sshid);
+        let opening = config.opening_settings();
+        drop(config);
+        Session::with_settings(alloc, settings, opening)
+    }
+
+    /// The same, by the settings that the session and its opening keep.
+    pub fn with_settings(
         alloc: Global,
         settings: SessionSettings,
         opening: Settings,
@@ -58,6 +71,13 @@ impl Session {
             connection: Connection::new(alloc, settings, opening)?,
             alloc,
         })
+    }
+
+    /// The server's identification string (RFC 4253, section 4.2), as the session was made with it.
+    pub fn remote_sshid(&self) -> &[u8]
+        ensures { result.now ≡ self.now.settings.remote_sshid }
+    {
+        self.connection.settings().remote_sshid.as_slice()
     }
 
     /// The records since they were last taken or cleared, in order.

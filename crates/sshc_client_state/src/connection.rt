@@ -125,10 +125,10 @@ impl Connection {
     }
 
     /// What it was made with.
-    pub fn settings(&self) -> SessionSettings
-        ensures { result ≡ self.now.settings }
+    pub fn settings(&self) -> &SessionSettings
+        ensures { result.now ≡ self.now.settings }
     {
-        self.settings
+        &self.settings
     }
 
     /// Its opening, which stores whose exchange runs also when the session is open.

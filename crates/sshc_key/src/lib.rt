@@ -41,4 +41,4 @@ pub use signature::{Signature, SkFields};
 pub use signer::{Asker, LocalSigner, SignRefused, Signer};
 pub use sshc_wire::HashAlg;
 pub use verifier::{Verifier, Verify};
-pub use writing::{put_certificate, put_key, write_key_pair};
+pub use writing::{append_certificate, append_key, put_certificate, put_key, write_key_pair};

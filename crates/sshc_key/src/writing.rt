@@ -8,5 +8,5 @@ mod signature;
 mod sizes;
 
 pub(crate) use certificate::key_bytes;
-pub use certificate::{put_certificate, put_key};
+pub use certificate::{append_certificate, append_key, put_certificate, put_key};
 pub use pair::write_key_pair;

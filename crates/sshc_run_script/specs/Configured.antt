@@ -1,5 +1,5 @@
 -- The settings that a run keeps of its configuration.
-use Rattle.std.specs.Prelude.{Bool}
+use Rattle.std.specs.Prelude.{Bool, []}
 use Rattle.sshc_auth.specs.declared.opening.Settings.{Settings}
 use Rattle.sshc_client_table.specs.declared.settings.SessionSettings.{SessionSettings}
 use Rattle.sshc_client.specs.declared.config.Config.{Config}
@@ -13,4 +13,4 @@ pub record RunSettings : Type 0 where
   pub agent_asks : Bool
 
 abbrev pub run_settings_of : Config → RunSettings
-run_settings_of c = record { opening = settings_of c; session = session_settings_of c; agent_asks = c.agent_asks }
+run_settings_of c = record { opening = settings_of c; session = session_settings_of c []; agent_asks = c.agent_asks }

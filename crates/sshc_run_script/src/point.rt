@@ -8,7 +8,7 @@ ghost use Rattle.sshc_run_script.specs.Configured.{run_settings_of};
 use crate::record_lines::LineBuffer;
 use sshc_client::{Config, Session};
 use sshc_run_agent::ServedAgent;
-use sshc_wire::{NoMemory, Outbox};
+use sshc_wire::{NoMemory, Octets, Outbox};
 use std::alloc::Global;
 
 /// Memory that is kept from one event to the next: of an agent's records, and where lines are made.
@@ -38,7 +38,11 @@ impl Point {
         ensures place { IfOk result (λ p. p.place ≡ 0) }
         ensures last { IfOk result (λ p. p.last ≡ 0) }
     {
-        let session = Session::new(alloc, config.session_settings(), config.opening_settings())?;
+        let session = Session::with_settings(
+            alloc,
+            config.session_settings(Octets::new(alloc)),
+            config.opening_settings(),
+        )?;
         Ok(Point {
             session,
             agents: ServedAgent::new(alloc, config.agent_asks),

@@ -22,8 +22,8 @@ impl Session {
         handler: &mut H,
     ) -> Result<(), Stop<H::Error>>
         ensures { Calls H.keeps_defaults (Ok tt)
-            (handler_at (H.refusals handler.old) (H.setting handler.old))
-            (handler_at (H.refusals handler.new) (H.setting handler.new))
+            (handler_at (H.refusals handler.old) (H.setting handler.old) (H.asked handler.old))
+            (handler_at (H.refusals handler.new) (H.setting handler.new) (H.asked handler.new))
             self.old self.new result }
     {
         match happened {
@@ -94,8 +94,8 @@ impl Session {
         handler: &mut H,
     ) -> Result<Flow, Stop<H::Error>>
         ensures row { FollowsOne H.keeps_defaults
-            (handler_at (H.refusals handler.old) (H.setting handler.old))
-            (handler_at (H.refusals handler.new) (H.setting handler.new))
+            (handler_at (H.refusals handler.old) (H.setting handler.old) (H.asked handler.old))
+            (handler_at (H.refusals handler.new) (H.setting handler.new) (H.asked handler.new))
             (reports [] id.0 happened []) self.old self.new result }
     {
         match self.call(id, &happened, handler) {
@@ -113,8 +113,8 @@ impl Session {
         handler: &mut H,
     ) -> Result<Flow, Stop<H::Error>>
         ensures row { FollowsOne H.keeps_defaults
-            (handler_at (H.refusals handler.old) (H.setting handler.old))
-            (handler_at (H.refusals handler.new) (H.setting handler.new))
+            (handler_at (H.refusals handler.old) (H.setting handler.old) (H.asked handler.old))
+            (handler_at (H.refusals handler.new) (H.setting handler.new) (H.asked handler.new))
             (reports [] id.0 happened (Grants id.0 0 ∷ [])) self.old self.new result }
     {
         match self.call(id, &happened, handler) {

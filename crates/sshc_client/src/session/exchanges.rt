@@ -34,8 +34,8 @@ impl Session {
         handler: &mut H,
     ) -> Result<Flow, Stop<H::Error>>
         ensures { FollowsOne H.keeps_defaults
-            (handler_at (H.refusals handler.old) (H.setting handler.old))
-            (handler_at (H.refusals handler.new) (H.setting handler.new))
+            (handler_at (H.refusals handler.old) (H.setting handler.old) (H.asked handler.old))
+            (handler_at (H.refusals handler.new) (H.setting handler.new) (H.asked handler.new))
             (exchange_done_row self.old.opening.flag (has_kept_key self.old.opening exchange.now) exchange.now)
             self.old self.new result }
     {
@@ -55,8 +55,8 @@ impl Session {
         handler: &mut H,
     ) -> Result<Flow, Stop<H::Error>>
         ensures { FollowsOne H.keeps_defaults
-            (handler_at (H.refusals handler.old) (H.setting handler.old))
-            (handler_at (H.refusals handler.new) (H.setting handler.new))
+            (handler_at (H.refusals handler.old) (H.setting handler.old) (H.asked handler.old))
+            (handler_at (H.refusals handler.new) (H.setting handler.new) (H.asked handler.new))
             (later_exchange_row (has_kept_key self.old.opening exchange.now) exchange.now) self.old self.new result }
     {
         let same = self.connection.opening().has_kept_key(exchange);
@@ -73,8 +73,8 @@ impl Session {
         handler: &mut H,
     ) -> Result<Flow, Stop<H::Error>>
         ensures { FollowsOne H.keeps_defaults
-            (handler_at (H.refusals handler.old) (H.setting handler.old))
-            (handler_at (H.refusals handler.new) (H.setting handler.new))
+            (handler_at (H.refusals handler.old) (H.setting handler.old) (H.asked handler.old))
+            (handler_at (H.refusals handler.new) (H.setting handler.new) (H.asked handler.new))
             (later_exchange_row true exchange.now) self.old self.new result }
     {
         let kex = exchange.names.kex().copy()?;
@@ -91,8 +91,8 @@ impl Session {
     ) -> Result<Flow, Stop<H::Error>>
         requires { kex ≡ exchange.now.names.kex }
         ensures { FollowsOne H.keeps_defaults
-            (handler_at (H.refusals handler.old) (H.setting handler.old))
-            (handler_at (H.refusals handler.new) (H.setting handler.new))
+            (handler_at (H.refusals handler.old) (H.setting handler.old) (H.asked handler.old))
+            (handler_at (H.refusals handler.new) (H.setting handler.new) (H.asked handler.new))
             (later_exchange_row true exchange.now) self.old self.new result }
     {
         match self.call_kex_done(exchange, handler) {
@@ -108,8 +108,8 @@ impl Session {
         handler: &mut H,
     ) -> Result<(), Stop<H::Error>>
         ensures { Calls H.keeps_defaults (Ok tt)
-            (handler_at (H.refusals handler.old) (H.setting handler.old))
-            (handler_at (H.refusals handler.new) (H.setting handler.new))
+            (handler_at (H.refusals handler.old) (H.setting handler.old) (H.asked handler.old))
+            (handler_at (H.refusals handler.new) (H.setting handler.new) (H.asked handler.new))
             self.old self.new result }
     {
         lent(handler.kex_done(secret_of(exchange), &exchange.names, self))

@@ -40,8 +40,8 @@ impl Session {
         handler: &mut H,
     ) -> Result<bool, H::Error>
         ensures { AsksHandler H.keeps_defaults (H.judges handler.old) (Asks.HostKey key.now)
-            (handler_at (H.refusals handler.old) (H.setting handler.old))
-            (handler_at (H.refusals handler.new) (H.setting handler.new))
+            (handler_at (H.refusals handler.old) (H.setting handler.old) (H.asked handler.old))
+            (handler_at (H.refusals handler.new) (H.setting handler.new) (H.asked handler.new))
             self.old self.new result }
     {
         if !handler.check_server_key(key)? {
@@ -61,8 +61,8 @@ impl Session {
     ) -> Result<bool, H::Error>
         requires { HasExchange asks.now (exchange_in event.now) }
         ensures { AsksHandler H.keeps_defaults (H.judges handler.old) asks.now
-            (handler_at (H.refusals handler.old) (H.setting handler.old))
-            (handler_at (H.refusals handler.new) (H.setting handler.new))
+            (handler_at (H.refusals handler.old) (H.setting handler.old) (H.asked handler.old))
+            (handler_at (H.refusals handler.new) (H.setting handler.new) (H.asked handler.new))
             self.old self.new result }
     {
         match asks {
@@ -94,8 +94,8 @@ impl Session {
         signer: &mut S,
     ) -> Step<H::Error>
         ensures { StepsBefore (verdict_gate H.told_as accepts) event.now
-            (lent_session self.old (S.calls signer.old) (S.refusals signer.old) 0 [])
-            (lent_session self.new (S.calls signer.new) (S.refusals signer.new) 0 [])
+            (lent_session self.old (S.calls signer.old) (S.refusals signer.old) 0 [] 0)
+            (lent_session self.new (S.calls signer.new) (S.refusals signer.new) 0 [] 0)
             result }
     {
         let mut verdict: Verdict<H> = Verdict {
@@ -144,9 +144,9 @@ impl Session {
         requires { is_open self.old.opening.phase ≡ false }
         ensures { Before H.keeps_defaults (handler_gate H.told_as (H.judges handler.old)) event.now
             (lent_session self.old (S.calls signer.old) (S.refusals signer.old) (H.refusals handler.old)
-            (H.setting handler.old))
+            (H.setting handler.old) (H.asked handler.old))
             (lent_session self.new (S.calls signer.new) (S.refusals signer.new) (H.refusals handler.new)
-            (H.setting handler.new))
+            (H.setting handler.new) (H.asked handler.new))
             result }
     {
         if self.connection.opening().is_closed() {
@@ -178,9 +178,9 @@ impl Session {
         requires asked { asks.now ≡ asked_of self.old.opening event.now }
         ensures { Before H.keeps_defaults (handler_gate H.told_as (H.judges handler.old)) event.now
             (lent_session self.old (S.calls signer.old) (S.refusals signer.old) (H.refusals handler.old)
-            (H.setting handler.old))
+            (H.setting handler.old) (H.asked handler.old))
             (lent_session self.new (S.calls signer.new) (S.refusals signer.new) (H.refusals handler.new)
-            (H.setting handler.new))
+            (H.setting handler.new) (H.asked handler.new))
             result }
     {
         match self.ask_handler(asks, event, handler) {

@@ -32,8 +32,8 @@ impl Session {
     ) -> Result<Flow, Stop<H::Error>>
         requires { is_live self.old ≡ true }
         ensures row { FollowsOne H.keeps_defaults
-            (handler_at (H.refusals handler.old) (H.setting handler.old))
-            (handler_at (H.refusals handler.new) (H.setting handler.new))
+            (handler_at (H.refusals handler.old) (H.setting handler.old) (H.asked handler.old))
+            (handler_at (H.refusals handler.new) (H.setting handler.new) (H.asked handler.new))
             (open_confirmation_row self.old body.now) self.old self.new result }
     {
         let c = read_confirmation(body)?;
@@ -49,8 +49,8 @@ impl Session {
     ) -> Result<Flow, Stop<H::Error>>
         requires { is_live self.old ≡ true }
         ensures row { FollowsOne H.keeps_defaults
-            (handler_at (H.refusals handler.old) (H.setting handler.old))
-            (handler_at (H.refusals handler.new) (H.setting handler.new))
+            (handler_at (H.refusals handler.old) (H.setting handler.old) (H.asked handler.old))
+            (handler_at (H.refusals handler.new) (H.setting handler.new) (H.asked handler.new))
             (confirmed_row (awaited c.recipient self.old.table) c) self.old self.new result }
     {
         if !self.connection.confirm(c)? {
@@ -75,8 +75,8 @@ impl Session {
     ) -> Result<Flow, Stop<H::Error>>
         requires { is_live self.old ≡ true }
         ensures row { FollowsOne H.keeps_defaults
-            (handler_at (H.refusals handler.old) (H.setting handler.old))
-            (handler_at (H.refusals handler.new) (H.setting handler.new))
+            (handler_at (H.refusals handler.old) (H.setting handler.old) (H.asked handler.old))
+            (handler_at (H.refusals handler.new) (H.setting handler.new) (H.asked handler.new))
             (open_failure_row self.old body.now) self.old self.new result }
     {
         let refusal = read_open_failure(body)?;
@@ -91,8 +91,8 @@ impl Session {
     ) -> Result<Flow, Stop<H::Error>>
         requires { is_live self.old ≡ true }
         ensures row { FollowsOne H.keeps_defaults
-            (handler_at (H.refusals handler.old) (H.setting handler.old))
-            (handler_at (H.refusals handler.new) (H.setting handler.new))
+            (handler_at (H.refusals handler.old) (H.setting handler.old) (H.asked handler.old))
+            (handler_at (H.refusals handler.new) (H.setting handler.new) (H.asked handler.new))
             (failed_row (awaited refusal.now.id.0 self.old.table) (lent_refusal refusal.now)) self.old self.new result }
     {
         let description = Text::from_str(self.alloc, refusal.description)?;
@@ -120,8 +120,8 @@ impl Session {
     ) -> Result<Flow, Stop<H::Error>>
         requires { is_live self.old ≡ true }
         ensures row { FollowsWith H.keeps_defaults
-            (handler_at (H.refusals handler.old) (H.setting handler.old))
-            (handler_at (H.refusals handler.new) (H.setting handler.new))
+            (handler_at (H.refusals handler.old) (H.setting handler.old) (H.asked handler.old))
+            (handler_at (H.refusals handler.new) (H.setting handler.new) (H.asked handler.new))
             (λ o. channel_open_row o self.old body.now) self.old self.new result }
     {
         let head = read_channel_open(body)?;
@@ -143,8 +143,8 @@ impl Session {
         requires live { is_live self.old ≡ true }
         requires known { is_unknown opened ≡ false }
         ensures row { FollowsWith H.keeps_defaults
-            (handler_at (H.refusals handler.old) (H.setting handler.old))
-            (handler_at (H.refusals handler.new) (H.setting handler.new))
+            (handler_at (H.refusals handler.old) (H.setting handler.old) (H.asked handler.old))
+            (handler_at (H.refusals handler.new) (H.setting handler.new) (H.asked handler.new))
             (λ o. numbered_open_row o (next_number self.old.table) sender opened) self.old self.new result }
     {
         let id = self.connection.reserve(sender)?;
@@ -161,8 +161,8 @@ impl Session {
     ) -> Result<Flow, Stop<H::Error>>
         requires { is_live self.old ≡ true }
         ensures row { FollowsWith H.keeps_defaults
-            (handler_at (H.refusals handler.old) (H.setting handler.old))
-            (handler_at (H.refusals handler.new) (H.setting handler.new))
+            (handler_at (H.refusals handler.old) (H.setting handler.old) (H.asked handler.old))
+            (handler_at (H.refusals handler.new) (H.setting handler.new) (H.asked handler.new))
             (λ o. numbered_open_row o (next_number self.old.table) sender ServerOpen.Unknown) self.old self.new result }
     {
         let id = self.connection.reserve(sender)?;
@@ -184,8 +184,8 @@ impl Session {
     ) -> Result<Flow, Stop<H::Error>>
         requires { Accepts H.keeps_defaults (default_answer opened) }
         ensures row { FollowsOne H.keeps_defaults
-            (handler_at (H.refusals handler.old) (H.setting handler.old))
-            (handler_at (H.refusals handler.new) (H.setting handler.new))
+            (handler_at (H.refusals handler.old) (H.setting handler.old) (H.asked handler.old))
+            (handler_at (H.refusals handler.new) (H.setting handler.new) (H.asked handler.new))
             (served id.0 opened) self.old self.new result }
     {
         match self.call_for_open(id, &opened, handler) {
@@ -224,8 +224,8 @@ impl Session {
         handler: &mut H,
     ) -> Result<OpenAnswer, Stop<H::Error>>
         ensures { Calls H.keeps_defaults (Ok (default_answer opened.now))
-            (handler_at (H.refusals handler.old) (H.setting handler.old))
-            (handler_at (H.refusals handler.new) (H.setting handler.new))
+            (handler_at (H.refusals handler.old) (H.setting handler.old) (H.asked handler.old))
+            (handler_at (H.refusals handler.new) (H.setting handler.new) (H.asked handler.new))
             self.old self.new result }
     {
         match opened {

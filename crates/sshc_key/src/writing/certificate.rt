@@ -1,6 +1,6 @@
 //! Writes keys, and certificates with the keys in them (PROTOCOL.certkeys).
 
-ghost use Rattle.std.specs.Prelude.{◌≡◌, ◌++◌, IfOk, OnOk};
+ghost use Rattle.std.specs.Prelude.{◌≡◌, ◌++◌, IfOk, OnErr, OnOk};
 ghost use Rattle.std.specs.List.{flat_map};
 ghost use Rattle.sshc_wire.specs.Wire.{string_text};
 ghost use Rattle.sshc_key.specs.KeyGrammar.{type_number, option_text, body_text, key_text, signature_text};
@@ -120,7 +120,7 @@ fn put_key_string(out: &mut Vec<u8>, key: &KeyData) -> Result<(), NoMemory>
     ensures { OnOk result (out.new.items ≡ out.old.items ++ string_text (key_text (view key.now))) }
 {
     let at = begin_string(out)?;
-    put_key(out, key)?;
+    append_key(out, key)?;
     end_string(out, at)
 }
 
@@ -134,17 +134,17 @@ fn put_body(out: &mut Vec<u8>, key: &KeyData) -> Result<(), NoMemory>
     }
 }
 
-/// Writes the key's blob.
+/// Writes the key's blob. After an error it may be written in part.
 #[cycle(put_keys)]
-pub fn put_key(out: &mut Vec<u8>, key: &KeyData) -> Result<(), NoMemory>
+pub fn append_key(out: &mut Vec<u8>, key: &KeyData) -> Result<(), NoMemory>
     ensures { OnOk result (out.new.items ≡ out.old.items ++ key_text (view key.now)) }
 {
     key.name().put(out)?;
     put_body(out, key)
 }
 
-/// Writes the certificate's blob.
-pub fn put_certificate(out: &mut Vec<u8>, certificate: &Certificate) -> Result<(), NoMemory>
+/// Writes the certificate's blob. After an error it may be written in part.
+pub fn append_certificate(out: &mut Vec<u8>, certificate: &Certificate) -> Result<(), NoMemory>
     ensures { OnOk result (out.new.items ≡ out.old.items ++ key_text certificate.now) }
 {
     certificate.name().put(out)?;
@@ -156,8 +156,29 @@ pub(crate) fn key_bytes(alloc: Global, key: &KeyData) -> Result<Vec<u8>, NoMemor
     ensures { IfOk result (λ v. v.items ≡ key_text (view key.now)) }
 {
     let mut out = Vec::with_capacity(alloc, key.size())?;
-    put_key(&mut out, key)?;
+    append_key(&mut out, key)?;
     Ok(out)
+}
+
+/// Writes the key's blob, or nothing.
+pub fn put_key(out: &mut Vec<u8>, key: &KeyData) -> Result<(), NoMemory>
+    ensures written { OnOk result (out.new.items ≡ out.old.items ++ key_text (view key.now)) }
+    ensures refused { OnErr result (out.new.items ≡ out.old.items) }
+{
+    let blob = key_bytes(*out.allocator(), key)?;
+    out.extend_from_slice(&blob)?;
+    Ok(())
+}
+
+/// Writes the certificate's blob, or nothing.
+pub fn put_certificate(out: &mut Vec<u8>, certificate: &Certificate) -> Result<(), NoMemory>
+    ensures written { OnOk result (out.new.items ≡ out.old.items ++ key_text certificate.now) }
+    ensures refused { OnErr result (out.new.items ≡ out.old.items) }
+{
+    let mut blob = Vec::with_capacity(*out.allocator(), certificate.size())?;
+    append_certificate(&mut blob, certificate)?;
+    out.extend_from_slice(&blob)?;
+    Ok(())
 }
 
 impl Certificate {
@@ -166,7 +187,7 @@ impl Certificate {
         ensures { IfOk result (λ v. v.items ≡ key_text self.now) }
     {
         let mut out = Vec::with_capacity(self.key_id.allocator(), self.size())?;
-        put_certificate(&mut out, self)?;
+        append_certificate(&mut out, self)?;
         Ok(out)
     }
 }

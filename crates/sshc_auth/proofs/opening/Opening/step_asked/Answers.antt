@@ -12,8 +12,8 @@ apply-requires g c =
     let gate = gate_answers g.G.Gate.told_as (g.G.Gate.judges c.args.gate.now) g.G.Gate.tells g.G.Gate.tells_banner in
     rw c.requires.asked (fits_asked gate (exchange_in c.args.event.now) c.args.out.now c.ask_gate.new.out c.in-Ok.told c.args.asks.now c.in-Ok.ensures.answered)
 
-pub returns-in-Ok : goal.returns-in-Ok
-returns-in-Ok g c =
+pub returns-in-Ok-clause-stepped : goal.returns-in-Ok-clause-stepped
+returns-in-Ok-clause-stepped g c =
     let gate = gate_answers g.G.Gate.told_as (g.G.Gate.judges c.args.gate.now) g.G.Gate.tells g.G.Gate.tells_banner in
     let was = with_gate (lent c.args.self.now c.args.out.now (g.S.LocalSigner.calls c.args.signer.now) (g.S.LocalSigner.refusals c.args.signer.now)) (g.G.Gate.refusals c.args.gate.now) (g.G.Gate.setting c.args.gate.now) in
     let is = with_gate (lent c.apply.new.self c.apply.new.out (g.S.LocalSigner.calls c.apply.new.signer) (g.S.LocalSigner.refusals c.apply.new.signer)) (g.G.Gate.refusals c.ask_gate.new.gate) (g.G.Gate.setting c.ask_gate.new.gate) in

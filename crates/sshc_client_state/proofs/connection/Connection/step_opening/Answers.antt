@@ -4,8 +4,8 @@ use Rattle.sshc_client_state.proofs.connection.Connection.step_opening.Goals as 
 
 pub returns-then-not-goes_on : goal.returns-then-not-goes_on
 returns-then-not-goes_on g c =
-    steps_lent _ _ _ _ _ _ _ _ _ _ _ _ _ _ _ _ _ c.step-step.ensures (search (rules)) (search (rules)) (search (rules)) (search (rules))
+    steps_lent _ _ _ _ _ _ _ _ _ _ _ _ _ _ _ _ _ c.step-step.ensures.stepped (search (rules)) (search (rules)) (search (rules)) (search (rules))
 
 pub returns-else-not-goes_on : goal.returns-else-not-goes_on
 returns-else-not-goes_on g c =
-    steps_lent _ _ _ _ _ _ _ _ _ _ _ _ _ _ _ _ _ c.step-step.ensures (search (rules)) (search (rules)) (search (rules)) (search (rules))
+    steps_lent _ _ _ _ _ _ _ _ _ _ _ _ _ _ _ _ _ c.step-step.ensures.stepped (search (rules)) (search (rules)) (search (rules)) (search (rules))

@@ -1,0 +1,183 @@
+-- Where the gate is notified of an exchange or a banner and the session continues, the row's first record says the same:
+-- a law about the table, which joins what a row asks of the gate with what it outputs.
+use Rattle.std.proofs.Common.{◌≡◌, ℕ, ◌+◌, Bool, true, false, List, [], ◌∷◌, length, Option, Some, None, Result, Ok, Err, refl, ap, sym, ◌∙◌, subst, arith}
+use Rattle.std.specs.Prelude.{◌==◌, if◌then◌else◌}
+use Rattle.std.proofs.lemmas.Bool.Decides.{nat_tests}
+use Rattle.sshc_wire.specs.Reads.{text_at}
+use Rattle.sshc_wire.specs.declared.error.WireError.{WireError}
+use Rattle.sshc_wire.specs.declared.msg.TheConstants.{USERAUTH_BANNER}
+use Rattle.sshc_wire.specs.declared.record.Record.{Record}
+use Rattle.sshc_wire.specs.declared.record.Record.TheVariants as records
+use Rattle.sshc_key.specs.Asking.{Asking, Always, asks, done}
+use Rattle.sshc_key.specs.declared.identity.PublicKeyOrCertificate.{PublicKeyOrCertificate}
+use Rattle.sshc_auth_event.specs.HostKey.{host_key}
+use Rattle.sshc_auth_event.specs.declared.event.Event.{Event}
+use Rattle.sshc_auth_event.specs.declared.event.Event.TheVariants as events
+use Rattle.sshc_transport.specs.declared.exchange.ExchangeFlag.{ExchangeFlag}
+use Rattle.sshc_transport.specs.declared.exchange.ExchangeFlag.TheVariants as flags
+use Rattle.sshc_transport.specs.declared.exchange.ExchangeResult.{ExchangeResult}
+use Rattle.sshc_auth.specs.declared.error.Error.TheVariants.{OutOfTurn, Pending, RekeyKey}
+use Rattle.sshc_auth.specs.declared.opening.Class.{Class}
+use Rattle.sshc_auth.specs.declared.opening.Class.TheVariants as classes
+use Rattle.sshc_auth.specs.declared.opening.Phase.{Phase}
+use Rattle.sshc_auth.specs.declared.opening.Phase.TheVariants as phases
+use Rattle.sshc_auth.specs.declared.step.Asks.{Asks}
+use Rattle.sshc_auth.specs.declared.step.Asks.TheVariants as asking
+use Rattle.sshc_auth.specs.declared.step.Told.{Told}
+use Rattle.sshc_auth.specs.declared.step.Told.TheVariants as telling
+use Rattle.sshc_auth.specs.OpeningState.{OpeningState, is_awaiting}
+use Rattle.sshc_auth.specs.OpeningTable.{open_row, turn_row, is_pk_ok, plain_row, payload_row, numbered_row, held_packet_row, phase_packet_row, auth_packet_row, auth_row, is_exchanging, packet_row_in, asked_of, event_asks, exchange_asks, key_asked, packet_asks, number_asks, is_held_back, banner_asks, banner_at_end}
+use Rattle.sshc_auth.specs.OpeningTable.Auth.{userauth_banner_row}
+use Rattle.sshc_auth.specs.OpeningTable.Exchange.{accepted_row, exchange_done_row, exchange_row_in, exchanged, has_kept_key}
+use Rattle.sshc_auth.specs.OpeningTable.Order.{is_out_of_turn, packet_in}
+use Rattle.sshc_auth.specs.OpeningTable.Packets.{counted_with, is_too_much}
+use Rattle.sshc_auth.specs.Row.{Row, Next, stays, opens, ends, refuses, refused, goes, ends_at, with_part, broken_row}
+use Rattle.sshc_auth.specs.Stepping.{exchange_in}
+use Rattle.sshc_auth.specs.SessionWords.{reported}
+
+-- the record is the first
+abbrev pub Reports : Option Record → List Record → Type 0
+Reports None said = Unit {0}
+Reports (Some one) said = (more : List Record) × (said ≡ one ∷ more)
+
+-- where the session continues
+abbrev pub ReportsNext : Option Record → List Record → Next → Type 0
+ReportsNext one said (stays t) = Reports one said
+ReportsNext one said (opens t) = Reports one said
+ReportsNext one said next = Unit {0}
+
+abbrev pub ReportsRow : Option Record → Row → Type 0
+ReportsRow one row = ReportsNext one row.records row.next
+
+-- ---- nothing to be reported
+
+none_next : (said : List Record) (next : Next) → ReportsNext None said next
+none_next said (stays t) = tt
+none_next said (opens t) = tt
+none_next said (ends e) = tt
+none_next said (refuses e) = tt
+
+none_always : (row : Asking Row) → Always (ReportsRow None) row
+none_always (done row) = none_next row.records row.next
+none_always (asks asked on) = λ answer. none_always (on answer)
+
+-- ---- exchanges
+
+accepted_reports : (s : OpeningState) (x : ExchangeResult) (anonymous : Bool) → ReportsRow (Some (records.KexDone x.names.kex)) (accepted_row anonymous s x)
+accepted_reports s x false = ([], refl)
+accepted_reports s x true = (records.Opened ∷ [], refl)
+
+key_reports : (s : OpeningState) (x : ExchangeResult) (told : Told) (key : Option PublicKeyOrCertificate) → ReportsRow (reported (key_asked key) (Some x)) (exchange_row_in phases.Exchanging s x told)
+key_reports s x telling.Went None = none_next (accepted_row s.settings.anonymous s x).records (accepted_row s.settings.anonymous s x).next
+key_reports s x telling.Went (Some key) = accepted_reports s x s.settings.anonymous
+key_reports s x telling.No key = tt
+key_reports s x telling.NotAsked key = tt
+
+later_reports : (s : OpeningState) (x : ExchangeResult) (same : Bool) → ReportsRow (reported (if same then asking.Exchange else asking.Nothing) (Some x)) (if same then goes (records.KexDone x.names.kex ∷ []) (exchanged s) else refused RekeyKey)
+later_reports s x true = ([], refl)
+later_reports s x false = tt
+
+exchange_reports : (s : OpeningState) (x : ExchangeResult) (told : Told) (phase : Phase) → ReportsRow (reported (exchange_asks phase s x) (Some x)) (exchange_row_in phase s x told)
+exchange_reports s x told phases.Exchanging = key_reports s x told (host_key x.key)
+exchange_reports s x told phase = later_reports s x (has_kept_key s x)
+
+-- ---- banners
+
+end_reports : (s : OpeningState) (banner left : List ℕ) → ReportsRow (reported (banner_at_end banner left) None) (ends_at left (goes (records.AuthBanner banner ∷ []) s))
+end_reports s banner [] = ([], refl)
+end_reports s banner (b ∷ left) = tt
+
+language_reports : (s : OpeningState) (banner : List ℕ) (read : Result (List ℕ × List ℕ) WireError) →
+    ReportsRow (reported (with_part asking.Nothing read (λ language left. banner_at_end banner left)) None) (with_part broken_row read (λ language left. ends_at left (goes (records.AuthBanner banner ∷ []) s)))
+language_reports s banner (Ok x) = end_reports s banner x.1
+language_reports s banner (Err e) = tt
+
+text_reports : (s : OpeningState) (read : Result (List ℕ × List ℕ) WireError) →
+    ReportsRow (reported (with_part asking.Nothing read (λ banner rest. with_part asking.Nothing (text_at rest) (λ language left. banner_at_end banner left))) None)
+    (with_part broken_row read (λ banner rest. with_part broken_row (text_at rest) (λ language left. ends_at left (goes (records.AuthBanner banner ∷ []) s))))
+text_reports s (Ok x) = language_reports s x.0 (text_at x.1)
+text_reports s (Err e) = tt
+
+banner_reports : (s : OpeningState) (body : List ℕ) → ReportsRow (reported (banner_asks body) None) (userauth_banner_row s body)
+unfolding userauth_banner_row
+banner_reports s body = text_reports s (text_at body)
+
+is_no_pk_ok : (class : Class) → is_pk_ok class USERAUTH_BANNER ≡ false
+is_no_pk_ok classes.Key = refl
+is_no_pk_ok class = refl
+
+auth_reports : (s : OpeningState) (body : List ℕ) → Always (ReportsRow (reported (banner_asks body) None)) (auth_packet_row s USERAUTH_BANNER body)
+unfolding auth_packet_row auth_row
+auth_reports s body = rw (is_no_pk_ok s.class) (banner_reports s body)
+
+phase_reports : (s : OpeningState) (body : List ℕ) → s.phase ≡ phases.Auth → Always (ReportsRow (reported (banner_asks body) None)) (phase_packet_row s USERAUTH_BANNER body)
+phase_reports s body is = subst (λ (phase : Phase). Always (ReportsRow (reported (banner_asks body) None)) (packet_row_in phase s USERAUTH_BANNER body)) (sym is) (auth_reports s body)
+
+much_reports : (s t : OpeningState) (body : List ℕ) (much : Bool) → t.phase ≡ phases.Auth →
+    Always (ReportsRow (reported (if much then asking.Nothing else banner_asks body) None)) (if much then done (refused Pending) else phase_packet_row t USERAUTH_BANNER body)
+much_reports s t body true is = tt
+much_reports s t body false is = phase_reports t body is
+
+held_reports : (s : OpeningState) (flag : ExchangeFlag) (len : ℕ) (body : List ℕ) → s.phase ≡ phases.Auth →
+    Always (ReportsRow (reported (if is_held_back flag s len then asking.Nothing else banner_asks body) None)) (held_packet_row flag s len USERAUTH_BANNER body)
+unfolding held_packet_row
+held_reports s flags.Idle len body is = phase_reports s body is
+held_reports s flags.Peer len body is = tt
+held_reports s flags.Ours len body is = much_reports s (record s { counted = counted_with s len }) body (is_too_much s len) is
+
+same_number : (n m : ℕ) → (n == m) ≡ true → n ≡ m
+same_number n m is = grind (arith, nat_tests)
+
+banner_row_reports : (s : OpeningState) (len : ℕ) (body : List ℕ) → s.phase ≡ phases.Auth →
+    Always (ReportsRow (reported (if is_held_back s.flag s len then asking.Nothing else banner_asks body) None)) (numbered_row s len USERAUTH_BANNER body)
+unfolding numbered_row
+banner_row_reports s len body is = let later : is_exchanging s.phase ≡ false = ap is_exchanging is in rw later (held_reports s s.flag len body is)
+
+number_by : (s : OpeningState) (len n : ℕ) (body : List ℕ) (banner : Bool) → (n == USERAUTH_BANNER) ≡ banner → s.phase ≡ phases.Auth →
+    Always (ReportsRow (reported (if banner then (if is_held_back s.flag s len then asking.Nothing else banner_asks body) else asking.Nothing) None)) (numbered_row s len n body)
+number_by s len n body true same is = rw (same_number n USERAUTH_BANNER same) (banner_row_reports s len body is)
+number_by s len n body false same is = none_always (numbered_row s len n body)
+
+number_reports : (s : OpeningState) (len n : ℕ) (body : List ℕ) (phase : Phase) → s.phase ≡ phase → Always (ReportsRow (reported (number_asks phase s len n body) None)) (numbered_row s len n body)
+number_reports s len n body phases.Auth is = number_by s len n body (n == USERAUTH_BANNER) refl is
+number_reports s len n body phase is = none_always (numbered_row s len n body)
+
+packet_reports : (s : OpeningState) (packet : List ℕ) → Always (ReportsRow (reported (packet_asks s packet) None)) (payload_row s packet)
+unfolding payload_row
+packet_reports s [] = tt
+packet_reports s (n ∷ body) = number_reports s (length body + 1) n body s.phase refl
+
+-- ---- any event
+
+-- transport events are out of turn while an answer is awaited
+exchange_turn : (s : OpeningState) (x : ExchangeResult) (told : Told) (awaits : Bool) → is_awaiting s.phase ≡ awaits → is_out_of_turn s (events.ExchangeDone x) ≡ false →
+    Always (ReportsRow (reported (exchange_asks s.phase s x) (Some x))) (turn_row awaits s (events.ExchangeDone x) told)
+unfolding plain_row exchange_done_row
+exchange_turn s x told true is turn = let early : is_out_of_turn s (events.ExchangeDone x) ≡ true = rw is refl in let clash : true ≡ false = sym early ∙ turn in absurd cc
+exchange_turn s x told false is turn = exchange_reports s x told s.phase
+
+packet_turn : (s : OpeningState) (packet : List ℕ) (told : Told) (awaits : Bool) → is_awaiting s.phase ≡ awaits → is_out_of_turn s (events.Payload packet) ≡ false →
+    Always (ReportsRow (reported (packet_asks s packet) None)) (turn_row awaits s (events.Payload packet) told)
+packet_turn s packet told true is turn = let early : is_out_of_turn s (events.Payload packet) ≡ true = rw is refl in let clash : true ≡ false = sym early ∙ turn in absurd cc
+packet_turn s packet told false is turn = packet_reports s packet
+
+turn_reports : (s : OpeningState) (event : Event) (told : Told) → is_out_of_turn s event ≡ false → Always (ReportsRow (reported (event_asks s event) (exchange_in event))) (turn_row (is_awaiting s.phase) s event told)
+turn_reports s (events.ExchangeDone x) told turn = exchange_turn s x told (is_awaiting s.phase) refl turn
+turn_reports s (events.Payload packet) told turn = packet_turn s packet told (is_awaiting s.phase) refl turn
+turn_reports s event told turn = none_always (turn_row (is_awaiting s.phase) s event told)
+
+open_by : (s : OpeningState) (event : Event) (told : Told) (early : Bool) → is_out_of_turn s event ≡ early →
+    Always (ReportsRow (reported (if early then asking.Nothing else event_asks s event) (exchange_in event))) (if early then done (refused OutOfTurn) else turn_row (is_awaiting s.phase) s event told)
+open_by s event told true is = tt
+open_by s event told false is = turn_reports s event told is
+
+closed_by : (s : OpeningState) (event : Event) (told : Told) (closed : Bool) → closed ≡ false →
+    Always (ReportsRow (reported (if closed then asking.Nothing else (if is_out_of_turn s event then asking.Nothing else event_asks s event)) (exchange_in event)))
+    (if is_out_of_turn s event then done (refused OutOfTurn) else turn_row (is_awaiting s.phase) s event told)
+closed_by s event told true is = let clash : true ≡ false = is in absurd cc
+closed_by s event told false is = open_by s event told (is_out_of_turn s event) refl
+
+-- where the session continues, the row's first record says what the gate was notified of
+pub row_reports : (s : OpeningState) (event : Event) (told : Told) → s.closed ≡ false → Always (ReportsRow (reported (asked_of s event) (exchange_in event))) (open_row s event told)
+unfolding open_row asked_of
+row_reports s event told fresh = closed_by s event told s.closed fresh
