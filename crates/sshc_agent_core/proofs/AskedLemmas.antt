@@ -24,7 +24,7 @@ use Rattle.sshc_agent_core.specs.AgentList.{AgentList, aged}
 use Rattle.sshc_agent_core.specs.AgentTable.{agent_row, asked_turn, frame_turn, is_refused, key_answer_turn, message_turn, request_answer_turn, seen_row, standing_row, tested_turn, turned}
 use Rattle.sshc_agent_core.specs.AgentTable.Sign.{bytes_row, confirmed_in, confirmed_turn, flags_row, held_still, held_turn, sign_request_in, sign_request_turn, sign_row}
 use Rattle.sshc_agent_core.specs.Asked.{asked_of}
-use Rattle.sshc_agent_core.specs.AskedRows.{body_asks, bytes_ask, flags_ask, frame_asks, key_asks, rest_asks, taken_now}
+use Rattle.sshc_agent_core.specs.AskedRows.{begins_sign, body_asks, bytes_ask, flags_ask, frame_asks, key_asks, may_ask, rest_asks, taken_now}
 use Rattle.sshc_agent_core.specs.Connections.{is_new, standing_of, with_standing}
 use Rattle.sshc_agent_core.specs.KeyList.{held}
 use Rattle.sshc_agent_core.specs.Messages.{message_of}
@@ -238,3 +238,23 @@ asked_now now conn input before confirmed whole is =
 
 pub none_now : (now conn : ℕ) (input : AgentInput) (before : AgentList) → None ≡ taken_now before.asks (standing_of before.conns conn) input → None ≡ asked_of now conn input before
 none_now now conn input before is = ap (taken_asks conn (begun now conn before)) is ∙ sym (row_is now conn input before)
+
+-- a frame that is no sign request asks nothing
+other_frame : (conn : ℕ) (whole : List ℕ) (l : AgentList) → begins_sign whole ≡ false → frame_asks conn false l whole ≡ None
+other_frame conn [] l other = refl
+other_frame conn (number ∷ body) l other = ap (λ (b : Bool). cond b (cond (is_some l.passphrase) None (body_asks conn false l.keys (string_at body))) None) other
+
+other_open : (asking : Bool) (conn : ℕ) (whole : List ℕ) (l : AgentList) → begins_sign whole ≡ false → taken_asks conn l (cond asking None (Some (false, whole))) ≡ None
+other_open true conn whole l other = refl
+other_open false conn whole l other = other_frame conn whole l other
+
+other_input : (stands : Option Standing) (conn : ℕ) (input : AgentInput) (l : AgentList) → may_ask input ≡ false → taken_asks conn l (taken_now l.asks stands input) ≡ None
+other_input None conn (inputs.Frame whole) l other = other_open l.asks conn whole l other
+other_input (Some standings.Open) conn (inputs.Frame whole) l other = other_open l.asks conn whole l other
+other_input (Some standings.Closed) conn (inputs.Frame whole) l other = refl
+other_input (Some (standings.RequestAsked asked)) conn (inputs.Frame whole) l other = refl
+other_input (Some (standings.KeyAsked asked)) conn (inputs.Frame whole) l other = refl
+other_input stands conn input l other = absurd cc
+
+pub none_other : (now conn : ℕ) (input : AgentInput) (before : AgentList) → may_ask input ≡ false → None ≡ asked_of now conn input before
+none_other now conn input before other = sym (row_is now conn input before ∙ other_input (standing_of before.conns conn) conn input (begun now conn before) other)

@@ -12,3 +12,4 @@ mod DueLists
 mod DueLemmas
 mod DueCuts
 pub mod Sending
+mod Standings

@@ -3,7 +3,7 @@ use Rattle.std.specs.Prelude.{ℕ, max, Bool, List, [], Option, None, if◌then�
 use Rattle.sshc_agent_core.specs.declared.connections.Standing.{Standing}
 use Rattle.sshc_agent_core.specs.declared.connections.Standing.TheVariants.{Closed}
 use Rattle.sshc_agent_core.specs.declared.key_list.HeldKey.{HeldKey}
-use Rattle.sshc_agent_core.specs.Connections.{is_new, seen_in, with_standing}
+use Rattle.sshc_agent_core.specs.Connections.{is_new, seen_in, with_standing, without}
 use Rattle.sshc_agent_core.specs.KeyList.{unexpired}
 
 pub record AgentList : Type 0 where
@@ -32,6 +32,10 @@ seen conn l = record l { conns = seen_in l.conns conn }
 -- the connection gets this state
 abbrev pub standing : ℕ → Standing → AgentList → AgentList
 standing conn s l = record l { conns = with_standing l.conns conn s }
+
+-- the connection is as if it had never been seen
+abbrev pub forgotten : ℕ → AgentList → AgentList
+forgotten conn l = record l { conns = without l.conns conn }
 
 -- memory ran out during an input: a connection seen before is closed, and nothing is kept of a new one
 abbrev pub starved : ℕ → ℕ → AgentList → AgentList

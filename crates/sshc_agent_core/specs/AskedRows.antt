@@ -63,3 +63,13 @@ taken_by (Some taken) = Some (taken.is_confirmed, taken.whole.now)
 abbrev pub live : ℕ → Option HeldKey → Option HeldKey
 live now None = None
 live now (Some key) = if is_past key.deadline now then None else Some key
+
+-- a frame asks only if it begins with the number of a sign request
+abbrev pub begins_sign : List ℕ → Bool
+begins_sign [] = false
+begins_sign (number ∷ body) = number == SIGN_REQUEST
+
+-- an input other than a frame answers a question, which may be about one
+abbrev pub may_ask : AgentInput → Bool
+may_ask (inputs.Frame whole) = begins_sign whole
+may_ask input = true

@@ -5,7 +5,8 @@ use Rattle.std.specs.Ordering.{nat_cmp, is_eq, match_ordering}
 use Rattle.std.specs.declared.cmp.Ordering.{Ordering}
 use Rattle.std.specs.declared.cmp.Ordering.TheVariants.{Less, Equal, Greater}
 use Rattle.std.specs.Cmp.{nat_cmp_is}
-use Rattle.std.specs.BTreeMap.{insert_entry}
+use Rattle.std.specs.BTreeMap.{insert_entry, is_at}
+use Rattle.std.specs.Map.{remove_entry}
 use Rattle.std.proofs.lemmas.Bool.{eqb-false, eqb-true, ltb-false, ltb-true}
 use Rattle.std.proofs.lemmas.List.Elements.{All-nil, All-cons}
 use Rattle.sshc_wire.specs.Wire.{string_text, u32_text}
@@ -20,9 +21,9 @@ use Rattle.sshc_agent_core.specs.declared.input.AgentOutput.{AgentOutput}
 use Rattle.sshc_agent_core.specs.declared.input.AgentOutput.TheVariants as outputs
 use Rattle.sshc_agent_core.specs.declared.input.Cause.TheVariants as causes
 use Rattle.sshc_agent_core.specs.AgentHistory.{IsEntry, Leads, IsLockedOutput, IsPermitted, IsTold, IsUnlock, IsUnlockRequest, IsUnlocked, KeepsLock, KeepsOthers, KeepsRefused, StaysLocked, request_of, signature_at, signature_in, signature_of, stands_in, success}
-use Rattle.sshc_agent_core.specs.AgentList.{AgentList, aged, standing, starved}
+use Rattle.sshc_agent_core.specs.AgentList.{AgentList, aged, forgotten, standing, starved}
 use Rattle.sshc_agent_core.specs.AgentTable.{Shows, Steps, agent_row}
-use Rattle.sshc_agent_core.specs.Connections.{is_new, standing_of, with_standing}
+use Rattle.sshc_agent_core.specs.Connections.{is_new, standing_of, with_standing, without}
 use Rattle.sshc_agent_core.specs.ShapeLaws.{row_made, step_does}
 use Rattle.sshc_agent_core.specs.StepShape.{Changes, IsEnd, IsPermittedRequest, Made, Says, StepDoes, begun}
 use Rattle.sshc_agent_core.specs.Turn.{frame}
@@ -274,14 +275,14 @@ entries_told before (e ∷ entries) after (mid, is, leads) = All-cons IsTold e e
 abbrev Conns : Type 0
 Conns = List (ℕ × Standing)
 
-unlike : (c conn : ℕ) → (c ≡ conn → ⊥) → is_eq (nat_cmp c conn) ≡ false
+pub unlike : (c conn : ℕ) → (c ≡ conn → ⊥) → is_eq (nat_cmp c conn) ≡ false
 unlike c conn other = by (nat_lt c conn) refl
   where
     by : (b : Bool) → nat_lt c conn ≡ b → is_eq (nat_cmp c conn) ≡ false
     by true e = sym (ap is_eq (nat_cmp_is c conn Less (ltb-true c conn e)))
     by false e = sym (ap is_eq (nat_cmp_is c conn Greater (omega (arith, ltb-false c conn e, other))))
 
-same_place : (conn key : ℕ) → nat_cmp conn key ≡ Equal → conn ≡ key
+pub same_place : (conn key : ℕ) → nat_cmp conn key ≡ Equal → conn ≡ key
 same_place conn key is = by (conn == key) refl
   where
     by : (b : Bool) → (conn == key) ≡ b → conn ≡ key
@@ -341,3 +342,19 @@ step_others now conn input before after gained output steps = by (step_does now 
     by : StepDoes now conn input before after gained output → KeepsOthers conn before after
     by (StepDoes.made made) = made_others now conn before after input gained output made
     by (StepDoes.starves cut is said) = starved_others now conn before after (is_new before.conns conn) is
+
+without_by : (o : Ordering) (c conn : ℕ) (e : ℕ × Standing) (es : Conns) → (c ≡ conn → ⊥) → nat_cmp conn e.0 ≡ o → standing_of (without es conn) c ≡ standing_of es c
+    → standing_of (cond (is_eq o) es (e ∷ remove_entry (is_at (nat_cmp conn)) es)) c ≡ standing_of (e ∷ es) c
+without_by Less c conn e es other is later = ap (λ (o : Option Standing). cond (is_eq (nat_cmp c e.0)) (Some e.1) o) later
+without_by Equal c conn e es other is later =
+    let no : is_eq (nat_cmp c e.0) ≡ false = unlike c e.0 (λ same. other (same ∙ sym (same_place conn e.0 is))) in
+    ap (λ (b : Bool). cond b (Some e.1) (standing_of es c)) (sym no)
+without_by Greater c conn e es other is later = ap (λ (o : Option Standing). cond (is_eq (nat_cmp c e.0)) (Some e.1) o) later
+
+-- a connection that is forgotten leaves every other one as it was
+pub without_others : (conns : Conns) (c conn : ℕ) → (c ≡ conn → ⊥) → standing_of (without conns conn) c ≡ standing_of conns c
+without_others [] c conn other = refl
+without_others (e ∷ es) c conn other = without_by (nat_cmp conn e.0) c conn e es other refl (without_others es c conn other)
+
+pub forgotten_others : (conn : ℕ) (before after : AgentList) → after ≡ forgotten conn before → KeepsOthers conn before after
+forgotten_others conn before after is c other = ap (λ (x : AgentList). standing_of x.conns c) is ∙ without_others before.conns c conn other

@@ -5,7 +5,8 @@ ghost use Rattle.std.specs.BTreeMap.{get};
 ghost use Rattle.std.specs.Option.{is_some};
 ghost use Rattle.std.specs.Ordering.{nat_cmp};
 ghost use Rattle.sshc_agent_core.specs.Deadlines.{Agree, AreApart};
-ghost use Rattle.sshc_agent_core.specs.AgentList.{aged, empty_list};
+ghost use Rattle.sshc_agent_core.specs.AgentHistory.{KeepsOthers};
+ghost use Rattle.sshc_agent_core.specs.AgentList.{aged, empty_list, forgotten};
 ghost use Rattle.sshc_agent_core.specs.AgentTable.{asked_turn, frame_turn, is_refused, key_answer_turn, message_turn, request_answer_turn, tested_turn};
 ghost use Rattle.sshc_agent_core.specs.KeyList.{AreListable, listing};
 ghost use Rattle.sshc_agent_core.specs.Connections.{awaits_in, standing_of};
@@ -91,6 +92,15 @@ impl AgentCore {
             Some(Standing::KeyAsked(_)) => true,
             _ => false,
         }
+    }
+
+    /// Forgets a connection, as one that ended and whose number no later one has. Takes no memory.
+    pub fn forget(&mut self, conn: u32)
+        ensures list { self.new ≡ forgotten conn self.old }
+        // Every other connection is as it was.
+        ensures others { KeepsOthers conn self.old self.new }
+    {
+        self.conns.forget(conn);
     }
 
     /// Answers with a frame of this body. No question is open afterwards.

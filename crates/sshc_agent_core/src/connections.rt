@@ -1,6 +1,6 @@
 //! The connections that an agent has seen.
 
-ghost use Rattle.std.specs.Prelude.{◌≡◌, [], IfOk, IsSome, None, OnOk, OnErr, option_copied};
+ghost use Rattle.std.specs.Prelude.{◌≡◌, [], IfOk, IsSome, None, OnOk, OnErr, Some, option_copied};
 
 use sshc_wire::{NoMemory, Octets};
 use std::alloc::Global;
@@ -75,6 +75,16 @@ impl Connections {
             Ok(_) => {}
             Err(_) => unreachable!(),
         }
+    }
+
+    /// Setting a connection to the state that it has changes nothing.
+    #[tactic(auto, using(crate::proofs::Standings::stays))]
+    pub(crate) fn stays(&self, conn: u32, _standing: &Standing)
+        requires { standing_of self.now conn ≡ Some _standing.now }
+        ensures { with_standing self.now conn _standing.now ≡ self.now }
+    {
+        let _count = self.standings.len();
+        let _conn = conn;
     }
 
     /// Forgets the connection.

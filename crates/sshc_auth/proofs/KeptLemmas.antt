@@ -1,5 +1,5 @@
 -- What each row of the table satisfies, every step satisfies.
-use Rattle.std.proofs.Common.{◌≡◌, ◌≢◌, ◌⊎◌, inl, inr, ℕ, Bool, true, false, List, [], ◌∷◌, ◌++◌, Option, Some, None, Result, Ok, Err, refl, ap, sym, ◌∙◌, subst, append-nil, append_assoc}
+use Rattle.std.proofs.Common.{◌≡◌, ◌≢◌, ◌⊎◌, inl, inr, Bool, true, false, List, [], ◌∷◌, ◌++◌, Option, Some, None, Result, Ok, Err, refl, ap, sym, ◌∙◌, subst, append-nil, append_assoc}
 use Rattle.std.proofs.Math.Seq.{drop-length}
 use Rattle.std.specs.List.{AllByRecursion}
 use Rattle.sshc_wire.specs.Outgoing.{Outgoing, kept, shown}
@@ -7,7 +7,7 @@ use Rattle.sshc_wire.specs.Records.{IsResolved}
 use Rattle.sshc_wire.specs.declared.auth_record.AuthRecord.TheVariants.{SignRequest, SignRequestCert}
 use Rattle.sshc_wire.specs.declared.record.Record.{Record}
 use Rattle.sshc_wire.specs.declared.record.Record.TheVariants as records
-use Rattle.sshc_key.specs.Asking.{Asking, done, asks, call_of, Makes, MakesFirst}
+use Rattle.sshc_key.specs.Asking.{Asking, done, asks, Makes, MakesFirst}
 use Rattle.sshc_key.specs.AskingLaws.{all_first, always_makes}
 use Rattle.sshc_key.specs.Signers.{SignCall, since}
 use Rattle.sshc_key.specs.declared.identity.PublicKeyOrCertificate.{PublicKeyOrCertificate}
@@ -31,10 +31,10 @@ use Rattle.sshc_auth.specs.OneKeyLaw.{HasKeyNext, HasKeyRow, later_row}
 use Rattle.sshc_auth.specs.KeepLaws.{HandsAll, HandsBytes, Keeps, KeepsNext, KeepsState, KeepsAsked, KeepsAsking, SettledNext, open_keeps}
 use Rattle.sshc_auth.specs.OpeningState.{OpeningState, shut}
 use Rattle.sshc_auth.specs.OpeningTable.{open_row, asked_of}
-use Rattle.sshc_auth.specs.Row.{Row, Next, Span, Did, Steps, stays, opens, ends, refuses}
-use Rattle.sshc_auth.specs.SessionWords.{Kept, kept_of, IsReported, reported, AddsHandedOnce, AddsOnly, HandsLast, HandsNothing, HandsOnce, IsNoPacket, IsFirst, GoesOnFirst, AcceptsFirst, KeepsFirst, KeepsKey, KeepsSession, HasKeptKey, Continues, KeepsRequest, SignsStored, HandsStored, IsSettled, AsksOnce, Stores, KeepsTo}
+use Rattle.sshc_auth.specs.Row.{Row, Next, Span, Steps, stays, opens}
+use Rattle.sshc_auth.specs.SessionWords.{Kept, kept_of, IsReported, reported, AddsHandedOnce, AddsOnly, HandsLast, HandsNothing, HandsOnce, IsNoPacket, IsFirst, GoesOnFirst, AcceptsFirst, KeepsKey, KeepsSession, HasKeptKey, Continues, KeepsRequest, SignsStored, HandsStored, IsSettled, AsksOnce, Stores, KeepsTo}
 use Rattle.sshc_auth.specs.ToldLaw.{Reports, ReportsNext, ReportsRow, row_reports}
-use Rattle.sshc_auth.specs.Stepping.{Lent, GateAnswers, Adds, Answered, Judged, Tells, GateRefused, StepsBy, StaysClosed, exchange_in, gained, map_step, span_of, told_of}
+use Rattle.sshc_auth.specs.Stepping.{Lent, GateAnswers, Answered, Judged, Tells, GateRefused, StepsBy, StaysClosed, exchange_in, gained, map_step, span_of, told_of}
 
 -- ---- what was added
 

@@ -1,6 +1,6 @@
 -- A call that follows its row is a step.
-use Rattle.std.proofs.Common.{◌≡◌, ◌≤◌, ◌⊎◌, inl, inr, ℕ, List, [], ◌∷◌, ◌++◌, length, drop, Option, Some, None, Result, Ok, Err, ◌∙◌, refl, ap, sym, subst, append-nil, append_assoc, arith}
-use Rattle.std.proofs.Math.Seq.{drop-length, drop-append_seam}
+use Rattle.std.proofs.Common.{◌≡◌, ◌≤◌, ◌⊎◌, inl, inr, ℕ, List, [], ◌∷◌, ◌++◌, length, drop, Result, Ok, Err, ◌∙◌, refl, ap, sym, append-nil, append_assoc, arith}
+use Rattle.std.proofs.Math.Seq.{drop-append_seam}
 use Rattle.sshc_wire.specs.Outgoing.{Outgoing}
 use Rattle.sshc_key.specs.Signers.{SignCall, since}
 use Rattle.sshc_key.specs.Asking.{Answer, Asking, SignRequest, done, asks, call_of, Makes, MakesFirst}

@@ -23,7 +23,6 @@ use Rattle.sshc_auth.specs.OpeningState.{OpeningState, start}
 use Rattle.sshc_auth.specs.OpeningTable.{open_row, plain_row, user_row, payload_row, numbered_row, held_packet_row, auth_packet_row, auth_row, asked_of}
 use Rattle.sshc_auth.specs.OpeningTable.Exchange.{peer_kexinit_row, exchange_done_row}
 use Rattle.sshc_auth.specs.OpeningTable.ExtInfo.{ext_info_row, extensions_row}
-use Rattle.sshc_auth.specs.SignatureNames.{is_signature_name}
 use Rattle.sshc_auth.specs.OpeningTable.Service.{authenticate_first_row, service_packet_row, service_accept_row}
 use Rattle.sshc_auth.specs.OpeningTable.Auth.{answered, userauth_success_row, authenticate_again_row}
 use Rattle.sshc_auth_request.specs.RequestTexts.{service_request, request}

@@ -1,70 +1,28 @@
 -- A call that follows its row, and a step with a gate: why it refuses or ends, what it asked the gate, and what the
 -- gate returned.
-use Rattle.std.proofs.Common.{◌≡◌, ◌≢◌, ◌⊎◌, ◌<◌, ◌≤◌, ◌+◌, ◌-◌, ◌*◌, ◌^◌, inl, inr, ℕ, Bool, true, false, List, [], ◌∷◌, ◌++◌, ◌/◌, length, Option, Some, None, Result, Ok, Err, refl, ap, sym, ◌∙◌, subst, arith}
-use Rattle.std.specs.Prelude.{min, not, ◌==◌, ◌||◌, nat_le, nat_lt, if◌then◌else◌, bytes_eq, codes}
-use Rattle.std.specs.Int.{w32}
-use Rattle.std.specs.List.{AllByRecursion}
-use Rattle.std.proofs.lemmas.Bool.Decides.{nat_tests}
-use Rattle.sshc_wire.specs.Methods.{has_method, method_of, with_method}
-use Rattle.sshc_wire.specs.Names.{names_in}
-use Rattle.sshc_wire.specs.Reads.{boolean_at, number_at, string_at, text_at}
-use Rattle.sshc_wire.specs.Reasons.{disconnect_of}
-use Rattle.sshc_wire.specs.declared.auth_record.Prompt.{Prompt}
-use Rattle.sshc_wire.specs.declared.disconnect.Disconnect.{Disconnect}
-use Rattle.sshc_wire.specs.declared.error.WireError.{WireError}
-use Rattle.sshc_wire.specs.declared.methods.MethodKind.{MethodKind}
-use Rattle.sshc_wire.specs.declared.msg.TheConstants.{DISCONNECT, SERVICE_ACCEPT, USERAUTH_FAILURE, USERAUTH_SUCCESS, USERAUTH_BANNER, USERAUTH_PK_OK, USERAUTH_GSSAPI_TOKEN, USERAUTH_GSSAPI_ERROR, USERAUTH_GSSAPI_ERRTOK}
+use Rattle.std.proofs.Common.{◌≡◌, ◌≢◌, inl, inr, Bool, true, false, List, Option, Some, None, Result, Ok, Err, refl, sym, subst}
 use Rattle.sshc_wire.specs.declared.record.Record.{Record}
-use Rattle.sshc_wire.specs.declared.record.Record.TheVariants as records
-use Rattle.sshc_wire.specs.declared.auth_record.AuthRecord.TheVariants.{AuthInfoRequest}
-use Rattle.sshc_wire.specs.declared.auth_record.GssapiRecord.TheVariants as gssapi
-use Rattle.sshc_wire.specs.declared.hash_alg.HashAlg.{HashAlg}
-use Rattle.sshc_wire.specs.declared.ticket.Ticket.{Ticket}
-use Rattle.sshc_key.specs.Asking.{Answer, Asking, done, asks, Always}
-use Rattle.sshc_key.specs.KeyGrammar.{Key}
-use Rattle.sshc_key.specs.PairCode.{KeyPair}
+use Rattle.sshc_key.specs.Asking.{Asking, done, asks}
 use Rattle.sshc_auth_event.specs.HostKey.{host_key}
 use Rattle.sshc_key.specs.declared.identity.PublicKeyOrCertificate.{PublicKeyOrCertificate}
-use Rattle.sshc_wire.specs.Faults.{Rose}
 use Rattle.sshc_wire.specs.Outgoing.{Outgoing}
 use Rattle.sshc_auth_event.specs.declared.event.Event.{Event}
-use Rattle.sshc_auth_event.specs.declared.event.Event.TheVariants as events
-use Rattle.sshc_auth_event.specs.declared.method.Method.{Method}
-use Rattle.sshc_auth_event.specs.declared.method.Method.TheVariants as methods
-use Rattle.sshc_transport.specs.declared.exchange.ExchangeFlag.{ExchangeFlag}
-use Rattle.sshc_transport.specs.declared.exchange.ExchangeFlag.TheVariants as flags
 use Rattle.sshc_transport.specs.declared.exchange.ExchangeResult.{ExchangeResult}
 use Rattle.sshc_auth.specs.declared.ended.Ended.{Ended}
 use Rattle.sshc_auth.specs.declared.step.Flow.TheVariants as flows
 use Rattle.sshc_auth.specs.declared.error.Error.{Error}
 use Rattle.sshc_auth.specs.declared.error.Error.TheVariants as errors
-use Rattle.sshc_auth.specs.declared.opening.Class.{Class}
-use Rattle.sshc_auth.specs.declared.opening.Class.TheVariants as classes
-use Rattle.sshc_auth.specs.declared.opening.Phase.{Phase}
-use Rattle.sshc_auth.specs.declared.opening.Phase.TheVariants as phases
-use Rattle.sshc_auth.specs.declared.order.EventSort.TheVariants as sorts
 use Rattle.sshc_auth.specs.declared.step.Asks.{Asks}
 use Rattle.sshc_auth.specs.declared.step.Asks.TheVariants as asking
 use Rattle.sshc_auth.specs.declared.step.Step.{Step}
 use Rattle.sshc_auth.specs.declared.step.Step.TheVariants as steps
 use Rattle.sshc_auth.specs.declared.step.Told.{Told}
 use Rattle.sshc_auth.specs.declared.step.Told.TheVariants as telling
-use Rattle.sshc_auth.specs.Causes.{Part, number, boolean, string, text, prompts, end, Breaks, BreaksBehind, after, after_prompts, rest_of, AreTooMany, HasTooManyPrompts, AreUnknown, IsInvalidReason, IsLocal, IsUnexpectedIn, IsCause, IsEarly, IsNotUsers, IsOutOfTurn, WasToldNo, HasCause, IsEndCause, Why, why, Caused, AllCaused, SaysNoTo, GateSaysNo, HasGateCause, behind, auth_parts, answer_parts, parts_in, is_answer}
-use Rattle.sshc_auth.specs.OpeningState.{OpeningState, is_awaiting}
-use Rattle.sshc_auth.specs.OpeningTable.{answer_row, auth_row, gssapi_row, is_pk_ok, auth_packet_row, packet_row_in, phase_packet_row, held_packet_row, is_exchanging, numbered_row, payload_row, authenticate_row_in, plain_row, event_row, turn_row, open_row, asked_of, event_asks, exchange_asks, key_asked, packet_asks, number_asks, is_held_back, banner_asks, banner_at_end, FitsAsked}
-use Rattle.sshc_auth.specs.OpeningTable.Order.{sort_of, is_early, is_early_at, is_early_awaiting, is_out_of_turn, packet_in}
-use Rattle.sshc_auth.specs.OpeningTable.Exchange.{peer_kexinit_row, peer_kexinit_row_at, accepted_row, first_exchange_row, exchange_row_in, exchange_done_row}
-use Rattle.sshc_auth.specs.OpeningTable.Auth.{userauth_failure_row, userauth_success_row, userauth_banner_row, authenticate_again_row, known_behind, known_methods, add_known, next_without}
-use Rattle.sshc_auth.specs.OpeningTable.AuthGssapi.{gssapi_step, gssapi_response_row, gssapi_token_row, gssapi_error_row, gssapi_errtok_row, is_gssapi, user_token_row, user_mic_row, user_complete_row}
-use Rattle.sshc_auth.specs.OpeningTable.AuthKey.{pk_ok_row, is_pk_ok_body, is_at_end, key_row, sign_row, signed_by_row}
-use Rattle.sshc_auth.specs.OpeningTable.AuthPrompts.{info_request_row, info_response_row, is_too_many, prompts_at, prompts_row}
-use Rattle.sshc_auth.specs.OpeningTable.Awaiting.{awaiting_row, answer_row_in, responses_row, signature_row, signed_row, is_signed}
-use Rattle.sshc_auth.specs.OpeningTable.Packets.{disconnect_row, disconnect_reason_row, is_ignored, waits_for_exchange, is_too_much, counted_with}
-use Rattle.sshc_auth.specs.OpeningTable.Service.{service_accept_row, service_packet_row, authenticate_first_row, stored_request}
-use Rattle.sshc_auth.specs.OpeningTable.User.{rekey_row, await_extension_info_row, get_server_sig_algs_row, is_seen, user_disconnect_row}
-use Rattle.sshc_auth_request.specs.RequestTexts.{mic}
-use Rattle.sshc_auth.specs.Stepping.{GateAnswers, LentGate, Answered, Judged, Tells, HasExchange, exchange_in, told_of, map_step}
-use Rattle.sshc_auth.specs.Row.{Row, Next, Span, SignerAt, FollowsAsking, stays, refuses, refused, goes, passed_over, ends_at, with_part, broken_row}
+use Rattle.sshc_auth.specs.Causes.{IsCause, WasToldNo, HasCause, IsEndCause, Why, why, Caused, AllCaused, SaysNoTo, GateSaysNo, HasGateCause}
+use Rattle.sshc_auth.specs.OpeningState.{OpeningState}
+use Rattle.sshc_auth.specs.OpeningTable.{open_row, asked_of, key_asked, FitsAsked}
+use Rattle.sshc_auth.specs.Stepping.{GateAnswers, LentGate, Answered, Judged, Tells, exchange_in, told_of, map_step}
+use Rattle.sshc_auth.specs.Row.{Row, Next, Span, SignerAt, FollowsAsking}
 use Rattle.sshc_auth.specs.AskedLaws.{first_asks}
 use Rattle.sshc_auth.specs.CauseLaws.{SaysAlso, cause_also, open_cause}
 

@@ -1,6 +1,6 @@
 -- What the table asks of the gate: the host key of the first exchange alone, and an exchange only of an event that is
 -- one.
-use Rattle.std.proofs.Common.{◌≡◌, ℕ, ◌+◌, Bool, true, false, List, [], ◌∷◌, length, Option, Some, None, Result, Ok, Err, refl, ap, sym, ◌∙◌, subst}
+use Rattle.std.proofs.Common.{◌≡◌, ℕ, ◌+◌, Bool, true, false, List, [], ◌∷◌, length, Option, Some, None, Result, Ok, Err, refl, ap, ◌∙◌, subst}
 use Rattle.std.specs.Prelude.{◌==◌, if◌then◌else◌}
 use Rattle.sshc_wire.specs.Reads.{text_at}
 use Rattle.sshc_wire.specs.declared.error.WireError.{WireError}

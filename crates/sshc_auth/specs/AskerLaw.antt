@@ -5,7 +5,6 @@ use Rattle.sshc_wire.specs.declared.msg.TheConstants.{DISCONNECT}
 use Rattle.sshc_key.specs.Asking.{Answer, Asking, done, asks}
 use Rattle.sshc_key.specs.declared.signer.Asker.TheVariants.{Session}
 use Rattle.sshc_auth_event.specs.declared.event.Event.{Event}
-use Rattle.sshc_auth_event.specs.declared.event.Event.TheVariants as events
 use Rattle.sshc_auth_event.specs.declared.method.Method.{Method}
 use Rattle.sshc_auth_event.specs.declared.method.Method.TheVariants as methods
 use Rattle.sshc_transport.specs.declared.exchange.ExchangeFlag.{ExchangeFlag}
@@ -15,7 +14,7 @@ use Rattle.sshc_auth.specs.declared.opening.Phase.TheVariants as phases
 use Rattle.sshc_auth.specs.declared.step.Told.{Told}
 use Rattle.sshc_auth.specs.OpeningState.{OpeningState, is_awaiting}
 use Rattle.sshc_auth.specs.OpeningTable.{is_pk_ok, auth_row, is_exchanging, auth_packet_row, packet_row_in, phase_packet_row, held_packet_row, numbered_row, payload_row, event_row, turn_row, open_row}
-use Rattle.sshc_auth.specs.OpeningTable.AuthKey.{is_pk_ok_body, pk_ok_row, key_row, sign_row}
+use Rattle.sshc_auth.specs.OpeningTable.AuthKey.{is_pk_ok_body, pk_ok_row, key_row}
 use Rattle.sshc_auth.specs.OpeningTable.Order.{is_out_of_turn, packet_in}
 use Rattle.sshc_auth.specs.OpeningTable.Packets.{disconnect_row, is_ignored, waits_for_exchange, is_too_much, counted_with}
 use Rattle.sshc_auth.specs.declared.error.Error.TheVariants.{OutOfTurn, Pending}

@@ -1,6 +1,6 @@
 -- Each row that refuses or ends has its cause: a law about the table, independent of the code that runs it.
-use Rattle.std.proofs.Common.{◌≡◌, ◌≢◌, ◌⊎◌, ◌<◌, ◌≤◌, ◌+◌, ◌-◌, ◌*◌, ◌^◌, inl, inr, ℕ, Bool, true, false, List, [], ◌∷◌, ◌++◌, ◌/◌, length, Option, Some, None, Result, Ok, Err, refl, ap, sym, ◌∙◌, subst, arith}
-use Rattle.std.specs.Prelude.{min, not, ◌==◌, ◌||◌, nat_le, nat_lt, if◌then◌else◌, bytes_eq, codes}
+use Rattle.std.proofs.Common.{◌≡◌, ◌≢◌, ◌<◌, ◌≤◌, ◌+◌, ◌-◌, ◌*◌, ◌^◌, inl, inr, ℕ, Bool, true, false, List, [], ◌∷◌, ◌++◌, ◌/◌, length, Option, Some, None, Result, Ok, Err, refl, sym, ◌∙◌, subst, arith}
+use Rattle.std.specs.Prelude.{min, not, ◌==◌, if◌then◌else◌, bytes_eq, codes}
 use Rattle.std.specs.Int.{w32}
 use Rattle.std.specs.List.{AllByRecursion}
 use Rattle.std.proofs.lemmas.Bool.Decides.{nat_tests}
@@ -9,7 +9,6 @@ use Rattle.sshc_wire.specs.Methods.{has_method, method_of, with_method}
 use Rattle.sshc_wire.specs.Names.{names_in}
 use Rattle.sshc_wire.specs.Reads.{boolean_at, number_at, string_at, text_at}
 use Rattle.sshc_wire.specs.Reasons.{disconnect_of}
-use Rattle.sshc_wire.specs.declared.auth_record.Prompt.{Prompt}
 use Rattle.sshc_wire.specs.declared.disconnect.Disconnect.{Disconnect}
 use Rattle.sshc_wire.specs.declared.error.WireError.{WireError}
 use Rattle.sshc_wire.specs.declared.methods.MethodKind.{MethodKind}
@@ -20,13 +19,10 @@ use Rattle.sshc_wire.specs.declared.auth_record.AuthRecord.TheVariants.{AuthInfo
 use Rattle.sshc_wire.specs.declared.auth_record.GssapiRecord.TheVariants as gssapi
 use Rattle.sshc_wire.specs.declared.hash_alg.HashAlg.{HashAlg}
 use Rattle.sshc_wire.specs.declared.ticket.Ticket.{Ticket}
-use Rattle.sshc_key.specs.Asking.{Answer, Asking, done, asks, Always}
+use Rattle.sshc_key.specs.Asking.{Answer, Asking}
 use Rattle.sshc_key.specs.KeyGrammar.{Key}
 use Rattle.sshc_key.specs.PairCode.{KeyPair}
-use Rattle.sshc_auth_event.specs.HostKey.{host_key, is_same_key}
-use Rattle.sshc_key.specs.declared.identity.PublicKeyOrCertificate.{PublicKeyOrCertificate}
-use Rattle.sshc_wire.specs.Faults.{Rose}
-use Rattle.sshc_wire.specs.Outgoing.{Outgoing}
+use Rattle.sshc_auth_event.specs.HostKey.{is_same_key}
 use Rattle.sshc_auth_event.specs.declared.event.Event.{Event}
 use Rattle.sshc_auth_event.specs.declared.event.Event.TheVariants as events
 use Rattle.sshc_auth_event.specs.declared.method.Method.{Method}
@@ -45,15 +41,11 @@ use Rattle.sshc_auth.specs.declared.opening.Class.TheVariants as classes
 use Rattle.sshc_auth.specs.declared.opening.Phase.{Phase}
 use Rattle.sshc_auth.specs.declared.opening.Phase.TheVariants as phases
 use Rattle.sshc_auth.specs.declared.order.EventSort.TheVariants as sorts
-use Rattle.sshc_auth.specs.declared.step.Asks.{Asks}
-use Rattle.sshc_auth.specs.declared.step.Asks.TheVariants as asking
-use Rattle.sshc_auth.specs.declared.step.Step.{Step}
-use Rattle.sshc_auth.specs.declared.step.Step.TheVariants as steps
 use Rattle.sshc_auth.specs.declared.step.Told.{Told}
 use Rattle.sshc_auth.specs.declared.step.Told.TheVariants as telling
-use Rattle.sshc_auth.specs.Causes.{Part, number, boolean, string, text, prompts, extensions, end, Breaks, BreaksBehind, after, after_prompts, rest_of, AreTooMany, HasTooManyPrompts, AreUnknown, IsInvalidReason, IsLocal, IsUnexpectedIn, IsCause, IsKeptKey, IsEarly, IsNotUsers, IsOutOfTurn, WasToldNo, Disconnects, ReadsTexts, Why, why, Caused, AllCaused, behind, accept_parts, auth_parts, answer_parts, parts_in, is_answer}
+use Rattle.sshc_auth.specs.Causes.{Part, number, boolean, string, text, prompts, extensions, end, Breaks, BreaksBehind, after_prompts, rest_of, AreTooMany, HasTooManyPrompts, AreUnknown, IsInvalidReason, IsLocal, IsUnexpectedIn, IsCause, IsKeptKey, IsEarly, IsNotUsers, IsOutOfTurn, WasToldNo, Disconnects, ReadsTexts, Why, why, Caused, AllCaused, accept_parts, parts_in}
 use Rattle.sshc_auth.specs.OpeningState.{OpeningState, is_awaiting}
-use Rattle.sshc_auth.specs.OpeningTable.{answer_row, auth_row, gssapi_row, is_pk_ok, auth_packet_row, packet_row_in, phase_packet_row, held_packet_row, is_exchanging, numbered_row, payload_row, authenticate_row_in, plain_row, user_row, unopened_row, event_row, turn_row, open_row, asked_of, event_asks, exchange_asks, key_asked, packet_asks, number_asks, is_held_back, banner_asks, banner_at_end, FitsAsked}
+use Rattle.sshc_auth.specs.OpeningTable.{answer_row, auth_row, gssapi_row, is_pk_ok, auth_packet_row, packet_row_in, held_packet_row, is_exchanging, numbered_row, payload_row, authenticate_row_in, plain_row, user_row, unopened_row, event_row, turn_row, open_row}
 use Rattle.sshc_auth.specs.OpeningTable.Order.{sort_of, is_early, is_early_at, is_early_awaiting, is_out_of_turn, packet_in}
 use Rattle.sshc_auth.specs.OpeningTable.Exchange.{peer_kexinit_row, peer_kexinit_row_at, accepted_row, first_exchange_row, exchange_row_in, exchange_done_row, has_kept_key}
 use Rattle.sshc_auth.specs.OpeningTable.Auth.{userauth_failure_row, userauth_success_row, userauth_banner_row, authenticate_again_row, known_behind, known_methods, add_known, next_without}
@@ -67,8 +59,7 @@ use Rattle.sshc_auth.specs.OpeningTable.ExtInfo.{ext_info_row, extensions_row, i
 use Rattle.sshc_auth.specs.OpeningTable.Service.{service_accept_row, service_packet_row, authenticate_first_row, stored_request}
 use Rattle.sshc_auth.specs.OpeningTable.User.{rekey_row, await_extension_info_row, get_server_sig_algs_row, is_seen, user_disconnect_row}
 use Rattle.sshc_auth_request.specs.RequestTexts.{mic}
-use Rattle.sshc_auth.specs.Stepping.{GateAnswers, LentGate, Answered, Judged, Tells, HasExchange, exchange_in, told_of, map_step}
-use Rattle.sshc_auth.specs.Row.{Row, Next, Span, SignerAt, FollowsAsking, stays, opens, ends as ends_with, refuses, refused, goes, passed_over, ends_at, with_part, broken_row}
+use Rattle.sshc_auth.specs.Row.{Row, Next, stays, opens, ends as ends_with, refuses, goes, passed_over, ends_at, with_part, broken_row}
 
 pub by_error : (P : Why) (x : Error) → P.refusal x → Caused P (refuses x)
 by_error P x cause = cause

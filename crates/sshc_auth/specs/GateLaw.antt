@@ -1,6 +1,6 @@
 -- Until the host key of the first exchange is accepted, no packet of the session is written and the session doesn't get
 -- past that exchange (RFC 4253, sections 7 and 8): a law about the table.
-use Rattle.std.proofs.Common.{◌≡◌, ◌≢◌, ◌⊎◌, inl, inr, ℕ, ◌+◌, Bool, true, false, List, [], ◌∷◌, length, Option, Some, None, Result, Ok, Err, refl, sym, ◌∙◌}
+use Rattle.std.proofs.Common.{◌≡◌, ◌⊎◌, inl, inr, ℕ, ◌+◌, Bool, true, false, List, [], ◌∷◌, length, Option, Some, None, Result, Ok, Err, refl, sym, ◌∙◌}
 use Rattle.std.specs.Prelude.{◌==◌, if◌then◌else◌}
 use Rattle.std.specs.Int.{w32}
 use Rattle.std.specs.List.{AllByRecursion}
@@ -10,7 +10,7 @@ use Rattle.sshc_wire.specs.declared.disconnect.Disconnect.{Disconnect}
 use Rattle.sshc_wire.specs.declared.error.WireError.{WireError}
 use Rattle.sshc_wire.specs.declared.msg.TheConstants.{DISCONNECT}
 use Rattle.sshc_wire.specs.declared.record.Record.{Record}
-use Rattle.sshc_key.specs.Asking.{Asking, done, Always}
+use Rattle.sshc_key.specs.Asking.{Asking, Always}
 use Rattle.sshc_key.specs.AskingLaws.{always_also}
 use Rattle.sshc_auth_event.specs.declared.event.Event.{Event}
 use Rattle.sshc_auth_event.specs.declared.event.Event.TheVariants as events
@@ -23,10 +23,10 @@ use Rattle.sshc_auth.specs.declared.order.EventSort.TheVariants as sorts
 use Rattle.sshc_auth.specs.declared.step.Told.{Told}
 use Rattle.sshc_auth.specs.declared.step.Told.TheVariants as telling
 use Rattle.sshc_auth.specs.OpeningState.{OpeningState, is_awaiting}
-use Rattle.sshc_auth.specs.OpeningTable.{is_exchanging, numbered_row, payload_row, plain_row, user_row, unopened_row, event_row, turn_row, open_row, held_packet_row, phase_packet_row}
+use Rattle.sshc_auth.specs.OpeningTable.{is_exchanging, numbered_row, payload_row, plain_row, user_row, unopened_row, event_row, turn_row, open_row}
 use Rattle.sshc_auth.specs.OpeningTable.Exchange.{peer_kexinit_row, peer_kexinit_row_at, accepted_row, exchange_done_row, exchange_row_in}
 use Rattle.sshc_auth.specs.OpeningTable.Order.{sort_of, is_early, is_early_at, is_out_of_turn, packet_in}
-use Rattle.sshc_auth.specs.OpeningTable.Packets.{disconnect_row, disconnect_reason_row, is_ignored, waits_for_exchange}
+use Rattle.sshc_auth.specs.OpeningTable.Packets.{disconnect_row, disconnect_reason_row, is_ignored}
 use Rattle.sshc_auth.specs.declared.error.Error.TheVariants.{InactivityTimeout}
 use Rattle.sshc_auth.specs.Row.{Row, Next, stays, opens, ends, refuses, refused, passed_over, with_part, broken_row}
 use Rattle.sshc_auth.specs.SessionWords.{IsFirst, IsNoPacket}

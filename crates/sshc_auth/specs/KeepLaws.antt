@@ -1,6 +1,6 @@
 -- Each row keeps the session id, signs only the stored request, and stores no request but an event's: a law about the
 -- table, independent of the code that runs it (RFC 4252, section 7; RFC 4253, section 7).
-use Rattle.std.proofs.Common.{◌≡◌, ◌≢◌, ◌⊎◌, inl, inr, ℕ, ◌+◌, Bool, true, false, List, [], ◌∷◌, ◌++◌, length, Option, Some, None, Result, Ok, Err, refl, sym, ◌∙◌}
+use Rattle.std.proofs.Common.{◌≡◌, ◌≢◌, inl, inr, ℕ, ◌+◌, Bool, true, false, List, [], ◌∷◌, ◌++◌, length, Option, Some, None, Result, Ok, Err, refl}
 use Rattle.std.specs.Prelude.{not, ◌==◌, if◌then◌else◌, bytes_eq, codes}
 use Rattle.std.specs.Int.{w32}
 use Rattle.std.specs.List.{AllByRecursion}
@@ -8,7 +8,7 @@ use Rattle.sshc_wire.specs.Cases.{by_cases}
 use Rattle.sshc_wire.specs.Names.{names_in}
 use Rattle.sshc_wire.specs.Reads.{boolean_at, number_at, string_at, text_at}
 use Rattle.sshc_wire.specs.Reasons.{disconnect_of}
-use Rattle.sshc_wire.specs.declared.auth_record.AuthRecord.TheVariants.{AuthInfoRequest, SignRequest, SignRequestCert}
+use Rattle.sshc_wire.specs.declared.auth_record.AuthRecord.TheVariants.{SignRequest, SignRequestCert}
 use Rattle.sshc_wire.specs.declared.auth_record.GssapiRecord.TheVariants as gssapi
 use Rattle.sshc_wire.specs.declared.disconnect.Disconnect.{Disconnect}
 use Rattle.sshc_wire.specs.declared.error.WireError.{WireError}
@@ -29,7 +29,6 @@ use Rattle.sshc_transport.specs.declared.exchange.ExchangeFlag.{ExchangeFlag}
 use Rattle.sshc_transport.specs.declared.exchange.ExchangeFlag.TheVariants as flags
 use Rattle.sshc_transport.specs.declared.exchange.ExchangeResult.{ExchangeResult}
 use Rattle.sshc_auth_request.specs.RequestTexts.{gssapi_complete, gssapi_mic, mic, request}
-use Rattle.sshc_auth.specs.declared.error.Error.TheVariants.{OutOfTurn, Inconsistent, Pending, InactivityTimeout}
 use Rattle.sshc_auth.specs.declared.extension.Extension.{Extension}
 use Rattle.sshc_auth.specs.declared.opening.Class.{Class}
 use Rattle.sshc_auth.specs.declared.opening.Class.TheVariants as classes
@@ -40,7 +39,7 @@ use Rattle.sshc_auth.specs.declared.step.Told.{Told}
 use Rattle.sshc_auth.specs.declared.step.Told.TheVariants as telling
 use Rattle.sshc_auth.specs.Extensions.{extensions_at, waits_for, answers_seen, answers_to, others}
 use Rattle.sshc_auth.specs.OpeningState.{OpeningState, is_awaiting}
-use Rattle.sshc_auth.specs.OpeningTable.{answer_row, auth_row, gssapi_row, is_pk_ok, auth_packet_row, packet_row_in, phase_packet_row, held_packet_row, is_exchanging, numbered_row, payload_row, authenticate_row_in, plain_row, user_row, unopened_row, event_row, turn_row, open_row}
+use Rattle.sshc_auth.specs.OpeningTable.{answer_row, auth_row, gssapi_row, is_pk_ok, auth_packet_row, packet_row_in, held_packet_row, is_exchanging, numbered_row, payload_row, authenticate_row_in, plain_row, user_row, unopened_row, event_row, turn_row, open_row}
 use Rattle.sshc_auth.specs.OpeningTable.Order.{is_out_of_turn, packet_in, ticket_of}
 use Rattle.sshc_auth.specs.OpeningTable.Exchange.{peer_kexinit_row, peer_kexinit_row_at, accepted_row, first_exchange_row, exchange_row_in, exchange_done_row, has_kept_key}
 use Rattle.sshc_auth.specs.OpeningTable.ExtInfo.{ext_info_row, extensions_row, is_third}
@@ -52,8 +51,8 @@ use Rattle.sshc_auth.specs.OpeningTable.Awaiting.{awaiting_row, answer_row_in, r
 use Rattle.sshc_auth.specs.OpeningTable.Packets.{disconnect_row, disconnect_reason_row, is_ignored, waits_for_exchange, is_too_much, counted_with}
 use Rattle.sshc_auth.specs.OpeningTable.Service.{service_accept_row, service_packet_row, authenticate_first_row, asked_for_service, stored_request}
 use Rattle.sshc_auth.specs.OpeningTable.User.{rekey_row, await_extension_info_row, get_server_sig_algs_row, is_seen, sig_algs_answer, host_keys_answer, user_disconnect_row}
-use Rattle.sshc_auth.specs.Row.{Row, Next, stays, opens, ends, refuses, refused, goes, passed_over, resolved, ends_at, with_part, broken_row}
-use Rattle.sshc_auth.specs.SessionWords.{Kept, kept_of, HandsNothing, HandsKey, HandsCertificate, SignsStored, KeepsSession, KeepsRequest, Stores}
+use Rattle.sshc_auth.specs.Row.{Row, Next, stays, opens, ends, refuses, goes, resolved, ends_at, with_part, broken_row}
+use Rattle.sshc_auth.specs.SessionWords.{Kept, kept_of, HandsNothing, HandsKey, HandsCertificate, SignsStored, KeepsSession, KeepsRequest}
 
 -- ---- what the law says
 

@@ -1,7 +1,7 @@
 -- After the first exchange the session continues behind an exchange only with the first exchange's host key: a law about
 -- the table.
-use Rattle.std.proofs.Common.{◌≡◌, ◌≢◌, ℕ, Bool, true, false, refl, ap, sym, ◌∙◌}
-use Rattle.std.specs.Prelude.{bytes_eq, if◌then◌else◌}
+use Rattle.std.proofs.Common.{◌≡◌, ◌≢◌, Bool, true, false, refl, ap, sym, ◌∙◌}
+use Rattle.std.specs.Prelude.{if◌then◌else◌}
 use Rattle.std.proofs.lemmas.Slice.Eq.{bytes_eq-Decides}
 use Rattle.sshc_key.specs.Asking.{Asking, Always}
 use Rattle.sshc_auth_event.specs.HostKey.{is_same_key}
@@ -17,7 +17,7 @@ use Rattle.sshc_auth.specs.OpeningState.{OpeningState, is_awaiting}
 use Rattle.sshc_auth.specs.OpeningTable.{open_row, plain_row, turn_row}
 use Rattle.sshc_auth.specs.OpeningTable.Exchange.{exchange_done_row, exchange_row_in, has_kept_key}
 use Rattle.sshc_auth.specs.OpeningTable.Order.{is_out_of_turn}
-use Rattle.sshc_auth.specs.Row.{Row, Next, stays, opens, ends, refuses}
+use Rattle.sshc_auth.specs.Row.{Row, Next, stays, opens}
 
 -- a key that passes the test is the one that the session has
 same_found : (kept key : ExchangeKey) → is_same_key kept key ≡ true → (key ≡ kept) × (key ≢ keys.Missing)

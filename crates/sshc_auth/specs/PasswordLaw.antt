@@ -1,6 +1,6 @@
 -- A password is written at most as often as it was asked for (RFC 4252, section 8): a law about the table, independent
 -- of the code that runs it.
-use Rattle.std.proofs.Common.{◌≡◌, ◌≢◌, ◌≤◌, inl, inr, ℕ, ◌+◌, Bool, true, false, List, [], ◌∷◌, ◌++◌, length, drop, Option, Some, None, Result, Ok, Err, refl, ap, sym, ◌∙◌, subst, append_assoc, arith}
+use Rattle.std.proofs.Common.{◌≡◌, ◌≤◌, ℕ, ◌+◌, Bool, true, false, List, [], ◌∷◌, ◌++◌, length, drop, Option, Some, None, Result, Ok, Err, refl, ap, sym, ◌∙◌, append_assoc, arith}
 use Rattle.std.specs.Prelude.{not, ◌==◌, ◌&&◌, nat_eq, nat_lt, if◌then◌else◌, bytes_eq, codes}
 use Rattle.std.specs.Int.{w32, to_be_bytes}
 use Rattle.std.specs.List.{starts_with}
@@ -20,13 +20,13 @@ use Rattle.sshc_wire.specs.declared.disconnect.Disconnect.{Disconnect}
 use Rattle.sshc_wire.specs.declared.error.WireError.{WireError}
 use Rattle.sshc_wire.specs.declared.hash_alg.HashAlg.{HashAlg}
 use Rattle.sshc_wire.specs.declared.methods.MethodKind.{MethodKind}
-use Rattle.sshc_wire.specs.declared.msg.TheConstants.{DISCONNECT, EXT_INFO, SERVICE_ACCEPT, SERVICE_REQUEST, USERAUTH_REQUEST, USERAUTH_FAILURE, USERAUTH_SUCCESS, USERAUTH_BANNER, USERAUTH_PK_OK, USERAUTH_INFO_RESPONSE, USERAUTH_GSSAPI_TOKEN, USERAUTH_GSSAPI_EXCHANGE_COMPLETE, USERAUTH_GSSAPI_ERROR, USERAUTH_GSSAPI_ERRTOK, USERAUTH_GSSAPI_MIC}
+use Rattle.sshc_wire.specs.declared.msg.TheConstants.{DISCONNECT, EXT_INFO, SERVICE_ACCEPT, USERAUTH_FAILURE, USERAUTH_SUCCESS, USERAUTH_BANNER, USERAUTH_PK_OK, USERAUTH_GSSAPI_TOKEN, USERAUTH_GSSAPI_ERROR, USERAUTH_GSSAPI_ERRTOK}
 use Rattle.sshc_wire.specs.declared.record.Record.{Record}
 use Rattle.sshc_wire.specs.declared.record.Record.TheVariants as records
 use Rattle.sshc_wire.specs.declared.resolution.Resolution.{Resolution}
 use Rattle.sshc_wire.specs.declared.resolution.Resolution.TheVariants as answers
 use Rattle.sshc_wire.specs.declared.ticket.Ticket.{Ticket}
-use Rattle.sshc_key.specs.Asking.{Answer, Asking, done, asks, Always}
+use Rattle.sshc_key.specs.Asking.{Answer, Always}
 use Rattle.sshc_key.specs.KeyGrammar.{Key, key_text}
 use Rattle.sshc_auth_event.specs.declared.event.Event.{Event}
 use Rattle.sshc_auth_event.specs.declared.event.Event.TheVariants as events
@@ -37,7 +37,6 @@ use Rattle.sshc_transport.specs.declared.exchange.ExchangeFlag.TheVariants as fl
 use Rattle.sshc_transport.specs.declared.exchange.ExchangeResult.{ExchangeResult}
 use Rattle.sshc_auth_request.specs.RequestTexts.{disconnect, gssapi_complete, gssapi_mic, gssapi_token, info_response, key_part, method_text, mic, request, request_head, service_request, signed, signed_request, unsigned_request}
 use Rattle.sshc_key.specs.RequestNames.{request_name}
-use Rattle.sshc_auth.specs.declared.error.Error.TheVariants.{OutOfTurn, Inconsistent, Pending, InactivityTimeout}
 use Rattle.sshc_auth.specs.declared.extension.Extension.{Extension}
 use Rattle.sshc_auth.specs.declared.opening.Class.{Class}
 use Rattle.sshc_auth.specs.declared.opening.Class.TheVariants as classes
@@ -48,11 +47,11 @@ use Rattle.sshc_auth.specs.declared.step.Told.{Told}
 use Rattle.sshc_auth.specs.declared.step.Told.TheVariants as telling
 use Rattle.sshc_auth.specs.Extensions.{extensions_at, waits_for, answers_seen, answers_to, others}
 use Rattle.sshc_auth.specs.OpeningState.{OpeningState, is_awaiting}
-use Rattle.sshc_auth.specs.OpeningTable.{answer_row, auth_row, gssapi_row, is_pk_ok, auth_packet_row, packet_row_in, phase_packet_row, held_packet_row, is_exchanging, numbered_row, payload_row, authenticate_row_in, plain_row, user_row, unopened_row, event_row, turn_row, open_row}
+use Rattle.sshc_auth.specs.OpeningTable.{answer_row, auth_row, gssapi_row, is_pk_ok, auth_packet_row, packet_row_in, held_packet_row, is_exchanging, numbered_row, payload_row, authenticate_row_in, plain_row, user_row, unopened_row, event_row, turn_row, open_row}
 use Rattle.sshc_auth.specs.OpeningTable.Order.{is_out_of_turn, packet_in, ticket_of}
 use Rattle.sshc_auth.specs.OpeningTable.Exchange.{peer_kexinit_row, peer_kexinit_row_at, accepted_row, first_exchange_row, exchange_row_in, exchange_done_row, has_kept_key}
 use Rattle.sshc_auth.specs.OpeningTable.ExtInfo.{ext_info_row, extensions_row, is_third}
-use Rattle.sshc_auth.specs.OpeningTable.Auth.{answered, userauth_failure_row, userauth_success_row, userauth_banner_row, authenticate_again_row, known_methods, next_without}
+use Rattle.sshc_auth.specs.OpeningTable.Auth.{userauth_failure_row, userauth_success_row, userauth_banner_row, authenticate_again_row, known_methods, next_without}
 use Rattle.sshc_auth.specs.OpeningTable.AuthGssapi.{gssapi_step, gssapi_response_row, gssapi_token_row, gssapi_error_row, gssapi_errtok_row, is_gssapi, last_token, user_token_row, user_mic_row, user_complete_row}
 use Rattle.sshc_auth.specs.OpeningTable.AuthKey.{pk_ok_row, is_pk_ok_body, key_row, signed_by_row}
 use Rattle.sshc_auth.specs.OpeningTable.AuthPrompts.{info_request_row, info_response_row, is_too_many, prompts_at, prompts_row}
@@ -61,7 +60,7 @@ use Rattle.sshc_auth.specs.OpeningTable.Packets.{disconnect_row, disconnect_reas
 use Rattle.sshc_auth.specs.OpeningTable.Service.{service_accept_row, service_packet_row, authenticate_first_row, asked_for_service, stored_request}
 use Rattle.sshc_auth.specs.OpeningTable.User.{rekey_row, await_extension_info_row, get_server_sig_algs_row, is_seen, sig_algs_answer, host_keys_answer, user_disconnect_row}
 use Rattle.sshc_auth.specs.Passwords.{FitsIn, FitsRequest, HasShortUser, once_if, password_packet, times_asked, times_waiting, times_waiting_in, times_written}
-use Rattle.sshc_auth.specs.Row.{Row, Next, stays, opens, ends, refuses, refused, goes, passed_over, resolved, ends_at, with_part, broken_row}
+use Rattle.sshc_auth.specs.Row.{Row, Next, stays, opens, ends, refuses, goes, passed_over, resolved, ends_at, with_part, broken_row}
 
 -- ---- a request by key is not a request by password
 

@@ -1,7 +1,7 @@
 -- What one row of the opening table returns, and what a call that follows it does.
 -- A row is plain data: records, and what becomes of the opening. Where the signer is asked, the row depends on its
 -- answer.
-use Rattle.std.specs.Prelude.{◌≡◌, ◌⊎◌, ◌≤◌, ℕ, Bool, Some, None, List, [], ◌∷◌, ◌++◌, if◌then◌else◌, ◌==◌, Result, Ok, Err}
+use Rattle.std.specs.Prelude.{◌≡◌, ◌⊎◌, ◌≤◌, ℕ, Bool, None, List, [], ◌∷◌, ◌++◌, if◌then◌else◌, ◌==◌, Result, Ok, Err}
 use Rattle.std.specs.Int.{w32}
 use Rattle.sshc_wire.specs.Faults.{Rose}
 use Rattle.sshc_wire.specs.declared.error.WireError.{WireError}

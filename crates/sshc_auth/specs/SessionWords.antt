@@ -1,14 +1,14 @@
 -- What each step of the opening satisfies, stated in terms of the session (RFC 4252, section 7; RFC 4253, sections 7, 8
 -- and 10): the first exchange, the session id, what is signed, and whose request is stored. No row of the table is
 -- named, so that an error made both in the table and in the code shows.
-use Rattle.std.specs.Prelude.{◌≡◌, ◌≢◌, ◌⊎◌, ℕ, Bool, true, false, List, [], ◌∷◌, ◌++◌, Option, Some, None, Result, Ok}
+use Rattle.std.specs.Prelude.{◌≡◌, ◌≢◌, ◌⊎◌, ℕ, true, false, List, [], ◌∷◌, ◌++◌, Option, Some, None, Ok}
 use Rattle.std.specs.List.{AllByRecursion}
 use Rattle.sshc_wire.specs.Records.{IsPayload}
 use Rattle.sshc_wire.specs.declared.auth_record.AuthRecord.TheVariants.{SignRequest, SignRequestCert}
 use Rattle.sshc_wire.specs.declared.hash_alg.HashAlg.{HashAlg}
 use Rattle.sshc_wire.specs.declared.record.Record.{Record}
 use Rattle.sshc_wire.specs.declared.record.Record.TheVariants.{Auth, AuthBanner, KexDone}
-use Rattle.sshc_key.specs.KeyGrammar.{Key, key_text}
+use Rattle.sshc_key.specs.KeyGrammar.{key_text}
 use Rattle.sshc_key.specs.PairCode.{KeyPair}
 use Rattle.sshc_key.specs.Signers.{SignCall}
 use Rattle.sshc_key.specs.declared.identity.PublicKeyOrCertificate.{PublicKeyOrCertificate}

@@ -4,12 +4,10 @@
 use Rattle.std.specs.Prelude.{◌≡◌, ◌≤◌, ◌⊎◌, ℕ, Bool, true, false, List, ◌++◌, Option, Some, None, Result, Ok, Err}
 use Rattle.std.specs.List.{AllByRecursion}
 use Rattle.sshc_wire.specs.declared.record.Record.{Record}
-use Rattle.sshc_wire.specs.Faults.{Rose}
 use Rattle.sshc_wire.specs.Outgoing.{Outgoing}
 use Rattle.sshc_wire.specs.Records.{IsResolved}
 use Rattle.sshc_key.specs.Signers.{SignCall, since}
 use Rattle.sshc_key.specs.declared.identity.PublicKeyOrCertificate.{PublicKeyOrCertificate}
-use Rattle.sshc_key.specs.Asking.{Asking}
 use Rattle.sshc_auth.specs.declared.error.Error.{Error}
 use Rattle.sshc_auth.specs.declared.error.Error.TheVariants.{NoMemory}
 use Rattle.sshc_auth_event.specs.declared.event.Event.{Event}
@@ -24,7 +22,7 @@ use Rattle.sshc_auth.specs.declared.step.Step.{Step}
 use Rattle.sshc_auth.specs.declared.step.Step.TheVariants as steps
 use Rattle.sshc_auth.specs.OpeningState.{OpeningState, shut}
 use Rattle.sshc_auth.specs.OpeningTable.{open_row, asked_of}
-use Rattle.sshc_auth.specs.Row.{Row, Span, Steps}
+use Rattle.sshc_auth.specs.Row.{Span, Steps}
 
 -- ---- what a step is lent
 

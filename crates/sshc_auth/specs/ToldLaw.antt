@@ -21,7 +21,6 @@ use Rattle.sshc_auth.specs.declared.opening.Class.{Class}
 use Rattle.sshc_auth.specs.declared.opening.Class.TheVariants as classes
 use Rattle.sshc_auth.specs.declared.opening.Phase.{Phase}
 use Rattle.sshc_auth.specs.declared.opening.Phase.TheVariants as phases
-use Rattle.sshc_auth.specs.declared.step.Asks.{Asks}
 use Rattle.sshc_auth.specs.declared.step.Asks.TheVariants as asking
 use Rattle.sshc_auth.specs.declared.step.Told.{Told}
 use Rattle.sshc_auth.specs.declared.step.Told.TheVariants as telling
@@ -29,7 +28,7 @@ use Rattle.sshc_auth.specs.OpeningState.{OpeningState, is_awaiting}
 use Rattle.sshc_auth.specs.OpeningTable.{open_row, turn_row, is_pk_ok, plain_row, payload_row, numbered_row, held_packet_row, phase_packet_row, auth_packet_row, auth_row, is_exchanging, packet_row_in, asked_of, event_asks, exchange_asks, key_asked, packet_asks, number_asks, is_held_back, banner_asks, banner_at_end}
 use Rattle.sshc_auth.specs.OpeningTable.Auth.{userauth_banner_row}
 use Rattle.sshc_auth.specs.OpeningTable.Exchange.{accepted_row, exchange_done_row, exchange_row_in, exchanged, has_kept_key}
-use Rattle.sshc_auth.specs.OpeningTable.Order.{is_out_of_turn, packet_in}
+use Rattle.sshc_auth.specs.OpeningTable.Order.{is_out_of_turn}
 use Rattle.sshc_auth.specs.OpeningTable.Packets.{counted_with, is_too_much}
 use Rattle.sshc_auth.specs.Row.{Row, Next, stays, opens, ends, refuses, refused, goes, ends_at, with_part, broken_row}
 use Rattle.sshc_auth.specs.Stepping.{exchange_in}

@@ -105,7 +105,7 @@ rekeyed accepts o s = refl
 
 abbrev fresh : SessionState
 fresh = record {
-  settings = record { max_packet_size = 32768; keepalive_interval = None; keepalive_max = 3 };
+  settings = record { max_packet_size = 32768; keepalive_interval = None; keepalive_max = 3; remote_sshid = [] };
   opening = record (start (record { window_size = 2097152; anonymous = false; inactivity = false })) { phase = Open; flag = Idle };
   table = no_channels 0;
   replies = [];

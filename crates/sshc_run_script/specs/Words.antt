@@ -121,7 +121,7 @@ abbrev pub default_settings : Settings
 default_settings = record { window_size = 2097152; anonymous = false; inactivity = false }
 
 abbrev pub default_run : RunSettings
-default_run = record { opening = default_settings; session = record { max_packet_size = 32768; keepalive_interval = None; keepalive_max = 3 }; agent_asks = false }
+default_run = record { opening = default_settings; session = record { max_packet_size = 32768; keepalive_interval = None; keepalive_max = 3; remote_sshid = [] }; agent_asks = false }
 
 abbrev pub default_events : ℕ
 default_events = 8192

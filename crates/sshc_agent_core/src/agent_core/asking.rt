@@ -6,7 +6,7 @@ ghost use Rattle.sshc_key.specs.View.{view};
 ghost use Rattle.sshc_agent_core.specs.AgentList.{aged};
 ghost use Rattle.sshc_agent_core.specs.AgentTable.Sign.{flagged_hash, hash_of};
 ghost use Rattle.sshc_agent_core.specs.Asked.{asked_of, request_by};
-ghost use Rattle.sshc_agent_core.specs.AskedRows.{body_asks, frame_asks, key_asks, rest_asks, taken_by, taken_now};
+ghost use Rattle.sshc_agent_core.specs.AskedRows.{body_asks, frame_asks, key_asks, may_ask, rest_asks, taken_by, taken_now};
 ghost use Rattle.sshc_agent_core.specs.Connections.{standing_of};
 
 use super::AgentCore;
@@ -73,6 +73,19 @@ fn key_asks<'a>(
         None
     } else {
         rest_asks(conn, key, rest)
+    }
+}
+
+/// Whether a step with this input may ask something: another frame than a sign request doesn't.
+fn may_ask(input: &AgentInput) -> bool
+    ensures { result ≡ may_ask input.now }
+{
+    match input {
+        AgentInput::Frame(whole) => match whole.as_slice() {
+            [] => false,
+            [number, ..] => *number == SIGN_REQUEST,
+        },
+        _ => true,
     }
 }
 
@@ -148,10 +161,13 @@ impl AgentCore {
 
     /// What a step with this input, at a moment in milliseconds, asks to be signed; `None` if it asks nothing. Nothing
     /// changes: whoever has the answer hands it to `apply`.
-    #[tactic(auto, using(crate::proofs::AskedLemmas::asked_now, crate::proofs::AskedLemmas::none_now))]
+    #[tactic(auto, using(crate::proofs::AskedLemmas::asked_now, crate::proofs::AskedLemmas::none_now, crate::proofs::AskedLemmas::none_other))]
     pub fn asks<'a>(&'a self, now: u64, conn: u32, input: &'a AgentInput) -> Option<Asked<'a>>
         ensures { request_by conn result ≡ asked_of now conn input.now self.now }
     {
+        if !may_ask(input) {
+            return None;
+        }
         match self.taken(conn, input) {
             None => None,
             Some(taken) => self.frame_asks(now, conn, taken.is_confirmed, taken.whole),

@@ -15,13 +15,15 @@ ghost use Rattle.sshc_agent_core.specs.declared.key_list.HeldKey.{HeldKey as Hel
 use super::AgentCore;
 use super::turn::Turn;
 use crate::connections::Standing;
-use crate::frame::framed;
 use crate::input::{AgentOutput, Cause};
 use crate::key_list::HeldKey;
 use crate::signing::Told;
 use sshc_key::agent_msg::{FAILURE, SIGN_REQUEST, SIGN_RESPONSE};
-use sshc_wire::{Cursor, NoMemory, Octets, put_bytes};
+use sshc_wire::{Cursor, NoMemory, Octets, begin_string, end_string, put_bytes};
 use std::alloc::Global;
+
+/// The bytes before the signature in an answer: the frame's length, its number and the signature's length.
+const ANSWER_HEAD: usize = 9;
 
 /// The longest signature, in bytes.
 const LONGEST_SIGNATURE: usize = 65_536;
@@ -156,8 +158,11 @@ fn framed_signature(alloc: Global, signature: &[u8]) -> Result<Octets, NoMemory>
     if signature.len() > LONGEST_SIGNATURE {
         return Err(NoMemory);
     }
-    let mut body = Vec::new(alloc);
-    body.push(SIGN_RESPONSE)?;
-    put_bytes(&mut body, signature)?;
-    framed(alloc, &body)
+    let mut frame = Vec::new(alloc);
+    frame.reserve(signature.len() + ANSWER_HEAD)?;
+    let at = begin_string(&mut frame)?;
+    frame.push(SIGN_RESPONSE)?;
+    put_bytes(&mut frame, signature)?;
+    end_string(&mut frame, at)?;
+    Octets::from_vec(frame)
 }

@@ -187,13 +187,13 @@ impl AgentCore {
         input: &AgentInput,
         told: Told<'_>,
     ) -> Result<AgentOutput, NoMemory>
-        requires { IsSome (standing_of self.old.conns conn) }
+        requires { standing_of self.old.conns conn ≡ Some Open }
         ensures row { FollowsTold (standing_row (Some Open) conn input.now self.old)
             self.old self.new (told_of told.entry) result }
     {
         match input {
             AgentInput::Frame(whole) => match self.frame(whole.as_slice()) {
-                Ok(turn) => self.finish(conn, turn, told),
+                Ok(turn) => self.finish_open(conn, turn, told),
                 Err(NoMemory) => Err(NoMemory),
             },
             AgentInput::Oversize { .. } => Ok(self.shut(conn, AgentOutput::Closed(Cause::TooLong))),
@@ -251,6 +251,26 @@ impl AgentCore {
                 Ok(output)
             }
             Turn::Signs(rest) => self.sign(conn, rest, told),
+        }
+    }
+
+    /// Finishes the step of a connection on which no question was open. If none is opened, its state is as it was.
+    fn finish_open(
+        &mut self,
+        conn: u32,
+        turn: Turn<'_>,
+        told: Told<'_>,
+    ) -> Result<AgentOutput, NoMemory>
+        requires { standing_of self.old.conns conn ≡ Some Open }
+        ensures row { Finishes conn turn.entry self.old self.new (told_of told.entry) result }
+    {
+        match turn {
+            Turn::Says(Standing::Open, output) => {
+                self.conns.stays(conn, &Standing::Open);
+                Ok(output)
+            }
+            Turn::Says(standing, output) => self.finish(conn, Turn::Says(standing, output), told),
+            Turn::Signs(rest) => self.finish(conn, Turn::Signs(rest), told),
         }
     }
 

@@ -13,12 +13,20 @@ ghost use Rattle.sshc_agent_core.specs.declared.key_list.HeldKey.{HeldKey as Hel
 
 use super::HeldKey;
 use super::due::{add_due_if, drop_due_if, move_due};
-use crate::frame::framed;
 use indexmap::IndexMap;
 use sshc_key::agent_msg::{IDENTITIES_ANSWER, MAX_AGENT_FRAME_LEN};
-use sshc_wire::{List, NoMemory, Octets, put_bytes, put_u32};
+use sshc_wire::{List, NoMemory, Octets, begin_string, end_string, put_bytes, put_u32};
 use std::alloc::Global;
 use std::collections::BTreeMap;
+
+/// The bytes of a listing before its keys: its length, its number and their count.
+const LISTING_HEAD: usize = 9;
+
+/// The bytes that a key of the usual size takes in a listing, rounded up: of Ed25519 it takes 59.
+const IDENTITY_ROOM: usize = 64;
+
+/// An empty string, as it stands in a listing.
+const EMPTY: [u8; 4] = [0, 0, 0, 0];
 
 pub(super) fn is_past(deadline: Option<u64>, now: u64) -> bool
     ensures { result ≡ is_past deadline now }
@@ -68,25 +76,26 @@ pub(super) fn fits(keys: &IndexMap<Vec<u8>, HeldKey>, start: usize) -> bool
 }
 
 /// Appends a key of a listing: its blob and an empty comment.
+#[tactic(auto, unfolding(sshc_wire::specs::Wire::string_text, sshc_wire::specs::Wire::u32_text))]
 fn put_identity(out: &mut Vec<u8>, key: &HeldKey) -> Result<(), NoMemory>
     ensures { OnOk result (out.new.items ≡ out.old.items ++ identity_text key.now) }
 {
     put_bytes(out, key.blob.as_slice())?;
-    put_bytes(out, &[])
+    out.extend_from_slice(&EMPTY)?;
+    Ok(())
 }
 
+/// Appends the body of the answer that lists the keys.
 #[tactic(auto, unfolding(sshc_wire::specs::Wire::counted_text))]
-fn listing_body(alloc: Global, keys: &IndexMap<Vec<u8>, HeldKey>) -> Result<Vec<u8>, NoMemory>
-    ensures { IfOk result (λ v. v.items ≡ listing (values keys.now)) }
+fn put_listing(out: &mut Vec<u8>, keys: &IndexMap<Vec<u8>, HeldKey>) -> Result<(), NoMemory>
+    ensures { OnOk result (out.new.items ≡ out.old.items ++ listing (values keys.now)) }
 {
     if keys.len() >= 1 << 32 {
         return Err(NoMemory);
     }
-    let mut body = Vec::new(alloc);
-    body.push(IDENTITIES_ANSWER)?;
-    put_u32(&mut body, keys.len() as u32)?;
-    put_identities(&mut body, keys)?;
-    Ok(body)
+    out.push(IDENTITIES_ANSWER)?;
+    put_u32(out, keys.len() as u32)?;
+    put_identities(out, keys)
 }
 
 /// Appends the keys of a listing, in their order.
@@ -99,15 +108,23 @@ fn put_identities(out: &mut Vec<u8>, keys: &IndexMap<Vec<u8>, HeldKey>) -> Resul
     Ok(())
 }
 
-/// The answer that lists the keys, as a whole frame.
+/// The answer that lists the keys, as a whole frame. It is written where it stays, with room for keys of the usual size.
 pub(super) fn framed_listing(
     alloc: Global,
     keys: &IndexMap<Vec<u8>, HeldKey>,
 ) -> Result<Octets, NoMemory>
     ensures { IfOk result (λ o. o ≡ string_text (listing (values keys.now))) }
 {
-    let body = listing_body(alloc, keys)?;
-    framed(alloc, &body)
+    let mut frame = Vec::new(alloc);
+    frame.reserve(
+        keys.len()
+            .saturating_mul(IDENTITY_ROOM)
+            .saturating_add(LISTING_HEAD),
+    )?;
+    let at = begin_string(&mut frame)?;
+    put_listing(&mut frame, keys)?;
+    end_string(&mut frame, at)?;
+    Octets::from_vec(frame)
 }
 
 /// The key with this blob.

@@ -1,9 +1,8 @@
 -- Rows of phase Auth: the server answers the request, or the user asks again (RFC 4252, section 5).
-use Rattle.std.specs.Prelude.{ℕ, Bool, List, [], ◌∷◌, ◌++◌, Option, Some, None, if◌then◌else◌, ◌==◌}
+use Rattle.std.specs.Prelude.{ℕ, List, [], ◌∷◌, ◌++◌, Option, Some, None}
 use Rattle.sshc_wire.specs.Methods.{method_of, with_method}
 use Rattle.sshc_wire.specs.Names.{names_in}
 use Rattle.sshc_wire.specs.declared.methods.MethodKind.{MethodKind}
-use Rattle.sshc_wire.specs.declared.msg.TheConstants.{USERAUTH_FAILURE, USERAUTH_SUCCESS, USERAUTH_BANNER}
 use Rattle.sshc_wire.specs.declared.record.Record.TheVariants as records
 use Rattle.sshc_wire.specs.declared.resolution.Resolution.TheVariants.{AuthFailure, AuthSuccess, Dropped}
 use Rattle.sshc_wire.specs.declared.ticket.Ticket.{Ticket}

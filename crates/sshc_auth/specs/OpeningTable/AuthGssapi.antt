@@ -1,5 +1,5 @@
 -- Rows of phase Auth for GSSAPI, and the user's events that answer them (RFC 4462, section 3).
-use Rattle.std.specs.Prelude.{ℕ, Bool, true, false, List, [], ◌∷◌, ◌++◌, Option, Some, None, if◌then◌else◌}
+use Rattle.std.specs.Prelude.{ℕ, Bool, true, false, List, [], ◌∷◌, ◌++◌, Option, Some, if◌then◌else◌}
 use Rattle.sshc_wire.specs.declared.auth_record.AuthRecord.TheVariants.{Gssapi}
 use Rattle.sshc_wire.specs.declared.auth_record.GssapiRecord.{GssapiRecord}
 use Rattle.sshc_wire.specs.declared.auth_record.GssapiRecord.TheVariants as steps

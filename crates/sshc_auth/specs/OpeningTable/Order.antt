@@ -9,7 +9,6 @@ use Rattle.sshc_transport.specs.declared.exchange.ExchangeFlag.{ExchangeFlag}
 use Rattle.sshc_transport.specs.declared.exchange.ExchangeFlag.TheVariants as flags
 use Rattle.sshc_auth.specs.declared.order.EventSort.{EventSort}
 use Rattle.sshc_auth.specs.declared.order.EventSort.TheVariants as sorts
-use Rattle.sshc_auth.specs.declared.opening.Phase.{Phase}
 use Rattle.sshc_auth.specs.OpeningState.{OpeningState, is_awaiting, no_ticket}
 
 -- where an event comes from

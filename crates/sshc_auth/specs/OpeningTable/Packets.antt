@@ -1,12 +1,10 @@
 -- The tests of a packet before its phase's row (RFC 4253, sections 7 and 11).
-use Rattle.std.specs.Prelude.{ℕ, ◌+◌, ◌-◌, ◌*◌, ◌^◌, min, nat_le, nat_lt, Bool, ◌||◌, List, [], ◌∷◌, length, Option, Some, None, if◌then◌else◌, ◌==◌}
+use Rattle.std.specs.Prelude.{ℕ, ◌+◌, ◌-◌, ◌*◌, ◌^◌, min, nat_le, nat_lt, Bool, ◌||◌, List, [], Option, Some, None, ◌==◌}
 use Rattle.sshc_wire.specs.Reasons.{disconnect_of}
 use Rattle.sshc_wire.specs.declared.disconnect.Disconnect.{Disconnect}
 use Rattle.sshc_wire.specs.declared.msg.TheConstants.{IGNORE, UNIMPLEMENTED, DEBUG}
 use Rattle.sshc_auth.specs.declared.ended.Ended.TheVariants.{RemoteDisconnect}
 use Rattle.sshc_auth.specs.declared.error.Error.TheVariants.{InvalidDisconnect}
-use Rattle.sshc_auth.specs.declared.opening.Phase.{Phase}
-use Rattle.sshc_auth.specs.declared.opening.Phase.TheVariants.{Exchanging}
 use Rattle.sshc_auth.specs.OpeningState.{OpeningState}
 use Rattle.sshc_auth.specs.Row.{Row, ends, refused, reads_number, reads_text}
 

@@ -9,7 +9,6 @@ use Rattle.sshc_wire.specs.declared.ticket.Ticket.{Ticket}
 use Rattle.sshc_key.specs.KeyGrammar.{Key}
 use Rattle.sshc_transport.specs.declared.exchange.ExchangeFlag.TheVariants.{Ours}
 use Rattle.sshc_auth.specs.declared.ended.Ended.TheVariants as ended
-use Rattle.sshc_auth.specs.declared.opening.Waiter.{Waiter}
 use Rattle.sshc_auth.specs.OpeningState.{OpeningState}
 use Rattle.sshc_auth_request.specs.RequestTexts.{disconnect}
 use Rattle.sshc_auth.specs.Row.{Row, goes, ends, resolved}

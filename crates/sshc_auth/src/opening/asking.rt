@@ -51,6 +51,7 @@ impl Opening {
     /// event a caller knows so that nothing is asked, without a key or a text made for it.
     #[tactic(auto, using(crate::specs::AskedLaws::unasked))]
     pub fn may_ask(&self, event: &Event) -> bool
+        ensures kinds { result ≡ may_ask event.now }
         ensures nothing { result ≡ false → asked_of self.now event.now ≡ Asks.Nothing }
     {
         may_ask(event)

@@ -169,7 +169,7 @@ impl Listening {
     /// A callback that returns nothing.
     #[tactic(auto, using(crate::proofs::HeardLemmas::handles))]
     fn hear(&mut self, call: &str, values: &Values, session: &mut Session) -> Result<(), Refused>
-        ensures { Handles ⊥ (Ok tt) (handler_at self.old []) (handler_at self.new [])
+        ensures { Handles ⊥ (Ok tt) (handler_at self.old [] 0) (handler_at self.new [] 0)
             session.old session.new result }
     {
         let called = self.called(call, values, session);
@@ -184,7 +184,7 @@ impl Listening {
         values: &Values,
         session: &mut Session,
     ) -> Result<OpenAnswer, Refused>
-        ensures { Handles ⊥ (Ok OpenAnswer.Accept) (handler_at self.old []) (handler_at self.new [])
+        ensures { Handles ⊥ (Ok OpenAnswer.Accept) (handler_at self.old [] 0) (handler_at self.new [] 0)
             session.old session.new result }
     {
         let called = self.called(call, values, session);

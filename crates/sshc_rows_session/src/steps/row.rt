@@ -44,7 +44,7 @@ fn put_record(alloc: Global, heard: &mut String, bytes: Vec<u8>) -> Result<(), N
 impl Row {
     /// A session at its start.
     fn new(alloc: Global, settings: RowSettings) -> Result<Row, NoMemory> {
-        let session = Session::new(alloc, settings.session, settings.opening)?;
+        let session = Session::with_settings(alloc, settings.session, settings.opening)?;
         Ok(Row {
             session,
             handler: Listening::new(alloc),
@@ -175,7 +175,7 @@ impl Row {
 pub fn verdict(alloc: Global, fronts: &str, head: &str, lines: &str) -> Result<String, NoMemory> {
     let (name, rest) = first_word(head);
     let (front, settings) = first_word(rest);
-    let mut row = Row::new(alloc, RowSettings::of(settings))?;
+    let mut row = Row::new(alloc, RowSettings::of(alloc, settings))?;
     let ran = row.run(alloc, fronts, front, lines);
     let verdict = row.verdict(alloc, name);
     let_go(row);

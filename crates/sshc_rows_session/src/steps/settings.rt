@@ -1,9 +1,11 @@
 //! The settings of a row's session.
 
 use sshc_client::{SessionSettings, Settings};
+use sshc_wire::Octets;
+use std::alloc::Global;
 
 /// The settings of a session and of its opening.
-#[derive(Clone, Copy)]
+#[derive(Drop)]
 pub struct RowSettings {
     pub session: SessionSettings,
     pub opening: Settings,
@@ -11,12 +13,13 @@ pub struct RowSettings {
 
 impl RowSettings {
     /// The default settings of a client, except that no user is authenticated.
-    fn usual() -> RowSettings {
+    fn usual(alloc: Global) -> RowSettings {
         RowSettings {
             session: SessionSettings {
                 max_packet_size: 32768,
                 keepalive_interval: None,
                 keepalive_max: 3,
+                remote_sshid: Octets::new(alloc),
             },
             opening: Settings {
                 window_size: 2_097_152,
@@ -44,8 +47,8 @@ impl RowSettings {
     }
 
     /// The settings by the words of a line.
-    pub fn of(line: &str) -> RowSettings {
-        let mut settings = RowSettings::usual();
+    pub fn of(alloc: Global, line: &str) -> RowSettings {
+        let mut settings = RowSettings::usual(alloc);
         for word in line.split_whitespace() {
             settings = settings.set(word);
         }

@@ -1,7 +1,7 @@
-use Rattle.std.proofs.Common.{◌≡◌, ℕ, ◌-◌, ◌+◌, ◌∷◌, [], ◌++◌, ◌∙◌, ap, sym, arith}
+use Rattle.std.proofs.Common.{◌≡◌, ℕ, ◌-◌, ◌∙◌, ap, sym, arith}
 use Rattle.sshc_wire.specs.Counted.{times_at}
 use Rattle.sshc_auth.specs.Extensions.{extension_at}
-use Rattle.sshc_auth.proofs.CountedLemmas.{behind, behind_none, took, stuck, all_taken}
+use Rattle.sshc_auth.proofs.CountedLemmas.{behind_none, took, stuck, all_taken}
 use Rattle.sshc_auth.proofs.extension.read_so_many.Goals as goal
 
 pub loop-init : goal.loop-init

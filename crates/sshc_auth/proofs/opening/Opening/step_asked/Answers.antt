@@ -1,4 +1,4 @@
-use Rattle.std.proofs.Common.{◌≡◌, Ok, inr, rules, sym}
+use Rattle.std.proofs.Common.{Ok, inr, rules, sym}
 use Rattle.sshc_auth.specs.Stepping.{exchange_in, gate_answers, lent, with_gate}
 use Rattle.sshc_auth.specs.AskedLaws.{has_exchange}
 use Rattle.sshc_auth.proofs.StepLemmas.{fits_asked, told_cause}
