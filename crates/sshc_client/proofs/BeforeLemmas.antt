@@ -64,7 +64,7 @@ pub steps_behind : {E : Type 0} (defaults : Type 0) (told_as : Error → E) (jud
     AsksHandler {E = E} defaults judges asks (handler_at r setting count) (handler_at r2 setting2 count2) s mid (Ok accepts) → is_open s.opening.phase ≡ false →
     StepsBefore (verdict_gate told_as accepts) event (lent_session mid calls x 0 [] 0) (lent_session t calls2 x2 0 [] 0) result →
     Before defaults (handler_gate told_as judges) event (lent_session s calls x r setting count) (lent_session t calls2 x2 r2 setting2 count2) result
-steps_behind {E = E} defaults told_as judges event asks accepts s mid t calls calls2 x x2 r r2 setting setting2 result fresh asked h early b = record {
+steps_behind {E = E} defaults told_as judges event asks accepts s mid t calls calls2 x x2 r r2 setting setting2 result {count = count} {count2 = count2} fresh asked h early b = record {
   steps_on = inl (record {
     mid = mid;
     grown = h.grown;
@@ -77,24 +77,24 @@ steps_behind {E = E} defaults told_as judges event asks accepts s mid t calls ca
         (gate_keeps r r2 setting setting2 h.keeps) b.stepped;
     ends = b.ends;
   });
-  keeps = subst (λ (a : Asks). HandlerAsked (keys_asked a) (handler_at r setting _) (handler_at r2 setting2 _)) asked h.keeps;
+  keeps = subst (λ (a : Asks). HandlerAsked (keys_asked a) (handler_at r setting count) (handler_at r2 setting2 count2)) asked h.keeps;
 }
 
-why_refused : {E : Type 0} (defaults : Type 0) (told_as : Error → E) (judges : PublicKeyOrCertificate → Result Bool E → Type 0) (event : Event) (asks : Asks) (s mid t : SessionState) (calls calls2 : List SignCall) (x x2 r r2 : ℕ) (setting setting2 : List (List ℕ)) (e : E) {count count2 : ℕ} →
+why_refused : {E : Type 0} (defaults : Type 0) (told_as : Error → E) (judges : PublicKeyOrCertificate → Result Bool E → Type 0) (event : Event) (asks : Asks) (s mid t : SessionState) (calls calls2 : List SignCall) (x x2 r r2 : ℕ) (setting setting2 : List (List ℕ)) (e : E) (count count2 : ℕ) →
     asked_of s.opening event ≡ asks → Refuses defaults judges asks s mid e → Rose r r2 →
     WhyRefused defaults (handler_gate told_as judges) event (lent_session s calls x r setting count) (lent_session t calls2 x2 r2 setting2 count2) mid e
-why_refused defaults told_as judges event (asking.HostKey key) s mid t calls calls2 x x2 r r2 setting setting2 e asked (inl (says, same)) rose = inr (inl (key, asked, says, same, rose))
-why_refused defaults told_as judges event asking.Nothing s mid t calls calls2 x x2 r r2 setting setting2 e asked (inl (never, same)) rose = absurd never
-why_refused defaults told_as judges event asking.Exchange s mid t calls calls2 x x2 r r2 setting setting2 e asked (inl (never, same)) rose = absurd never
-why_refused defaults told_as judges event (asking.Banner text) s mid t calls calls2 x x2 r r2 setting setting2 e asked (inl (never, same)) rose = absurd never
-why_refused defaults told_as judges event asks s mid t calls calls2 x x2 r r2 setting setting2 e asked (inr (called, own_body)) rose = inr (inr (rose, subst IsCall (sym asked) called, own_body))
+why_refused defaults told_as judges event (asking.HostKey key) s mid t calls calls2 x x2 r r2 setting setting2 e count count2 asked (inl (says, same)) rose = inr (inl (key, asked, says, same, rose))
+why_refused defaults told_as judges event asking.Nothing s mid t calls calls2 x x2 r r2 setting setting2 e count count2 asked (inl (never, same)) rose = absurd never
+why_refused defaults told_as judges event asking.Exchange s mid t calls calls2 x x2 r r2 setting setting2 e count count2 asked (inl (never, same)) rose = absurd never
+why_refused defaults told_as judges event (asking.Banner text) s mid t calls calls2 x x2 r r2 setting setting2 e count count2 asked (inl (never, same)) rose = absurd never
+why_refused defaults told_as judges event asks s mid t calls calls2 x x2 r r2 setting setting2 e count count2 asked (inr (called, own_body)) rose = inr (inr (rose, subst IsCall (sym asked) called, own_body))
 
 -- the handler refused
 pub refused_before : {E : Type 0} (defaults : Type 0) (told_as : Error → E) (judges : PublicKeyOrCertificate → Result Bool E → Type 0) (event : Event) (asks : Asks) (s mid : SessionState) (calls : List SignCall) (x r r2 : ℕ) (setting setting2 : List (List ℕ)) (e : E) {count count2 : ℕ} →
     s.opening.closed ≡ false → asks ≡ asked_of s.opening event →
     AsksHandler {E = E} defaults judges asks (handler_at r setting count) (handler_at r2 setting2 count2) s mid (Err e) →
     Before defaults (handler_gate told_as judges) event (lent_session s calls x r setting count) (lent_session (shut_session mid) calls x r2 setting2 count2) (steps.Refused e)
-refused_before {E = E} defaults told_as judges event asks s mid calls x r r2 setting setting2 e fresh asked h = record {
+refused_before {E = E} defaults told_as judges event asks s mid calls x r r2 setting setting2 e {count = count} {count2 = count2} fresh asked h = record {
   steps_on = inr (record {
     fresh = fresh;
     mid = mid;
@@ -102,11 +102,11 @@ refused_before {E = E} defaults told_as judges event asks s mid calls x r r2 set
     error = e;
     refused = refl;
     shut = refl;
-    why = why_refused defaults told_as judges event asks s mid (shut_session mid) calls calls x x r r2 setting setting2 e (sym asked) h.said.0 h.said.1;
+    why = why_refused defaults told_as judges event asks s mid (shut_session mid) calls calls x x r r2 setting setting2 e count count2 (sym asked) h.said.0 h.said.1;
     calls = refl;
     refusals = refl;
   });
-  keeps = subst (λ (a : Asks). HandlerAsked (keys_asked a) (handler_at r setting _) (handler_at r2 setting2 _)) asked h.keeps;
+  keeps = subst (λ (a : Asks). HandlerAsked (keys_asked a) (handler_at r setting count) (handler_at r2 setting2 count2)) asked h.keeps;
 }
 
 -- memory ran out before the handler was asked

@@ -196,15 +196,15 @@ lent_so gate event was is result life s = record {
 behind_so : {E : Type 0} (defaults : Type 0) (gate : GateAnswers E) (event : Event) (s t : SessionState) (calls calls2 : List SignCall) (x x2 r r2 : ℕ) (setting setting2 : List (List ℕ)) (result : Step E) {count count2 : ℕ} → defaults → s.life ≡ Runs →
     StepsBehind defaults gate event (lent_session s calls x r setting count) (lent_session t calls2 x2 r2 setting2 count2) result →
     StepsOpening gate event (lent_session s calls x r setting count) (lent_session t calls2 x2 r2 setting2 count2) result
-behind_so {E = E} defaults gate event s t calls calls2 x x2 r r2 setting setting2 result plain life b =
-    let stepped : StepsLent gate event (lent_session s calls x r setting _) (lent_session b.last calls2 x2 r2 setting2 _) b.step =
-    subst (λ (m : SessionState). StepsLent gate event (lent_session m calls x r setting _) (lent_session b.last calls2 x2 r2 setting2 _) b.step) (b.same plain) b.stepped in
+behind_so {E = E} defaults gate event s t calls calls2 x x2 r r2 setting setting2 result {count = count} {count2 = count2} plain life b =
+    let stepped : StepsLent gate event (lent_session s calls x r setting count) (lent_session b.last calls2 x2 r2 setting2 count2) b.step =
+    subst (λ (m : SessionState). StepsLent gate event (lent_session m calls x r setting count) (lent_session b.last calls2 x2 r2 setting2 count2) b.step) (b.same plain) b.stepped in
     let last_life : b.last.life ≡ life_behind (goes_on b.step) s.life = ap (λ (z : SessionState). z.life) stepped.rest in
     let none_left : goes_on b.step && has_left b.last.life ≡ false = ap (λ (l : Life). goes_on b.step && has_left l) last_life ∙ nobody_left (goes_on b.step) s.life life in
     let ends_so = stays_on (goes_on b.step && has_left b.last.life) b.last t b.step result none_left b.ends in
-    subst (λ (z : Step E). StepsOpening gate event (lent_session s calls x r setting _) (lent_session t calls2 x2 r2 setting2 _) z) (sym ends_so.0)
-    (subst (λ (z : SessionState). StepsOpening gate event (lent_session s calls x r setting _) (lent_session z calls2 x2 r2 setting2 _) b.step) (sym ends_so.1)
-    (lent_so gate event (lent_session s calls x r setting _) (lent_session b.last calls2 x2 r2 setting2 _) b.step life stepped))
+    subst (λ (z : Step E). StepsOpening gate event (lent_session s calls x r setting count) (lent_session t calls2 x2 r2 setting2 count2) z) (sym ends_so.0)
+    (subst (λ (z : SessionState). StepsOpening gate event (lent_session s calls x r setting count) (lent_session z calls2 x2 r2 setting2 count2) b.step) (sym ends_so.1)
+    (lent_so gate event (lent_session s calls x r setting count) (lent_session b.last calls2 x2 r2 setting2 count2) b.step life stepped))
 
 none_since : (calls calls2 : List SignCall) → calls2 ≡ calls → since calls calls2 ≡ []
 none_since calls calls2 same = ap (since calls) same ∙ drop-length calls
@@ -253,8 +253,8 @@ refuses_key gate x out key e asks asked says = rw asked (Err e, says, (refl, ref
 why_so : {E : Type 0} (defaults : Type 0) (gate : GateAnswers E) (event : Event) (s mid : SessionState) (calls calls2 : List SignCall) (x r r2 : ℕ) (setting setting2 : List (List ℕ)) (t : SessionState) (e : E) {count count2 : ℕ} → defaults → s.opening.closed ≡ false → calls2 ≡ calls → GateKeeps r r2 setting setting2 → t ≡ shut_session mid →
     WhyRefused defaults gate event (lent_session s calls x r setting count) (lent_session t calls2 x r2 setting2 count2) mid e →
     StepsOpening gate event (lent_session s calls x r setting count) (lent_session t calls2 x r2 setting2 count2) (steps.Refused e)
-why_so {E = E} defaults gate event s mid calls calls2 x r r2 setting setting2 t e plain fresh same keeps is (inl (memory, still)) =
-    rw (is, still) (subst (λ (z : E). StepsOpening gate event (lent_session s calls x r setting _) (lent_session (shut_session s) calls2 x r2 setting2 _) (steps.Refused z)) (sym memory)
+why_so {E = E} defaults gate event s mid calls calls2 x r r2 setting setting2 t e {count = count} {count2 = count2} plain fresh same keeps is (inl (memory, still)) =
+    rw (is, still) (subst (λ (z : E). StepsOpening gate event (lent_session s calls x r setting count) (lent_session (shut_session s) calls2 x r2 setting2 count2) (steps.Refused z)) (sym memory)
     (shut_so gate event s calls calls2 x r r2 setting setting2 (gate.told_as NoMemory) fresh same keeps (inl (refl, refl, refl, same)) (inl (NoMemory, refl, tt, tt))))
 why_so defaults gate event s mid calls calls2 x r r2 setting setting2 t e plain fresh same keeps is (inr (inl (key, asked, says, still, rose))) =
     rw (is, still) (shut_so gate event s calls calls2 x r r2 setting setting2 e fresh same keeps
@@ -265,9 +265,9 @@ why_so defaults gate event s mid calls calls2 x r r2 setting setting2 t e plain 
 refused_so : {E : Type 0} (defaults : Type 0) (gate : GateAnswers E) (event : Event) (s t : SessionState) (calls calls2 : List SignCall) (x x2 r r2 : ℕ) (setting setting2 : List (List ℕ)) (result : Step E) {count count2 : ℕ} → defaults → GateKeeps r r2 setting setting2 →
     RefusedBefore defaults gate event (lent_session s calls x r setting count) (lent_session t calls2 x2 r2 setting2 count2) result →
     StepsOpening gate event (lent_session s calls x r setting count) (lent_session t calls2 x2 r2 setting2 count2) result
-refused_so {E = E} defaults gate event s t calls calls2 x x2 r r2 setting setting2 result plain keeps b =
-    subst (λ (z : Step E). StepsOpening gate event (lent_session s calls x r setting _) (lent_session t calls2 x2 r2 setting2 _) z) (sym b.refused)
-    (subst (λ (n : ℕ). StepsOpening gate event (lent_session s calls x r setting _) (lent_session t calls2 n r2 setting2 _) (steps.Refused b.error)) (sym b.refusals)
+refused_so {E = E} defaults gate event s t calls calls2 x x2 r r2 setting setting2 result {count = count} {count2 = count2} plain keeps b =
+    subst (λ (z : Step E). StepsOpening gate event (lent_session s calls x r setting count) (lent_session t calls2 x2 r2 setting2 count2) z) (sym b.refused)
+    (subst (λ (n : ℕ). StepsOpening gate event (lent_session s calls x r setting count) (lent_session t calls2 n r2 setting2 count2) (steps.Refused b.error)) (sym b.refusals)
     (why_so defaults gate event s b.mid calls calls2 x r r2 setting setting2 t b.error plain b.fresh b.calls keeps b.shut b.why))
 
 -- ---- the step
