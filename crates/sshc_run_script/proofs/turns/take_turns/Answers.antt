@@ -64,11 +64,13 @@ returns-clause-run g c =
 
 pub returns-in-Some-clause-paused : goal.returns-in-Some-clause-paused
 returns-in-Some-clause-paused g c = λ is.
-    pauses_still (run (run_turn (hosts_of c.args.gate.now) (g.V.Verifier.accepts c.args.verifier.now))) _ _ _ _ _ _ _ _ _ c.loop-turn.invariant.count c.loop-turn.invariant.along (c.in-Some.ensures.ended (ap Some is))
+    pauses_still (run (run_turn (hosts_of c.args.gate.now) (g.V.Verifier.accepts c.args.verifier.now))) _ _ _ _ _ _ _ (streams (g.S.Source.left c.loop-turn.source) (g.K.Sink.contents c.loop-turn.sink) (g.S.Source.reads c.loop-turn.source) (g.G.LocalSigner.calls c.loop-turn.signer)) (streams (g.S.Source.left c.one_turn-answer.new.source) (g.K.Sink.contents c.one_turn-answer.new.sink) (g.S.Source.reads c.one_turn-answer.new.source) (g.G.LocalSigner.calls c.one_turn-answer.new.signer))
+    c.loop-turn.invariant.count c.loop-turn.invariant.along (c.in-Some.ensures.ended (ap Some is))
 
 pub returns-clause-paused : goal.returns-clause-paused
 returns-clause-paused g c = λ is.
-    pauses_still (run (run_turn (hosts_of c.args.gate.now) (g.V.Verifier.accepts c.args.verifier.now))) _ _ _ _ _ _ _ _ _ c.loop-turn.invariant.count c.loop-turn.invariant.along (refl, limit_still _ _ c.at_limit.result is c.at_limit.ensures.gives, refl, refl)
+    pauses_still (run (run_turn (hosts_of c.args.gate.now) (g.V.Verifier.accepts c.args.verifier.now))) _ _ _ _ _ _ _ (streams (g.S.Source.left c.loop-turn.source) (g.K.Sink.contents c.loop-turn.sink) (g.S.Source.reads c.loop-turn.source) (g.G.LocalSigner.calls c.loop-turn.signer)) (streams (g.S.Source.left c.at_limit.new.source) (g.K.Sink.contents c.loop-turn.sink) (g.S.Source.reads c.at_limit.new.source) (g.G.LocalSigner.calls c.loop-turn.signer))
+    c.loop-turn.invariant.count c.loop-turn.invariant.along (refl, limit_still _ _ c.at_limit.result is c.at_limit.ensures.gives, refl, refl)
 
 pub returns-in-Some-clause-ready : goal.returns-in-Some-clause-ready
 returns-in-Some-clause-ready g c = λ is.
