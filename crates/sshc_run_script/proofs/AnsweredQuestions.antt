@@ -2,7 +2,9 @@
 use Rattle.std.proofs.Common.{◌≡◌, List, [], ◌∷◌, ◌++◌, refl, ap, sym, ◌∙◌}
 use Rattle.sshc_key.specs.Signers.{SignCall}
 use Rattle.sshc_key.specs.Asking.{Answer, Asking, done, asks, call_of, Makes, MakesFirst}
-use Rattle.sshc_run_script.specs.ScriptRun.{RunOf, after, asked_run, answers_of}
+use Rattle.sshc_wire.specs.declared.record.Record.{Record}
+use Rattle.sshc_run_script.specs.Machine.{unanswered_stop}
+use Rattle.sshc_run_script.specs.ScriptRun.{Run, RunOf, after, asked_run, answers_of}
 
 pub answers_two : (a b : List SignCall) → answers_of (a ++ b) ≡ answers_of a ++ answers_of b
 answers_two [] b = refl
@@ -34,3 +36,11 @@ asked_same wanting (done x) answers later later' same = same x answers
 asked_same wanting (asks asked on) [] later later' same = refl
 asked_same {E = E} wanting (asks asked on) (answer ∷ answers) later later' same =
     ap (λ (r : RunOf E). after [] (call_of asked answer ∷ []) r) (asked_same wanting (on answer) answers later later' same)
+
+-- what holds without records, and of the run after each result, holds of the records of the run
+pub by_records : {A : Type 0} (P : List Record → Type 0) (asking : Asking A) (answers : List Answer) (later : A → List Answer → Run) → P [] →
+    ((gained : List SignCall) (x : A) (left : List Answer) → Makes asking gained x → P (later x left).records) → P (asked_run unanswered_stop asking answers later).records
+by_records P (done x) answers later none each = each [] x answers refl
+by_records P (asks asked on) [] later none each = none
+by_records P (asks asked on) (answer ∷ answers) later none each =
+    by_records P (on answer) answers later none (λ gained x left makes. each (call_of asked answer ∷ gained) x left (refl, makes))

@@ -1,14 +1,18 @@
 -- The answers in order are those by asker, if they are the answers of the run's own calls.
-use Rattle.std.proofs.Common.{◌≡◌, true, List, [], ◌∷◌, Some, refl, ap, sym, ◌∙◌, arith}
+use Rattle.std.proofs.Common.{◌≡◌, ℕ, Result, true, List, [], ◌∷◌, Some, refl, ap, sym, ◌∙◌, arith}
 use Rattle.std.proofs.lemmas.Bool.Decides.{nat_tests}
-use Rattle.sshc_key.specs.Signers.{SignCall}
+use Rattle.sshc_key.specs.Signers.{SignCall, since}
 use Rattle.sshc_key.specs.declared.signer.Asker.{Asker}
 use Rattle.sshc_key.specs.declared.signer.Asker.TheVariants.{Session, Agent}
 use Rattle.sshc_key.specs.Asking.{SignRequest, Answer, Asking, done, asks, call_of}
-use Rattle.sshc_run_script.specs.Askers.{same_asker, next_by, with_next, asked_by, events_by}
-use Rattle.sshc_run_script.specs.Machine.{unanswered_stop, Onward, goes_on, opened, stopped, TurnOf, Turns}
-use Rattle.sshc_run_reader.specs.Script.{Frame, ScriptStop}
-use Rattle.sshc_run_script.specs.ScriptRun.{Run, after, run_on, asked_run, answers_of, events_run}
+use Rattle.sshc_run_script.specs.Askers.{AreCallsByAsker, same_asker, next_by, with_next, asked_by, events_by}
+use Rattle.sshc_run_script.specs.Machine.{unanswered_stop, Onward, goes_on, opened, stopped, Machine, TurnOf, Turns}
+use Rattle.sshc_run_reader.specs.Script.{Frame, ScriptStop, taken, stop_of}
+use Rattle.sshc_run_script.specs.ScriptRun.{Run, after, run_on, asked_run, answers_of, events_run, script_run}
+use Rattle.sshc_run_script.specs.Outcome.{Streams, Ends}
+use Rattle.sshc_run_script.specs.declared.error.RunError.{RunError}
+use Rattle.sshc_auth.specs.declared.ended.Ended.{Ended}
+use Rattle.sshc_run_script.proofs.OpeningFirsts.{made_of}
 
 same_self : (a : Asker) → same_asker a a ≡ true
 same_self Session = refl
@@ -44,3 +48,9 @@ events_in_order turn st [] s said made = refl
 events_in_order turn st (frame ∷ frames) s said made =
     asked_in_order (turn s frame) said (λ t left. run_on t t.next (events_by turn t.state frames st left)) (λ t left. run_on t t.next (events_run turn t.state frames st left))
     (λ t left. turn_in_order t t.next left (events_by turn t.state frames st left) (events_run turn t.state frames st (answers_of left)) (events_in_order turn st frames t.state left)) made
+
+-- so the calls of a run that ended are those of its table over the whole script
+pub calls_by_asker : {S : Type 0} (m : Machine S) (max : ℕ) (before now : Streams) (a : Result Ended RunError) → Ends max 0 0 (script_run m max) before now a → AreCallsByAsker m max (since before.calls now.calls) before.left
+calls_by_asker m max before now a ends = λ bytes said.
+    let made = made_of m max before now a ends bytes said in
+    (made, events_in_order m.turn (stop_of max bytes) (taken max bytes) m.first (since before.calls now.calls) made)

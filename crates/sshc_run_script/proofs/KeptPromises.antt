@@ -1,10 +1,6 @@
 -- A run that ends by its table has each guarantee: the laws of whole runs, gathered.
 use Rattle.std.proofs.Common.{Result, Err, refl, arith}
 use Rattle.sshc_wire.specs.Contents.{no_writes, moved_for}
-use Rattle.sshc_mux.specs.ChannelAccount.{EachLifeHasItsAccount, LegalStays}
-use Rattle.sshc_client_table.specs.OpensOnce.{OpensAreAnsweredOnce}
-use Rattle.sshc_client_table.specs.ReplyQueue.{RepliesAreInOrder}
-use Rattle.sshc_client_table.specs.SessionAccount.{ChannelsAreAccounted}
 use Rattle.sshc_auth.specs.OpeningState.{OpeningState}
 use Rattle.sshc_auth.specs.declared.ended.Ended.{Ended}
 use Rattle.sshc_run_script.specs.declared.error.RunError.{RunError}
@@ -15,9 +11,11 @@ use Rattle.sshc_run_script.specs.RunOutside.{RunOutside, CountsMoved, streams_of
 use Rattle.sshc_run_script.specs.RunPromises.{RunAsked, RunPromises, table_of, opening_table, calls_since, session_answers}
 use Rattle.sshc_run_script.specs.RunTurn.{RunState, run_machine}
 use Rattle.sshc_run_script.specs.ScriptRun.{answers_of}
+use Rattle.sshc_run_script.specs.SessionLaws.{SessionLaws}
 use Rattle.sshc_run_script.specs.SessionPart.{session_own, IsAgentCause}
 use Rattle.sshc_run_script.specs.SessionTurn.{session_turn}
 use Rattle.sshc_run_script.proofs.AgentEnds.{agent_ends_none}
+use Rattle.sshc_run_script.proofs.AskersLaws.{calls_by_asker}
 use Rattle.sshc_run_script.proofs.RunCauses.{caused_of}
 use Rattle.sshc_run_script.proofs.OpenedKeys.{opened_by_accepted}
 use Rattle.sshc_run_script.proofs.OpeningFirsts.{opening_first_of, opening_done_of, opening_complete_of}
@@ -30,15 +28,8 @@ use Rattle.sshc_run_script.proofs.RunOpens.{opens_answered}
 use Rattle.sshc_run_script.proofs.RunPasswords.{passwords_asked}
 use Rattle.sshc_run_script.proofs.RunReplies.{replies_in_order}
 use Rattle.sshc_run_script.proofs.RunSigned.{signed_along}
+use Rattle.sshc_run_script.proofs.RunSteps.{steps_keep}
 use Rattle.sshc_run_script.proofs.SessionPart.{IsUnopened, agent_stops, kept_in, session_continues, session_part}
-
--- the laws of open sessions and of channels that a run's guarantees depend on
-pub record SessionLaws : Type 0 where
-  pub replies : RepliesAreInOrder
-  pub accounted : ChannelsAreAccounted
-  pub opens : OpensAreAnsweredOnce
-  pub account : EachLifeHasItsAccount
-  pub legal : LegalStays
 
 module _ (laws : SessionLaws) (asked : RunAsked) (before now : RunOutside) (a : Result Ended RunError) (ends : Ends asked.max_events 0 0 (table_of asked) (streams_of before) (streams_of now) a) (counts : CountsMoved before now a) where
   abbrev machine : Machine RunState
@@ -64,12 +55,14 @@ module _ (laws : SessionLaws) (asked : RunAsked) (before now : RunOutside) (a : 
     opening_complete = opening_complete_of short (session_turn asked.hosts asked.accepts) (kept_in asked.settings) IsUnopened (session_continues asked.hosts asked.accepts asked.settings) (refl, refl) machine (λ (s : RunState). s.one) session_own
         (session_part asked.hosts asked.accepts) IsAgentCause (agent_stops asked.hosts asked.accepts) refl asked.max_events (streams_of before) (streams_of now) a _ _ _ _ ends counts.faults.read_fault counts.faults.write_fault;
     replies = replies_in_order laws.replies asked.hosts asked.accepts asked.settings asked.max_events (session_answers before now) before.source.left;
-    channels = accounted laws.accounted asked.hosts asked.accepts laws.account asked.settings asked.max_events (session_answers before now) before.source.left;
-    opens = opens_answered laws.opens laws.accounted laws.account laws.legal asked.hosts asked.accepts asked.settings asked.max_events (session_answers before now) before.source.left;
+    channels = accounted laws.accounted asked.hosts asked.accepts laws.account laws.fronts asked.settings asked.max_events (session_answers before now) before.source.left;
+    opens = opens_answered laws.opens laws.accounted laws.legal asked.accepts asked.hosts asked.settings asked.max_events (session_answers before now) before.source.left;
     opens_once = counted laws.opens laws.legal asked.hosts asked.accepts asked.settings asked.max_events (session_answers before now) before.source.left;
     signed = signed_along asked.hosts asked.accepts asked.settings asked.max_events (session_answers before now) before.source.left;
     calls = calls_counted asked.hosts asked.accepts asked.settings asked.max_events (answers_of (calls_since before now)) before.source.left;
     passwords = passwords_asked asked.hosts asked.accepts asked.settings asked.max_events (answers_of (calls_since before now)) before.source.left;
+    askers = calls_by_asker machine asked.max_events (streams_of before) (streams_of now) a ends;
+    steps = steps_keep laws.rows asked.hosts asked.accepts asked.settings asked.max_events (session_answers before now) before.source.left;
     agents = one_history asked.hosts asked.accepts asked.settings asked.max_events (answers_of (calls_since before now)) before.source.left;
     counts = counts;
   }

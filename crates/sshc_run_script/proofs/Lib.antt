@@ -27,7 +27,6 @@ pub mod AgentsTurns
 pub mod SessionPart
 pub mod AgentEnds
 pub mod EventTurns
-pub mod ProductRuns
 pub mod AskersLaws
 pub mod HostKeyGate
 pub mod RunHistories
@@ -45,3 +44,8 @@ mod RunSigned
 mod RunCalls
 mod OpenedKeys
 pub mod KeptPromises
+pub mod PausedLemmas
+mod PathLaws
+mod SessionTurns
+mod OpeningTurns
+mod RunSteps

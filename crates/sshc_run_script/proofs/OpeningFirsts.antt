@@ -1,6 +1,5 @@
 -- The relation between the opening and a run that takes events of others in between.
 use Rattle.std.proofs.Common.{◌≡◌, ◌⊎◌, inl, inr, ℕ, List, [], ◌∷◌, ◌++◌, Option, Some, None, Result, Ok, Err, refl, ap, sym, ◌∙◌, subst}
-use Rattle.std.proofs.Math.Seq.{drop-length}
 use Rattle.std.proofs.lemmas.List.{append-nil}
 use Rattle.sshc_wire.specs.Contents.{prepend}
 use Rattle.sshc_wire.specs.Faults.{Rose}
@@ -23,7 +22,6 @@ use Rattle.sshc_run_script.specs.ScriptRun.{Run, at_end, at_first, run, events_r
 use Rattle.sshc_run_script.proofs.AnsweredQuestions.{answers_two}
 use Rattle.sshc_run_script.proofs.OpeningContinues.{prefixed}
 use Rattle.sshc_run_script.proofs.RunEqualsFold.{joined}
-use Rattle.sshc_run_script.proofs.Lines.{wrote_nothing}
 use Rattle.sshc_run_script.proofs.ScriptExtension.{begins}
 use Rattle.sshc_run_script.proofs.PartRuns.{parted}
 use Rattle.sshc_run_script.proofs.Promises.{since_is, prefix_of, same_table, with_answers, done_of}
@@ -267,25 +265,3 @@ module _ {O : Type 0} {L : Type 0} {P : Type 0} (short : Machine O) (long : Turn
         IsOpeningComplete short own Cause max (since before.calls now.calls) before.left reads reads' writes writes' a
     opening_complete_of a reads reads' writes writes' ends r w = λ bytes e said valid others quiet still.
         complete_told a e bytes (made_of m max before now a ends bytes said) valid others (told_of max (script_run m max) before now reads reads' writes writes' a ends bytes said r w quiet still)
-
--- ---- where nothing is written
-
-none_begins : {S : Type 0} {X : Type 0} (outputs : List X) (x : OpeningStop S) → BeginsAs outputs x []
-none_begins outputs (opens_before s frames left) = inl (outputs, refl)
-none_begins outputs (stops_with stop) = (outputs, refl)
-none_begins outputs through = (outputs, refl)
-
-no_calls_begin : {S : Type 0} (outputs : List SignCall) (x : OpeningStop S) (asked : List SignCall) → asked ≡ [] → BeginsAs outputs x asked
-no_calls_begin outputs x asked none = subst (λ (cs : List SignCall). BeginsAs outputs x cs) (sym none) (none_begins outputs x)
-
-pub none_first : {S : Type 0} (m : Machine S) (own : Own) (max : ℕ) (calls : List SignCall) (script held : Option (List ℕ)) → own_calls own calls ≡ [] → IsOpeningFirst m own max calls script held held
-none_first m own max calls script held none = λ bytes said. (
-  [],
-  wrote_nothing held _,
-  none_begins (opening_of m own max calls bytes).records (opening_of m own max calls bytes).stop,
-  no_calls_begin (opening_of m own max calls bytes).calls (opening_of m own max calls bytes).stop (own_calls own calls) none,
-)
-
--- no call was made between the same two lists
-pub none_since : (own : Own) (calls : List SignCall) → own_calls own (since calls calls) ≡ []
-none_since own calls = ap (own_calls own) (drop-length calls)

@@ -43,6 +43,8 @@ use Rattle.sshc_run_script.specs.SessionTurn.{SessionTurn, in_session, read_turn
 use Rattle.sshc_run_script.specs.SignedRequests.{CallsAreCounted, by_pair, pair_request, pair_request_by, pair_requests}
 use Rattle.sshc_run_script.specs.Turn.{asked_turn, judged_turn, next_turn, row_turn, stops}
 use Rattle.sshc_run_script.proofs.AgentsTurns.{agents_ask}
+use Rattle.sshc_run_script.proofs.OpeningTurns.{asked_by}
+use Rattle.sshc_run_script.proofs.SessionTurns.{turn_by}
 use Rattle.sshc_run_script.proofs.PartRuns.{other_first, own_first}
 use Rattle.sshc_run_script.proofs.Products.{asks_on, one_takes, other_takes}
 use Rattle.sshc_run_script.proofs.SessionPart.{session_apart}
@@ -146,12 +148,6 @@ module _ (s : OpeningState) (event : Event) where
   table_first : (place : ℕ) (told : Told) → FirstFew s.method (asked_on (row_turn place s) (open_row s event told))
   table_first place told = λ gained first. first_calls (kept_of s) event (open_row s event told) gained (open_keeps s event told) (on_first (row_turn place s) (open_row s event told) gained first)
 
-  table_counted : (place : ℕ) (told : Told) (calls : List SignCall) (t : TurnOf OpeningState) → Makes (asked_on (row_turn place s) (open_row s event told)) calls t → CountedTurn (length calls) t
-  table_counted place told calls t makes =
-      let row = on_made (row_turn place s) (open_row s event told) calls t makes in
-      let few = first_calls (kept_of s) event (open_row s event told) calls (open_keeps s event told) (all_first (open_row s event told) calls row.0 row.1) in
-      subst (CountedTurn (length calls)) row.2 (by_next place (length calls) row.0 row.0.next few (row_calls s event (open_row s event told) calls row.0 (open_keeps s event told) row.1))
-
   judged_first : (place : ℕ) (said : Result Bool HandlerError) → FirstFew s.method (judged_turn place s event said)
   judged_first place (Ok true) = table_first place telling.Went
   judged_first place (Ok false) = table_first place telling.No
@@ -161,23 +157,16 @@ module _ (s : OpeningState) (event : Event) where
       none_first [] first = omega arith
       none_first (call ∷ gained) never = absurd never
 
-  judged_counted : (place : ℕ) (said : Result Bool HandlerError) (calls : List SignCall) (t : TurnOf OpeningState) → Makes (judged_turn place s event said) calls t → CountedTurn (length calls) t
-  judged_counted place (Ok true) calls t makes = table_counted place telling.Went calls t makes
-  judged_counted place (Ok false) calls t makes = table_counted place telling.No calls t makes
-  judged_counted place (Err e) [] t is = subst (CountedTurn 0) is (record { few = omega arith; on = λ goes. absurd cc })
-  judged_counted place (Err e) (call ∷ calls) t never = absurd never
-
   asked_first : (hosts : Hosts) (place : ℕ) (wanted : Asks) → FirstFew s.method (asked_turn hosts place s event wanted)
   asked_first hosts place asking.Nothing = table_first place telling.NotAsked
   asked_first hosts place (asking.HostKey key) = judged_first place (verdict hosts key)
   asked_first hosts place asking.Exchange = table_first place telling.Went
   asked_first hosts place (asking.Banner text) = table_first place telling.Went
 
-  asked_counted : (hosts : Hosts) (place : ℕ) (wanted : Asks) (calls : List SignCall) (t : TurnOf OpeningState) → Makes (asked_turn hosts place s event wanted) calls t → CountedTurn (length calls) t
-  asked_counted hosts place asking.Nothing calls t makes = table_counted place telling.NotAsked calls t makes
-  asked_counted hosts place (asking.HostKey key) calls t makes = judged_counted place (verdict hosts key) calls t makes
-  asked_counted hosts place asking.Exchange calls t makes = table_counted place telling.Went calls t makes
-  asked_counted hosts place (asking.Banner text) calls t makes = table_counted place telling.Went calls t makes
+  row_counted : (place : ℕ) (told : Told) (calls : List SignCall) (row : Row) → Makes (open_row s event told) calls row → CountedTurn (length calls) (row_turn place s row)
+  row_counted place told calls row makes =
+      let few = first_calls (kept_of s) event (open_row s event told) calls (open_keeps s event told) (all_first (open_row s event told) calls row makes) in
+      by_next place (length calls) row row.next few (row_calls s event (open_row s event told) calls row (open_keeps s event told) makes)
 
 -- ---- a turn of the session
 
@@ -193,38 +182,27 @@ module _ (hosts : Hosts) (accepts : Accepts) (place : ℕ) (s : SessionState) wh
   step_first false event = λ gained first. asked_first s.opening event hosts place (asked_of s.opening event) gained (on_first (in_session s) (asked_turn hosts place s.opening event (asked_of s.opening event)) gained first)
   step_first true event = λ gained first. none_asked (open_turn place s (session_row accepts (default_opinions s) s event)) gained first
 
-  step_counted : (live : Bool) (event : Event) (calls : List SignCall) (t : SessionTurn) → Makes (step_turn live hosts accepts place s event) calls t → CountedStep s (Ok event) (length calls) t
-  step_counted false event calls t makes =
-      let turn = on_made (in_session s) (asked_turn hosts place s.opening event (asked_of s.opening event)) calls t makes in
-      subst (CountedStep s (Ok event) (length calls)) turn.2
-      (let counted = asked_counted s.opening event hosts place (asked_of s.opening event) calls turn.0 turn.1 in record { few = counted.few; on = counted.on })
-  step_counted true event [] t is =
-      let same : stored_pair t.state.opening.method ≡ stored_pair s.opening.method =
-      ap (λ (x : SessionTurn). stored_pair x.state.opening.method) (sym is) ∙ ap stored_pair (moves_request (all_moves (session_row accepts (default_opinions s) s event)) s).method in
-      record { few = omega arith; on = λ goes. omega (arith, same) }
-  step_counted true event (call ∷ calls) t never = absurd never
-
   read_first : (read : Result Event EventError) → FirstFew s.opening.method (read_turn hosts accepts place s read)
   read_first (Ok event) = step_first (is_open s.opening.phase) event
   read_first (Err reads.Bad) = λ gained first. none_asked (stops s (errors.BadEvent place)) gained first
   read_first (Err reads.NoMemory) = λ gained first. none_asked (stops s errors.NoMemory) gained first
-
-  stops_counted : (read : Result Event EventError) (t t' : SessionTurn) (calls : List SignCall) → (stop_next t.next ≡ None → ⊥) → Makes (done t) calls t' → CountedStep s read (length calls) t'
-  stops_counted read t t' [] never is = subst (CountedStep s read 0) is (record { few = omega arith; on = λ goes. absurd (never goes) })
-  stops_counted read t t' (call ∷ calls) never makes = absurd makes
-
-  read_counted : (read : Result Event EventError) (calls : List SignCall) (t : SessionTurn) → Makes (read_turn hosts accepts place s read) calls t → CountedStep s read (length calls) t
-  read_counted (Ok event) calls t makes = step_counted (is_open s.opening.phase) event calls t makes
-  read_counted (Err reads.Bad) calls t makes = stops_counted (Err reads.Bad) (stops s (errors.BadEvent place)) t calls (λ goes. absurd cc) makes
-  read_counted (Err reads.NoMemory) calls t makes = stops_counted (Err reads.NoMemory) (stops s errors.NoMemory) t calls (λ goes. absurd cc) makes
 
 turn_first : (hosts : Hosts) (accepts : Accepts) (s : SessionState) (frame : Frame) → FirstFew s.opening.method (session_turn hosts accepts s frame)
 unfolding session_turn
 turn_first hosts accepts s frame = read_first hosts accepts frame.place s (event_of frame.kind frame.fields)
 
 turn_counted : (hosts : Hosts) (accepts : Accepts) (s : SessionState) (frame : Frame) (calls : List SignCall) (t : SessionTurn) → Makes (session_turn hosts accepts s frame) calls t → CountedStep s (event_of frame.kind frame.fields) (length calls) t
-unfolding session_turn
-turn_counted hosts accepts s frame calls t makes = read_counted hosts accepts frame.place s (event_of frame.kind frame.fields) calls t makes
+turn_counted hosts accepts s frame =
+    turn_by hosts accepts s frame (λ read calls t. CountedStep s read (length calls) t)
+    (λ event on.
+    let same = ap stored_pair (moves_request (all_moves (session_row accepts (default_opinions s) s event)) s).method in
+    record { few = omega arith; on = λ goes. omega (arith, same) })
+    (λ event calls t un makes.
+    let counted = asked_by hosts frame.place s.opening event (λ calls t. CountedTurn s.opening event (length calls) t) (λ told calls row made. row_counted s.opening event frame.place told calls row made)
+    (λ e. record { few = omega arith; on = λ goes. absurd cc }) (asked_of s.opening event) calls t makes
+    in
+    record { few = counted.few; on = counted.on })
+    (λ e x. record { few = omega arith; on = λ goes. absurd cc })
 
 -- ---- the session's own calls
 

@@ -5,7 +5,7 @@ use Rattle.std.proofs.lemmas.List.{append-nil}
 use Rattle.std.proofs.lemmas.List.Elements.{filter-append}
 use Rattle.sshc_wire.specs.declared.record.Record.{Record}
 use Rattle.sshc_key.specs.Signers.{SignCall}
-use Rattle.sshc_key.specs.Asking.{Answer, Asking, done, asks, asked_on, call_of, Makes}
+use Rattle.sshc_key.specs.Asking.{Answer, Asking, asked_on, Makes}
 use Rattle.sshc_key.specs.AskingLaws.{always_makes}
 use Rattle.sshc_agent_core.specs.declared.entry.Entry.{Entry}
 use Rattle.sshc_agent_core.specs.declared.input.AgentInput.{AgentInput}
@@ -34,21 +34,13 @@ use Rattle.sshc_run_script.specs.Machine.{Onward, goes_on, opened, stopped, Turn
 use Rattle.sshc_run_script.specs.Part.{SaysBy, own_events, own_records}
 use Rattle.sshc_run_script.specs.Product.{in_one, in_other, others}
 use Rattle.sshc_run_script.specs.RunTurn.{RunState, run_machine, run_turn}
-use Rattle.sshc_run_script.specs.ScriptRun.{Run, asked_run, events_run, run_on, script_run}
+use Rattle.sshc_run_script.specs.ScriptRun.{asked_run, events_run, run_on, script_run}
 use Rattle.sshc_run_script.specs.SessionPart.{session_own}
 use Rattle.sshc_run_script.specs.SessionTurn.{SessionTurn, session_turn}
+use Rattle.sshc_run_script.proofs.AnsweredQuestions.{by_records}
 use Rattle.sshc_run_script.proofs.PartRuns.{own_first, other_first}
 use Rattle.sshc_run_script.proofs.Products.{one_takes, other_takes}
 use Rattle.sshc_run_script.proofs.SessionPart.{session_apart, session_says}
-
--- ---- calls of the signer, by their records
-
-by_records : {A : Type 0} (P : List Record → Type 0) (asking : Asking A) (answers : List Answer) (later : A → List Answer → Run) → P [] →
-    ((gained : List SignCall) (x : A) (left : List Answer) → Makes asking gained x → P (later x left).records) → P (asked_run unanswered_stop asking answers later).records
-by_records P (done x) answers later none each = each [] x answers refl
-by_records P (asks asked on) [] later none each = none
-by_records P (asks asked on) (answer ∷ answers) later none each =
-    by_records P (on answer) answers later none (λ gained x left makes. each (call_of asked answer ∷ gained) x left (refl, makes))
 
 -- ---- histories in sequence
 

@@ -66,7 +66,7 @@ module _ {S : Type 0} (turn : Turns S) (Cause : S → Frame → RunStop → Type
     cause_behind : (stop : RunStop) (t : TurnOf S) (gained : List SignCall) (left : List Answer) → Makes (turn s frame) gained t → answers ≡ answers_of gained ++ left → stop_next t.next ≡ None → Told t.state frames st left stop →
         Told s (frame ∷ frames) st answers stop
     cause_behind stop t gained left makes same on (inl none) = inl none
-    cause_behind stop t gained left makes same on (inr (inl end)) = inr (inl end)
+    cause_behind stop t gained left makes same on (inr (inl (end, through))) = inr (inl (end, (t, gained, left, makes, same, on, through)))
     cause_behind stop t gained left makes same on (inr (inr (s', frame', comes, cause))) = inr (inr (s', frame', inr (t, gained, left, makes, same, on, comes), cause))
 
     turn_cause : (t : TurnOf S) (gained : List SignCall) (left : List Answer) (next : Onward) (r : Run) → Makes (turn s frame) gained t → answers ≡ answers_of gained ++ left → t.next ≡ next → StopsFor (Cause s frame) next → GoesOnIn Holds t.state next →
@@ -88,7 +88,7 @@ module _ {S : Type 0} (turn : Turns S) (Cause : S → Frame → RunStop → Type
   pub stops_caused : ((s : S) (frame : Frame) → Holds s → Shows s frame) →
       (frames : List Frame) (s : S) (st : ScriptStop) (answers : List Answer) → Holds s → (((events_run turn s frames st answers).stop ≡ unanswered_stop) ⊎ CausedBy turn s Cause frames st answers (events_run turn s frames st answers).stop)
   unfolding events_run
-  stops_caused each [] s st answers holds = inr (inl refl)
+  stops_caused each [] s st answers holds = inr (inl (refl, tt))
   stops_caused each (frame ∷ frames) s st answers holds =
       frame_cause s frame frames st answers (asked_run unanswered_stop (turn s frame) answers (λ t left. run_on t t.next (events_run turn t.state frames st left))) (each s frame holds) (λ t left later. stops_caused each frames t.state st left later)
       (came_to (turn s frame) unanswered_stop answers (λ t left. run_on t t.next (events_run turn t.state frames st left)))

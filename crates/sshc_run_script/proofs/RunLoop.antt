@@ -8,10 +8,10 @@ use Rattle.sshc_key.specs.Signers.{SignCall}
 use Rattle.sshc_key.specs.Asking.{Answer}
 use Rattle.sshc_auth.specs.declared.ended.Ended.{Ended}
 use Rattle.sshc_run_script.specs.declared.error.RunError.{RunError}
-use Rattle.sshc_run_script.specs.LoopInvariant.{Along, IsAlong}
+use Rattle.sshc_run_script.specs.LoopInvariant.{BringsTo, IsAlong, Pauses, Stays}
 use Rattle.sshc_run_script.specs.Machine.{RunStop}
 use Rattle.sshc_run_script.specs.Prefixes.{IsFront}
-use Rattle.sshc_run_script.specs.Outcome.{Streams, Moved, Ending, told, cut, unread, ending_of, IsCut, IsExact, EndsAs, HasEarlier, HasWritten, HoldsAtMost, Ends}
+use Rattle.sshc_run_script.specs.Outcome.{Streams, Moved, Ending, told, cut, unread, ending_of, IsCut, IsExact, EndsAs, EndsBy, HasEarlier, HasWritten, HoldsAtMost, Ends}
 use Rattle.sshc_run_script.specs.RecordLines.{line, lines}
 use Rattle.sshc_run_reader.specs.Script.{events}
 use Rattle.sshc_run_script.specs.ScriptRun.{Run, Spot, Table, after, answers_of}
@@ -67,200 +67,229 @@ moved_two before mid now given given' gained gained' records records' a b = reco
 
 -- ---- the invariant
 
+-- one event brings a run on by a turn
+pub brings_one : {S : Type 0} (table : Table S) (at at' : Spot S) (n : ℕ) (given : List ℕ) (gained : List SignCall) (records : List Record) → BringsOn table at at' given gained records → BringsTo table at (suc n) 1 at' given gained records
+brings_one table at at' n given gained records brings =
+    let one : n ≡ suc n - 1 = omega arith in
+    record {
+      on = λ later more. brings.on n later more ∙ ap (λ (m : ℕ). after records gained (table m at' later more)) one;
+      counts = λ m more.
+          (let turn : length (events (1 + m) at.place at.last (given ++ more)) ≡ length (events (suc m) at.place at.last (given ++ more)) = ap (λ (k : ℕ). length (events k at.place at.last (given ++ more))) (omega arith) in
+          let here = brings.counts m more in
+          omega (arith, turn, here));
+      early = λ later front b more is. (records, ap (λ (x : List Record). x ++ records) (sym (brings.quiet n (answers_of gained ++ later) front b more is)));
+      just = λ later front b more is. brings.just n (answers_of gained ++ later) front b more is;
+    }
+
 module _ {S : Type 0} (table : Table S) (first : Spot S) (max : ℕ) where
   -- at the start
+  pub brings_none : (at : Spot S) → at ≡ first → BringsTo table first max 0 at [] [] []
+  brings_none at is = record {
+    on = λ later more. let m : max ≡ max - 0 = omega arith in ap (λ (n : ℕ). table n first later more) m ∙ ap (λ (x : Spot S). table (max - 0) x later more) (sym is);
+    counts = λ n more.
+        (let none : 0 + n ≡ n = omega arith in
+        let same : length (events (0 + n) first.place first.last more) ≡ length (events n first.place first.last more) = ap (λ (m : ℕ). length (events m first.place first.last more)) none in
+        let here : length (events n first.place first.last more) ≡ length (events n at.place at.last more) = ap (λ (x : Spot S). length (events n x.place x.last more)) (sym is) in
+        omega (arith, same, here));
+    early = λ later front c more none. absurd (no_front front c more none);
+    just = λ later front c more none. absurd (no_front front c more none);
+  }
+
   pub along_none : (at : Spot S) (before : Streams) → at ≡ first → IsAlong table first max 0 at before before
   along_none at before is = (
     [],
     [],
     [],
-    record {
-      moved = record { read = sym (prepend-nothing before.left); asked = sym (append-nil before.calls); wrote = sym (append-nothing before.held); count = omega arith };
-      on = λ later more. let m : max ≡ max - 0 = omega arith in ap (λ (n : ℕ). table n first later more) m ∙ ap (λ (x : Spot S). table (max - 0) x later more) (sym is);
-      counts = λ n more.
-          (let none : 0 + n ≡ n = omega arith in
-          let same : length (events (0 + n) first.place first.last more) ≡ length (events n first.place first.last more) = ap (λ (m : ℕ). length (events m first.place first.last more)) none in
-          let here : length (events n first.place first.last more) ≡ length (events n at.place at.last more) = ap (λ (x : Spot S). length (events n x.place x.last more)) (sym is) in
-          omega (arith, same, here));
-      early = λ later front c more none. absurd (no_front front c more none);
-      just = λ later front c more none. absurd (no_front front c more none);
-    },
+    record { read = sym (prepend-nothing before.left); asked = sym (append-nil before.calls); wrote = sym (append-nothing before.held); count = omega arith },
+    brings_none at is,
   )
 
-  module _ (turns : ℕ) (at : Spot S) (before now : Streams) where
-    -- on a shorter prefix of the bytes from before and of one part more the run comes to its end
-    cut_more : (given : List ℕ) (gained : List SignCall) (records : List Record) (given' : List ℕ) (n : ℕ) → max - turns ≡ n → (later : List Answer) (front : List ℕ) (c : ℕ) (more : List ℕ) →
-        Along table first max turns at before now given gained records → ((part : List ℕ) (b : ℕ) (rest : List ℕ) → given' ≡ part ++ b ∷ rest → IsCut (table n at later part).stop) →
+  module _ (turns : ℕ) (at : Spot S) (given : List ℕ) (gained : List SignCall) (records : List Record) (so_far : BringsTo table first max turns at given gained records) where
+    -- on a shorter prefix of the bytes from before and of more bytes the run comes to its end
+    cut_more : (given' : List ℕ) (later : List Answer) (front : List ℕ) (c : ℕ) (more : List ℕ) → ((part : List ℕ) (b : ℕ) (rest : List ℕ) → given' ≡ part ++ b ∷ rest → IsCut (table (max - turns) at later part).stop) →
         FrontOfTwo given given' front c more → IsCut (table max first (answers_of gained ++ later) front).stop
-    cut_more given gained records given' n left later front c more so_far just (inl (d, rest, is)) = so_far.just later front d rest is
-    cut_more given gained records given' n left later front c more so_far just (inr (part, is, behind)) =
-        let here : (table max first (answers_of gained ++ later) front).stop ≡ (table n at later part).stop =
-        ap (λ (bytes : List ℕ). (table max first (answers_of gained ++ later) bytes).stop) is ∙ ap (λ (r : Run). r.stop) (so_far.on later part) ∙ ap (λ (m : ℕ). (table m at later part).stop) left
+    cut_more given' later front c more just (inl (d, rest, is)) = so_far.just later front d rest is
+    cut_more given' later front c more just (inr (part, is, behind)) =
+        let here : (table max first (answers_of gained ++ later) front).stop ≡ (table (max - turns) at later part).stop =
+        ap (λ (bytes : List ℕ). (table max first (answers_of gained ++ later) bytes).stop) is ∙ ap (λ (r : Run). r.stop) (so_far.on later part)
         in
         subst (λ (x : RunStop). IsCut x) (sym here) (just part c more behind)
 
-    -- and has no more records than were written, as for one part more there are no records on a shorter prefix
-    early_more : (given : List ℕ) (gained : List SignCall) (records : List Record) (given' : List ℕ) (records' : List Record) (n : ℕ) → max - turns ≡ n → (later : List Answer) (front : List ℕ) (c : ℕ) (more : List ℕ) →
-        Along table first max turns at before now given gained records → ((part : List ℕ) (b : ℕ) (rest : List ℕ) → given' ≡ part ++ b ∷ rest → (table n at later part).records ≡ []) →
+    -- and has no more records than both
+    early_more : (given' : List ℕ) (records' : List Record) (later : List Answer) (front : List ℕ) (c : ℕ) (more : List ℕ) →
+        ((part : List ℕ) (b : ℕ) (rest : List ℕ) → given' ≡ part ++ b ∷ rest → IsFront (table (max - turns) at later part).records records') →
         FrontOfTwo given given' front c more → IsFront (table max first (answers_of gained ++ later) front).records (records ++ records')
-    early_more given gained records given' records' n left later front c more so_far quiet (inl (d, rest, is)) =
+    early_more given' records' later front c more early (inl (d, rest, is)) =
         let earlier = so_far.early later front d rest is in
         (earlier.0 ++ records', ap (λ (x : List Record). x ++ records') earlier.1 ∙ append_assoc (table max first (answers_of gained ++ later) front).records earlier.0 records')
-    early_more given gained records given' records' n left later front c more so_far quiet (inr (part, is, behind)) =
-        let here : (table max first (answers_of gained ++ later) front).records ≡ records =
-        ap (λ (bytes : List ℕ). (table max first (answers_of gained ++ later) bytes).records) is ∙ ap (λ (r : Run). r.records) (so_far.on later part) ∙ ap (λ (m : ℕ). records ++ (table m at later part).records) left
-        ∙ ap (λ (x : List Record). records ++ x) (quiet part c more behind) ∙ append-nil records
+    early_more given' records' later front c more early (inr (part, is, behind)) =
+        let said : List Record = (table (max - turns) at later part).records in
+        let here : (table max first (answers_of gained ++ later) front).records ≡ records ++ said =
+        ap (λ (bytes : List ℕ). (table max first (answers_of gained ++ later) bytes).records) is ∙ ap (λ (r : Run). r.records) (so_far.on later part)
         in
-        (records', ap (λ (x : List Record). x ++ records') (sym here))
+        let own = early part c more behind in
+        (own.0, ap (λ (x : List Record). records ++ x) own.1 ∙ sym (append_assoc records said own.0) ∙ ap (λ (x : List Record). x ++ own.0) (sym here))
 
-    -- one event more is counted
-    counts_more : (at' : Spot S) (given : List ℕ) (gained : List SignCall) (records : List Record) (given' : List ℕ) (n : ℕ) (more : List ℕ) → Along table first max turns at before now given gained records →
-        ((m : ℕ) (rest : List ℕ) → length (events (suc m) at.place at.last (given' ++ rest)) ≡ suc (length (events m at'.place at'.last rest))) →
-        length (events (turns + 1 + n) first.place first.last ((given ++ given') ++ more)) ≡ turns + 1 + length (events n at'.place at'.last more)
-    counts_more at' given gained records given' n more so_far one =
-        let parts : length (events (turns + 1 + n) first.place first.last ((given ++ given') ++ more)) ≡ length (events (turns + suc n) first.place first.last (given ++ (given' ++ more))) =
-        ap (λ (bytes : List ℕ). length (events (turns + 1 + n) first.place first.last bytes)) (append_assoc given given' more) ∙ ap (λ (m : ℕ). length (events m first.place first.last (given ++ (given' ++ more)))) (omega arith)
-        in
-        let earlier = so_far.counts (suc n) (given' ++ more) in
-        let last_one = one n more in
-        omega (arith, parts, earlier, last_one)
-
-    -- after one turn more
-    pub along_more : (at' : Spot S) (now' : Streams) → turns < max → IsAlong table first max turns at before now →
-        (given : List ℕ) × (gained : List SignCall) × (records : List Record) × Moved now now' given gained (lines records) × BringsOn table at at' given gained records → IsAlong table first max (turns + 1) at' before now'
-    along_more at' now' lt (given, gained, records, so_far) (given', gained', records', moved, brings) =
-        let one : max - turns ≡ suc (max - (turns + 1)) = omega arith in (
-          given ++ given',
-          gained ++ gained',
-          records ++ records',
-          record {
-            moved = moved_two before now now' given given' gained gained' records records' so_far.moved moved;
-            on = λ later more.
-                ap (λ (answers : List Answer). table max first answers ((given ++ given') ++ more)) (answers_three gained gained' later)
-                ∙ ap (table max first (answers_of gained ++ (answers_of gained' ++ later))) (append_assoc given given' more) ∙ so_far.on (answers_of gained' ++ later) (given' ++ more)
-                ∙ ap (λ (n : ℕ). after records gained (table n at (answers_of gained' ++ later) (given' ++ more))) one ∙ ap (λ (r : Run). after records gained r) (brings.on (max - (turns + 1)) later more)
-                ∙ after_two records records' gained gained' (table (max - (turns + 1)) at' later more);
-            counts = λ n more. counts_more at' given gained records given' n more so_far brings.counts;
-            early = λ later front c more is.
-                subst (λ (answers : List Answer). IsFront (table max first answers front).records (records ++ records')) (sym (answers_three gained gained' later))
-                (early_more given gained records given' records' (suc (max - (turns + 1))) one (answers_of gained' ++ later) front c more so_far (λ part b rest parts. brings.quiet (max - (turns + 1)) (answers_of gained' ++ later) part b rest parts)
-                (front_of_two given given' front c more is));
-            just = λ later front c more is.
-                subst (λ (answers : List Answer). IsCut (table max first answers front).stop) (sym (answers_three gained gained' later))
-                (cut_more given gained records given' (suc (max - (turns + 1))) one (answers_of gained' ++ later) front c more so_far (λ part b rest parts. brings.just (max - (turns + 1)) (answers_of gained' ++ later) part b rest parts)
-                (front_of_two given given' front c more is));
-          },
-        )
-
-    -- ---- where it ends
-
-    -- the whole run by what came before and what ends it
-    whole_on : (given : List ℕ) (gained : List SignCall) (records : List Record) (given' : List ℕ) (gained' : List SignCall) → Along table first max turns at before now given gained records →
-        table max first (answers_of (gained ++ gained')) (given ++ given') ≡ after records gained (table (max - turns) at (answers_of gained') given')
-    whole_on given gained records given' gained' so_far = ap (λ (answers : List Answer). table max first answers (given ++ given')) (answers_two gained gained') ∙ so_far.on (answers_of gained') given'
-
-    exact_end : (now' : Streams) (given : List ℕ) (gained : List SignCall) (records : List Record) (given' : List ℕ) (gained' : List SignCall) (a : Result Ended RunError) → Along table first max turns at before now given gained records →
-        IsExact (table (max - turns) at) given' gained' now now' a → IsExact (table max first) (given ++ given') (gained ++ gained') before now' a
-    exact_end now' given gained records given' gained' a so_far exact =
-        let r : Run = table (max - turns) at (answers_of gained') given' in
-        let here : table max first (answers_of (gained ++ gained')) (given ++ given') ≡ after records gained r = whole_on given gained records given' gained' so_far in
+    -- after some turns more
+    pub brings_two : (k : ℕ) (at' : Spot S) (given' : List ℕ) (gained' : List SignCall) (records' : List Record) → BringsTo table at (max - turns) k at' given' gained' records' →
+        BringsTo table first max (turns + k) at' (given ++ given') (gained ++ gained') (records ++ records')
+    brings_two k at' given' gained' records' then_on =
+        let left : max - turns - k ≡ max - (turns + k) = omega arith in
         record {
-          all = rw here (lines_two records r.records before.held now.held now'.held so_far.moved.wrote exact.all);
-          stop = ap (λ (x : Run). x.stop) here ∙ exact.stop;
-          rest = λ later more e.
+          on = λ later more.
               ap (λ (answers : List Answer). table max first answers ((given ++ given') ++ more)) (answers_three gained gained' later)
               ∙ ap (table max first (answers_of gained ++ (answers_of gained' ++ later))) (append_assoc given given' more) ∙ so_far.on (answers_of gained' ++ later) (given' ++ more)
-              ∙ ap (λ (x : Run). after records gained x) (exact.rest later more e) ∙ sym here;
+              ∙ ap (λ (r : Run). after records gained r) (then_on.on later more) ∙ after_two records records' gained gained' (table (max - turns - k) at' later more)
+              ∙ ap (λ (n : ℕ). after (records ++ records') (gained ++ gained') (table n at' later more)) left;
+          counts = λ n more.
+              (let parts : length (events (turns + k + n) first.place first.last ((given ++ given') ++ more)) ≡ length (events (turns + (k + n)) first.place first.last (given ++ (given' ++ more))) =
+              ap (λ (bytes : List ℕ). length (events (turns + k + n) first.place first.last bytes)) (append_assoc given given' more) ∙ ap (λ (m : ℕ). length (events m first.place first.last (given ++ (given' ++ more)))) (omega arith)
+              in
+              let earlier = so_far.counts (k + n) (given' ++ more) in
+              let last_ones = then_on.counts n more in
+              omega (arith, parts, earlier, last_ones));
+          early = λ later front c more is.
+              subst (λ (answers : List Answer). IsFront (table max first answers front).records (records ++ records')) (sym (answers_three gained gained' later))
+              (early_more given' records' (answers_of gained' ++ later) front c more (λ part b rest parts. then_on.early later part b rest parts) (front_of_two given given' front c more is));
           just = λ later front c more is.
               subst (λ (answers : List Answer). IsCut (table max first answers front).stop) (sym (answers_three gained gained' later))
-              (cut_more given gained records given' (max - turns) refl (answers_of gained' ++ later) front c more so_far (λ part b rest parts. exact.just later part b rest parts) (front_of_two given given' front c more is));
-          whole = exact.whole;
+              (cut_more given' (answers_of gained' ++ later) front c more (λ part b rest parts. then_on.just later part b rest parts) (front_of_two given given' front c more is));
         }
 
-    cut_end : (now' : Streams) (given : List ℕ) (gained : List SignCall) (records : List Record) (given' : List ℕ) (gained' : List SignCall) → Along table first max turns at before now given gained records →
-        WroteFront now.held now'.held (lines (table (max - turns) at (answers_of gained') given').records) → WroteFront before.held now'.held (lines (table max first (answers_of (gained ++ gained')) (given ++ given')).records)
-    cut_end now' given gained records given' gained' so_far (part, others, due, wrote) =
-        let r : Run = table (max - turns) at (answers_of gained') given' in (
-          lines records ++ part,
-          others,
-          ap (λ (x : Run). lines x.records) (whole_on given gained records given' gained' so_far) ∙ flat_map-append line records r.records ∙ ap (λ (t : List ℕ). lines records ++ t) due ∙ sym (append_assoc (lines records) part others),
-          wrote ∙ ap (λ o. append o part) so_far.moved.wrote ∙ append-append before.held (lines records) part,
-        )
+  -- after one turn more
+  pub along_more : (turns : ℕ) (at : Spot S) (before now : Streams) (at' : Spot S) (now' : Streams) → turns < max → IsAlong table first max turns at before now →
+      (given : List ℕ) × (gained : List SignCall) × (records : List Record) × Moved now now' given gained (lines records) × BringsOn table at at' given gained records → IsAlong table first max (turns + 1) at' before now'
+  along_more turns at before now at' now' lt (given, gained, records, so_moved, so_far) (given', gained', records', moved, brings) =
+      let one : suc (max - (turns + 1)) ≡ max - turns = omega arith in (
+        given ++ given',
+        gained ++ gained',
+        records ++ records',
+        moved_two before now now' given given' gained gained' records records' so_moved moved,
+        brings_two turns at given gained records so_far 1 at' given' gained' records'
+            (subst (λ (n : ℕ). BringsTo table at n 1 at' given' gained' records') one (brings_one table at at' (max - (turns + 1)) given' gained' records' brings)),
+      )
 
-    unread_end : (now' : Streams) (given : List ℕ) (gained : List SignCall) (records : List Record) (given' : List ℕ) (gained' : List SignCall) → Along table first max turns at before now given gained records →
-        now'.held ≡ append now.held (lines (table (max - turns) at (answers_of gained') given').records) → now'.held ≡ append before.held (lines (table max first (answers_of (gained ++ gained')) (given ++ given')).records)
-    unread_end now' given gained records given' gained' so_far wrote =
-        let r : Run = table (max - turns) at (answers_of gained') given' in
-        lines_two records r.records before.held now.held now'.held so_far.moved.wrote wrote ∙ ap (λ (x : Run). append before.held (lines x.records)) (sym (whole_on given gained records given' gained' so_far))
+  -- if the run stays where it is
+  pub along_still : (turns : ℕ) (at : Spot S) (before now : Streams) (at' : Spot S) (now' : Streams) → IsAlong table first max turns at before now → Stays at at' now now' → IsAlong table first max turns at' before (record now' { reads = before.reads })
+  along_still turns at before now at' now' (given, gained, records, moved, so_far) (is, left, held, calls) = (
+    given,
+    gained,
+    records,
+    record { read = moved.read ∙ ap (prepend given) (sym left); asked = calls ∙ moved.asked; wrote = held ∙ moved.wrote; count = omega arith },
+    subst (λ (x : Spot S). BringsTo table first max turns x given gained records) (sym is) so_far,
+  )
 
-    ends_as : (ending : Ending) (now' : Streams) (given : List ℕ) (gained : List SignCall) (records : List Record) (given' : List ℕ) (gained' : List SignCall) (a : Result Ended RunError) → Along table first max turns at before now given gained records →
-        EndsAs ending (table (max - turns) at) given' gained' now now' a → EndsAs ending (table max first) (given ++ given') (gained ++ gained') before now' a
-    ends_as told now' given gained records given' gained' a so_far by = exact_end now' given gained records given' gained' a so_far by
-    ends_as cut now' given gained records given' gained' a so_far by = cut_end now' given gained records given' gained' so_far by
-    ends_as unread now' given gained records given' gained' a so_far by = unread_end now' given gained records given' gained' so_far by
+  -- ---- where it ends
+
+  module _ (turns : ℕ) (at : Spot S) (before now now' : Streams) (given : List ℕ) (gained : List SignCall) (records : List Record) (moved : Moved before now given gained (lines records)) (so_far : BringsTo table first max turns at given gained records) (given' : List ℕ) (gained' : List SignCall) where
+    -- the rest of the run, by what ends it
+    abbrev last : Run
+    last = table (max - turns) at (answers_of gained') given'
+
+    -- the whole run by what came before and what ends it
+    whole_on : table max first (answers_of (gained ++ gained')) (given ++ given') ≡ after records gained last
+    whole_on = ap (λ (answers : List Answer). table max first answers (given ++ given')) (answers_two gained gained') ∙ so_far.on (answers_of gained') given'
+
+    exact_end : (a : Result Ended RunError) → IsExact (table (max - turns) at) given' gained' now now' a → IsExact (table max first) (given ++ given') (gained ++ gained') before now' a
+    exact_end a exact = record {
+      all = rw whole_on (lines_two records last.records before.held now.held now'.held moved.wrote exact.all);
+      stop = ap (λ (x : Run). x.stop) whole_on ∙ exact.stop;
+      rest = λ later more e.
+          ap (λ (answers : List Answer). table max first answers ((given ++ given') ++ more)) (answers_three gained gained' later)
+          ∙ ap (table max first (answers_of gained ++ (answers_of gained' ++ later))) (append_assoc given given' more) ∙ so_far.on (answers_of gained' ++ later) (given' ++ more)
+          ∙ ap (λ (x : Run). after records gained x) (exact.rest later more e) ∙ sym whole_on;
+      just = λ later front c more is.
+          subst (λ (answers : List Answer). IsCut (table max first answers front).stop) (sym (answers_three gained gained' later))
+          (cut_more turns at given gained records so_far given' (answers_of gained' ++ later) front c more (λ part b rest parts. exact.just later part b rest parts) (front_of_two given given' front c more is));
+      whole = exact.whole;
+    }
+
+    cut_end : WroteFront now.held now'.held (lines last.records) → WroteFront before.held now'.held (lines (table max first (answers_of (gained ++ gained')) (given ++ given')).records)
+    cut_end (part, others, due, wrote) = (
+      lines records ++ part,
+      others,
+      ap (λ (x : Run). lines x.records) whole_on ∙ flat_map-append line records last.records ∙ ap (λ (t : List ℕ). lines records ++ t) due ∙ sym (append_assoc (lines records) part others),
+      wrote ∙ ap (λ o. append o part) moved.wrote ∙ append-append before.held (lines records) part,
+    )
+
+    unread_end : now'.held ≡ append now.held (lines last.records) → now'.held ≡ append before.held (lines (table max first (answers_of (gained ++ gained')) (given ++ given')).records)
+    unread_end wrote = lines_two records last.records before.held now.held now'.held moved.wrote wrote ∙ ap (λ (x : Run). append before.held (lines x.records)) (sym whole_on)
+
+    ends_as : (ending : Ending) (a : Result Ended RunError) → EndsAs ending (table (max - turns) at) given' gained' now now' a → EndsAs ending (table max first) (given ++ given') (gained ++ gained') before now' a
+    ends_as told a by = exact_end a by
+    ends_as cut a by = cut_end by
+    ends_as unread a by = unread_end by
 
     -- after what was written before, more was
-    held_more : (ending : Ending) (now' : Streams) (given' : List ℕ) (gained' : List SignCall) (a : Result Ended RunError) → EndsAs ending (table (max - turns) at) given' gained' now now' a → (part : List ℕ) × (now'.held ≡ append now.held part)
-    held_more told now' given' gained' a by = (lines (table (max - turns) at (answers_of gained') given').records, by.all)
-    held_more cut now' given' gained' a (part, others, due, wrote) = (part, wrote)
-    held_more unread now' given' gained' a by = (lines (table (max - turns) at (answers_of gained') given').records, by)
+    held_more : (ending : Ending) (a : Result Ended RunError) → EndsAs ending (table (max - turns) at) given' gained' now now' a → (part : List ℕ) × (now'.held ≡ append now.held part)
+    held_more told a by = (lines last.records, by.all)
+    held_more cut a (part, others, due, wrote) = (part, wrote)
+    held_more unread a by = (lines last.records, by)
 
     -- all records are written on a shorter prefix of what came before and of what ends it
-    early_end : (now' : Streams) (given : List ℕ) (gained : List SignCall) (records : List Record) (given' : List ℕ) (gained' : List SignCall) (later : List Answer) (front : List ℕ) (c : ℕ) (more : List ℕ) →
-        Along table first max turns at before now given gained records → HasEarlier (table (max - turns) at) given' gained' now.held now'.held → ((part : List ℕ) × (now'.held ≡ append now.held part)) →
+    early_end : (later : List Answer) (front : List ℕ) (c : ℕ) (more : List ℕ) → HasEarlier (table (max - turns) at) given' gained' now.held now'.held → ((part : List ℕ) × (now'.held ≡ append now.held part)) →
         FrontOfTwo given given' front c more → HasWritten before.held now'.held (lines (table max first (answers_of gained ++ (answers_of gained' ++ later)) front).records)
-    early_end now' given gained records given' gained' later front c more so_far early (last, wrote) (inl (d, rest, is)) =
+    early_end later front c more early (part, wrote) (inl (d, rest, is)) =
         let all : List Answer = answers_of gained ++ (answers_of gained' ++ later) in
         let earlier = so_far.early (answers_of gained' ++ later) front d rest is in
         let first_ones : List ℕ = lines (table max first all front).records in (
-          lines earlier.0 ++ last,
-          wrote ∙ ap (λ o. append o last) (so_far.moved.wrote ∙ ap (λ (r : List Record). append before.held (lines r)) earlier.1 ∙ ap (append before.held) (flat_map-append line (table max first all front).records earlier.0))
-              ∙ append-append before.held (first_ones ++ lines earlier.0) last ∙ ap (append before.held) (append_assoc first_ones (lines earlier.0) last),
+          lines earlier.0 ++ part,
+          wrote ∙ ap (λ o. append o part) (moved.wrote ∙ ap (λ (r : List Record). append before.held (lines r)) earlier.1 ∙ ap (append before.held) (flat_map-append line (table max first all front).records earlier.0))
+              ∙ append-append before.held (first_ones ++ lines earlier.0) part ∙ ap (append before.held) (append_assoc first_ones (lines earlier.0) part),
         )
-    early_end now' given gained records given' gained' later front c more so_far early (last, wrote) (inr (part, is, behind)) =
+    early_end later front c more early wrote (inr (part, is, behind)) =
         let all : List Answer = answers_of gained ++ (answers_of gained' ++ later) in
         let r : List Record = (table (max - turns) at (answers_of gained' ++ later) part).records in
         let here : (table max first all front).records ≡ records ++ r = ap (λ (bytes : List ℕ). (table max first all bytes).records) is ∙ ap (λ (x : Run). x.records) (so_far.on (answers_of gained' ++ later) part) in
         let own = early later part c more behind in (
           own.0,
-          own.1 ∙ ap (λ o. append o (lines r ++ own.0)) so_far.moved.wrote ∙ append-append before.held (lines records) (lines r ++ own.0)
+          own.1 ∙ ap (λ o. append o (lines r ++ own.0)) moved.wrote ∙ append-append before.held (lines records) (lines r ++ own.0)
               ∙ ap (append before.held) (sym (append_assoc (lines records) (lines r) own.0) ∙ ap (λ (t : List ℕ). t ++ own.0) (sym (flat_map-append line records r) ∙ ap lines (sym here))),
         )
 
     -- a turn's bytes hold at most as many events as remained
-    holds_more : (given : List ℕ) (gained : List SignCall) (records : List Record) (given' : List ℕ) → turns ≤ max → Along table first max turns at before now given gained records →
-        HoldsAtMost (max - turns) at.place at.last given' → HoldsAtMost max first.place first.last (given ++ given')
-    holds_more given gained records given' le so_far few =
+    holds_more : turns ≤ max → HoldsAtMost (max - turns) at.place at.last given' → HoldsAtMost max first.place first.last (given ++ given')
+    holds_more le few =
         let one : turns + suc (max - turns) ≡ suc max = omega arith in
         let whole = ap (λ (m : ℕ). length (events m first.place first.last (given ++ given'))) one in
         let parts = so_far.counts (suc (max - turns)) given' in
         omega (arith, few, whole, parts)
 
     -- where it ends
-    pub along_ends : (now' : Streams) (a : Result Ended RunError) → turns ≤ max → IsAlong table first max turns at before now → Ends (max - turns) at.place at.last (table (max - turns) at) now now' a →
-        Ends max first.place first.last (table max first) before now' a
-    along_ends now' a le (given, gained, records, so_far) (given', gained', end) = (
-      given ++ given',
-      gained ++ gained',
-      record {
-        read = so_far.moved.read ∙ ap (prepend given) end.read ∙ prepend-prepend given given' now'.left;
-        asked = end.asked ∙ ap (λ (x : List SignCall). x ++ gained') so_far.moved.asked ∙ append_assoc before.calls gained gained';
-        made = ap (λ (r : Run). r.calls) (whole_on given gained records given' gained' so_far) ∙ ap (λ (x : List SignCall). gained ++ x) end.made;
-        by = ends_as (ending_of a) now' given gained records given' gained' a so_far end.by;
-        early = λ later front c more is.
-            subst (λ (answers : List Answer). HasWritten before.held now'.held (lines (table max first answers front).records)) (sym (answers_three gained gained' later))
-            (early_end now' given gained records given' gained' later front c more so_far end.early (held_more (ending_of a) now' given' gained' a end.by) (front_of_two given given' front c more is));
-        count = omega (arith, so_far.moved.count, end.count, length-append given given');
-        few = holds_more given gained records given' le so_far end.few;
-      },
-    )
+    pub brings_end : (a : Result Ended RunError) → turns ≤ max → EndsBy (max - turns) at.place at.last (table (max - turns) at) now now' a given' gained' →
+        EndsBy max first.place first.last (table max first) before now' a (given ++ given') (gained ++ gained')
+    brings_end a le end = record {
+      read = moved.read ∙ ap (prepend given) end.read ∙ prepend-prepend given given' now'.left;
+      asked = end.asked ∙ ap (λ (x : List SignCall). x ++ gained') moved.asked ∙ append_assoc before.calls gained gained';
+      made = ap (λ (r : Run). r.calls) whole_on ∙ ap (λ (x : List SignCall). gained ++ x) end.made;
+      by = ends_as (ending_of a) a end.by;
+      early = λ later front c more is.
+          subst (λ (answers : List Answer). HasWritten before.held now'.held (lines (table max first answers front).records)) (sym (answers_three gained gained' later))
+          (early_end later front c more end.early (held_more (ending_of a) a end.by) (front_of_two given given' front c more is));
+      count = omega (arith, moved.count, end.count, length-append given given');
+      few = holds_more le end.few;
+    }
 
-    -- the same if a turn remained
-    pub turn_ends : (now' : Streams) (a : Result Ended RunError) → turns < max → IsAlong table first max turns at before now → ((n : ℕ) → Ends (suc n) at.place at.last (table (suc n) at) now now' a) →
-        Ends max first.place first.last (table max first) before now' a
-    turn_ends now' a lt so_far ends =
-        let one : suc (max - (turns + 1)) ≡ max - turns = omega arith in
-        along_ends now' a (omega arith) so_far (subst (λ (n : ℕ). Ends n at.place at.last (table n at) now now' a) one (ends (max - (turns + 1))))
+  pub along_ends : (turns : ℕ) (at : Spot S) (before now now' : Streams) (a : Result Ended RunError) → turns ≤ max → IsAlong table first max turns at before now → Ends (max - turns) at.place at.last (table (max - turns) at) now now' a →
+      Ends max first.place first.last (table max first) before now' a
+  along_ends turns at before now now' a le (given, gained, records, moved, so_far) (given', gained', end) =
+      (given ++ given', gained ++ gained', brings_end turns at before now now' given gained records moved so_far given' gained' a le end)
+
+  -- the same if a turn remained
+  pub turn_ends : (turns : ℕ) (at : Spot S) (before now now' : Streams) (a : Result Ended RunError) → turns < max → IsAlong table first max turns at before now → ((n : ℕ) → Ends (suc n) at.place at.last (table (suc n) at) now now' a) →
+      Ends max first.place first.last (table max first) before now' a
+  turn_ends turns at before now now' a lt so_far ends =
+      let one : suc (max - (turns + 1)) ≡ max - turns = omega arith in
+      along_ends turns at before now now' a (omega arith) so_far (subst (λ (n : ℕ). Ends n at.place at.last (table n at) now now' a) one (ends (max - (turns + 1))))
+
+-- the run pauses where it is, with so many events remaining
+pub pauses_still : {S : Type 0} (table : Table S) (first : Spot S) (max turns : ℕ) (at : Spot S) (left : ℕ) (at' : Spot S) (before now now' : Streams) → turns + left ≡ max → IsAlong table first max turns at before now → Stays at at' now now' →
+    Pauses table first max at' left before now'
+pauses_still table first max turns at left at' before now now' count so_far still =
+    let taken : turns ≡ max - left = omega (arith, count) in (
+      omega (arith, count),
+      subst (λ (n : ℕ). IsAlong table first max n at' before (record now' { reads = before.reads })) taken (along_still table first max turns at before now at' now' so_far still),
+    )
 
 -- one byte more
 pub one_more : (bytes : List ℕ) (old new : Option (List ℕ)) → length bytes ≤ 1 → 0 < length bytes → old ≡ prepend bytes new → (b : ℕ) × (old ≡ prepend (b ∷ []) new)

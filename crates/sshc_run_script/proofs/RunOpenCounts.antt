@@ -1,6 +1,6 @@
 -- Over a whole run no more opens are answered than were asked for. The count along the way is that of the answers and
 -- of the opens that still wait, below a number that is above all those that are answered.
-use Rattle.std.proofs.Common.{◌≡◌, ◌⊎◌, inl, inr, ℕ, zero, suc, ◌+◌, ◌<◌, ◌≤◌, Bool, true, false, if◌then◌else◌, ◌==◌, List, [], ◌∷◌, ◌++◌, length, drop, Option, Some, None, Result, Ok, Err, is_some, refl, ap, sym, subst, arith}
+use Rattle.std.proofs.Common.{◌≡◌, ◌⊎◌, inl, inr, ℕ, zero, suc, ◌+◌, ◌<◌, ◌≤◌, Bool, true, false, if◌then◌else◌, ◌==◌, List, [], ◌∷◌, ◌++◌, length, drop, Option, Some, None, is_some, refl, ap, sym, subst, arith}
 use Rattle.std.specs.List.{AllByRecursion}
 use Rattle.std.proofs.lemmas.Bool.{eqb-true}
 use Rattle.std.proofs.lemmas.Bool.Decides.{nat_tests}
@@ -10,10 +10,8 @@ use Rattle.sshc_wire.specs.declared.resolution.Resolution.{Resolution}
 use Rattle.sshc_wire.specs.declared.resolution.Resolution.TheVariants.{ChannelOpened, ChannelOpenFailed}
 use Rattle.sshc_wire.specs.declared.ticket.Ticket.{Ticket}
 use Rattle.sshc_wire.specs.Outgoing.{listed}
-use Rattle.sshc_key.specs.Asking.{Answer, Always}
-use Rattle.sshc_key.specs.AskingLaws.{always_any, always_makes}
-use Rattle.sshc_auth_event.specs.declared.event.Event.{Event}
-use Rattle.sshc_auth.specs.OpeningTable.{asked_of}
+use Rattle.sshc_key.specs.Signers.{SignCall}
+use Rattle.sshc_key.specs.Asking.{Answer, Makes}
 use Rattle.sshc_mux.specs.ChannelState.{TableState}
 use Rattle.sshc_mux.specs.ChannelTable.{Said, records_of}
 use Rattle.sshc_mux.specs.ChannelTable.Opens.{awaited, next_number}
@@ -23,21 +21,15 @@ use Rattle.sshc_client_table.specs.Moves.{Move, after, calls_in, calls_of, deed_
 use Rattle.sshc_client_table.specs.OpensOnce.{AnswersOne, NoOpenAnswer, OpensAreAnsweredOnce, call_opens, is_number}
 use Rattle.sshc_client_table.specs.SessionState.{SessionState, is_open}
 use Rattle.sshc_client_table.specs.SessionTable.{session_row}
-use Rattle.sshc_client_state.specs.Start.{new_session}
 use Rattle.sshc_client.specs.Follows.{all_moves, default_opinions}
-use Rattle.sshc_run_reader.specs.declared.error.EventError.{EventError}
-use Rattle.sshc_run_reader.specs.declared.error.EventError.TheVariants as reads
-use Rattle.sshc_run_reader.specs.EventReading.{event_of}
-use Rattle.sshc_run_reader.specs.Script.{Frame, taken}
-use Rattle.sshc_run_script.specs.ChannelRuns.{ComesCalling, calls_at, calls_by, row_calls, said_open}
+use Rattle.sshc_run_reader.specs.Script.{Frame}
+use Rattle.sshc_run_script.specs.ChannelRuns.{calls_along, calls_at, calls_by, said_along, said_open}
 use Rattle.sshc_run_script.specs.Configured.{RunSettings}
 use Rattle.sshc_run_script.specs.KnownHosts.{Hosts}
-use Rattle.sshc_run_script.specs.Machine.{stop_next}
 use Rattle.sshc_run_script.specs.OpenCounts.{OpensAreCounted, is_open_answer, opens_answered, opens_asked}
-use Rattle.sshc_run_script.specs.Part.{own_events}
-use Rattle.sshc_run_script.specs.SessionPart.{session_own}
-use Rattle.sshc_run_script.specs.SessionTurn.{SessionTurn, in_session, read_turn, said_by, session_turn, step_turn}
-use Rattle.sshc_run_script.specs.Turn.{asked_turn}
+use Rattle.sshc_run_script.specs.SessionTurn.{SessionTurn, said_by, session_turn}
+use Rattle.sshc_run_script.proofs.RunSteps.{session_along}
+use Rattle.sshc_run_script.proofs.SessionTurns.{turn_by}
 
 -- ---- sums below a number
 
@@ -259,14 +251,12 @@ module _ (opens : OpensAreAnsweredOnce) (stays : LegalStays) where
 
   record Counted (s t : SessionState) (calls : List Call) (said : List Record) : Type 0 where
     pub legal : IsLegal t.table
-    pub none : t.records ≡ []
     pub most : ℕ
     pub below : (k : ℕ) → most ≤ k → opens_answered said + waiting k t.table ≤ waiting k s.table + opens_asked calls
 
   counted_two : (s t u : SessionState) (a b : List Call) (x y : List Record) → Counted s t a x → Counted t u b y → Counted s u (a ++ b) (x ++ y)
   counted_two s t u a b x y one other = record {
     legal = other.legal;
-    none = other.none;
     most = one.most + other.most;
     below = λ k le.
         let first = one.below k (omega (arith, le)) in
@@ -277,10 +267,6 @@ module _ (opens : OpensAreAnsweredOnce) (stays : LegalStays) where
   }
 
   module _ (hosts : Hosts) (accepts : Accepts) where
-    -- a turn from which the run continues
-    abbrev GoesSo : SessionState → Bool → List Call → SessionTurn → Type 0
-    GoesSo s opened calls t = stop_next t.next ≡ None → Counted s t.state calls (said_open opened t.records)
-
     row_counts : (moves : List Move) (s : SessionState) → IsLegal s.table → s.records ≡ [] →
         IsLegal (when_done moves s).table
         × ((most : ℕ) × ((k : ℕ) → most ≤ k → opens_answered (said_by moves s) + waiting k (when_done moves s).table ≤ waiting k s.table + opens_asked (calls_in moves s)))
@@ -297,41 +283,33 @@ module _ (opens : OpensAreAnsweredOnce) (stays : LegalStays) where
           ),
         )
 
-    step_counts : (b : Bool) (s : SessionState) (place : ℕ) (event : Event) → IsLegal s.table → s.records ≡ [] → Always (GoesSo s b (row_calls b accepts s event)) (step_turn b hosts accepts place s event)
-    step_counts true s place event legal none = λ goes.
-        (let (end, (most, rest)) = row_counts (all_moves (session_row accepts (default_opinions s) s event)) s legal none in
-        record { legal = end; none = refl; most = most; below = rest })
-    step_counts false s place event legal none =
-        always_any (GoesSo s false []) (in_session s) (asked_turn hosts place s.opening event (asked_of s.opening event)) (λ t. λ goes. record { legal = legal; none = none; most = 0; below = λ k le. omega arith })
+    none_counts : (s : SessionState) (opened : Bool) → IsLegal s.table → Counted s s [] (said_open opened [])
+    none_counts s true legal = record { legal = legal; most = 0; below = λ k le. omega arith }
+    none_counts s false legal = record { legal = legal; most = 0; below = λ k le. omega arith }
 
-    read_counts : (s : SessionState) (place : ℕ) (read : Result Event EventError) → IsLegal s.table → s.records ≡ [] → Always (GoesSo s (is_open s.opening.phase) (calls_by accepts s read)) (read_turn hosts accepts place s read)
-    read_counts s place (Ok event) legal none = step_counts (is_open s.opening.phase) s place event legal none
-    read_counts s place (Err reads.Bad) legal none = λ goes. absurd cc
-    read_counts s place (Err reads.NoMemory) legal none = λ goes. absurd cc
-
-    turn_counts : (s : SessionState) (frame : Frame) → IsLegal s.table → s.records ≡ [] → Always (GoesSo s (is_open s.opening.phase) (calls_at accepts s frame)) (session_turn hosts accepts s frame)
-    unfolding session_turn
-    turn_counts s frame legal none = read_counts s frame.place (event_of frame.kind frame.fields) legal none
-
-    comes_counted : (frames : List Frame) (s : SessionState) (answers : List Answer) (calls : List Call) (said : List Record) (s' : SessionState) (frame' : Frame) → IsLegal s.table → s.records ≡ [] →
-        ComesCalling hosts accepts s frames answers calls said s' frame' → Counted s s' calls said
-    comes_counted [] s answers calls said s' frame' legal none never = absurd never
-    comes_counted (frame ∷ frames) s answers calls said s' frame' legal none (inl (same, next, no_calls, quiet)) =
-        subst (λ (x : SessionState). Counted s x calls said) same
-        (rw (no_calls, quiet) (record { legal = legal; none = none; most = 0; below = λ k le. omega arith }))
-    comes_counted (frame ∷ frames) s answers calls said s' frame' legal none (inr (t, gained, left, later, more, makes, given, goes, all, says, comes)) =
-        let here : Counted s t.state (calls_at accepts s frame) (said_open (is_open s.opening.phase) t.records) =
-        always_makes (GoesSo s (is_open s.opening.phase) (calls_at accepts s frame)) (session_turn hosts accepts s frame) gained t (turn_counts s frame legal none) makes goes in
-        rw (all, says) (counted_two s t.state s' (calls_at accepts s frame) later (said_open (is_open s.opening.phase) t.records) more here (comes_counted frames t.state left later more s' frame' here.legal here.none comes))
+    turn_counts : (s : SessionState) (frame : Frame) (gained : List SignCall) (t : SessionTurn) → IsLegal s.table → s.records ≡ [] → Makes (session_turn hosts accepts s frame) gained t →
+        Counted s t.state (calls_at accepts s frame) (said_open (is_open s.opening.phase) t.records)
+    turn_counts s frame gained t legal none =
+        turn_by hosts accepts s frame (λ read gained t. Counted s t.state (calls_by accepts s read) (said_open (is_open s.opening.phase) t.records))
+        (λ event on.
+        let (end, (most, rest)) = row_counts (all_moves (session_row accepts (default_opinions s) s event)) s legal none in
+        rw on (record { legal = end; most = most; below = rest }))
+        (λ event gained t un makes. rw un (record { legal = legal; most = 0; below = λ k le. omega arith })) (λ e x. none_counts s (is_open s.opening.phase) legal) gained t
 
     none_wait : (last k : ℕ) → waiting k (no_channels last) ≡ 0
     none_wait last zero = refl
     none_wait last (suc k) = let rest = none_wait last k in omega (arith, rest)
 
-    -- at each state that the session comes to
+    -- along each path of the session
     pub counted : (settings : RunSettings) (max : ℕ) (answers : List Answer) (script : Option (List ℕ)) → OpensAreCounted hosts accepts settings max answers script
-    counted settings max answers script = λ bytes is s frame calls said comes.
-        let so = comes_counted (own_events session_own (taken max bytes)) (new_session settings.session settings.opening) answers calls said s frame (stays.0 0) refl comes in
+    counted settings max answers script = λ bytes is steps s path.
+        let so = session_along hosts accepts (λ s steps s'. IsLegal s.table → Counted s s' (calls_along accepts steps) (said_along steps))
+        (λ s legal. record { legal = legal; most = 0; below = λ k le. omega arith })
+        (λ s frame gained t steps s' so makes on later legal.
+        let here = turn_counts s frame gained t legal so.taken makes in
+        counted_two s t.state s' (calls_at accepts s frame) (calls_along accepts steps) (said_open (is_open s.opening.phase) t.records) (said_along steps) here (later here.legal))
+        settings max answers script bytes is steps s path (stays.0 0)
+        in
         let all = so.below so.most (omega arith) in
         let none = none_wait 0 so.most in
         omega (arith, all, none)

@@ -1,9 +1,12 @@
 -- Along a run the session signs what it was asked for: what each step guarantees, joined over the events.
-use Rattle.std.proofs.Common.{◌≡◌, ◌≢◌, ◌⊎◌, inl, inr, ℕ, Bool, true, false, List, [], ◌∷◌, Option, Some, None, Result, Ok, Err, refl, ap, sym, ◌∙◌, subst}
+use Rattle.std.proofs.Common.{◌≡◌, ◌≢◌, ◌⊎◌, inl, inr, ℕ, Bool, true, false, List, [], ◌∷◌, Option, Some, None, Result, refl, ap, sym, ◌∙◌, subst}
 use Rattle.std.specs.Prelude.{if◌then◌else◌}
 use Rattle.std.specs.List.{AllByRecursion}
+use Rattle.sshc_wire.specs.declared.auth_record.AuthRecord.TheVariants.{SignRequest, SignRequestCert}
+use Rattle.sshc_wire.specs.declared.record.Record.{Record}
+use Rattle.sshc_wire.specs.declared.record.Record.TheVariants as records
 use Rattle.sshc_key.specs.Signers.{SignCall}
-use Rattle.sshc_key.specs.Asking.{Answer, Asking, Always, Makes, done, asks, asked_on}
+use Rattle.sshc_key.specs.Asking.{Answer, Asking, Always, Makes, done, asks}
 use Rattle.sshc_key.specs.AskingLaws.{always_makes}
 use Rattle.sshc_auth_event.specs.declared.event.Event.{Event}
 use Rattle.sshc_auth_event.specs.declared.event.Event.TheVariants as events
@@ -12,18 +15,17 @@ use Rattle.sshc_transport.specs.declared.exchange.ExchangeResult.{ExchangeResult
 use Rattle.sshc_auth.specs.declared.opening.Phase.{Phase}
 use Rattle.sshc_auth.specs.declared.opening.Phase.TheVariants as phases
 use Rattle.sshc_auth.specs.declared.step.Asks.{Asks}
-use Rattle.sshc_auth.specs.declared.step.Asks.TheVariants as asking
 use Rattle.sshc_auth.specs.declared.step.Told.{Told}
 use Rattle.sshc_auth.specs.declared.step.Told.TheVariants as telling
 use Rattle.sshc_auth.specs.GateLaw.{FirstNext, IsNoExchange, StaysFirst, first_law}
-use Rattle.sshc_auth.specs.KeepLaws.{Keeps, KeepsAsked, KeepsAsking, KeepsNext, KeepsState, open_keeps}
+use Rattle.sshc_auth.specs.KeepLaws.{HandsAll, HandsBytes, Keeps, KeepsAsked, KeepsAsking, KeepsNext, KeepsState, open_keeps}
 use Rattle.sshc_auth.specs.OneKeyLaw.{HasKeyNext, HasKeyRow, later_row}
 use Rattle.sshc_auth.specs.OpeningState.{OpeningState, is_awaiting, shut}
 use Rattle.sshc_auth.specs.OpeningTable.{asked_of, open_row, plain_row, turn_row}
 use Rattle.sshc_auth.specs.OpeningTable.Exchange.{accepted_row, exchange_done_row, exchange_row_in}
 use Rattle.sshc_auth.specs.OpeningTable.Order.{is_out_of_turn}
 use Rattle.sshc_auth.specs.Row.{Next, Row, ends, opens, refuses, stays}
-use Rattle.sshc_auth.specs.SessionWords.{AsksOnce, IsFirst, Kept, SignsStored, kept_of}
+use Rattle.sshc_auth.specs.SessionWords.{AsksOnce, HandsStored, IsFirst, Kept, SignsStored, kept_of}
 use Rattle.sshc_auth.specs.SignedRuns.{IsAskedFor, IsHandedFor, IsSignedFor, asked_next, calls_for, handed_for}
 use Rattle.sshc_client_packets.specs.HostKeyProof.{Accepts}
 use Rattle.sshc_client_table.specs.SessionState.{SessionState, is_open}
@@ -34,19 +36,18 @@ use Rattle.sshc_client.specs.Follows.{all_moves, default_opinions}
 use Rattle.sshc_client_state.specs.Start.{new_session}
 use Rattle.sshc_client_table.specs.NoRequests.{IsSameRequest, moves_request}
 use Rattle.sshc_run_reader.specs.declared.error.EventError.{EventError}
-use Rattle.sshc_run_reader.specs.declared.error.EventError.TheVariants as reads
 use Rattle.sshc_run_reader.specs.EventReading.{event_of}
-use Rattle.sshc_run_reader.specs.Script.{Frame, taken}
-use Rattle.sshc_run_agent.specs.TurnLaws.{on_made}
+use Rattle.sshc_run_reader.specs.Script.{Frame}
 use Rattle.sshc_run_script.specs.Configured.{RunSettings}
-use Rattle.sshc_run_script.specs.declared.known_hosts_handler.HandlerError.{HandlerError}
-use Rattle.sshc_run_script.specs.KnownHosts.{Hosts, verdict}
+use Rattle.sshc_run_script.specs.KnownHosts.{Hosts}
+use Rattle.sshc_run_script.specs.Path.{StepOf, step_of}
 use Rattle.sshc_run_script.specs.Machine.{TurnOf, stop_next}
-use Rattle.sshc_run_script.specs.Part.{own_events}
-use Rattle.sshc_run_script.specs.SessionPart.{session_own}
-use Rattle.sshc_run_script.specs.SessionTurn.{SessionTurn, in_session, onward, read_turn, session_turn, step_turn}
-use Rattle.sshc_run_script.specs.SignedRequests.{AreSigned, ComesBehind, HasHostKey, behind, first_exchange, or_exchange}
-use Rattle.sshc_run_script.specs.Turn.{asked_turn, judged_turn, next_turn, row_turn}
+use Rattle.sshc_run_script.specs.SessionTurn.{SessionTurn, onward, session_turn}
+use Rattle.sshc_run_script.specs.SignedRequests.{AreSigned, AreSignedSteps, HasHostKey, behind, first_exchange, or_exchange}
+use Rattle.sshc_run_script.specs.Turn.{asked_turn, next_turn}
+use Rattle.sshc_run_script.proofs.RunSteps.{session_along}
+use Rattle.sshc_run_script.proofs.OpeningTurns.{asked_by}
+use Rattle.sshc_run_script.proofs.SessionTurns.{turn_by}
 
 -- ---- what is true of a state, with the events before it
 
@@ -67,6 +68,16 @@ stage_of phases.Exchanging = Early refl
 stage_of phase = Later (λ same. absurd cc)
 
 -- ---- a row
+
+-- bytes that are handed out are the stored request's
+stored_bytes : (k : Kept) (next : Next) (said : Record) (later : List Record) → HandsBytes k next said later → HandsStored k said
+stored_bytes k next (records.Auth ticket (SignRequest blob hash bytes)) later hands = hands.0
+stored_bytes k next (records.Auth ticket (SignRequestCert blob hash bytes)) later hands = hands.0
+stored_bytes k next said later hands = tt
+
+stored_all : (k : Kept) (next : Next) (said : List Record) → HandsAll k next said → AllByRecursion (HandsStored k) said
+stored_all k next [] hands = tt
+stored_all k next (one ∷ said) hands = (stored_bytes k next one said hands.0, stored_all k next said hands.1)
 
 -- the calls that a row makes are of the stored request
 record MadeSo (k : Kept) (event : Event) (calls : List SignCall) (row : Row) : Type 0 where
@@ -263,32 +274,18 @@ module _ (past : List Event) (s : OpeningState) (event : Event) (so : SignedSo p
   said_in place row (ends e) = refl
   said_in place row (refuses e) = refl
 
-  table_so : (place : ℕ) (told : Told) (calls : List SignCall) (t : TurnOf OpeningState) → Makes (asked_on (row_turn place s) (open_row s event told)) calls t → TurnSo calls t
-  table_so place told calls t makes =
-      let row = on_made (row_turn place s) (open_row s event told) calls t makes in
-      let made = made_so (kept_of s) event (open_row s event told) calls row.0 (open_keeps s event told) row.1 in
-      let handed = handed_for s.session_id past (kept_of s) row.0.records refl so.asked made.keeps.0 in
-      subst (TurnSo calls) row.2
-      (record {
-        goes = by_next place told calls row.0 row.0.next refl row.1 made.keeps.1;
-        asked = calls_for s.session_id past (kept_of s) (shut s) calls refl so.asked (made.once (shut s) refl);
-        handed = subst (AllByRecursion (IsHandedFor s.session_id past)) (sym (said_in place row.0 row.0.next)) handed;
-      })
-
-  stops_so : (t t' : TurnOf OpeningState) (calls : List SignCall) → (stop_next t.next ≡ None → ⊥) → t.records ≡ [] → Makes (done t) calls t' → TurnSo calls t'
-  stops_so t t' [] never none is = subst (TurnSo []) is (record { goes = λ goes. absurd (never goes); asked = tt; handed = rw none tt })
-  stops_so t t' (call ∷ calls) never none makes = absurd makes
-
-  judged_so : (place : ℕ) (said : Result Bool HandlerError) (calls : List SignCall) (t : TurnOf OpeningState) → Makes (judged_turn place s event said) calls t → TurnSo calls t
-  judged_so place (Ok true) calls t makes = table_so place telling.Went calls t makes
-  judged_so place (Ok false) calls t makes = table_so place telling.No calls t makes
-  judged_so place (Err e) calls t makes = stops_so _ t calls (λ goes. absurd cc) refl makes
-
   asked_so : (hosts : Hosts) (place : ℕ) (wanted : Asks) (calls : List SignCall) (t : TurnOf OpeningState) → Makes (asked_turn hosts place s event wanted) calls t → TurnSo calls t
-  asked_so hosts place asking.Nothing calls t makes = table_so place telling.NotAsked calls t makes
-  asked_so hosts place (asking.HostKey key) calls t makes = judged_so place (verdict hosts key) calls t makes
-  asked_so hosts place asking.Exchange calls t makes = table_so place telling.Went calls t makes
-  asked_so hosts place (asking.Banner text) calls t makes = table_so place telling.Went calls t makes
+  asked_so hosts place =
+      asked_by hosts place s event TurnSo
+      (λ told calls row makes.
+      let made = made_so (kept_of s) event (open_row s event told) calls row (open_keeps s event told) makes in
+      let handed = handed_for s.session_id past (kept_of s) row.records refl so.asked (stored_all (kept_of s) row.next row.records made.keeps.0) in
+      record {
+        goes = by_next place told calls row row.next refl makes made.keeps.1;
+        asked = calls_for s.session_id past (kept_of s) (shut s) calls refl so.asked (made.once (shut s) refl);
+        handed = subst (AllByRecursion (IsHandedFor s.session_id past)) (sym (said_in place row row.next)) handed;
+      })
+      (λ e. record { goes = λ goes. absurd cc; asked = tt; handed = tt })
 
 -- ---- a turn of the session
 
@@ -325,58 +322,40 @@ open_has hosts accepts place s (events.ExchangeDone x) on =
     (session_has accepts (default_opinions s) s x (row_goes place row.next on)).0
 open_has hosts accepts place s event on = tt
 
-step_so : (open_now : Bool) (hosts : Hosts) (accepts : Accepts) (place : ℕ) (past : List Event) (s : SessionState) (event : Event) (calls : List SignCall) (t : SessionTurn) → is_open s.opening.phase ≡ open_now → SignedSo past s.opening →
-    Makes (step_turn open_now hosts accepts place s event) calls t → StepSo past (Ok event) s calls t
-step_so false hosts accepts place past s event calls t is so makes =
-    let turn = on_made (in_session s) (asked_turn hosts place s.opening event (asked_of s.opening event)) calls t makes in
-    let done_so = asked_so past s.opening event so hosts place (asked_of s.opening event) calls turn.0 turn.1 in
-    subst (StepSo past (Ok event) s calls) turn.2 (record { goes = done_so.goes; asked = done_so.asked; handed = λ unopened. done_so.handed })
-step_so true hosts accepts place past s event [] t is so makes =
-    let moves = all_moves (session_row accepts (default_opinions s) s event) in
-    subst (StepSo past (Ok event) s []) makes
-    (record {
-      goes = λ on. moved_so past event s.opening _ (open_later s.opening.phase is) (open_has hosts accepts place s event on) so (moves_request moves s);
-      asked = tt;
-      handed = λ unopened. let clash : true ≡ false = sym is ∙ unopened in absurd cc;
-    })
-step_so true hosts accepts place past s event (call ∷ calls) t is so never = absurd never
-
-stopped_so : (past : List Event) (read : Result Event EventError) (s : SessionState) (t t' : SessionTurn) (calls : List SignCall) → (stop_next t.next ≡ None → ⊥) → t.records ≡ [] → Makes (done t) calls t' → StepSo past read s calls t'
-stopped_so past read s t t' [] never none is = subst (StepSo past read s []) is (record { goes = λ goes. absurd (never goes); asked = tt; handed = λ unopened. rw none tt })
-stopped_so past read s t t' (call ∷ calls) never none makes = absurd makes
-
-read_so : (hosts : Hosts) (accepts : Accepts) (place : ℕ) (past : List Event) (s : SessionState) (read : Result Event EventError) (calls : List SignCall) (t : SessionTurn) → SignedSo past s.opening → Makes (read_turn hosts accepts place s read) calls t → StepSo past read s calls t
-read_so hosts accepts place past s (Ok event) calls t so makes = step_so (is_open s.opening.phase) hosts accepts place past s event calls t refl so makes
-read_so hosts accepts place past s (Err reads.Bad) calls t so makes = stopped_so past (Err reads.Bad) s _ t calls (λ goes. absurd cc) refl makes
-read_so hosts accepts place past s (Err reads.NoMemory) calls t so makes = stopped_so past (Err reads.NoMemory) s _ t calls (λ goes. absurd cc) refl makes
-
 turn_so : (hosts : Hosts) (accepts : Accepts) (past : List Event) (s : SessionState) (frame : Frame) (calls : List SignCall) (t : SessionTurn) → SignedSo past s.opening → Makes (session_turn hosts accepts s frame) calls t → StepSo past (event_of frame.kind frame.fields) s calls t
-unfolding session_turn
-turn_so hosts accepts past s frame calls t so makes = read_so hosts accepts frame.place past s (event_of frame.kind frame.fields) calls t so makes
+turn_so hosts accepts past s frame calls t so makes =
+    turn_by hosts accepts s frame (λ read calls t. StepSo past read s calls t)
+    (λ event on. record {
+      goes = λ goes. moved_so past event s.opening _ (open_later s.opening.phase on) (open_has hosts accepts frame.place s event goes) so (moves_request (all_moves (session_row accepts (default_opinions s) s event)) s);
+      asked = tt;
+      handed = λ unopened. let clash : true ≡ false = sym on ∙ unopened in absurd cc;
+    })
+    (λ event calls t un makes.
+    let done_so = asked_so past s.opening event so hosts frame.place (asked_of s.opening event) calls t makes in
+    record { goes = done_so.goes; asked = done_so.asked; handed = λ unopened. done_so.handed })
+    (λ e x. record { goes = λ goes. absurd cc; asked = tt; handed = λ unopened. tt }) calls t makes
 
 -- ---- the run
 
-comes_so : (hosts : Hosts) (accepts : Accepts) (frames : List Frame) (past : List Event) (s : SessionState) (answers : List Answer) (past' : List Event) (s' : SessionState) (frame' : Frame) → SignedSo past s.opening →
-    ComesBehind hosts accepts past s frames answers past' s' frame' → SignedSo past' s'.opening
-comes_so hosts accepts [] past s answers past' s' frame' so never = absurd never
-comes_so hosts accepts (frame ∷ frames) past s answers past' s' frame' so (inl (same, next, events_are)) =
-    subst (λ (x : SessionState). SignedSo past' x.opening) same (subst (λ (p : List Event). SignedSo p s.opening) events_are so)
-comes_so hosts accepts (frame ∷ frames) past s answers past' s' frame' so (inr (t, gained, left, makes, is, goes, later)) =
-    comes_so hosts accepts frames (behind (event_of frame.kind frame.fields) past) t.state left past' s' frame' ((turn_so hosts accepts past s frame gained t so makes).goes goes) later
+steps_signed : (hosts : Hosts) (accepts : Accepts) (past : List Event) (s : SessionState) (frame : Frame) (gained : List SignCall) (t : SessionTurn) (steps : List (StepOf SessionState)) → SignedSo past s.opening →
+    Makes (session_turn hosts accepts s frame) gained t → (steps ≡ []) ⊎ (stop_next t.next ≡ None) → ((past : List Event) → SignedSo past t.state.opening → AreSignedSteps past steps) → AreSignedSteps past (step_of s frame gained t ∷ steps)
+steps_signed hosts accepts past s frame gained t steps so makes on later =
+    let here = turn_so hosts accepts past s frame gained t so makes in
+    (record { session = so.session; key = so.keys; asked = here.asked; handed = here.handed }, rest steps on here later)
+  where
+    rest : (more : List (StepOf SessionState)) → (more ≡ []) ⊎ (stop_next t.next ≡ None) → StepSo past (event_of frame.kind frame.fields) s gained t → ((past : List Event) → SignedSo past t.state.opening → AreSignedSteps past more) →
+        AreSignedSteps (behind (event_of frame.kind frame.fields) past) more
+    rest more (inl last) here later = rw last tt
+    rest more (inr goes) here later = later (behind (event_of frame.kind frame.fields) past) (here.goes goes)
 
 -- along a run the session signs what it was asked for
 pub signed_along : (hosts : Hosts) (accepts : Accepts) (settings : RunSettings) (max : ℕ) (answers : List Answer) (script : Option (List ℕ)) → AreSigned hosts accepts settings max answers script
-signed_along hosts accepts settings max answers script = λ bytes is past s frame comes.
+signed_along hosts accepts settings max answers script = λ bytes said steps s path.
     let begins : SignedSo [] (new_session settings.session settings.opening).opening = record {
       first = λ same. (record { exchanging = refl; runs = λ idle. absurd cc; fresh = refl }, refl);
       session = λ other. absurd (other refl);
       keys = λ other. absurd (other refl);
       asked = tt;
     } in
-    let so = comes_so hosts accepts (own_events session_own (taken max bytes)) [] (new_session settings.session settings.opening) answers past s frame begins comes in
-    record {
-      session = so.session;
-      key = so.keys;
-      asked = λ gained t makes. (turn_so hosts accepts past s frame gained t so makes).asked;
-      handed = λ gained t unopened makes. (turn_so hosts accepts past s frame gained t so makes).handed unopened;
-    }
+    session_along hosts accepts (λ s steps s'. (past : List Event) → SignedSo past s.opening → AreSignedSteps past steps) (λ s past so. tt)
+    (λ s frame gained t steps s' between makes on later past so. steps_signed hosts accepts past s frame gained t steps so makes on later) settings max answers script bytes said steps s path [] begins

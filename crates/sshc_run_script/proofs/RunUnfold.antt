@@ -18,7 +18,7 @@ use Rattle.sshc_run_script.specs.Machine.{Onward, goes_on, opened, stopped, RunS
 use Rattle.sshc_run_script.specs.Outcome.{Streams, Ending, told, cut, unread, ending_of, stop_as, IsCut, IsExact, EndsAs, HasEarlier, HasWritten, HoldsAtMost, Ends}
 use Rattle.sshc_run_reader.specs.Reading.{IsNoEvent, IsOneAtMost, IsBad, IsWhole, Gave, ReadFor, NextGives}
 use Rattle.sshc_run_script.specs.RecordLines.{line, lines}
-use Rattle.sshc_run_reader.specs.Script.{Head, Front, End, Bad, Whole, front, frame_at, size_of, stop_at_most, events}
+use Rattle.sshc_run_reader.specs.Script.{Frame, Head, Front, End, Bad, Whole, front, frame_at, size_of, stop_at_most, events}
 use Rattle.sshc_run_script.specs.ScriptRun.{Run, Spot, spot_after, run, run_on, at_end, after, stopped_with, asked_run, answers_of}
 use Rattle.sshc_run_script.specs.TurnContracts.{StopsBy, CutBy, TakeAs, TakeGives, BringsOn, TurnGives, LimitGives}
 use Rattle.sshc_run_script.proofs.AnsweredQuestions.{asked_made, asked_first}
@@ -263,6 +263,12 @@ module _ {S : Type 0} (turn : Turns S) where
   stop_is opened stop is = absurd cc
   stop_is (stopped x) stop is = let same : x ≡ stop = cc in ap stopped same
 
+  -- no event that was taken ends the script
+  pub not_taken : NeverAtEnd turn → (s s' : S) (frame : Frame) (gained : List SignCall) (held now : Option (List ℕ)) (a : Result Ended RunError) → a ≡ Ok ends.ScriptEnd → TakeGives (turn s frame) gained s' held now (Some a) → ⊥
+  not_taken never s s' frame gained held now a is gives =
+      let there : TakeGives (turn s frame) gained s' held now (Some (Ok ends.ScriptEnd)) = rw is at gives in
+      always_makes IsNoEnd (turn s frame) gained there.0 (never s frame) there.1 (stop_is there.0.next (ended ends.ScriptEnd) there.2)
+
   -- the spot after an event
   spot_is : (at at' : Spot S) (head : Head) (s : S) → at'.place ≡ at.place + size_of head → at'.last ≡ head.0 → at'.state ≡ s → at' ≡ spot_after at head s
   spot_is at at' head s place last state =
@@ -488,3 +494,7 @@ module _ {S : Type 0} (turn : Turns S) where
     },
   )
   limit_ends at before left reads (Err e) h count = absurd h
+
+-- where the script ends at the limit, nothing was read
+pub limit_still : (old new : Option (List ℕ)) (a : Result Ended RunError) → a ≡ Ok ends.ScriptEnd → LimitGives old new a → new ≡ old
+limit_still old new a is gives = let here = rw is at gives in sym here.0

@@ -2,30 +2,25 @@
 -- calls of the channel table that the rows of the run's events make, in order, and the packets of channels among all
 -- records of the open session are those that these calls write. So what the channel table guarantees for every list of
 -- calls is true of the run. The code keeps one table.
-use Rattle.std.specs.Prelude.{◌≡◌, ◌⊎◌, ℕ, Bool, true, false, List, [], ◌∷◌, ◌++◌, Option, Some, None, Result, Ok, Err}
+use Rattle.std.specs.Prelude.{◌≡◌, ℕ, Bool, true, false, List, [], ◌∷◌, ◌++◌, Option, Some, None, Result, Ok, Err}
 use Rattle.sshc_wire.specs.declared.record.Record.{Record}
-use Rattle.sshc_key.specs.Signers.{SignCall}
-use Rattle.sshc_key.specs.Asking.{Answer, Makes}
+use Rattle.sshc_key.specs.Asking.{Answer}
 use Rattle.sshc_auth_event.specs.declared.event.Event.{Event}
 use Rattle.sshc_mux.specs.ChannelState.{channel_of}
-use Rattle.sshc_mux.specs.ChannelAccount.{Account, Call, Life, born, called, no_channels, ran}
+use Rattle.sshc_mux.specs.ChannelAccount.{Account, Call, IsFront, Life, born, bytes_in, called, no_channels, ran, sent_with, table_after, taken}
 use Rattle.sshc_client_packets.specs.HostKeyProof.{Accepts}
 use Rattle.sshc_client_table.specs.Moves.{calls_in}
 use Rattle.sshc_client_table.specs.SessionAccount.{channel_packets, said_packets}
 use Rattle.sshc_client_table.specs.SessionState.{SessionState, is_open}
 use Rattle.sshc_client_table.specs.SessionTable.{session_row}
-use Rattle.sshc_client_state.specs.Start.{new_session}
 use Rattle.sshc_client.specs.Follows.{all_moves, default_opinions}
 use Rattle.sshc_run_reader.specs.declared.error.EventError.{EventError}
 use Rattle.sshc_run_reader.specs.EventReading.{event_of}
-use Rattle.sshc_run_reader.specs.Script.{Frame, taken}
+use Rattle.sshc_run_reader.specs.Script.{Frame}
 use Rattle.sshc_run_script.specs.Configured.{RunSettings}
 use Rattle.sshc_run_script.specs.KnownHosts.{Hosts}
-use Rattle.sshc_run_script.specs.Machine.{stop_next}
-use Rattle.sshc_run_script.specs.Part.{own_events}
-use Rattle.sshc_run_script.specs.ScriptRun.{answers_of}
-use Rattle.sshc_run_script.specs.SessionPart.{session_own}
-use Rattle.sshc_run_script.specs.SessionTurn.{SessionTurn, session_turn}
+use Rattle.sshc_run_script.specs.Path.{StepOf}
+use Rattle.sshc_run_script.specs.SessionPaths.{EachPath}
 
 -- ---- one event
 
@@ -48,15 +43,15 @@ said_open false records = []
 
 -- ---- over a run
 
--- these events, by the signer's answers in order, bring the run from the one state to the other, where that event is
--- the next; their rows make these calls, and these are the records of the open session, in order
-abbrev pub ComesCalling : Hosts → Accepts → SessionState → List Frame → List Answer → List Call → List Record → SessionState → Frame → Type 0
-ComesCalling hosts accepts s [] answers calls said s' frame' = ⊥
-ComesCalling hosts accepts s (frame ∷ frames) answers calls said s' frame' =
-    ((s ≡ s') × (frame ≡ frame') × (calls ≡ []) × (said ≡ []))
-    ⊎ ((t : SessionTurn) × (gained : List SignCall) × (left : List Answer) × (later : List Call) × (more : List Record) × Makes (session_turn hosts accepts s frame) gained t
-    × (answers ≡ answers_of gained ++ left) × (stop_next t.next ≡ None) × (calls ≡ calls_at accepts s frame ++ later) × (said ≡ said_open (is_open s.opening.phase) t.records ++ more)
-    × ComesCalling hosts accepts t.state frames left later more s' frame')
+-- the calls that the rows of these steps make, in order
+abbrev pub calls_along : Accepts → List (StepOf SessionState) → List Call
+calls_along accepts [] = []
+calls_along accepts (x ∷ steps) = calls_at accepts x.before x.frame ++ calls_along accepts steps
+
+-- the records of the open session among theirs, in order
+abbrev pub said_along : List (StepOf SessionState) → List Record
+said_along [] = []
+said_along (x ∷ steps) = said_open (is_open x.before.opening.phase) x.turn.records ++ said_along steps
 
 -- the calls are a life of the number n: one that makes the channel, and the life's own calls
 pub record IsLife (calls : List Call) (n : ℕ) (l : Life n) : Type 0 where
@@ -70,13 +65,23 @@ pub record HasAccount (s : SessionState) (n : ℕ) (l : Life n) : Type 0 where
   pub end : channel_of n s.table.channels ≡ Some l.end
   pub account : Account n l
 
+-- the calls hold a life of the number n that has ended: one that makes the channel, the life's own calls, and one after
+-- which the number is free
+pub record IsEndedLife (calls : List Call) (n : ℕ) (l : Life n) (last : Call) : Type 0 where
+  pub opener : Call
+  pub rest : List Call
+  pub first : l.last ≡ 0
+  pub all : calls ≡ l.before ++ opener ∷ (l.calls ++ last ∷ rest)
+  pub opens : (called opener (ran l.before (no_channels l.last)).table).table ≡ born n l
+  pub ends : channel_of n (called last (table_after n l)).table.channels ≡ None
+
 pub record IsAccounted (s : SessionState) (calls : List Call) (said : List Record) : Type 0 where
   pub table : s.table ≡ (ran calls (no_channels 0)).table
   pub packets : channel_packets said ≡ said_packets (ran calls (no_channels 0)).said
   pub lives : (n : ℕ) (l : Life n) → IsLife calls n l → HasAccount s n l
+  -- of a channel that has ended what was sent is a prefix of what was handed in
+  pub ended : (n : ℕ) (l : Life n) (last : Call) → IsEndedLife calls n l last → IsFront (bytes_in (sent_with n l last)) (taken n l.calls)
 
--- each state that the session comes to, by its own events and answers, is accounted for
+-- along each path of the session its state is accounted for
 abbrev pub AreAccounted : Hosts → Accepts → RunSettings → ℕ → List Answer → Option (List ℕ) → Type 0
-AreAccounted hosts accepts settings max answers script =
-    (bytes : List ℕ) → script ≡ Some bytes → (s : SessionState) (frame : Frame) (calls : List Call) (said : List Record) →
-    ComesCalling hosts accepts (new_session settings.session settings.opening) (own_events session_own (taken max bytes)) answers calls said s frame → IsAccounted s calls said
+AreAccounted hosts accepts settings max answers script = EachPath hosts accepts settings max answers script (λ steps s. IsAccounted s (calls_along accepts steps) (said_along steps))

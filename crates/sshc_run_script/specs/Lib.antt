@@ -34,3 +34,9 @@ pub mod SignedRequests
 pub mod OpenedKey
 pub mod RunOutside
 pub mod RunPromises
+pub mod Paused
+pub mod PausedRuns
+pub mod Path
+pub mod SessionPaths
+pub mod OpenSteps
+pub mod SessionLaws

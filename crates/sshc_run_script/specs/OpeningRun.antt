@@ -5,7 +5,7 @@ use Rattle.sshc_key.specs.Asking.{Always, Answer, asked_on}
 use Rattle.sshc_run_script.specs.Prefixes.{IsFront}
 use Rattle.sshc_run_script.specs.Machine.{RunStop, unanswered_stop, Onward, goes_on, opened, stopped, TurnOf, Turns}
 use Rattle.sshc_run_reader.specs.Script.{Frame, ScriptStop}
-use Rattle.sshc_run_script.specs.ScriptRun.{RunOf, Run, stopped_with, after, asked_run, at_end, events_run}
+use Rattle.sshc_run_script.specs.ScriptRun.{RunOf, Run, stopped_with, after, asked_run, at_end}
 
 -- how the opening run stops: the session is open, and these events and answers remain; the run stops; or the list is
 -- used up
@@ -29,14 +29,6 @@ unfoldable pub opening : {S : Type 0} → Turns S → S → List Frame → List 
 opening turn s [] answers = stopped_with [] through
 opening turn s (frame ∷ frames) answers =
     asked_run (stops_with unanswered_stop) (turn s frame) answers (λ t left. by_turn t t.next frames left (opening turn t.state frames left))
-
--- ---- the law between the opening run and the whole run
-
--- once the table opens the session, the whole run has the opening's records followed by more; else the two stop alike
-abbrev pub Concluded : {S : Type 0} → Turns S → ScriptStop → OpeningRun S → OpeningStop S → Run → Type 0
-Concluded turn st o (opens_before s frames left) r = r ≡ after o.records o.calls (events_run turn s frames st left)
-Concluded turn st o (stops_with stop) r = r ≡ record { records = o.records; calls = o.calls; stop = stop }
-Concluded turn st o through r = r ≡ record { records = o.records; calls = o.calls; stop = at_end st }
 
 -- ---- a larger machine that begins as the opening
 

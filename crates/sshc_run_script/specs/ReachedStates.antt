@@ -14,10 +14,17 @@ Comes {S = S} turn s (frame ∷ frames) answers s' frame' =
     ((s ≡ s') × (frame ≡ frame'))
     ⊎ ((t : TurnOf S) × (gained : List SignCall) × (left : List Answer) × Makes (turn s frame) gained t × (answers ≡ answers_of gained ++ left) × (stop_next t.next ≡ None) × Comes turn t.state frames left s' frame')
 
--- a stop is the one after the events, or that of a turn: the run comes to a state and an event that the cause is true
--- of
+-- by the signer's answers in order the run goes on after each of these events
+abbrev pub GoesThrough : {S : Type 0} → Turns S → S → List Frame → List Answer → Type 0
+GoesThrough turn s [] answers = Unit {0}
+GoesThrough {S = S} turn s (frame ∷ frames) answers =
+    (t : TurnOf S) × (gained : List SignCall) × (left : List Answer) × Makes (turn s frame) gained t × (answers ≡ answers_of gained ++ left) × (stop_next t.next ≡ None) × GoesThrough turn t.state frames left
+
+-- a stop is the one after the events, none of which stopped the run, or that of a turn: the run comes to a state and an
+-- event that the cause is true of
 abbrev pub CausedBy : {S : Type 0} → Turns S → S → (S → Frame → RunStop → Type 0) → List Frame → ScriptStop → List Answer → RunStop → Type 0
-CausedBy {S = S} turn first Cause frames st answers stop = (at_end st ≡ stop) ⊎ ((s : S) × (frame : Frame) × Comes turn first frames answers s frame × Cause s frame stop)
+CausedBy {S = S} turn first Cause frames st answers stop =
+    ((at_end st ≡ stop) × GoesThrough turn first frames answers) ⊎ ((s : S) × (frame : Frame) × Comes turn first frames answers s frame × Cause s frame stop)
 
 -- a turn that stops the run has its cause
 abbrev pub StopsFor : (RunStop → Type 0) → Onward → Type 0

@@ -11,6 +11,7 @@ use Rattle.sshc_client_packets.specs.HostKeyProof.{Accepts}
 use Rattle.sshc_client.specs.declared.config.Config.{Config}
 use Rattle.sshc_run_script.specs.declared.error.RunError.{RunError}
 use Rattle.sshc_run_script.specs.AgentRuns.{HasOneHistory}
+use Rattle.sshc_run_script.specs.Askers.{AreCallsByAsker}
 use Rattle.sshc_run_script.specs.Causes.{IsCaused}
 use Rattle.sshc_run_script.specs.ChannelRuns.{AreAccounted}
 use Rattle.sshc_run_script.specs.Configured.{RunSettings, run_settings_of}
@@ -19,6 +20,7 @@ use Rattle.sshc_run_script.specs.KnownHosts.{Hosts}
 use Rattle.sshc_run_script.specs.Machine.{Machine}
 use Rattle.sshc_run_script.specs.OpenAnswers.{OpensAreAnswered}
 use Rattle.sshc_run_script.specs.OpenCounts.{OpensAreCounted}
+use Rattle.sshc_run_script.specs.OpenSteps.{StepsKeepLaws}
 use Rattle.sshc_run_script.specs.OpenedKey.{IsOpenedByAccepted}
 use Rattle.sshc_run_script.specs.OpeningFirst.{IsOpeningFirst, IsOpeningDone, IsOpeningComplete}
 use Rattle.sshc_run_script.specs.Outcome.{Ends}
@@ -124,6 +126,11 @@ pub record RunPromises (asked : RunAsked) (before now : RunOutside) (answer : Re
   -- for every user and password, the packet that asks for the user by the password is among the records at most as
   -- often as the session's events ask for it
   pub passwords : PasswordsAreAsked asked.max_events (answered_table asked before now) before.source.left
+  -- the signer was called as the tables call it over the whole script, and each call had the next answer of its asker
+  pub askers : AreCallsByAsker (run_machine asked.hosts asked.accepts asked.settings) asked.max_events (calls_since before now) before.source.left
+  -- each event of an open session, the last one too, has the laws of a step: how requests and opens of ours are answered,
+  -- and that no bytes of a channel are written while keys are exchanged
+  pub steps : StepsKeepLaws asked.hosts asked.accepts asked.settings asked.max_events (session_answers before now) before.source.left
   -- the agent's records are those of one history of one agent that holds nothing at first: its inputs are those of the
   -- agents' events, its locks hold, and each signature of it is permitted
   pub agents : HasOneHistory asked.settings.agent_asks asked.max_events (answered_table asked before now) before.source.left

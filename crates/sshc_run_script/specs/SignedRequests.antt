@@ -1,10 +1,9 @@
 -- What a session asks the signer along a run, and what it outputs to be signed (RFC 4252, section 7; RFC 4253, section
 -- 7.2): the signed text of the first exchange's hash and of a request that an earlier event asked for. Stated of each
 -- state that the session comes to, with the events before it; the code keeps no list of them.
-use Rattle.std.specs.Prelude.{◌≡◌, ◌≢◌, ◌⊎◌, ◌≤◌, ◌+◌, ℕ, false, List, [], ◌∷◌, ◌++◌, length, Option, Some, None, Result, Ok, Err}
+use Rattle.std.specs.Prelude.{◌≡◌, ◌≢◌, ◌≤◌, ◌+◌, ℕ, false, List, [], ◌∷◌, length, Option, Some, None, Result, Ok, Err}
 use Rattle.std.specs.List.{AllByRecursion}
-use Rattle.sshc_key.specs.Signers.{SignCall}
-use Rattle.sshc_key.specs.Asking.{Answer, Makes}
+use Rattle.sshc_key.specs.Asking.{Answer}
 use Rattle.sshc_auth_event.specs.declared.event.Event.{Event}
 use Rattle.sshc_auth_event.specs.declared.event.Event.TheVariants as events
 use Rattle.sshc_auth_event.specs.declared.method.Method.{Method}
@@ -14,17 +13,16 @@ use Rattle.sshc_auth.specs.declared.opening.Phase.TheVariants as phases
 use Rattle.sshc_auth.specs.SignedRuns.{IsHandedFor, IsSignedFor}
 use Rattle.sshc_client_packets.specs.HostKeyProof.{Accepts}
 use Rattle.sshc_client_table.specs.SessionState.{SessionState, is_open}
-use Rattle.sshc_client_state.specs.Start.{new_session}
 use Rattle.sshc_run_reader.specs.declared.error.EventError.{EventError}
 use Rattle.sshc_run_reader.specs.EventReading.{event_of}
 use Rattle.sshc_run_reader.specs.Script.{Frame, taken}
 use Rattle.sshc_run_script.specs.Configured.{RunSettings}
 use Rattle.sshc_run_script.specs.KnownHosts.{Hosts}
-use Rattle.sshc_run_script.specs.Machine.{stop_next}
+use Rattle.sshc_run_script.specs.Path.{StepOf}
+use Rattle.sshc_run_script.specs.SessionPaths.{EachPath}
 use Rattle.sshc_run_script.specs.Part.{own_calls, own_events}
-use Rattle.sshc_run_script.specs.ScriptRun.{Run, answers_of}
+use Rattle.sshc_run_script.specs.ScriptRun.{Run}
 use Rattle.sshc_run_script.specs.SessionPart.{session_own}
-use Rattle.sshc_run_script.specs.SessionTurn.{SessionTurn, session_turn}
 
 -- ---- the events before a state, the latest first
 
@@ -49,30 +47,25 @@ HasHostKey key event = Unit {0}
 
 -- ---- over a run
 
--- these events, by the signer's answers in order, bring the session from the one state to the other, where that event
--- is the next; the events taken until then precede those of the past in the list
-abbrev pub ComesBehind : Hosts → Accepts → List Event → SessionState → List Frame → List Answer → List Event → SessionState → Frame → Type 0
-ComesBehind hosts accepts past s [] answers past' s' frame' = ⊥
-ComesBehind hosts accepts past s (frame ∷ frames) answers past' s' frame' =
-    ((s ≡ s') × (frame ≡ frame') × (past ≡ past'))
-    ⊎ ((t : SessionTurn) × (gained : List SignCall) × (left : List Answer) × Makes (session_turn hosts accepts s frame) gained t × (answers ≡ answers_of gained ++ left)
-    × (stop_next t.next ≡ None) × ComesBehind hosts accepts (behind (event_of frame.kind frame.fields) past) t.state frames left past' s' frame')
-
-pub record IsSignedAt (hosts : Hosts) (accepts : Accepts) (past : List Event) (s : SessionState) (frame : Frame) : Type 0 where
+-- what is true of a step, with the events before it
+pub record IsSignedStep (past : List Event) (x : StepOf SessionState) : Type 0 where
   -- after the first exchange its hash is the session id, and its host key the session's
-  pub session : s.opening.phase ≢ phases.Exchanging → first_exchange past ≡ Some (s.opening.session_id, s.opening.host_key)
+  pub session : x.before.opening.phase ≢ phases.Exchanging → first_exchange past ≡ Some (x.before.opening.session_id, x.before.opening.host_key)
   -- and each exchange that was done had it
-  pub key : s.opening.phase ≢ phases.Exchanging → AllByRecursion (HasHostKey s.opening.host_key) past
+  pub key : x.before.opening.phase ≢ phases.Exchanging → AllByRecursion (HasHostKey x.before.opening.host_key) past
   -- the signer is asked for the signed text of the session id and of a request among the events
-  pub asked : (gained : List SignCall) (t : SessionTurn) → Makes (session_turn hosts accepts s frame) gained t → AllByRecursion (IsSignedFor s.opening.session_id past) gained
+  pub asked : AllByRecursion (IsSignedFor x.before.opening.session_id past) x.gained
   -- the bytes that are output to be signed, until the session is open, are such a text too
-  pub handed : (gained : List SignCall) (t : SessionTurn) → is_open s.opening.phase ≡ false → Makes (session_turn hosts accepts s frame) gained t → AllByRecursion (IsHandedFor s.opening.session_id past) t.records
+  pub handed : is_open x.before.opening.phase ≡ false → AllByRecursion (IsHandedFor x.before.opening.session_id past) x.turn.records
 
--- at each state that the session comes to
+-- each of these steps, behind those events
+abbrev pub AreSignedSteps : List Event → List (StepOf SessionState) → Type 0
+AreSignedSteps past [] = Unit {0}
+AreSignedSteps past (x ∷ steps) = IsSignedStep past x × AreSignedSteps (behind (event_of x.frame.kind x.frame.fields) past) steps
+
+-- along each path of the session
 abbrev pub AreSigned : Hosts → Accepts → RunSettings → ℕ → List Answer → Option (List ℕ) → Type 0
-AreSigned hosts accepts settings max answers script =
-    (bytes : List ℕ) → script ≡ Some bytes → (past : List Event) (s : SessionState) (frame : Frame) →
-    ComesBehind hosts accepts [] (new_session settings.session settings.opening) (own_events session_own (taken max bytes)) answers past s frame → IsSignedAt hosts accepts past s frame
+AreSigned hosts accepts settings max answers script = EachPath hosts accepts settings max answers script (λ steps s. AreSignedSteps [] steps)
 
 -- ---- how often
 

@@ -1,9 +1,11 @@
 //! One event of a script: it is taken, and its records are written.
 
-ghost use Rattle.std.specs.Prelude.{◌≡◌, ◌≢◌, ◌+◌, ◌++◌, ◌<◌, ◌≤◌, ◌^◌, Some, None, Err, IfNone, true, false};
+ghost use Rattle.std.specs.Prelude.{◌≡◌, ◌≢◌, ◌+◌, ◌++◌, ◌<◌, ◌≤◌, ◌^◌, Some, None, Ok, Err, IfNone, true, false};
 ghost use Rattle.sshc_wire.specs.Faults.{Rose};
 ghost use Rattle.sshc_key.specs.Signers.{since};
 ghost use Rattle.sshc_client_table.specs.SessionState.{is_open};
+ghost use Rattle.sshc_auth.specs.declared.ended.Ended.TheVariants.{ScriptEnd};
+ghost use Rattle.sshc_run_script.specs.LoopInvariant.{Stays};
 ghost use Rattle.sshc_run_script.specs.Outcome.{streams};
 ghost use Rattle.sshc_run_script.specs.Ready.{IsReady};
 ghost use Rattle.sshc_run_script.specs.RunOutside.{sink_state, source_state, SinkTaken, SourceTaken};
@@ -259,6 +261,11 @@ pub fn one_turn<S: Source, G: LocalSigner, V: Verifier, K: Sink>(
         (spot at.new.place at.new.last (kept at.new.session at.new.agents))
         (streams (S.left source.old) (K.contents sink.old) (S.reads source.old) (G.calls signer.old))
         (streams (S.left source.new) (K.contents sink.new) (S.reads source.new) (G.calls signer.new)) result }
+    ensures ended { result ≡ Some (Ok ScriptEnd) → Stays
+        (spot at.old.place at.old.last (kept at.old.session at.old.agents))
+        (spot at.new.place at.new.last (kept at.new.session at.new.agents))
+        (streams (S.left source.old) (K.contents sink.old) (S.reads source.old) (G.calls signer.old))
+        (streams (S.left source.new) (K.contents sink.new) (S.reads source.new) (G.calls signer.new)) }
     ensures ready { IfNone result (IsReady at.new.session) }
     ensures same { hosts_of gate.new ≡ hosts_of gate.old }
     ensures source { SourceTaken

@@ -1,11 +1,12 @@
-use Rattle.std.proofs.Common.{ap, ◌∙◌, ◌≡◌, ◌+◌, Some, None, arith, refl}
+use Rattle.std.proofs.Common.{ap, ◌∙◌, ◌≡◌, ◌+◌, Ok, Some, None, arith, refl, sym}
 use Rattle.sshc_wire.specs.Contents.{moved_for, no_writes}
 use Rattle.sshc_key.specs.Signers.{since}
+use Rattle.sshc_auth.specs.declared.ended.Ended.TheVariants.{ScriptEnd}
 use Rattle.sshc_run_script.specs.ScriptRun.{spot}
 use Rattle.sshc_run_script.specs.RunTurn.{kept, run_turn}
 use Rattle.sshc_run_script.specs.TurnContracts.{hosts_of}
 use Rattle.sshc_run_script.proofs.TurnCauses.{never_at_end}
-use Rattle.sshc_run_script.proofs.RunUnfold.{end_ends, next_ends, taken_gives}
+use Rattle.sshc_run_script.proofs.RunUnfold.{end_ends, next_ends, not_taken, taken_gives}
 use Rattle.sshc_run_script.proofs.turn.one_turn.Goals as goal
 
 pub returns-in-Ok-None-clause-gives : goal.returns-in-Ok-None-clause-gives
@@ -41,3 +42,15 @@ returns-in-Ok-None-clause-sink g c = record {
   fault = λ e. absurd cc;
   told = λ no. refl;
 }
+
+-- ---- nothing else ends a script
+
+pub returns-in-Ok-None-clause-ended : goal.returns-in-Ok-None-clause-ended
+returns-in-Ok-None-clause-ended g c =
+    let gives = rw c.in-Ok-None.field-0-is at c.in-Ok-None.ensures.gives in
+    λ is. (refl, sym gives.0, refl, refl)
+
+pub returns-in-Some-clause-ended : goal.returns-in-Some-clause-ended
+returns-in-Some-clause-ended g c = λ is.
+    let same : c.in-Some.answer ≡ Ok ScriptEnd = cc in
+    absurd (not_taken (run_turn (hosts_of c.args.gate.now) (g.V.Verifier.accepts c.args.verifier.now)) (never_at_end (hosts_of c.args.gate.now) (g.V.Verifier.accepts c.args.verifier.now)) _ (kept c.take_event.new.at.session c.take_event.new.at.agents) _ _ _ _ c.in-Some.answer same c.in-Some.ensures.gives)

@@ -1,4 +1,4 @@
-use Rattle.std.proofs.Common.{◌≡◌, ◌*◌, ◌≤◌}
+use Rattle.std.proofs.Common.{◌≡◌, ◌+◌, ◌*◌, ◌≤◌}
 use Rattle.sshc_wire.specs.Contents.{WritesMove}
 use Rattle.sshc_run_script.specs.LoopInvariant.{IsAlong}
 use Rattle.sshc_run_script.specs.Outcome.{streams}
@@ -6,18 +6,18 @@ use Rattle.sshc_run_script.specs.Ready.{IsReady}
 use Rattle.sshc_run_script.specs.ScriptRun.{run, spot}
 use Rattle.sshc_run_script.specs.RunTurn.{kept, run_turn}
 use Rattle.sshc_run_script.specs.TurnContracts.{hosts_of}
-use Rattle.sshc_run_script.proofs.run.take_turns.Given as goal
+use Rattle.sshc_run_script.proofs.turns.take_turns.Given as goal
 
 abbrev pub invariant-loop-turn : goal.invariant-loop-turn
 invariant-loop-turn g l =
     record {
-      along : IsAlong (run (run_turn (hosts_of l.initial.gate) (g.V.Verifier.accepts l.verifier))) (spot l.initial.at.place l.initial.at.last (kept l.initial.at.session l.initial.at.agents)) l.max_events l.turn (spot l.at.place l.at.last (kept l.at.session l.at.agents))
+      along : IsAlong (run (run_turn (hosts_of l.initial.gate) (g.V.Verifier.accepts l.verifier))) (spot l.initial.at.place l.initial.at.last (kept l.initial.at.session l.initial.at.agents)) l.initial.remaining l.turn (spot l.at.place l.at.last (kept l.at.session l.at.agents))
           (streams (g.S.Source.left l.initial.source) (g.K.Sink.contents l.initial.sink) (g.S.Source.reads l.initial.source) (g.G.LocalSigner.calls l.initial.signer))
           (streams (g.S.Source.left l.source) (g.K.Sink.contents l.sink) (g.S.Source.reads l.source) (g.G.LocalSigner.calls l.signer));
-      turns : l.turn ≤ l.max_events;
+      count : l.turn + l.remaining ≡ l.initial.remaining;
       ready : IsReady l.at.session;
       same : hosts_of l.gate ≡ hosts_of l.initial.gate;
-      place : l.at.place ≤ 262148 * l.turn;
+      room : l.at.place + 262148 * l.remaining ≤ l.initial.at.place + 262148 * l.initial.remaining;
       moving : g.S.Source.empty_reads l.source ≡ g.S.Source.empty_reads l.initial.source;
       moving_writes : g.K.Sink.empty_writes l.sink ≡ g.K.Sink.empty_writes l.initial.sink;
       reads : g.S.Source.faults l.source ≡ g.S.Source.faults l.initial.source;

@@ -1,0 +1,228 @@
+-- A run whose events come one at a time: one call more, and what it guarantees at each pause and at its end.
+use Rattle.std.proofs.Common.{◌≡◌, ℕ, zero, suc, ◌+◌, ◌-◌, List, [], ◌++◌, length, drop, Option, Some, true, false, Result, Ok, Err, refl, ap, sym, ◌∙◌, subst, arith}
+use Rattle.std.proofs.Math.Seq.{drop-append_seam}
+use Rattle.std.proofs.lemmas.List.{append-nil}
+use Rattle.std.proofs.lemmas.List.Concat.{flat_map-append}
+use Rattle.sshc_wire.specs.Contents.{append}
+use Rattle.sshc_wire.specs.declared.record.Record.{Record}
+use Rattle.sshc_key.specs.Signers.{SignCall, since}
+use Rattle.sshc_key.specs.Asking.{Answer}
+use Rattle.sshc_auth.specs.declared.ended.Ended.{Ended}
+use Rattle.sshc_auth.specs.declared.ended.Ended.TheVariants.{ScriptEnd}
+use Rattle.sshc_client_packets.specs.HostKeyProof.{Accepts}
+use Rattle.sshc_client.specs.declared.config.Config.{Config}
+use Rattle.sshc_hosts.specs.HostText.{host_text}
+use Rattle.sshc_run_script.specs.declared.error.RunError.{RunError}
+use Rattle.sshc_run_script.specs.LoopInvariant.{BringsTo, IsAlong, Pauses}
+use Rattle.sshc_run_script.specs.Machine.{Machine}
+use Rattle.sshc_run_script.specs.Outcome.{Streams, streams, Ending, told, cut, unread, ending_of, EndsAs, Ends}
+use Rattle.sshc_run_script.specs.Paused.{Paused, is_stopped, spot_of, started, table_from}
+use Rattle.sshc_run_script.specs.PausedRuns.{History, nothing_yet, followed_by, text_since, outside_of, step_of, HasRun, IsRun, Stopped, Takes}
+use Rattle.sshc_run_script.specs.RecordLines.{line, lines}
+use Rattle.sshc_run_script.specs.RunFaults.{fault_counts, FaultsAnswered}
+use Rattle.sshc_run_script.specs.RunOutside.{CountsMoved}
+use Rattle.sshc_run_script.specs.RunPromises.{RunAsked, run_asked}
+use Rattle.sshc_run_script.specs.RunTurn.{RunState, run_machine, run_turn}
+use Rattle.sshc_run_script.specs.ScriptRun.{Run, Spot, Table, at_first, run}
+use Rattle.sshc_run_script.specs.SessionLaws.{SessionLaws}
+use Rattle.sshc_run_script.proofs.KeptPromises.{promised}
+use Rattle.sshc_run_script.proofs.Promises.{since_is, by_events}
+use Rattle.sshc_run_script.proofs.RunLoop.{brings_none, brings_two, along_ends}
+use Rattle.sshc_run_script.proofs.RunUnfold.{end_ends, limit_ends}
+
+-- ---- the same after another text and other calls
+
+-- the text that was added
+added_is : (b n u : List ℕ) → Some n ≡ append (Some b) u → text_since b n ≡ u
+added_is b n u is = let same : n ≡ b ++ u = cc in ap (drop (length b)) same ∙ drop-append_seam b u
+
+module _ (left left' : Option (List ℕ)) (b n x : List ℕ) (reads reads' : ℕ) (calls calls' cs : List SignCall) where
+  abbrev was : Streams
+  was = streams left (Some b) reads calls
+
+  abbrev now : Streams
+  now = streams left' (Some n) reads' calls'
+
+  abbrev was' : Streams
+  was' = streams left (Some x) 0 cs
+
+  abbrev now' : Streams
+  now' = streams left' (Some (x ++ text_since b n)) 0 (cs ++ since calls calls')
+
+  wrote : (u : List ℕ) → Some n ≡ append (Some b) u → Some (x ++ text_since b n) ≡ append (Some x) u
+  wrote u is = ap (λ (t : List ℕ). Some (x ++ t)) (added_is b n u is)
+
+  rebased_as : (ending : Ending) (table : List Answer → List ℕ → Run) (given : List ℕ) (gained : List SignCall) (a : Result Ended RunError) → EndsAs ending table given gained was now a → EndsAs ending table given gained was' now' a
+  rebased_as told table given gained a by = record { all = wrote _ by.all; stop = by.stop; rest = by.rest; just = by.just; whole = by.whole }
+  rebased_as cut table given gained a (part, others, due, is) = (part, others, due, wrote part is)
+  rebased_as unread table given gained a is = wrote _ is
+
+  rebased : (max place last : ℕ) (table : List Answer → List ℕ → Run) (a : Result Ended RunError) → Ends max place last table was now a → Ends max place last table was' now' a
+  rebased max place last table a (given, gained, end) = (
+    given,
+    gained,
+    record {
+      read = end.read;
+      asked = ap (λ (more : List SignCall). cs ++ more) (since_is calls calls' gained end.asked);
+      made = end.made;
+      by = rebased_as (ending_of a) table given gained a end.by;
+      early = λ later front c more is. (let earlier = end.early later front c more is in (earlier.0, wrote _ earlier.1));
+      count = omega arith;
+      few = end.few;
+    },
+  )
+
+-- ---- what a history guarantees
+
+-- no count of the outside moved
+uncounted : (script left text : List ℕ) (calls : List SignCall) (a : Result Ended RunError) → FaultsAnswered (fault_counts 0 0) (fault_counts 0 0) a → CountsMoved (outside_of script [] []) (outside_of left text calls) a
+uncounted script left text calls a faults = record { last_read = omega arith; last_write = omega arith; writes = (text, refl, omega arith); faults = faults }
+
+-- at a pause no read and no write has failed
+unfailed : FaultsAnswered (fault_counts 0 0) (fault_counts 0 0) (Ok ScriptEnd)
+unfailed = record {
+  read_later = omega arith;
+  write_later = omega arith;
+  read_fault = λ e. absurd cc;
+  read_told = λ no. refl;
+  write_fault = λ e. absurd cc;
+  write_told = λ no. refl;
+}
+
+module _ (laws : SessionLaws) (asked : RunAsked) where
+  abbrev machine : Machine RunState
+  machine = run_machine asked.hosts asked.accepts asked.settings
+
+  abbrev first : Spot RunState
+  first = at_first machine.first
+
+  abbrev table : Table RunState
+  table = run (run_turn asked.hosts asked.accepts)
+
+  -- the bytes of a history, and then more
+  along : (h : History) (turns : ℕ) (at : Spot RunState) (records : List Record) (more : List ℕ) → h.text ≡ lines records → BringsTo table first asked.max_events turns at h.script h.calls records →
+      IsAlong table first asked.max_events turns at (streams (Some (h.script ++ more)) (Some []) 0 []) (streams (Some more) (Some h.text) 0 h.calls)
+  along h turns at records more text brings = (h.script, h.calls, records, record { read = refl; asked = refl; wrote = ap Some text; count = omega arith }, brings)
+
+  -- it ends so
+  run_ended : (h : History) (turns n : ℕ) (at : Spot RunState) (records : List Record) (events left text : List ℕ) (calls : List SignCall) (a : Result Ended RunError) → turns + n ≡ asked.max_events → h.text ≡ lines records →
+      BringsTo table first asked.max_events turns at h.script h.calls records → Ends n at.place at.last (table n at) (streams (Some events) (Some h.text) 0 h.calls) (streams (Some left) (Some (h.text ++ text)) 0 (h.calls ++ calls)) a →
+      FaultsAnswered (fault_counts 0 0) (fault_counts 0 0) a → HasRun asked (followed_by h events calls text) left a
+  run_ended h turns n at records events left text calls a count is brings ends faults =
+      let remain : n ≡ asked.max_events - turns = omega (arith, count) in
+      let here = subst (λ (k : ℕ). Ends k at.place at.last (table k at) (streams (Some events) (Some h.text) 0 h.calls) (streams (Some left) (Some (h.text ++ text)) 0 (h.calls ++ calls)) a) remain ends in
+      let whole = along_ends table first asked.max_events turns at _ _ (streams (Some left) (Some (h.text ++ text)) 0 (h.calls ++ calls)) a (omega (arith, count)) (along h turns at records events is brings) here in
+      promised laws asked (outside_of (h.script ++ events) [] []) (outside_of left (h.text ++ text) (h.calls ++ calls)) a (by_events machine asked.max_events _ _ a whole)
+      (uncounted (h.script ++ events) left (h.text ++ text) (h.calls ++ calls) a faults)
+
+  -- at a pause the script may end
+  end_here : (n : ℕ) (at : Spot RunState) (text : List ℕ) (calls : List SignCall) → Ends n at.place at.last (table n at) (streams (Some []) (Some text) 0 calls) (streams (Some []) (Some text) 0 calls) (Ok ScriptEnd)
+  end_here zero at text calls = limit_ends (run_turn asked.hosts asked.accepts) at (streams (Some []) (Some text) 0 calls) (Some []) 0 (Ok ScriptEnd) (refl, refl) (omega arith)
+  end_here (suc n) at text calls = end_ends (run_turn asked.hosts asked.accepts) at (streams (Some []) (Some text) 0 calls) (Some []) 0 refl refl (omega arith) n
+
+  paused_promised : (h : History) (turns n : ℕ) (at : Spot RunState) (records : List Record) → turns + n ≡ asked.max_events → h.text ≡ lines records → BringsTo table first asked.max_events turns at h.script h.calls records →
+      HasRun asked h [] (Ok ScriptEnd)
+  paused_promised h turns n at records count is brings =
+      let remain : n ≡ asked.max_events - turns = omega (arith, count) in
+      let here = subst (λ (k : ℕ). Ends k at.place at.last (table k at) (streams (Some []) (Some h.text) 0 h.calls) (streams (Some []) (Some h.text) 0 h.calls) (Ok ScriptEnd)) remain (end_here n at h.text h.calls) in
+      let so_far = subst (λ (bytes : List ℕ). IsAlong table first asked.max_events turns at (streams (Some bytes) (Some []) 0 []) (streams (Some []) (Some h.text) 0 h.calls)) (append-nil h.script) (along h turns at records [] is brings) in
+      let whole = along_ends table first asked.max_events turns at _ _ (streams (Some []) (Some h.text) 0 h.calls) (Ok ScriptEnd) (omega (arith, count)) so_far here in
+      promised laws asked (outside_of h.script [] []) (outside_of [] h.text h.calls) (Ok ScriptEnd) (by_events machine asked.max_events _ _ (Ok ScriptEnd) whole) (uncounted h.script [] h.text h.calls (Ok ScriptEnd) unfailed)
+
+  -- ---- at the start
+
+  is_started : (p : Paused) → p.hosts ≡ asked.hosts → p.over ≡ false → p.remaining ≡ asked.max_events → spot_of p ≡ first → IsRun asked nothing_yet p
+  is_started p hosts going most at =
+      let none : BringsTo table first asked.max_events 0 (spot_of p) [] [] [] = brings_none table first asked.max_events (spot_of p) at in
+      record {
+        promised = paused_promised nothing_yet 0 p.remaining (spot_of p) [] (omega (arith, most)) refl none;
+        hosts = hosts;
+        going = going;
+        turns = 0;
+        count = omega (arith, most);
+        records = [];
+        text = refl;
+        brings = none;
+      }
+
+  -- ---- one call
+
+  module _ (h : History) (old : Paused) (is : IsRun asked h old) (events b n : List ℕ) (reads reads' : ℕ) (calls calls' : List SignCall) where
+    -- an event stopped the run
+    pub stops_run : (left : List ℕ) (a : Result Ended RunError) →
+        Ends old.remaining old.place old.last (table_from old asked.accepts old.remaining (spot_of old)) (streams (Some events) (Some b) reads calls) (streams (Some left) (Some n) reads' calls') a →
+        FaultsAnswered (fault_counts 0 0) (fault_counts 0 0) a → HasRun asked (followed_by h events (since calls calls') (text_since b n)) left a
+    stops_run left a ends faults =
+        let here : Ends old.remaining old.place old.last (table old.remaining (spot_of old)) (streams (Some events) (Some b) reads calls) (streams (Some left) (Some n) reads' calls') a = rw is.hosts at ends in
+        run_ended h is.turns old.remaining (spot_of old) is.records events left (text_since b n) (since calls calls') a is.count is.text is.brings
+        (rebased (Some events) (Some left) b n h.text reads reads' calls calls' h.calls old.remaining old.place old.last (table old.remaining (spot_of old)) a here) faults
+
+    -- the run went on
+    pub goes_on_run : (new : Paused) (left : List ℕ) → new.hosts ≡ old.hosts → new.over ≡ false → left ≡ [] →
+        Pauses (table_from old asked.accepts) (spot_of old) old.remaining (spot_of new) new.remaining (streams (Some events) (Some b) reads calls) (streams (Some left) (Some n) reads' calls') →
+        IsRun asked (followed_by h events (since calls calls') (text_since b n)) new
+    goes_on_run new left hosts going none (le, (given, gained, records, moved, brings)) =
+        let remain : old.remaining ≡ asked.max_events - is.turns = omega (arith, is.count) in
+        let event : given ≡ events = (let whole : events ≡ given ++ left = cc in sym (whole ∙ ap (λ (rest : List ℕ). given ++ rest) none ∙ append-nil given)) in
+        let asked_now : gained ≡ since calls calls' = sym (since_is calls calls' gained moved.asked) in
+        let said : lines records ≡ text_since b n = sym (added_is b n (lines records) moved.wrote) in
+        let then_on : BringsTo table (spot_of old) (asked.max_events - is.turns) (old.remaining - new.remaining) (spot_of new) given gained records = rw is.hosts at (subst (λ (k : ℕ). BringsTo (table_from old asked.accepts) (spot_of old) k (old.remaining - new.remaining) (spot_of new) given gained records) remain brings) in
+        let whole : BringsTo table first asked.max_events (is.turns + (old.remaining - new.remaining)) (spot_of new) (h.script ++ given) (h.calls ++ gained) (is.records ++ records) =
+        brings_two table first asked.max_events is.turns (spot_of old) h.script h.calls is.records is.brings (old.remaining - new.remaining) (spot_of new) given gained records then_on
+        in
+        let here : BringsTo table first asked.max_events (is.turns + (old.remaining - new.remaining)) (spot_of new) (h.script ++ events) (h.calls ++ since calls calls') (is.records ++ records) =
+        subst (λ (calls'' : List SignCall). BringsTo table first asked.max_events (is.turns + (old.remaining - new.remaining)) (spot_of new) (h.script ++ events) (h.calls ++ calls'') (is.records ++ records)) asked_now
+        (subst (λ (bytes : List ℕ). BringsTo table first asked.max_events (is.turns + (old.remaining - new.remaining)) (spot_of new) (h.script ++ bytes) (h.calls ++ gained) (is.records ++ records)) event whole)
+        in
+        let count : is.turns + (old.remaining - new.remaining) + new.remaining ≡ asked.max_events = omega (arith, is.count, le) in
+        let text : h.text ++ text_since b n ≡ lines (is.records ++ records) =
+        ap (λ (t : List ℕ). t ++ text_since b n) is.text ∙ ap (λ (t : List ℕ). lines is.records ++ t) (sym said) ∙ sym (flat_map-append line is.records records)
+        in
+        record {
+          promised = paused_promised (followed_by h events (since calls calls') (text_since b n)) (is.turns + (old.remaining - new.remaining)) new.remaining (spot_of new) (is.records ++ records) count text here;
+          hosts = hosts ∙ is.hosts;
+          going = going;
+          turns = is.turns + (old.remaining - new.remaining);
+          count = count;
+          records = is.records ++ records;
+          text = text;
+          brings = here;
+        }
+
+-- before its first event, by its arguments
+pub started_run : (laws : SessionLaws) (host : List ℕ) (port : ℕ) (known : List ℕ) (accepts : Accepts) (config : Config) → IsRun (run_asked host port known accepts config) nothing_yet (started (host_text host port) known config)
+started_run laws host port known accepts config = is_started laws (run_asked host port known accepts config) (started (host_text host port) known config) refl refl refl refl
+
+-- ---- what became of the events
+
+module _ (laws : SessionLaws) (accepts : Accepts) (old new : Paused) (events b n : List ℕ) (reads reads' : ℕ) (calls calls' : List SignCall) (left : List ℕ) where
+  -- the run over the events ended so, and its faults are told
+  pub record RanSo (a : Result Ended RunError) : Type 0 where
+    pub going : old.over ≡ false
+    pub over : new.over ≡ is_stopped a
+    pub hosts : new.hosts ≡ old.hosts
+    pub ends : Ends old.remaining old.place old.last (table_from old accepts old.remaining (spot_of old)) (streams (Some events) (Some b) reads calls) (streams (Some left) (Some n) reads' calls') a
+    pub pauses : a ≡ Ok ScriptEnd → Pauses (table_from old accepts) (spot_of old) old.remaining (spot_of new) new.remaining (streams (Some events) (Some b) reads calls) (streams (Some left) (Some n) reads' calls')
+    pub faults : FaultsAnswered (fault_counts 0 0) (fault_counts 0 0) a
+
+  stopped_by : (a : Result Ended RunError) → is_stopped a ≡ true → RanSo a → Stopped accepts old events (since calls calls') (text_since b n) new a
+  stopped_by a stops so = (
+    so.going,
+    so.over ∙ stops,
+    λ asked h same is. (
+      left,
+      stops_run laws asked h old is events b n reads reads' calls calls' left a
+          (subst (λ (x : Accepts). Ends old.remaining old.place old.last (table_from old x old.remaining (spot_of old)) (streams (Some events) (Some b) reads calls) (streams (Some left) (Some n) reads' calls') a) (sym same) so.ends) so.faults,
+    ),
+  )
+
+  pub takes_by : (a : Result Ended RunError) → RanSo a → Takes accepts old events (since calls calls') (text_since b n) new (step_of a)
+  takes_by (Ok ScriptEnd) so = (
+    so.going,
+    so.over,
+    λ asked h same is.
+        goes_on_run laws asked h old is events b n reads reads' calls calls' new left so.hosts so.over (so.ends.2.by.whole refl)
+        (subst (λ (x : Accepts). Pauses (table_from old x) (spot_of old) old.remaining (spot_of new) new.remaining (streams (Some events) (Some b) reads calls) (streams (Some left) (Some n) reads' calls')) (sym same) (so.pauses refl)),
+  )
+  takes_by (Ok e) so = stopped_by (Ok e) refl so
+  takes_by (Err e) so = stopped_by (Err e) refl so
