@@ -1,5 +1,5 @@
 -- The handler's verdict before the session is open, and the opening's step that continues with it.
-use Rattle.std.proofs.Common.{◌≡◌, ◌⊎◌, ◌≤◌, inl, inr, ℕ, Bool, true, false, not, ◌&&◌, List, [], Option, Some, None, Result, Ok, Err, refl, ap, sym, subst, ◌∙◌, arith}
+use Rattle.std.proofs.Common.{◌≡◌, ◌⊎◌, ◌≤◌, inl, inr, ℕ, Bool, true, false, not, ◌&&◌, List, [], ◌∷◌, Option, Some, None, Result, Ok, Err, refl, ap, sym, subst, ◌∙◌, arith}
 use Rattle.std.specs.Prelude.{min, ◌+◌, ◌^◌, ◌-◌}
 use Rattle.sshc_wire.specs.Faults.{Rose}
 use Rattle.sshc_wire.specs.Outgoing.{Outgoing}
@@ -24,74 +24,86 @@ use Rattle.sshc_auth.specs.OpeningTable.{asked_of, key_asked}
 use Rattle.sshc_auth.specs.Promises.{Stepped}
 use Rattle.sshc_auth.specs.SessionWords.{AcceptsFirst, GoesOnFirst, IsFirst, KeepsFirst, KeepsTo}
 use Rattle.sshc_auth.specs.Stepping.{Lent as OpeningLent, Answered, GateAnswers, GateKeeps, GateRefused, Judged, LentGate, StaysClosed, StepsBy, StepsTold, Tells, exchange_in, told_of, with_gate, lent}
+use Rattle.sshc_client_table.specs.SessionRow.{Banner, Callback, HostKey, KexDone}
 use Rattle.sshc_client_table.specs.SessionState.{SessionState}
 use Rattle.sshc_client_table.specs.Grown.{Grown}
 use Rattle.sshc_client_table.specs.GrownLaws.{grown_same}
 use Rattle.sshc_client_state.specs.OpeningStep.{StepsLent, goes_on, lent_session, outbox_of}
 use Rattle.sshc_client.specs.Asked.{AsksHandler, IsVerdict, Said, Says, StepsBefore, verdict_gate}
-use Rattle.sshc_client.specs.Handling.{HandlerAsked, HandlerAt, HandlerKeeps, Handles}
-use Rattle.sshc_client.specs.HandledStep.{AddsNothing, EndsBy, handler_gate, has_left}
-use Rattle.sshc_client.proofs.HandlerLemmas.{keeps_on, same_handler, rose_later, no_default}
+use Rattle.sshc_client.specs.Handling.{HandlerAt, HandlerHeard, Handles}
+use Rattle.sshc_client.specs.HandledStep.{AddsNothing, EndsBy, calls_asked, exchange_call, handler_gate, has_left}
+use Rattle.sshc_client.proofs.HandlerLemmas.{keeps_on, same_handler, rose_later, no_default, unheard}
 
 -- ---- the handler's verdict
 
-pub not_asked : {E : Type 0} (defaults : Type 0) (judges : PublicKeyOrCertificate → Result Bool E → Type 0) (h : HandlerAt) (s : SessionState) →
-    AsksHandler {E = E} defaults judges asking.Nothing h h s s (Ok false)
-not_asked defaults judges h s = record { said = (refl, λ plain. refl); grown = grown_same s; unlent = λ none. refl; keeps = same_handler h }
+pub not_asked : {E : Type 0} (defaults : Type 0) (judges : PublicKeyOrCertificate → Result Bool E → Type 0) (exchange : Option ExchangeResult) (h : HandlerAt) (s : SessionState) →
+    AsksHandler {E = E} defaults judges asking.Nothing exchange h h s s (Ok false)
+not_asked defaults judges exchange h s = record { said = (refl, λ plain. refl); grown = grown_same s; unlent = λ none. refl; keeps = same_handler h }
+
+heard_exchange : (was is : HandlerAt) (exchange : Option ExchangeResult) (x : ExchangeResult) → Some x ≡ exchange → HandlerHeard (KexDone x.secret x.names ∷ []) was is → HandlerHeard (exchange_call exchange) was is
+heard_exchange was is exchange x there heard = subst (λ (o : Option ExchangeResult). HandlerHeard (exchange_call o) was is) there heard
 
 -- called for an exchange, or for a banner
-pub told_exchange : {E : Type 0} (defaults : Type 0) (judges : PublicKeyOrCertificate → Result Bool E → Type 0) (was is : HandlerAt) (old new : SessionState) (u : Unit {0}) →
-    Handles {E = E} defaults (Ok tt) was is old new (Ok u) → AsksHandler {E = E} defaults judges asking.Exchange was is old new (Ok false)
-told_exchange defaults judges was is old new u h = record { said = (refl, λ plain. (h.default_body plain).1); grown = h.grown; unlent = λ none. absurd (none tt); keeps = h.keeps }
+pub told_exchange : {E : Type 0} (defaults : Type 0) (judges : PublicKeyOrCertificate → Result Bool E → Type 0) (exchange : Option ExchangeResult) (x : ExchangeResult) (was is : HandlerAt) (old new : SessionState) (u : Unit {0}) →
+    Some x ≡ exchange → Handles {E = E} defaults (KexDone x.secret x.names) (Ok tt) was is old new (Ok u) → AsksHandler {E = E} defaults judges asking.Exchange exchange was is old new (Ok false)
+told_exchange defaults judges exchange x was is old new u there h = record { said = (refl, λ plain. (h.default_body plain).1); grown = h.grown; unlent = λ none. absurd (none tt); keeps = heard_exchange was is exchange x there h.keeps }
 
-pub told_banner : {E : Type 0} (defaults : Type 0) (judges : PublicKeyOrCertificate → Result Bool E → Type 0) (was is : HandlerAt) (old new : SessionState) (u : Unit {0}) (text : List ℕ) →
-    Handles {E = E} defaults (Ok tt) was is old new (Ok u) → AsksHandler {E = E} defaults judges (asking.Banner text) was is old new (Ok false)
-told_banner defaults judges was is old new u text h = record { said = (refl, λ plain. (h.default_body plain).1); grown = h.grown; unlent = λ none. absurd (none tt); keeps = h.keeps }
+pub told_banner : {E : Type 0} (defaults : Type 0) (judges : PublicKeyOrCertificate → Result Bool E → Type 0) (exchange : Option ExchangeResult) (was is : HandlerAt) (old new : SessionState) (u : Unit {0}) (text : List ℕ) →
+    Handles {E = E} defaults (Banner text) (Ok tt) was is old new (Ok u) → AsksHandler {E = E} defaults judges (asking.Banner text) exchange was is old new (Ok false)
+told_banner defaults judges exchange was is old new u text h = record { said = (refl, λ plain. (h.default_body plain).1); grown = h.grown; unlent = λ none. absurd (none tt); keeps = h.keeps }
 
-pub refused_exchange : {E : Type 0} (defaults : Type 0) (judges : PublicKeyOrCertificate → Result Bool E → Type 0) (was is : HandlerAt) (old new : SessionState) (e : E) →
-    Handles {T = Unit {0}} defaults (Ok tt) was is old new (Err e) → AsksHandler defaults judges asking.Exchange was is old new (Err e)
-refused_exchange defaults judges was is old new e h = record {
+pub refused_exchange : {E : Type 0} (defaults : Type 0) (judges : PublicKeyOrCertificate → Result Bool E → Type 0) (exchange : Option ExchangeResult) (x : ExchangeResult) (was is : HandlerAt) (old new : SessionState) (e : E) →
+    Some x ≡ exchange → Handles {T = Unit {0}} defaults (KexDone x.secret x.names) (Ok tt) was is old new (Err e) → AsksHandler defaults judges asking.Exchange exchange was is old new (Err e)
+refused_exchange defaults judges exchange x was is old new e there h = record {
+  said = (inr (tt, λ plain. no_default tt e (h.default_body plain).0), h.cause);
+  grown = h.grown;
+  unlent = λ none. absurd (none tt);
+  keeps = heard_exchange was is exchange x there h.keeps;
+}
+
+pub refused_banner : {E : Type 0} (defaults : Type 0) (judges : PublicKeyOrCertificate → Result Bool E → Type 0) (exchange : Option ExchangeResult) (was is : HandlerAt) (old new : SessionState) (e : E) (text : List ℕ) →
+    Handles {T = Unit {0}} defaults (Banner text) (Ok tt) was is old new (Err e) → AsksHandler defaults judges (asking.Banner text) exchange was is old new (Err e)
+refused_banner defaults judges exchange was is old new e text h = record {
   said = (inr (tt, λ plain. no_default tt e (h.default_body plain).0), h.cause);
   grown = h.grown;
   unlent = λ none. absurd (none tt);
   keeps = h.keeps;
 }
 
-pub refused_banner : {E : Type 0} (defaults : Type 0) (judges : PublicKeyOrCertificate → Result Bool E → Type 0) (was is : HandlerAt) (old new : SessionState) (e : E) (text : List ℕ) →
-    Handles {T = Unit {0}} defaults (Ok tt) was is old new (Err e) → AsksHandler defaults judges (asking.Banner text) was is old new (Err e)
-refused_banner defaults judges was is old new e text h = record {
-  said = (inr (tt, λ plain. no_default tt e (h.default_body plain).0), h.cause);
-  grown = h.grown;
-  unlent = λ none. absurd (none tt);
-  keeps = h.keeps;
-}
+heard_key : (key : PublicKeyOrCertificate) (x : ExchangeResult) (was is : HandlerAt) → HandlerHeard (HostKey key ∷ []) was is → HandlerHeard (calls_asked (asking.HostKey key) (Some x)) was is
+heard_key key x was is heard = keeps_on was is is heard (unheard (KexDone x.secret x.names ∷ []) is is (same_handler is))
 
 -- the host key was judged
-pub key_said_no : {E : Type 0} (defaults : Type 0) (judges : PublicKeyOrCertificate → Result Bool E → Type 0) (key : PublicKeyOrCertificate) (was is : HandlerAt) (s : SessionState) →
-    judges key (Ok false) → HandlerAsked 1 was is → AsksHandler {E = E} defaults judges (asking.HostKey key) was is s s (Ok false)
-key_said_no defaults judges key was is s says keeps = record { said = (says, λ plain. refl); grown = grown_same s; unlent = λ none. refl; keeps = keeps }
+pub key_said_no : {E : Type 0} (defaults : Type 0) (judges : PublicKeyOrCertificate → Result Bool E → Type 0) (key : PublicKeyOrCertificate) (x : ExchangeResult) (was is : HandlerAt) (s : SessionState) →
+    judges key (Ok false) → HandlerHeard (HostKey key ∷ []) was is → AsksHandler {E = E} defaults judges (asking.HostKey key) (Some x) was is s s (Ok false)
+key_said_no defaults judges key x was is s says keeps = record { said = (says, λ plain. refl); grown = grown_same s; unlent = λ none. refl; keeps = heard_key key x was is keeps }
 
-pub key_refused : {E : Type 0} (defaults : Type 0) (judges : PublicKeyOrCertificate → Result Bool E → Type 0) (key : PublicKeyOrCertificate) (was is : HandlerAt) (s : SessionState) (e : E) →
-    judges key (Err e) → Rose was.refusals is.refusals → HandlerAsked 1 was is → AsksHandler defaults judges (asking.HostKey key) was is s s (Err e)
-key_refused defaults judges key was is s e says rose keeps = record { said = (inl (says, refl), rose); grown = grown_same s; unlent = λ none. refl; keeps = keeps }
+pub key_refused : {E : Type 0} (defaults : Type 0) (judges : PublicKeyOrCertificate → Result Bool E → Type 0) (key : PublicKeyOrCertificate) (x : ExchangeResult) (was is : HandlerAt) (s : SessionState) (e : E) →
+    judges key (Err e) → Rose was.refusals is.refusals → HandlerHeard (HostKey key ∷ []) was is → AsksHandler defaults judges (asking.HostKey key) (Some x) was is s s (Err e)
+key_refused defaults judges key x was is s e says rose keeps = record { said = (inl (says, refl), rose); grown = grown_same s; unlent = λ none. refl; keeps = heard_key key x was is keeps }
 
-pub key_told : {E : Type 0} (defaults : Type 0) (judges : PublicKeyOrCertificate → Result Bool E → Type 0) (key : PublicKeyOrCertificate) (was mid is : HandlerAt) (old new : SessionState) (u : Unit {0}) →
-    judges key (Ok true) → HandlerAsked 1 was mid → Handles {E = E} defaults (Ok tt) mid is old new (Ok u) → AsksHandler {E = E} defaults judges (asking.HostKey key) was is old new (Ok true)
-key_told defaults judges key was mid is old new u says keeps h = record {
+pub key_told : {E : Type 0} (defaults : Type 0) (judges : PublicKeyOrCertificate → Result Bool E → Type 0) (key : PublicKeyOrCertificate) (x : ExchangeResult) (was mid is : HandlerAt) (old new : SessionState) (u : Unit {0}) →
+    judges key (Ok true) → HandlerHeard (HostKey key ∷ []) was mid → Handles {E = E} defaults (KexDone x.secret x.names) (Ok tt) mid is old new (Ok u) → AsksHandler {E = E} defaults judges (asking.HostKey key) (Some x) was is old new (Ok true)
+key_told defaults judges key x was mid is old new u says keeps h = record {
   said = (says, λ plain. (h.default_body plain).1);
   grown = h.grown;
   unlent = λ none. absurd (none tt);
   keeps = keeps_on was mid is keeps h.keeps;
 }
 
-pub key_told_refused : {E : Type 0} (defaults : Type 0) (judges : PublicKeyOrCertificate → Result Bool E → Type 0) (key : PublicKeyOrCertificate) (was mid is : HandlerAt) (old new : SessionState) (e : E) →
-    HandlerAsked 1 was mid → Handles {T = Unit {0}} defaults (Ok tt) mid is old new (Err e) → AsksHandler defaults judges (asking.HostKey key) was is old new (Err e)
-key_told_refused defaults judges key was mid is old new e keeps h = record {
+pub key_told_refused : {E : Type 0} (defaults : Type 0) (judges : PublicKeyOrCertificate → Result Bool E → Type 0) (key : PublicKeyOrCertificate) (x : ExchangeResult) (was mid is : HandlerAt) (old new : SessionState) (e : E) →
+    HandlerHeard (HostKey key ∷ []) was mid → Handles {T = Unit {0}} defaults (KexDone x.secret x.names) (Ok tt) mid is old new (Err e) → AsksHandler defaults judges (asking.HostKey key) (Some x) was is old new (Err e)
+key_told_refused defaults judges key x was mid is old new e keeps h = record {
   said = (inr (tt, λ plain. no_default tt e (h.default_body plain).0), rose_later was.refusals mid.refusals is.refusals keeps.later h.cause);
   grown = h.grown;
   unlent = λ none. absurd (none tt);
   keeps = keeps_on was mid is keeps h.keeps;
 }
+
+-- the exchange of an event
+pub judged_in : {E : Type 0} (defaults : Type 0) (judges : PublicKeyOrCertificate → Result Bool E → Type 0) (asks : Asks) (exchange : Option ExchangeResult) (x : ExchangeResult) (was is : HandlerAt) (old new : SessionState) (result : Result Bool E) →
+    Some x ≡ exchange → AsksHandler defaults judges asks (Some x) was is old new result → AsksHandler defaults judges asks exchange was is old new result
+judged_in defaults judges asks exchange x was is old new result there h = subst (λ (o : Option ExchangeResult). AsksHandler defaults judges asks o was is old new result) there h
 
 -- ---- a step with the verdict is a step with the handler
 
@@ -215,10 +227,10 @@ stepped_with told_as judges accepts event was is r r2 setting setting2 result sa
   reports = step.reports;
 }
 
-pub lent_with : {E : Type 0} (told_as : Error → E) (judges : PublicKeyOrCertificate → Result Bool E → Type 0) (accepts : Bool) (event : Event) (s t : SessionState) (calls calls2 : List SignCall) (refusals refusals2 r r2 : ℕ) (setting setting2 : List (List ℕ)) (result : Step E) {count count2 : ℕ} →
+pub lent_with : {E : Type 0} (told_as : Error → E) (judges : PublicKeyOrCertificate → Result Bool E → Type 0) (accepts : Bool) (event : Event) (s t : SessionState) (calls calls2 : List SignCall) (refusals refusals2 r r2 : ℕ) (setting setting2 : List (List ℕ)) (result : Step E) {heard heard2 : List Callback} →
     IsVerdict judges (asked_of s.opening event) accepts → GateKeeps r r2 setting setting2 →
-    StepsLent (verdict_gate told_as accepts) event (lent_session s calls refusals 0 [] 0) (lent_session t calls2 refusals2 0 [] 0) result →
-    StepsLent (handler_gate told_as judges) event (lent_session s calls refusals r setting count) (lent_session t calls2 refusals2 r2 setting2 count2) result
+    StepsLent (verdict_gate told_as accepts) event (lent_session s calls refusals 0 [] []) (lent_session t calls2 refusals2 0 [] []) result →
+    StepsLent (handler_gate told_as judges) event (lent_session s calls refusals r setting heard) (lent_session t calls2 refusals2 r2 setting2 heard2) result
 lent_with told_as judges accepts event s t calls calls2 refusals refusals2 r r2 setting setting2 result said keeps step = record {
   opening = step.opening;
   said = step.said;
@@ -227,8 +239,8 @@ lent_with told_as judges accepts event s t calls calls2 refusals refusals2 r r2 
 }
 
 -- the opening's step, and the end of a session that the user left
-pub ended_before : {E : Type 0} (gate : GateAnswers E) (event : Event) (s last t : SessionState) (calls calls2 : List SignCall) (x x2 r r2 : ℕ) (setting setting2 : List (List ℕ)) (step result : Step E) {count count2 : ℕ} →
-    StepsLent gate event (lent_session s calls x r setting count) (lent_session last calls2 x2 r2 setting2 count2) step →
+pub ended_before : {E : Type 0} (gate : GateAnswers E) (event : Event) (s last t : SessionState) (calls calls2 : List SignCall) (x x2 r r2 : ℕ) (setting setting2 : List (List ℕ)) (step result : Step E) {heard heard2 : List Callback} →
+    StepsLent gate event (lent_session s calls x r setting heard) (lent_session last calls2 x2 r2 setting2 heard2) step →
     EndsBy (goes_on step && has_left last.life) last t step result →
-    StepsBefore gate event (lent_session s calls x r setting count) (lent_session t calls2 x2 r2 setting2 count2) result
+    StepsBefore gate event (lent_session s calls x r setting heard) (lent_session t calls2 x2 r2 setting2 heard2) result
 ended_before gate event s last t calls calls2 x x2 r r2 setting setting2 step result stepped ends = record { last = last; step = step; stepped = stepped; ends = ends }

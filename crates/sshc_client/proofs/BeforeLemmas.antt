@@ -13,8 +13,9 @@ use Rattle.sshc_auth.specs.declared.step.Step.{Step}
 use Rattle.sshc_auth.specs.declared.step.Step.TheVariants as steps
 use Rattle.sshc_auth.specs.AskedLaws.{has_exchange}
 use Rattle.sshc_auth.specs.OpeningState.{OpeningState}
-use Rattle.sshc_auth.specs.OpeningTable.{asked_of, keys_asked}
+use Rattle.sshc_auth.specs.OpeningTable.{asked_of}
 use Rattle.sshc_auth.specs.Stepping.{GateKeeps, HasExchange, exchange_in}
+use Rattle.sshc_client_table.specs.SessionRow.{Callback}
 use Rattle.sshc_client_table.specs.SessionState.{SessionState, is_live, is_open, runs}
 use Rattle.sshc_client_table.specs.declared.life.Life.TheVariants.{Runs}
 use Rattle.sshc_client_table.specs.Grown.{Grown}
@@ -22,10 +23,10 @@ use Rattle.sshc_client_table.specs.GrownLaws.{grown_same}
 use Rattle.sshc_client_table.specs.KeepLaws.{grown_keeps}
 use Rattle.sshc_client_state.specs.OpeningStep.{lent_session}
 use Rattle.sshc_client.specs.Asked.{AsksHandler, IsVerdict, Refuses, RefusesKey, Said, StepsBefore, verdict_gate}
-use Rattle.sshc_client.specs.Handling.{HandlerAsked, HandlerAt, HandlerKeeps, handler_at}
-use Rattle.sshc_client.specs.HandledStep.{Before, IsCall, RefusedBefore, StepsBehind, WhyRefused, handler_gate, shut_session}
+use Rattle.sshc_client.specs.Handling.{HandlerHeard, handler_at}
+use Rattle.sshc_client.specs.HandledStep.{Before, IsCall, RefusedBefore, StepsBehind, WhyRefused, calls_asked, handler_gate, shut_session}
 use Rattle.sshc_client.proofs.AskedLemmas.{lent_with}
-use Rattle.sshc_client.proofs.HandlerLemmas.{asked_none, same_handler}
+use Rattle.sshc_client.proofs.HandlerLemmas.{same_handler, unheard}
 
 pub exchange_there : (s : OpeningState) (event : Event) (asks : Asks) → asks ≡ asked_of s event → HasExchange asks (exchange_in event)
 exchange_there s event asks asked = subst (λ (a : Asks). HasExchange a (exchange_in event)) (sym asked) (has_exchange s event)
@@ -34,13 +35,13 @@ closed_asks : (s : OpeningState) (event : Event) → s.closed ≡ true → asked
 unfolding asked_of
 closed_asks s event closed = rw closed refl
 
-gate_keeps : {keys : ℕ} (r r2 : ℕ) (setting setting2 : List (List ℕ)) {count count2 : ℕ} → HandlerAsked keys (handler_at r setting count) (handler_at r2 setting2 count2) → GateKeeps r r2 setting setting2
+gate_keeps : {calls : List Callback} (r r2 : ℕ) (setting setting2 : List (List ℕ)) {heard heard2 : List Callback} → HandlerHeard calls (handler_at r setting heard) (handler_at r2 setting2 heard2) → GateKeeps r r2 setting setting2
 gate_keeps r r2 setting setting2 keeps = record { later = keeps.later; kept = keeps.kept }
 
 -- the opening is closed, and nothing is called
-pub steps_closed : {E : Type 0} (defaults : Type 0) (told_as : Error → E) (judges : PublicKeyOrCertificate → Result Bool E → Type 0) (event : Event) (s t : SessionState) (calls calls2 : List SignCall) (x x2 r : ℕ) (setting : List (List ℕ)) (result : Step E) {count : ℕ} →
-    s.opening.closed ≡ true → StepsBefore (verdict_gate told_as false) event (lent_session s calls x 0 [] 0) (lent_session t calls2 x2 0 [] 0) result →
-    Before defaults (handler_gate told_as judges) event (lent_session s calls x r setting count) (lent_session t calls2 x2 r setting count) result
+pub steps_closed : {E : Type 0} (defaults : Type 0) (told_as : Error → E) (judges : PublicKeyOrCertificate → Result Bool E → Type 0) (event : Event) (s t : SessionState) (calls calls2 : List SignCall) (x x2 r : ℕ) (setting : List (List ℕ)) (result : Step E) {heard : List Callback} →
+    s.opening.closed ≡ true → StepsBefore (verdict_gate told_as false) event (lent_session s calls x 0 [] []) (lent_session t calls2 x2 0 [] []) result →
+    Before defaults (handler_gate told_as judges) event (lent_session s calls x r setting heard) (lent_session t calls2 x2 r setting heard) result
 steps_closed {E = E} defaults told_as judges event s t calls calls2 x x2 r setting result closed b =
     let keeps = same_handler (handler_at r setting _) in
     record {
@@ -55,16 +56,16 @@ steps_closed {E = E} defaults told_as judges event s t calls calls2 x x2 r setti
             (subst (λ (asks : Asks). IsVerdict judges asks false) (sym (closed_asks s.opening event closed)) refl) (gate_keeps r r setting setting keeps) b.stepped;
         ends = b.ends;
       });
-      keeps = asked_none _ _ _ keeps;
+      keeps = unheard _ _ _ keeps;
     }
 
 -- the handler let the opening continue
-pub steps_behind : {E : Type 0} (defaults : Type 0) (told_as : Error → E) (judges : PublicKeyOrCertificate → Result Bool E → Type 0) (event : Event) (asks : Asks) (accepts : Bool) (s mid t : SessionState) (calls calls2 : List SignCall) (x x2 r r2 : ℕ) (setting setting2 : List (List ℕ)) (result : Step E) {count count2 : ℕ} →
+pub steps_behind : {E : Type 0} (defaults : Type 0) (told_as : Error → E) (judges : PublicKeyOrCertificate → Result Bool E → Type 0) (event : Event) (asks : Asks) (accepts : Bool) (s mid t : SessionState) (calls calls2 : List SignCall) (x x2 r r2 : ℕ) (setting setting2 : List (List ℕ)) (result : Step E) {heard heard2 : List Callback} →
     s.opening.closed ≡ false → asks ≡ asked_of s.opening event →
-    AsksHandler {E = E} defaults judges asks (handler_at r setting count) (handler_at r2 setting2 count2) s mid (Ok accepts) → is_open s.opening.phase ≡ false →
-    StepsBefore (verdict_gate told_as accepts) event (lent_session mid calls x 0 [] 0) (lent_session t calls2 x2 0 [] 0) result →
-    Before defaults (handler_gate told_as judges) event (lent_session s calls x r setting count) (lent_session t calls2 x2 r2 setting2 count2) result
-steps_behind {E = E} defaults told_as judges event asks accepts s mid t calls calls2 x x2 r r2 setting setting2 result {count = count} {count2 = count2} fresh asked h early b = record {
+    AsksHandler {E = E} defaults judges asks (exchange_in event) (handler_at r setting heard) (handler_at r2 setting2 heard2) s mid (Ok accepts) → is_open s.opening.phase ≡ false →
+    StepsBefore (verdict_gate told_as accepts) event (lent_session mid calls x 0 [] []) (lent_session t calls2 x2 0 [] []) result →
+    Before defaults (handler_gate told_as judges) event (lent_session s calls x r setting heard) (lent_session t calls2 x2 r2 setting2 heard2) result
+steps_behind {E = E} defaults told_as judges event asks accepts s mid t calls calls2 x x2 r r2 setting setting2 result {heard = heard} {heard2 = heard2} fresh asked h early b = record {
   steps_on = inl (record {
     mid = mid;
     grown = h.grown;
@@ -77,24 +78,24 @@ steps_behind {E = E} defaults told_as judges event asks accepts s mid t calls ca
         (gate_keeps r r2 setting setting2 h.keeps) b.stepped;
     ends = b.ends;
   });
-  keeps = subst (λ (a : Asks). HandlerAsked (keys_asked a) (handler_at r setting count) (handler_at r2 setting2 count2)) asked h.keeps;
+  keeps = subst (λ (a : Asks). HandlerHeard (calls_asked a (exchange_in event)) (handler_at r setting heard) (handler_at r2 setting2 heard2)) asked h.keeps;
 }
 
-why_refused : {E : Type 0} (defaults : Type 0) (told_as : Error → E) (judges : PublicKeyOrCertificate → Result Bool E → Type 0) (event : Event) (asks : Asks) (s mid t : SessionState) (calls calls2 : List SignCall) (x x2 r r2 : ℕ) (setting setting2 : List (List ℕ)) (e : E) (count count2 : ℕ) →
+why_refused : {E : Type 0} (defaults : Type 0) (told_as : Error → E) (judges : PublicKeyOrCertificate → Result Bool E → Type 0) (event : Event) (asks : Asks) (s mid t : SessionState) (calls calls2 : List SignCall) (x x2 r r2 : ℕ) (setting setting2 : List (List ℕ)) (e : E) (heard heard2 : List Callback) →
     asked_of s.opening event ≡ asks → Refuses defaults judges asks s mid e → Rose r r2 →
-    WhyRefused defaults (handler_gate told_as judges) event (lent_session s calls x r setting count) (lent_session t calls2 x2 r2 setting2 count2) mid e
-why_refused defaults told_as judges event (asking.HostKey key) s mid t calls calls2 x x2 r r2 setting setting2 e count count2 asked (inl (says, same)) rose = inr (inl (key, asked, says, same, rose))
-why_refused defaults told_as judges event asking.Nothing s mid t calls calls2 x x2 r r2 setting setting2 e count count2 asked (inl (never, same)) rose = absurd never
-why_refused defaults told_as judges event asking.Exchange s mid t calls calls2 x x2 r r2 setting setting2 e count count2 asked (inl (never, same)) rose = absurd never
-why_refused defaults told_as judges event (asking.Banner text) s mid t calls calls2 x x2 r r2 setting setting2 e count count2 asked (inl (never, same)) rose = absurd never
-why_refused defaults told_as judges event asks s mid t calls calls2 x x2 r r2 setting setting2 e count count2 asked (inr (called, own_body)) rose = inr (inr (rose, subst IsCall (sym asked) called, own_body))
+    WhyRefused defaults (handler_gate told_as judges) event (lent_session s calls x r setting heard) (lent_session t calls2 x2 r2 setting2 heard2) mid e
+why_refused defaults told_as judges event (asking.HostKey key) s mid t calls calls2 x x2 r r2 setting setting2 e heard heard2 asked (inl (says, same)) rose = inr (inl (key, asked, says, same, rose))
+why_refused defaults told_as judges event asking.Nothing s mid t calls calls2 x x2 r r2 setting setting2 e heard heard2 asked (inl (never, same)) rose = absurd never
+why_refused defaults told_as judges event asking.Exchange s mid t calls calls2 x x2 r r2 setting setting2 e heard heard2 asked (inl (never, same)) rose = absurd never
+why_refused defaults told_as judges event (asking.Banner text) s mid t calls calls2 x x2 r r2 setting setting2 e heard heard2 asked (inl (never, same)) rose = absurd never
+why_refused defaults told_as judges event asks s mid t calls calls2 x x2 r r2 setting setting2 e heard heard2 asked (inr (called, own_body)) rose = inr (inr (rose, subst IsCall (sym asked) called, own_body))
 
 -- the handler refused
-pub refused_before : {E : Type 0} (defaults : Type 0) (told_as : Error → E) (judges : PublicKeyOrCertificate → Result Bool E → Type 0) (event : Event) (asks : Asks) (s mid : SessionState) (calls : List SignCall) (x r r2 : ℕ) (setting setting2 : List (List ℕ)) (e : E) {count count2 : ℕ} →
+pub refused_before : {E : Type 0} (defaults : Type 0) (told_as : Error → E) (judges : PublicKeyOrCertificate → Result Bool E → Type 0) (event : Event) (asks : Asks) (s mid : SessionState) (calls : List SignCall) (x r r2 : ℕ) (setting setting2 : List (List ℕ)) (e : E) {heard heard2 : List Callback} →
     s.opening.closed ≡ false → asks ≡ asked_of s.opening event →
-    AsksHandler {E = E} defaults judges asks (handler_at r setting count) (handler_at r2 setting2 count2) s mid (Err e) →
-    Before defaults (handler_gate told_as judges) event (lent_session s calls x r setting count) (lent_session (shut_session mid) calls x r2 setting2 count2) (steps.Refused e)
-refused_before {E = E} defaults told_as judges event asks s mid calls x r r2 setting setting2 e {count = count} {count2 = count2} fresh asked h = record {
+    AsksHandler {E = E} defaults judges asks (exchange_in event) (handler_at r setting heard) (handler_at r2 setting2 heard2) s mid (Err e) →
+    Before defaults (handler_gate told_as judges) event (lent_session s calls x r setting heard) (lent_session (shut_session mid) calls x r2 setting2 heard2) (steps.Refused e)
+refused_before {E = E} defaults told_as judges event asks s mid calls x r r2 setting setting2 e {heard = heard} {heard2 = heard2} fresh asked h = record {
   steps_on = inr (record {
     fresh = fresh;
     mid = mid;
@@ -102,17 +103,17 @@ refused_before {E = E} defaults told_as judges event asks s mid calls x r r2 set
     error = e;
     refused = refl;
     shut = refl;
-    why = why_refused defaults told_as judges event asks s mid (shut_session mid) calls calls x x r r2 setting setting2 e count count2 (sym asked) h.said.0 h.said.1;
+    why = why_refused defaults told_as judges event asks s mid (shut_session mid) calls calls x x r r2 setting setting2 e heard heard2 (sym asked) h.said.0 h.said.1;
     calls = refl;
     refusals = refl;
   });
-  keeps = subst (λ (a : Asks). HandlerAsked (keys_asked a) (handler_at r setting count) (handler_at r2 setting2 count2)) asked h.keeps;
+  keeps = subst (λ (a : Asks). HandlerHeard (calls_asked a (exchange_in event)) (handler_at r setting heard) (handler_at r2 setting2 heard2)) asked h.keeps;
 }
 
 -- memory ran out before the handler was asked
-pub ran_out : {E : Type 0} (defaults : Type 0) (told_as : Error → E) (judges : PublicKeyOrCertificate → Result Bool E → Type 0) (event : Event) (s : SessionState) (calls : List SignCall) (x r : ℕ) (setting : List (List ℕ)) (e : E) {count : ℕ} →
+pub ran_out : {E : Type 0} (defaults : Type 0) (told_as : Error → E) (judges : PublicKeyOrCertificate → Result Bool E → Type 0) (event : Event) (s : SessionState) (calls : List SignCall) (x r : ℕ) (setting : List (List ℕ)) (e : E) {heard : List Callback} →
     s.opening.closed ≡ false → e ≡ told_as NoMemory →
-    Before defaults (handler_gate told_as judges) event (lent_session s calls x r setting count) (lent_session (shut_session s) calls x r setting count) (steps.Refused e)
+    Before defaults (handler_gate told_as judges) event (lent_session s calls x r setting heard) (lent_session (shut_session s) calls x r setting heard) (steps.Refused e)
 ran_out defaults told_as judges event s calls x r setting e fresh is = record {
   steps_on = inr (record {
     fresh = fresh;
@@ -125,7 +126,7 @@ ran_out defaults told_as judges event s calls x r setting e fresh is = record {
     calls = refl;
     refusals = refl;
   });
-  keeps = asked_none _ _ _ (same_handler (handler_at r setting _));
+  keeps = unheard _ _ _ (same_handler (handler_at r setting _));
 }
 
 first_of_two : (a b : Bool) → a && b ≡ false → b ≡ true → a ≡ false

@@ -20,7 +20,7 @@ use Rattle.sshc_client_packets.specs.declared.channel_open.Sender.{Sender}
 use Rattle.sshc_client_packets.specs.ChannelPackets.{Refusal}
 use Rattle.sshc_client_table.specs.SessionState.{SessionState, own_window}
 use Rattle.sshc_client_table.specs.Moves.{Confirms, Does, Fails, Fronts, Grants, Move, Receives, Rejects, Reserves, Targets, Tells, after, done, onto}
-use Rattle.sshc_client_table.specs.SessionRow.{Callback, Opinions, SessionRow, asking, behind_moves, ends, goes, passed_over, refused, refuses, reports}
+use Rattle.sshc_client_table.specs.SessionRow.{Callback, Opinions, ServerOpened, SessionRow, asking, behind_moves, ends, goes, passed_over, refused, refuses, reports}
 use Rattle.sshc_client_table.specs.SessionTable.Opens.{confirmed_row, failed_row, numbered_open_row, served_row, serving_row, settled}
 use Rattle.sshc_client_table.specs.SessionTable.Streams.{retargets}
 use Rattle.sshc_client_table.specs.Grown.{Grown}
@@ -30,15 +30,15 @@ use Rattle.sshc_client_rows.specs.declared.flow.Flow.TheVariants as flows
 use Rattle.sshc_client_rows.specs.Follows.{Follows, all_moves, default_opinions}
 use Rattle.sshc_client.specs.declared.stop.Stop.{Stop}
 use Rattle.sshc_client.specs.declared.stop.Stop.TheVariants.{Own, Handler}
-use Rattle.sshc_client.specs.Handling.{HandlerAsked, HandlerAt, HandlerKeeps, Handles, Opines}
-use Rattle.sshc_client.specs.HandledRow.{Accepts, Calls, Cut, CutBehind, FollowsOne, FollowsRow, FollowsWith, Handled, HandlerRefused, LetGo, Retargets, default_answer, is_unknown, lent_result, own_result, served, target_moves, went_result}
+use Rattle.sshc_client.specs.Handling.{HandlerAt, HandlerHeard, Handles, Hears, Opines}
+use Rattle.sshc_client.specs.HandledRow.{Accepts, Calls, Cut, calls_of, CutBehind, FollowsOne, FollowsRow, FollowsWith, Handled, HandlerRefused, LetGo, Retargets, default_answer, is_unknown, lent_result, own_result, served, target_moves, went_result}
 
 -- ---- the handler's result
 
-pub called : {T E : Type 0} (defaults : Type 0) (default : Result T E) (was is : HandlerAt) (old new : SessionState) (answer : Result T E) →
-    Handles defaults default was is old new answer → Calls defaults default was is old new (lent_result answer)
-called defaults default was is old new (Ok x) h = h
-called defaults default was is old new (Err e) h = h
+pub called : {T E : Type 0} (defaults : Type 0) (call : Callback) (default : Result T E) (was is : HandlerAt) (old new : SessionState) (answer : Result T E) →
+    Handles defaults call default was is old new answer → Calls defaults call default was is old new (lent_result answer)
+called defaults call default was is old new (Ok x) h = h
+called defaults call default was is old new (Err e) h = h
 
 pub no_default : {T E : Type 0} (x : T) (e : E) → Err e ≡ Ok x → ⊥
 no_default x e same = absurd cc
@@ -46,39 +46,43 @@ no_default x e same = absurd cc
 reflexive : (n : ℕ) → n ≤ n
 reflexive n = omega arith
 
-pub same_handler : (h : HandlerAt) → HandlerKeeps h h
-same_handler h = record { later = reflexive h.refusals; kept = refl; counted = none_more h.asked }
-  where
-    none_more : (n : ℕ) → n ≤ n + 0
-    none_more n = omega arith
+hears_none : (calls : List Callback) (heard : List Callback) → Hears calls heard heard
+hears_none [] heard = refl
+hears_none (call ∷ calls) heard = inl (hears_none calls heard)
 
--- a call that asks about no host key asks about so many at most
-pub asked_none : (keys : ℕ) (was is : HandlerAt) → HandlerKeeps was is → HandlerAsked keys was is
-asked_none keys was is keeps = record { later = keeps.later; kept = keeps.kept; counted = no_more was.asked is.asked keeps.counted }
-  where
-    no_more : (a b : ℕ) → b ≤ a + 0 → b ≤ a + keys
-    no_more a b fewer = omega (arith, fewer)
+pub hears_on : (a b : List Callback) (was mid is : List Callback) → Hears a was mid → Hears b mid is → Hears (a ++ b) was is
+hears_on [] b was mid is first second = subst (λ (heard : List Callback). Hears b heard is) first second
+hears_on (call ∷ a) b was mid is (inl first) second = inl (hears_on a b was mid is first second)
+hears_on (call ∷ a) b was mid is (inr first) second = inr (hears_on a b (call ∷ was) mid is first second)
+
+pub same_handler : (h : HandlerAt) → HandlerHeard [] h h
+same_handler h = record { later = reflexive h.refusals; kept = refl; heard = refl }
 
 -- one call after another
-pub keeps_on : {keys : ℕ} (was mid is : HandlerAt) → HandlerAsked keys was mid → HandlerKeeps mid is → HandlerAsked keys was is
-keeps_on {keys = keys} was mid is first second = record {
+pub keeps_on : {a b : List Callback} (was mid is : HandlerAt) → HandlerHeard a was mid → HandlerHeard b mid is → HandlerHeard (a ++ b) was is
+keeps_on {a = a} {b = b} was mid is first second = record {
   later = not_less was.refusals mid.refusals is.refusals first.later second.later;
   kept = second.kept ∙ first.kept;
-  counted = no_more was.asked mid.asked is.asked first.counted second.counted;
+  heard = hears_on a b was.heard mid.heard is.heard first.heard second.heard;
 }
   where
-    no_more : (a b c : ℕ) → b ≤ a + keys → c ≤ b + 0 → c ≤ a + keys
-    no_more a b c one two = omega (arith, one, two)
-
     not_less : (a b c : ℕ) → a ≤ b → b ≤ c → a ≤ c
     not_less a b c one two = omega (arith, one, two)
+
+-- a handler that made none of the calls heard these at most
+pub unheard : (calls : List Callback) (was is : HandlerAt) → HandlerHeard [] was is → HandlerHeard calls was is
+unheard calls was is keeps = keeps_on was is is keeps (record { later = reflexive is.refusals; kept = refl; heard = hears_none calls is.heard })
+
+-- a body that does nothing and returns the default
+pub does_nothing : {T E : Type 0} (defaults : Type 0) (call : Callback) (x : T) (h : HandlerAt) (s : SessionState) → Handles {E = E} defaults call (Ok x) h h s s (Ok x)
+does_nothing defaults call x h s = record { grown = grown_same s; keeps = unheard (call ∷ []) h h (same_handler h); cause = tt; default_body = λ plain. (refl, refl) }
 
 pub rose_later : (a b c : ℕ) → a ≤ b → Rose b c → Rose a c
 rose_later a b c one two = omega (arith, one, two)
 
 -- the handler refused, or memory ran out before it was called
 pub refused_call : {E : Type 0} (defaults : Type 0) (was is : HandlerAt) (callback : Callback) (back : List Move) (old new : SessionState) (stop : Stop E) →
-    Calls {T = Unit {0}} defaults (Ok tt) was is old new (Err stop) → FollowsOne defaults was is (asking [] callback back) old new (Err stop)
+    Calls {T = Unit {0}} defaults callback (Ok tt) was is old new (Err stop) → FollowsOne defaults was is (asking [] callback back) old new (Err stop)
 unfolding asking
 refused_call defaults was is callback back old new (Handler e) h = record {
   opinions = default_opinions old;
@@ -90,12 +94,12 @@ refused_call defaults was is callback back old new (Own e) (memory, same, still)
   opinions = default_opinions old;
   default = λ plain. refl;
   follows = inl (memory, inl same);
-  keeps = subst (λ (h : HandlerAt). HandlerKeeps was h) (sym still) (same_handler was);
+  keeps = subst (λ (h : HandlerAt). HandlerHeard (callback ∷ []) was h) (sym still) (unheard (callback ∷ []) was was (same_handler was));
 }
 
 -- the handler let the row continue, and the moves after its call were done, or some of them
 let_go_moved : {E : Type 0} (defaults : Type 0) (was is : HandlerAt) (callback : Callback) (back : List Move) (old mid new : SessionState) (u : Unit {0}) (moved : Result (Unit {0}) RanOut) →
-    Calls {E = E} defaults (Ok tt) was is old mid (Ok u) → Does back mid new moved → FollowsOne {E = E} defaults was is (asking [] callback back) old new (went_result moved)
+    Calls {E = E} defaults callback (Ok tt) was is old mid (Ok u) → Does back mid new moved → FollowsOne {E = E} defaults was is (asking [] callback back) old new (went_result moved)
 unfolding asking
 let_go_moved defaults was is callback back old mid new u (Ok v) h moved = record {
   opinions = default_opinions old;
@@ -111,7 +115,7 @@ let_go_moved defaults was is callback back old mid new u (Err v) h moved = recor
 }
 
 pub let_go_call : {E : Type 0} (defaults : Type 0) (was is : HandlerAt) (callback : Callback) (back : List Move) (old mid new : SessionState) (u : Unit {0}) (moved : Result (Unit {0}) RanOut) (result : Result Flow (Stop E)) →
-    result ≡ went_result moved → Calls {E = E} defaults (Ok tt) was is old mid (Ok u) → Does back mid new moved → FollowsOne {E = E} defaults was is (asking [] callback back) old new result
+    result ≡ went_result moved → Calls {E = E} defaults callback (Ok tt) was is old mid (Ok u) → Does back mid new moved → FollowsOne {E = E} defaults was is (asking [] callback back) old new result
 let_go_call {E = E} defaults was is callback back old mid new u moved result is_so h m =
     subst (λ (x : Result Flow (Stop E)). FollowsOne {E = E} defaults was is (asking [] callback back) old new x) (sym is_so) (let_go_moved {E = E} defaults was is callback back old mid new u moved h m)
 
@@ -176,7 +180,7 @@ own_one {E = E} defaults h row old new r result is f = record {
   opinions = default_opinions old;
   default = λ plain. refl;
   follows = subst (λ (x : Result Flow (Stop E)). FollowsRow defaults h h row old new x) (sym is) (plain_row_follows E defaults h h row old new r f);
-  keeps = same_handler h;
+  keeps = unheard (calls_of row.asks) h h (same_handler h);
 }
 
 pub own_with : {E : Type 0} (defaults : Type 0) (h : HandlerAt) (row : Opinions → SessionRow) (old new : SessionState) (r : Result Flow Error) (result : Result Flow (Stop E)) →
@@ -185,7 +189,7 @@ own_with {E = E} defaults h row old new r result is f = record {
   opinions = default_opinions old;
   default = λ plain. refl;
   follows = subst (λ (x : Result Flow (Stop E)). FollowsRow defaults h h (row (default_opinions old)) old new x) (sym is) (plain_row_follows E defaults h h (row (default_opinions old)) old new r f);
-  keeps = same_handler h;
+  keeps = unheard (calls_of (row (default_opinions old)).asks) h h (same_handler h);
 }
 
 passed_follows : (row : SessionRow) (old new : SessionState) → row ≡ passed_over → new ≡ old → Follows row old new (Ok flows.Went)
@@ -221,7 +225,7 @@ nothing_done moves old new same = subst (Fronts moves old) (sym same) (none_done
 
 pub ran_out_one : {E : Type 0} (defaults : Type 0) (h : HandlerAt) (row : SessionRow) (old new : SessionState) →
     new ≡ old → FollowsOne {E = E} defaults h h row old new (Err (Own NoMemory))
-ran_out_one defaults h row old new same = record { opinions = default_opinions old; default = λ plain. refl; follows = inl (refl, inl (nothing_done row.front old new same)); keeps = same_handler h }
+ran_out_one defaults h row old new same = record { opinions = default_opinions old; default = λ plain. refl; follows = inl (refl, inl (nothing_done row.front old new same)); keeps = unheard (calls_of row.asks) h h (same_handler h) }
 
 pub ran_out_with : {E : Type 0} (defaults : Type 0) (h : HandlerAt) (row : Opinions → SessionRow) (old new : SessionState) →
     new ≡ old → FollowsWith {E = E} defaults h h row old new (Err (Own NoMemory))
@@ -229,7 +233,7 @@ ran_out_with defaults h row old new same = record {
   opinions = default_opinions old;
   default = λ plain. refl;
   follows = inl (refl, inl (nothing_done (row (default_opinions old)).front old new same));
-  keeps = same_handler h;
+  keeps = unheard (calls_of (row (default_opinions old)).asks) h h (same_handler h);
 }
 
 -- ---- a move before a row
@@ -263,7 +267,7 @@ reports_front defaults was is m id said told back old new r same f =
 
 -- a call that was made before
 pub called_before : {E : Type 0} (defaults : Type 0) (was mid is : HandlerAt) (row : SessionRow) (old new : SessionState) (r : Result Flow (Stop E)) →
-    HandlerKeeps was mid → FollowsRow defaults mid is row old new r → FollowsRow defaults was is row old new r
+    HandlerHeard [] was mid → FollowsRow defaults mid is row old new r → FollowsRow defaults was is row old new r
 called_before defaults was mid is row old new (Ok flows.Went) keeps f = f
 called_before defaults was mid is row old new (Ok (flows.Ended e)) keeps f = f
 called_before defaults was mid is row old new (Err (Own e)) keeps f = f
@@ -338,7 +342,7 @@ none_failed defaults h None x old new none same = passed_one defaults h (failed_
 none_failed defaults h (Some ticket) x old new none same = absurd cc
 
 pub refused_open : {E : Type 0} (defaults : Type 0) (default : OpenAnswer) (was is : HandlerAt) (id : ℕ) (opened : ServerOpen) (old new : SessionState) (stop : Stop E) →
-    Calls defaults (Ok default) was is old new (Err stop) → FollowsOne defaults was is (served id opened) old new (Err stop)
+    Calls defaults (ServerOpened id opened) (Ok default) was is old new (Err stop) → FollowsOne defaults was is (served id opened) old new (Err stop)
 unfolding served
 refused_open defaults default was is id opened old new (Handler e) h = record {
   opinions = default_opinions old;
@@ -350,7 +354,7 @@ refused_open defaults default was is id opened old new (Own e) (memory, same, st
   opinions = default_opinions old;
   default = λ plain. refl;
   follows = inl (memory, inl same);
-  keeps = subst (λ (h : HandlerAt). HandlerKeeps was h) (sym still) (same_handler was);
+  keeps = subst (λ (h : HandlerAt). HandlerHeard (ServerOpened id opened ∷ []) was h) (sym still) (unheard (ServerOpened id opened ∷ []) was was (same_handler was));
 }
 
 same_answer : {E : Type 0} (r : Result OpenAnswer E) (a b : OpenAnswer) → r ≡ Ok a → r ≡ Ok b → a ≡ b
@@ -361,7 +365,7 @@ accepts_by defaults r default answer (inl accepts) is same = λ plain. same_answ
 accepts_by defaults r default answer (inr never) is same = λ plain. absurd (never plain)
 
 let_go_served : {E : Type 0} (defaults : Type 0) (default answer : OpenAnswer) (was is : HandlerAt) (id : ℕ) (opened : ServerOpen) (old mid new : SessionState) (moved : Result (Unit {0}) RanOut) →
-    Accepts defaults default → Calls {E = E} defaults (Ok default) was is old mid (Ok answer) →
+    Accepts defaults default → Calls {E = E} defaults (ServerOpened id opened) (Ok default) was is old mid (Ok answer) →
     Does (Tells (ServerOpenedRecord (record { 0 = id }) opened) ∷ settled id answer) mid new moved → FollowsOne {E = E} defaults was is (served id opened) old new (went_result moved)
 unfolding served
 let_go_served {E = E} defaults default answer was is id opened old mid new (Ok v) accepts h moved = record {
@@ -378,7 +382,7 @@ let_go_served {E = E} defaults default answer was is id opened old mid new (Err 
 }
 
 pub let_go_open : {E : Type 0} (defaults : Type 0) (default answer : OpenAnswer) (was is : HandlerAt) (id : ℕ) (opened : ServerOpen) (old mid new : SessionState) (moved : Result (Unit {0}) RanOut) (result : Result Flow (Stop E)) →
-    result ≡ went_result moved → Accepts defaults default → Calls {E = E} defaults (Ok default) was is old mid (Ok answer) →
+    result ≡ went_result moved → Accepts defaults default → Calls {E = E} defaults (ServerOpened id opened) (Ok default) was is old mid (Ok answer) →
     Does (Tells (ServerOpenedRecord (record { 0 = id }) opened) ∷ settled id answer) mid new moved → FollowsOne {E = E} defaults was is (served id opened) old new result
 let_go_open {E = E} defaults default answer was is id opened old mid new moved result is_so accepts h m =
     subst (λ (x : Result Flow (Stop E)). FollowsOne {E = E} defaults was is (served id opened) old new x) (sym is_so) (let_go_served {E = E} defaults default answer was is id opened old mid new moved accepts h m)
@@ -402,7 +406,7 @@ known_open defaults was is number sender id opened old new r numbered known f = 
   opinions = default_opinions old;
   default = λ plain. refl;
   follows = rw numbered (subst (λ (row : SessionRow). FollowsRow defaults was is row old new r) (sym (known_row false sender id opened known)) (front_row defaults was is (Reserves sender) (served id opened) old new r f.follows));
-  keeps = f.keeps;
+  keeps = rw numbered (subst (λ (row : SessionRow). HandlerHeard (calls_of row.asks) was is) (sym (known_row false sender id opened known)) f.keeps);
 }
 
 -- a handler that keeps its defaults accepts an open of a known type
@@ -427,7 +431,7 @@ taken_open defaults was mid is number sender id old new r numbered opines f = re
   opinions = record { takes_unknown = true; window_target = old.window_target };
   default = λ plain. absurd (not_taken (opines.default_body plain));
   follows = rw numbered (front_row defaults was is (Reserves sender) (served id opens.Unknown) old new r (called_before defaults was mid is (served id opens.Unknown) _ new r opines.keeps f.follows));
-  keeps = keeps_on was mid is opines.keeps f.keeps;
+  keeps = rw numbered (keeps_on was mid is opines.keeps f.keeps);
 }
 
 -- a handler that takes an unknown type doesn't keep its defaults
@@ -442,7 +446,7 @@ not_taken_open {E = E} defaults was is number sender id old new numbered opines 
   opinions = default_opinions old;
   default = λ plain. refl;
   follows = rw numbered (plain_row_follows E defaults was is (served_row false sender id opens.Unknown) old new (Ok flows.Went) (refl, left));
-  keeps = opines.keeps;
+  keeps = rw numbered opines.keeps;
 }
 
 not_taken_cut : {E : Type 0} (defaults : Type 0) (was is : HandlerAt) (number : Option ℕ) (sender : Sender) (id : ℕ) (old new : SessionState) →
@@ -452,7 +456,7 @@ not_taken_cut {E = E} defaults was is number sender id old new numbered opines l
   opinions = default_opinions old;
   default = λ plain. refl;
   follows = rw numbered (plain_row_follows E defaults was is (served_row false sender id opens.Unknown) old new (Err NoMemory) (inl (refl, inr (inl left))));
-  keeps = opines.keeps;
+  keeps = rw numbered opines.keeps;
 }
 
 pub not_taken_ran_out : {E : Type 0} (defaults : Type 0) (was is : HandlerAt) (number : Option ℕ) (sender : Sender) (id : ℕ) (old new : SessionState) (result : Result Flow (Stop E)) →

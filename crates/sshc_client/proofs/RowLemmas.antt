@@ -19,8 +19,8 @@ use Rattle.sshc_client_table.specs.SessionTable.Streams.{channel_close_row, chan
 use Rattle.sshc_client_rows.specs.declared.flow.Flow.{Flow}
 use Rattle.sshc_client_rows.specs.Follows.{Follows, default_opinions}
 use Rattle.sshc_client.specs.declared.stop.Stop.{Stop}
-use Rattle.sshc_client.specs.Handling.{HandlerAt}
-use Rattle.sshc_client.specs.HandledRow.{FollowsRow, FollowsWith, own_result}
+use Rattle.sshc_client.specs.Handling.{HandlerAt, HandlerHeard}
+use Rattle.sshc_client.specs.HandledRow.{FollowsRow, FollowsWith, calls_of, own_result}
 use Rattle.sshc_client.proofs.HandlerLemmas.{front_row, own_with}
 
 abbrev unheard : SessionState → SessionState
@@ -77,7 +77,7 @@ first_move defaults was is m late row s new r opinions same f = record {
   opinions = f.opinions;
   default = λ plain. f.default plain ∙ opinions;
   follows = front_row defaults was is m (row f.opinions) s new r (subst (λ (x : SessionRow). FollowsRow defaults was is x (after m s) new r) (same f.opinions) f.follows);
-  keeps = f.keeps;
+  keeps = subst (λ (x : SessionRow). HandlerHeard (calls_of x.asks) was is) (same f.opinions) f.keeps;
 }
 
 pub heard_first : {E : Type 0} (defaults : Type 0) (was is : HandlerAt) (accepts : Accepts) (s t new : SessionState) (len number : ℕ) (body : List ℕ) (r : Result Flow (Stop E)) → is_live s ≡ true → t ≡ after Hears s →

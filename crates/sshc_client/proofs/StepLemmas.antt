@@ -39,11 +39,11 @@ use Rattle.sshc_client_rows.specs.Follows.{all_moves, default_opinions}
 use Rattle.sshc_client.specs.declared.stop.Stop.{Stop}
 use Rattle.sshc_client.specs.declared.stop.Stop.TheVariants.{Own, Handler}
 use Rattle.sshc_client.specs.CausedStep.{IsCausedOpen}
-use Rattle.sshc_client.specs.Handling.{HandlerAt, HandlerKeeps, handler_at}
+use Rattle.sshc_client.specs.Handling.{HandlerAt, handler_at}
 use Rattle.sshc_client.specs.HandledRow.{Cut, CutBehind, FollowsRow, FollowsWith, Handled, LetGo}
 use Rattle.sshc_client.specs.HandledStep.{Before, EndsBy, EndsRow, RefusedBefore, SessionSteps, StepsBehind, StepsOpen, WhyRefused, handler_of, has_left, shut_session}
 use Rattle.sshc_client.specs.Stepping.{SessionStepped, StepsRow}
-use Rattle.sshc_client.proofs.HandlerLemmas.{asked_none, done_onto, same_handler}
+use Rattle.sshc_client.proofs.HandlerLemmas.{done_onto}
 use Rattle.sshc_client.proofs.LawLemmas.{open_keeps}
 
 -- ---- in an open session
@@ -193,18 +193,18 @@ lent_so gate event was is result life s = record {
   rest = s.rest ∙ ap (λ (l : Life). record (was.session) { opening = s.opening; records = s.said.records; life = l }) (behind_if (goes_on result) was.session.life life);
 }
 
-behind_so : {E : Type 0} (defaults : Type 0) (gate : GateAnswers E) (event : Event) (s t : SessionState) (calls calls2 : List SignCall) (x x2 r r2 : ℕ) (setting setting2 : List (List ℕ)) (result : Step E) {count count2 : ℕ} → defaults → s.life ≡ Runs →
-    StepsBehind defaults gate event (lent_session s calls x r setting count) (lent_session t calls2 x2 r2 setting2 count2) result →
-    StepsOpening gate event (lent_session s calls x r setting count) (lent_session t calls2 x2 r2 setting2 count2) result
-behind_so {E = E} defaults gate event s t calls calls2 x x2 r r2 setting setting2 result {count = count} {count2 = count2} plain life b =
-    let stepped : StepsLent gate event (lent_session s calls x r setting count) (lent_session b.last calls2 x2 r2 setting2 count2) b.step =
-    subst (λ (m : SessionState). StepsLent gate event (lent_session m calls x r setting count) (lent_session b.last calls2 x2 r2 setting2 count2) b.step) (b.same plain) b.stepped in
+behind_so : {E : Type 0} (defaults : Type 0) (gate : GateAnswers E) (event : Event) (s t : SessionState) (calls calls2 : List SignCall) (x x2 r r2 : ℕ) (setting setting2 : List (List ℕ)) (result : Step E) {heard heard2 : List Callback} → defaults → s.life ≡ Runs →
+    StepsBehind defaults gate event (lent_session s calls x r setting heard) (lent_session t calls2 x2 r2 setting2 heard2) result →
+    StepsOpening gate event (lent_session s calls x r setting heard) (lent_session t calls2 x2 r2 setting2 heard2) result
+behind_so {E = E} defaults gate event s t calls calls2 x x2 r r2 setting setting2 result {heard = heard} {heard2 = heard2} plain life b =
+    let stepped : StepsLent gate event (lent_session s calls x r setting heard) (lent_session b.last calls2 x2 r2 setting2 heard2) b.step =
+    subst (λ (m : SessionState). StepsLent gate event (lent_session m calls x r setting heard) (lent_session b.last calls2 x2 r2 setting2 heard2) b.step) (b.same plain) b.stepped in
     let last_life : b.last.life ≡ life_behind (goes_on b.step) s.life = ap (λ (z : SessionState). z.life) stepped.rest in
     let none_left : goes_on b.step && has_left b.last.life ≡ false = ap (λ (l : Life). goes_on b.step && has_left l) last_life ∙ nobody_left (goes_on b.step) s.life life in
     let ends_so = stays_on (goes_on b.step && has_left b.last.life) b.last t b.step result none_left b.ends in
-    subst (λ (z : Step E). StepsOpening gate event (lent_session s calls x r setting count) (lent_session t calls2 x2 r2 setting2 count2) z) (sym ends_so.0)
-    (subst (λ (z : SessionState). StepsOpening gate event (lent_session s calls x r setting count) (lent_session z calls2 x2 r2 setting2 count2) b.step) (sym ends_so.1)
-    (lent_so gate event (lent_session s calls x r setting count) (lent_session b.last calls2 x2 r2 setting2 count2) b.step life stepped))
+    subst (λ (z : Step E). StepsOpening gate event (lent_session s calls x r setting heard) (lent_session t calls2 x2 r2 setting2 heard2) z) (sym ends_so.0)
+    (subst (λ (z : SessionState). StepsOpening gate event (lent_session s calls x r setting heard) (lent_session z calls2 x2 r2 setting2 heard2) b.step) (sym ends_so.1)
+    (lent_so gate event (lent_session s calls x r setting heard) (lent_session b.last calls2 x2 r2 setting2 heard2) b.step life stepped))
 
 none_since : (calls calls2 : List SignCall) → calls2 ≡ calls → since calls calls2 ≡ []
 none_since calls calls2 same = ap (since calls) same ∙ drop-length calls
@@ -236,10 +236,10 @@ shut_stepped gate event s out calls calls2 x r r2 setting setting2 e fresh same 
   reports = λ never. absurd never;
 }
 
-shut_so : {E : Type 0} (gate : GateAnswers E) (event : Event) (s : SessionState) (calls calls2 : List SignCall) (x r r2 : ℕ) (setting setting2 : List (List ℕ)) (e : E) {count count2 : ℕ} → s.opening.closed ≡ false → calls2 ≡ calls → GateKeeps r r2 setting setting2 →
+shut_so : {E : Type 0} (gate : GateAnswers E) (event : Event) (s : SessionState) (calls calls2 : List SignCall) (x r r2 : ℕ) (setting setting2 : List (List ℕ)) (e : E) {heard heard2 : List Callback} → s.opening.closed ≡ false → calls2 ≡ calls → GateKeeps r r2 setting setting2 →
     StepsBy gate event (lent s.opening (outgoing s) calls x) (lent (shut s.opening) (outgoing s) calls2 x) (steps.Refused e) →
     HasGateCause gate event (with_gate (lent s.opening (outgoing s) calls x) r setting) (with_gate (lent (shut s.opening) (outgoing s) calls2 x) r2 setting2) (steps.Refused e) →
-    StepsOpening gate event (lent_session s calls x r setting count) (lent_session (shut_session s) calls2 x r2 setting2 count2) (steps.Refused e)
+    StepsOpening gate event (lent_session s calls x r setting heard) (lent_session (shut_session s) calls2 x r2 setting2 heard2) (steps.Refused e)
 shut_so gate event s calls calls2 x r r2 setting setting2 e fresh same keeps row cause = record {
   opening = shut s.opening;
   said = outgoing s;
@@ -250,11 +250,11 @@ shut_so gate event s calls calls2 x r r2 setting setting2 e fresh same keeps row
 refuses_key : {E : Type 0} (gate : GateAnswers E) (x : Option ExchangeResult) (out : Outgoing) (key : PublicKeyOrCertificate) (e : E) (asks : Asks) → asks ≡ asking.HostKey key → gate.judges key (Err e) → Answered gate x out out (Err e) asks
 refuses_key gate x out key e asks asked says = rw asked (Err e, says, (refl, refl))
 
-why_so : {E : Type 0} (defaults : Type 0) (gate : GateAnswers E) (event : Event) (s mid : SessionState) (calls calls2 : List SignCall) (x r r2 : ℕ) (setting setting2 : List (List ℕ)) (t : SessionState) (e : E) {count count2 : ℕ} → defaults → s.opening.closed ≡ false → calls2 ≡ calls → GateKeeps r r2 setting setting2 → t ≡ shut_session mid →
-    WhyRefused defaults gate event (lent_session s calls x r setting count) (lent_session t calls2 x r2 setting2 count2) mid e →
-    StepsOpening gate event (lent_session s calls x r setting count) (lent_session t calls2 x r2 setting2 count2) (steps.Refused e)
-why_so {E = E} defaults gate event s mid calls calls2 x r r2 setting setting2 t e {count = count} {count2 = count2} plain fresh same keeps is (inl (memory, still)) =
-    rw (is, still) (subst (λ (z : E). StepsOpening gate event (lent_session s calls x r setting count) (lent_session (shut_session s) calls2 x r2 setting2 count2) (steps.Refused z)) (sym memory)
+why_so : {E : Type 0} (defaults : Type 0) (gate : GateAnswers E) (event : Event) (s mid : SessionState) (calls calls2 : List SignCall) (x r r2 : ℕ) (setting setting2 : List (List ℕ)) (t : SessionState) (e : E) {heard heard2 : List Callback} → defaults → s.opening.closed ≡ false → calls2 ≡ calls → GateKeeps r r2 setting setting2 → t ≡ shut_session mid →
+    WhyRefused defaults gate event (lent_session s calls x r setting heard) (lent_session t calls2 x r2 setting2 heard2) mid e →
+    StepsOpening gate event (lent_session s calls x r setting heard) (lent_session t calls2 x r2 setting2 heard2) (steps.Refused e)
+why_so {E = E} defaults gate event s mid calls calls2 x r r2 setting setting2 t e {heard = heard} {heard2 = heard2} plain fresh same keeps is (inl (memory, still)) =
+    rw (is, still) (subst (λ (z : E). StepsOpening gate event (lent_session s calls x r setting heard) (lent_session (shut_session s) calls2 x r2 setting2 heard2) (steps.Refused z)) (sym memory)
     (shut_so gate event s calls calls2 x r r2 setting setting2 (gate.told_as NoMemory) fresh same keeps (inl (refl, refl, refl, same)) (inl (NoMemory, refl, tt, tt))))
 why_so defaults gate event s mid calls calls2 x r r2 setting setting2 t e plain fresh same keeps is (inr (inl (key, asked, says, still, rose))) =
     rw (is, still) (shut_so gate event s calls calls2 x r r2 setting setting2 e fresh same keeps
@@ -262,25 +262,25 @@ why_so defaults gate event s mid calls calls2 x r r2 setting setting2 t e plain 
     (inr rose))
 why_so defaults gate event s mid calls calls2 x r r2 setting setting2 t e plain fresh same keeps is (inr (inr (rose, called_so, own_body))) = absurd (own_body plain)
 
-refused_so : {E : Type 0} (defaults : Type 0) (gate : GateAnswers E) (event : Event) (s t : SessionState) (calls calls2 : List SignCall) (x x2 r r2 : ℕ) (setting setting2 : List (List ℕ)) (result : Step E) {count count2 : ℕ} → defaults → GateKeeps r r2 setting setting2 →
-    RefusedBefore defaults gate event (lent_session s calls x r setting count) (lent_session t calls2 x2 r2 setting2 count2) result →
-    StepsOpening gate event (lent_session s calls x r setting count) (lent_session t calls2 x2 r2 setting2 count2) result
-refused_so {E = E} defaults gate event s t calls calls2 x x2 r r2 setting setting2 result {count = count} {count2 = count2} plain keeps b =
-    subst (λ (z : Step E). StepsOpening gate event (lent_session s calls x r setting count) (lent_session t calls2 x2 r2 setting2 count2) z) (sym b.refused)
-    (subst (λ (n : ℕ). StepsOpening gate event (lent_session s calls x r setting count) (lent_session t calls2 n r2 setting2 count2) (steps.Refused b.error)) (sym b.refusals)
+refused_so : {E : Type 0} (defaults : Type 0) (gate : GateAnswers E) (event : Event) (s t : SessionState) (calls calls2 : List SignCall) (x x2 r r2 : ℕ) (setting setting2 : List (List ℕ)) (result : Step E) {heard heard2 : List Callback} → defaults → GateKeeps r r2 setting setting2 →
+    RefusedBefore defaults gate event (lent_session s calls x r setting heard) (lent_session t calls2 x2 r2 setting2 heard2) result →
+    StepsOpening gate event (lent_session s calls x r setting heard) (lent_session t calls2 x2 r2 setting2 heard2) result
+refused_so {E = E} defaults gate event s t calls calls2 x x2 r r2 setting setting2 result {heard = heard} {heard2 = heard2} plain keeps b =
+    subst (λ (z : Step E). StepsOpening gate event (lent_session s calls x r setting heard) (lent_session t calls2 x2 r2 setting2 heard2) z) (sym b.refused)
+    (subst (λ (n : ℕ). StepsOpening gate event (lent_session s calls x r setting heard) (lent_session t calls2 n r2 setting2 heard2) (steps.Refused b.error)) (sym b.refusals)
     (why_so defaults gate event s b.mid calls calls2 x r r2 setting setting2 t b.error plain b.fresh b.calls keeps b.shut b.why))
 
 -- ---- the step
 
-opening_so : {E : Type 0} (defaults : Type 0) (gate : GateAnswers E) (event : Event) (s t : SessionState) (calls calls2 : List SignCall) (x x2 r r2 : ℕ) (setting setting2 : List (List ℕ)) (result : Step E) {count count2 : ℕ} → defaults → GateKeeps r r2 setting setting2 → s.life ≡ Runs →
-    StepsBehind defaults gate event (lent_session s calls x r setting count) (lent_session t calls2 x2 r2 setting2 count2) result ⊎ RefusedBefore defaults gate event (lent_session s calls x r setting count) (lent_session t calls2 x2 r2 setting2 count2) result →
-    StepsOpening gate event (lent_session s calls x r setting count) (lent_session t calls2 x2 r2 setting2 count2) result
+opening_so : {E : Type 0} (defaults : Type 0) (gate : GateAnswers E) (event : Event) (s t : SessionState) (calls calls2 : List SignCall) (x x2 r r2 : ℕ) (setting setting2 : List (List ℕ)) (result : Step E) {heard heard2 : List Callback} → defaults → GateKeeps r r2 setting setting2 → s.life ≡ Runs →
+    StepsBehind defaults gate event (lent_session s calls x r setting heard) (lent_session t calls2 x2 r2 setting2 heard2) result ⊎ RefusedBefore defaults gate event (lent_session s calls x r setting heard) (lent_session t calls2 x2 r2 setting2 heard2) result →
+    StepsOpening gate event (lent_session s calls x r setting heard) (lent_session t calls2 x2 r2 setting2 heard2) result
 opening_so defaults gate event s t calls calls2 x x2 r r2 setting setting2 result plain keeps life (inl b) = behind_so defaults gate event s t calls calls2 x x2 r r2 setting setting2 result plain life b
 opening_so defaults gate event s t calls calls2 x x2 r r2 setting setting2 result plain keeps life (inr b) = refused_so defaults gate event s t calls calls2 x x2 r r2 setting setting2 result plain keeps b
 
-pub plain_step : {E : Type 0} (defaults : Type 0) (gate : GateAnswers E) (accepts : Accepts) (event : Event) (s t : SessionState) (calls calls2 : List SignCall) (x x2 r r2 : ℕ) (setting setting2 : List (List ℕ)) (result : Step E) {count count2 : ℕ} → defaults →
-    SessionSteps defaults gate accepts event (lent_session s calls x r setting count) (lent_session t calls2 x2 r2 setting2 count2) result →
-    SessionStepped gate accepts event (lent_session s calls x r setting count) (lent_session t calls2 x2 r2 setting2 count2) result
+pub plain_step : {E : Type 0} (defaults : Type 0) (gate : GateAnswers E) (accepts : Accepts) (event : Event) (s t : SessionState) (calls calls2 : List SignCall) (x x2 r r2 : ℕ) (setting setting2 : List (List ℕ)) (result : Step E) {heard heard2 : List Callback} → defaults →
+    SessionSteps defaults gate accepts event (lent_session s calls x r setting heard) (lent_session t calls2 x2 r2 setting2 heard2) result →
+    SessionStepped gate accepts event (lent_session s calls x r setting heard) (lent_session t calls2 x2 r2 setting2 heard2) result
 plain_step defaults gate accepts event s t calls calls2 x x2 r r2 setting setting2 result plain steps_so = record {
   closed = steps_so.closed;
   left = steps_so.left;
@@ -311,8 +311,8 @@ open_early false b one other = absurd cc
 not_both : (b : Bool) → b ≡ false → b ≡ true → ⊥
 not_both b dead holds = let clash : true ≡ false = sym holds ∙ dead in absurd cc
 
-pub over_steps : {E : Type 0} (defaults : Type 0) (gate : GateAnswers E) (accepts : Accepts) (event : Event) (s : SessionState) (calls : List SignCall) (x r : ℕ) (setting : List (List ℕ)) {count : ℕ} →
-    s.life ≡ Over → SessionSteps {E = E} defaults gate accepts event (lent_session s calls x r setting count) (lent_session s calls x r setting count) steps.Closed
+pub over_steps : {E : Type 0} (defaults : Type 0) (gate : GateAnswers E) (accepts : Accepts) (event : Event) (s : SessionState) (calls : List SignCall) (x r : ℕ) (setting : List (List ℕ)) {heard : List Callback} →
+    s.life ≡ Over → SessionSteps {E = E} defaults gate accepts event (lent_session s calls x r setting heard) (lent_session s calls x r setting heard) steps.Closed
 over_steps defaults gate accepts event s calls x r setting over = record {
   closed = λ is_over. (refl, refl);
   left = λ is_left. absurd (over_left (sym over ∙ is_left));
@@ -321,11 +321,12 @@ over_steps defaults gate accepts event s calls x r setting over = record {
   row = λ live. absurd (no_run _ s.life (ap runs over) live);
   caused = λ live. absurd (no_run _ s.life (ap runs over) live);
   laws = λ live. absurd (no_run _ s.life (ap runs over) live);
-  keeps = asked_none _ _ _ (same_handler (handler_at r setting _));
+  heard = λ later. absurd (no_run _ s.life (ap runs over) later);
+  keeps = record { later = not_more r; kept = refl };
 }
 
-pub left_steps : {E : Type 0} (defaults : Type 0) (gate : GateAnswers E) (accepts : Accepts) (event : Event) (s t : SessionState) (calls : List SignCall) (x r : ℕ) (setting : List (List ℕ)) {count : ℕ} →
-    s.life ≡ Left → t ≡ after Stops s → SessionSteps {E = E} defaults gate accepts event (lent_session s calls x r setting count) (lent_session t calls x r setting count) (steps.Ended Disconnected)
+pub left_steps : {E : Type 0} (defaults : Type 0) (gate : GateAnswers E) (accepts : Accepts) (event : Event) (s t : SessionState) (calls : List SignCall) (x r : ℕ) (setting : List (List ℕ)) {heard : List Callback} →
+    s.life ≡ Left → t ≡ after Stops s → SessionSteps {E = E} defaults gate accepts event (lent_session s calls x r setting heard) (lent_session t calls x r setting heard) (steps.Ended Disconnected)
 left_steps defaults gate accepts event s t calls x r setting left stopped = record {
   closed = λ is_over. absurd (over_left (sym is_over ∙ left));
   left = λ is_left. (refl, stopped);
@@ -334,12 +335,13 @@ left_steps defaults gate accepts event s t calls x r setting left stopped = reco
   row = λ live. absurd (no_run _ s.life (ap runs left) live);
   caused = λ live. absurd (no_run _ s.life (ap runs left) live);
   laws = λ live. absurd (no_run _ s.life (ap runs left) live);
-  keeps = asked_none _ _ _ (same_handler (handler_at r setting _));
+  heard = λ later. absurd (no_run _ s.life (ap runs left) later);
+  keeps = record { later = not_more r; kept = refl };
 }
 
-pub live_steps : {E : Type 0} (defaults : Type 0) (gate : GateAnswers E) (accepts : Accepts) (event : Event) (s t : SessionState) (calls : List SignCall) (x r r2 : ℕ) (setting setting2 : List (List ℕ)) (result : Step E) {count count2 : ℕ} →
-    is_live s ≡ true → StepsOpen defaults gate.told_as accepts event (handler_at r setting count) (handler_at r2 setting2 count2) s t result →
-    SessionSteps defaults gate accepts event (lent_session s calls x r setting count) (lent_session t calls x r2 setting2 count2) result
+pub live_steps : {E : Type 0} (defaults : Type 0) (gate : GateAnswers E) (accepts : Accepts) (event : Event) (s t : SessionState) (calls : List SignCall) (x r r2 : ℕ) (setting setting2 : List (List ℕ)) (result : Step E) {heard heard2 : List Callback} →
+    is_live s ≡ true → StepsOpen defaults gate.told_as accepts event (handler_at r setting heard) (handler_at r2 setting2 heard2) s t result →
+    SessionSteps defaults gate accepts event (lent_session s calls x r setting heard) (lent_session t calls x r2 setting2 heard2) result
 live_steps defaults gate accepts event s t calls x r r2 setting setting2 result live steps_so = record {
   closed = λ over. absurd (runs_over (sym (runs_of _ s.life live) ∙ over));
   left = λ left. absurd (runs_left (sym (runs_of _ s.life live) ∙ left));
@@ -348,12 +350,13 @@ live_steps defaults gate accepts event s t calls x r r2 setting setting2 result 
   row = λ is_so. (steps_so, refl);
   caused = λ is_so. open_caused defaults gate.told_as accepts event (handler_at r setting _) (handler_at r2 setting2 _) s t result live steps_so;
   laws = λ is_so. open_keeps defaults gate.told_as accepts event (handler_at r setting _) (handler_at r2 setting2 _) s t result live steps_so;
-  keeps = asked_none _ _ _ steps_so.follows.keeps;
+  heard = λ later. absurd (open_early _ (runs s.life) live later);
+  keeps = record { later = steps_so.follows.keeps.later; kept = steps_so.follows.keeps.kept };
 }
 
-pub before_steps : {E : Type 0} (defaults : Type 0) (gate : GateAnswers E) (accepts : Accepts) (event : Event) (s t : SessionState) (calls calls2 : List SignCall) (x x2 r r2 : ℕ) (setting setting2 : List (List ℕ)) (result : Step E) {count count2 : ℕ} →
-    s.life ≡ Runs → is_live s ≡ false → Before defaults gate event (lent_session s calls x r setting count) (lent_session t calls2 x2 r2 setting2 count2) result →
-    SessionSteps defaults gate accepts event (lent_session s calls x r setting count) (lent_session t calls2 x2 r2 setting2 count2) result
+pub before_steps : {E : Type 0} (defaults : Type 0) (gate : GateAnswers E) (accepts : Accepts) (event : Event) (s t : SessionState) (calls calls2 : List SignCall) (x x2 r r2 : ℕ) (setting setting2 : List (List ℕ)) (result : Step E) {heard heard2 : List Callback} →
+    s.life ≡ Runs → is_live s ≡ false → Before defaults gate event (lent_session s calls x r setting heard) (lent_session t calls2 x2 r2 setting2 heard2) result →
+    SessionSteps defaults gate accepts event (lent_session s calls x r setting heard) (lent_session t calls2 x2 r2 setting2 heard2) result
 before_steps defaults gate accepts event s t calls calls2 x x2 r r2 setting setting2 result life dead b = record {
   closed = λ over. absurd (runs_over (sym life ∙ over));
   left = λ left. absurd (runs_left (sym life ∙ left));
@@ -362,7 +365,8 @@ before_steps defaults gate accepts event s t calls calls2 x x2 r r2 setting sett
   row = λ live. absurd (not_both (is_live s) dead live);
   caused = λ live. absurd (not_both (is_live s) dead live);
   laws = λ live. absurd (not_both (is_live s) dead live);
-  keeps = b.keeps;
+  heard = λ later. b.keeps.heard;
+  keeps = record { later = b.keeps.later; kept = b.keeps.kept };
 }
 
 pub nobody_left_ends : {E : Type 0} (b c : Bool) (last new : SessionState) (step : Step E) → c ≡ false → new ≡ last → EndsBy (b && c) last new step step

@@ -1,19 +1,19 @@
 -- What the handler is asked before the session is open, and the opening's step with its verdict on the host key.
-use Rattle.std.specs.Prelude.{◌≡◌, ◌⊎◌, Bool, true, false, ◌&&◌, Result, Ok, Err}
+use Rattle.std.specs.Prelude.{◌≡◌, ◌⊎◌, Bool, true, false, ◌&&◌, Option, Result, Ok, Err}
 use Rattle.sshc_wire.specs.Faults.{Rose}
 use Rattle.sshc_key.specs.declared.identity.PublicKeyOrCertificate.{PublicKeyOrCertificate}
+use Rattle.sshc_transport.specs.declared.exchange.ExchangeResult.{ExchangeResult}
 use Rattle.sshc_auth_event.specs.declared.event.Event.{Event}
 use Rattle.sshc_auth.specs.declared.error.Error.{Error}
 use Rattle.sshc_auth.specs.declared.step.Asks.{Asks}
 use Rattle.sshc_auth.specs.declared.step.Asks.TheVariants as asking
 use Rattle.sshc_auth.specs.declared.step.Step.{Step}
-use Rattle.sshc_auth.specs.OpeningTable.{keys_asked}
 use Rattle.sshc_auth.specs.Stepping.{GateAnswers, gate_answers}
 use Rattle.sshc_client_table.specs.SessionState.{SessionState}
 use Rattle.sshc_client_table.specs.Grown.{Grown}
 use Rattle.sshc_client_state.specs.OpeningStep.{Lent, StepsLent, goes_on}
-use Rattle.sshc_client.specs.Handling.{HandlerAsked, HandlerAt}
-use Rattle.sshc_client.specs.HandledStep.{AddsNothing, EndsBy, IsCall, has_left}
+use Rattle.sshc_client.specs.Handling.{HandlerAt, HandlerHeard}
+use Rattle.sshc_client.specs.HandledStep.{AddsNothing, EndsBy, IsCall, calls_asked, has_left}
 
 -- the verdict
 abbrev pub Says : {E : Type 0} → Bool → PublicKeyOrCertificate → Result Bool E → Type 0
@@ -42,13 +42,13 @@ Said defaults judges asks was is old new (Ok accepts) = IsVerdict judges asks ac
 Said defaults judges asks was is old new (Err e) = Refuses defaults judges asks old new e × Rose was.refusals is.refusals
 
 -- the handler was called as the row asks
-pub record AsksHandler {E : Type 0} (defaults : Type 0) (judges : PublicKeyOrCertificate → Result Bool E → Type 0) (asks : Asks) (was is : HandlerAt) (old new : SessionState) (result : Result Bool E) : Type 0 where
+pub record AsksHandler {E : Type 0} (defaults : Type 0) (judges : PublicKeyOrCertificate → Result Bool E → Type 0) (asks : Asks) (exchange : Option ExchangeResult) (was is : HandlerAt) (old new : SessionState) (result : Result Bool E) : Type 0 where
   pub said : Said defaults judges asks was is old new result
   pub grown : Grown old new
   -- where the row makes no call, nobody is lent the session
   pub unlent : (IsCall asks → ⊥) → new ≡ old
-  -- it is asked about as many host keys at most as the row asks for: one, or none
-  pub keeps : HandlerAsked (keys_asked asks) was is
+  -- it hears what the row asks, with the values of the event
+  pub keeps : HandlerHeard (calls_asked asks exchange) was is
 
 -- the opening's step, and the end of a session that the user left meanwhile
 pub record StepsBefore {E : Type 0} (gate : GateAnswers E) (event : Event) (was is : Lent) (result : Step E) : Type 0 where

@@ -23,7 +23,7 @@ use Rattle.sshc_client_rows.specs.declared.flow.Flow.TheVariants as flows
 use Rattle.sshc_client_rows.specs.Follows.{default_opinions}
 use Rattle.sshc_client.specs.declared.stop.Stop.{Stop}
 use Rattle.sshc_client.specs.declared.stop.Stop.TheVariants.{Own, Handler}
-use Rattle.sshc_client.specs.Handling.{HandlerAt, HandlerKeeps, Handles, Opines}
+use Rattle.sshc_client.specs.Handling.{HandlerAt, HandlerHeard, Handles, Opines}
 
 -- if a row makes no call, the session doesn't change; else the session afterwards is grown from the one before, and a
 -- handler that keeps its defaults doesn't change it and accepts
@@ -62,12 +62,18 @@ FollowsRow defaults was is row old new (Err (Own e)) =
     ((e ≡ NoMemory) × Cut defaults row old new) ⊎ ((row.next ≡ refuses e) × Handled defaults row old new)
 FollowsRow defaults was is row old new (Err (Handler e)) = HandlerRefused defaults was is row old new
 
--- a call that follows the row chosen by what the handler returns from a callback that isn't lent the session
+-- the call that a row asks, if it asks one
+abbrev pub calls_of : Option Callback → List Callback
+calls_of None = []
+calls_of (Some call) = call ∷ []
+
+-- a call that follows the row chosen by what the handler returns from a callback that isn't lent the session; the handler
+-- hears what the row asks, and nothing else
 pub record FollowsWith {E : Type 0} (defaults : Type 0) (was is : HandlerAt) (row : Opinions → SessionRow) (old new : SessionState) (result : Result Flow (Stop E)) : Type 0 where
   pub opinions : Opinions
   pub default : defaults → opinions ≡ default_opinions old
   pub follows : FollowsRow defaults was is (row opinions) old new result
-  pub keeps : HandlerKeeps was is
+  pub keeps : HandlerHeard (calls_of (row opinions).asks) was is
 
 -- a call that follows one row
 abbrev pub FollowsOne : {E : Type 0} → Type 0 → HandlerAt → HandlerAt → SessionRow → SessionState → SessionState → Result Flow (Stop E) → Type 0
@@ -84,10 +90,10 @@ went_result (Ok u) = Ok flows.Went
 went_result (Err e) = Err (Own NoMemory)
 
 -- a call of the handler, or memory ran out before it
-abbrev pub Calls : {T E : Type 0} → Type 0 → Result T E → HandlerAt → HandlerAt → SessionState → SessionState → Result T (Stop E) → Type 0
-Calls defaults default was is old new (Ok x) = Handles defaults default was is old new (Ok x)
-Calls defaults default was is old new (Err (Handler e)) = Handles defaults default was is old new (Err e)
-Calls defaults default was is old new (Err (Own e)) = (e ≡ NoMemory) × (new ≡ old) × (is ≡ was)
+abbrev pub Calls : {T E : Type 0} → Type 0 → Callback → Result T E → HandlerAt → HandlerAt → SessionState → SessionState → Result T (Stop E) → Type 0
+Calls defaults call default was is old new (Ok x) = Handles defaults call default was is old new (Ok x)
+Calls defaults call default was is old new (Err (Handler e)) = Handles defaults call default was is old new (Err e)
+Calls defaults call default was is old new (Err (Own e)) = (e ≡ NoMemory) × (new ≡ old) × (is ≡ was)
 
 -- the result of a callback, as one of a row
 abbrev pub lent_result : {T E : Type 0} → Result T E → Result T (Stop E)

@@ -1,10 +1,11 @@
 -- What a step of a session does, with any handler. In an open session the event's row is followed, with whatever the
 -- handler does to the session that it is lent; before that the opening's step continues after what the handler did.
 -- Stated by relations between states; the code does one move after the other.
-use Rattle.std.specs.Prelude.{◌≡◌, ◌⊎◌, ℕ, Bool, true, false, ◌&&◌, not, List, [], Result, Ok, Err}
+use Rattle.std.specs.Prelude.{◌≡◌, ◌⊎◌, ℕ, Bool, true, false, ◌&&◌, not, List, [], ◌∷◌, Option, Some, None, Result, Ok, Err}
 use Rattle.sshc_wire.specs.Faults.{Rose}
 use Rattle.sshc_wire.specs.declared.record.Record.{Record}
 use Rattle.sshc_key.specs.declared.identity.PublicKeyOrCertificate.{PublicKeyOrCertificate}
+use Rattle.sshc_transport.specs.declared.exchange.ExchangeResult.{ExchangeResult}
 use Rattle.sshc_auth_event.specs.declared.event.Event.{Event}
 use Rattle.sshc_auth.specs.declared.ended.Ended.TheVariants.{Disconnected}
 use Rattle.sshc_auth.specs.declared.error.Error.{Error}
@@ -14,13 +15,14 @@ use Rattle.sshc_auth.specs.declared.step.Asks.TheVariants as asking
 use Rattle.sshc_auth.specs.declared.step.Step.{Step}
 use Rattle.sshc_auth.specs.declared.step.Step.TheVariants as steps
 use Rattle.sshc_auth.specs.OpeningState.{shut}
-use Rattle.sshc_auth.specs.OpeningTable.{asked_of, keys_asked}
-use Rattle.sshc_auth.specs.Stepping.{GateAnswers, gate_answers}
+use Rattle.sshc_auth.specs.OpeningTable.{asked_of}
+use Rattle.sshc_auth.specs.Stepping.{GateAnswers, exchange_in, gate_answers}
 use Rattle.sshc_client_packets.specs.HostKeyProof.{Accepts}
 use Rattle.sshc_client_table.specs.declared.life.Life.{Life}
 use Rattle.sshc_client_table.specs.declared.life.Life.TheVariants.{Left, Over}
 use Rattle.sshc_client_table.specs.SessionState.{SessionState, is_live, opens_later, runs}
 use Rattle.sshc_client_table.specs.Moves.{Stops, after}
+use Rattle.sshc_client_table.specs.SessionRow.{Banner, Callback, HostKey, KexDone}
 use Rattle.sshc_client_table.specs.SessionTable.{session_row}
 use Rattle.sshc_client_table.specs.Grown.{Grown}
 use Rattle.sshc_client_table.specs.StepLaws.{OpenStepLaws}
@@ -29,13 +31,13 @@ use Rattle.sshc_client_rows.specs.declared.flow.Flow.{Flow}
 use Rattle.sshc_client_rows.specs.declared.flow.Flow.TheVariants as flows
 use Rattle.sshc_client.specs.declared.stop.Stop.{Stop}
 use Rattle.sshc_client.specs.declared.stop.Stop.TheVariants.{Own, Handler}
-use Rattle.sshc_client.specs.Handling.{HandlerAsked, HandlerAt, handler_at}
+use Rattle.sshc_client.specs.Handling.{HandlerAt, HandlerHeard, HandlerKept, Hears, handler_at}
 use Rattle.sshc_client.specs.CausedStep.{IsCausedOpen}
 use Rattle.sshc_client.specs.HandledRow.{FollowsWith}
 
 -- the handler, as it is at one moment
 abbrev pub handler_of : Lent → HandlerAt
-handler_of l = handler_at l.gate_refusals l.setting l.asked
+handler_of l = handler_at l.gate_refusals l.setting l.heard
 
 -- ---- how a step ends
 
@@ -117,14 +119,25 @@ pub record RefusedBefore {E : Type 0} (defaults : Type 0) (gate : GateAnswers E)
   pub calls : is.calls ≡ was.calls
   pub refusals : is.signer_refusals ≡ was.signer_refusals
 
--- how many host keys a step asks the handler about: one at most, and that of the first exchange
-abbrev pub keys_of : SessionState → Event → ℕ
-keys_of s event = keys_asked (asked_of s.opening event)
+-- the calls of the handler that the opening asks: about the host key and then for the exchange, for an exchange, or for a
+-- banner
+abbrev pub exchange_call : Option ExchangeResult → List Callback
+exchange_call None = []
+exchange_call (Some x) = KexDone x.secret x.names ∷ []
 
--- a step before the session is open, and the handler's counts and setting
+abbrev pub calls_asked : Asks → Option ExchangeResult → List Callback
+calls_asked asking.Nothing exchange = []
+calls_asked (asking.HostKey key) exchange = HostKey key ∷ exchange_call exchange
+calls_asked asking.Exchange exchange = exchange_call exchange
+calls_asked (asking.Banner text) exchange = Banner text ∷ []
+
+abbrev pub calls_before : SessionState → Event → List Callback
+calls_before s event = calls_asked (asked_of s.opening event) (exchange_in event)
+
+-- a step before the session is open, and what the handler keeps and heard
 pub record Before {E : Type 0} (defaults : Type 0) (gate : GateAnswers E) (event : Event) (was is : Lent) (result : Step E) : Type 0 where
   pub steps_on : StepsBehind defaults gate event was is result ⊎ RefusedBefore defaults gate event was is result
-  pub keeps : HandlerAsked (keys_of was.session event) (handler_of was) (handler_of is)
+  pub keeps : HandlerHeard (calls_before was.session event) (handler_of was) (handler_of is)
 
 -- ---- the step
 
@@ -147,6 +160,8 @@ pub record SessionSteps {E : Type 0} (defaults : Type 0) (gate : GateAnswers E) 
       IsCausedOpen defaults gate.told_as (handler_of was) (handler_of is) (was.session) event result
   -- in an open session, the laws of a step: of replies, opens, key exchanges and authentication
   pub laws : is_live (was.session) ≡ true → OpenStepLaws accepts event was.session is.session (goes_on_open result)
-  -- the handler is asked about one host key at most, and only where the row of the first exchange asks for it; its count
-  -- of refusals never falls, and what it judges by doesn't change
-  pub keeps : HandlerAsked (keys_of was.session event) (handler_of was) (handler_of is)
+  -- before the session is open the handler hears what the opening asks, and nothing else: of a host key in the first
+  -- exchange alone, and then once; in an open session what it hears is in `row`
+  pub heard : opens_later (was.session) ≡ true → Hears (calls_before was.session event) was.heard is.heard
+  -- the handler's count of refusals never falls, and what it judges by doesn't change
+  pub keeps : HandlerKept (handler_of was) (handler_of is)

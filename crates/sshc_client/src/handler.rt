@@ -1,10 +1,13 @@
 //! The trait of a session's handler.
 
-ghost use Rattle.std.specs.Prelude.{◌≡◌, ◌≤◌, ◌+◌, ℕ, List, Result, Bool, false, Ok, OnErr};
+ghost use Rattle.std.specs.Prelude.{◌≡◌, ◌≤◌, ℕ, List, [], ◌∷◌, Result, Bool, false, Ok, OnErr, option_copied};
+ghost use Rattle.sshc_wire.specs.declared.channel_record.ChannelRecord.TheVariants as happened;
+ghost use Rattle.sshc_wire.specs.declared.channel_record.ServerOpen.TheVariants as opens;
 ghost use Rattle.sshc_wire.specs.Faults.{Rose};
-ghost use Rattle.sshc_key.specs.declared.identity.PublicKeyOrCertificate.{PublicKeyOrCertificate as HostKey};
+ghost use Rattle.sshc_key.specs.declared.identity.PublicKeyOrCertificate.{PublicKeyOrCertificate as ServerKey};
 ghost use Rattle.sshc_auth.specs.declared.error.Error.{Error as Refusal};
-ghost use Rattle.sshc_client.specs.Handling.{Handles, Opines, ended_by, handler_at};
+ghost use Rattle.sshc_client_table.specs.SessionRow.{Banner, Callback, Happened, HostKey, HostKeysAnnounced, KexDone, ServerOpened};
+ghost use Rattle.sshc_client.specs.Handling.{Handles, Hears, Opines, ended_by, handler_at};
 
 use crate::answers::DisconnectReason;
 use crate::session::Session;
@@ -26,7 +29,7 @@ pub trait Handler: Send {
     ghost setting: { Self → List (List ℕ) };
 
     /// What the handler may return for a host key.
-    ghost judges: { Self → HostKey → Result Bool Self.Error → Type 0 };
+    ghost judges: { Self → ServerKey → Result Bool Self.Error → Type 0 };
 
     /// The handler's error for an error of the session.
     ghost told_as: { Refusal → Self.Error };
@@ -34,8 +37,9 @@ pub trait Handler: Send {
     /// How often the handler has refused.
     ghost refusals: { Self → ℕ };
 
-    /// How many host keys the handler was asked about, as far as it counts them. A session asks about one at most.
-    ghost asked: { Self → ℕ } = { λ _. 0 };
+    /// The calls of the handler with their arguments, newest first, as far as it keeps them. A session makes the calls
+    /// that the row asks for, and none else.
+    ghost heard: { Self → List Callback } = { λ _. [] };
 
     /// Whether the handler keeps the default bodies below: `Unit {0}` if it does, else `⊥`.
     ghost keeps_defaults: { Type 0 };
@@ -50,7 +54,7 @@ pub trait Handler: Send {
         ensures cause { OnErr result (Rose (refusals self.old) (refusals self.new)) }
         ensures later { refusals self.old ≤ refusals self.new }
         ensures kept { setting self.new ≡ setting self.old }
-        ensures counted { asked self.new ≤ asked self.old + 1 };
+        ensures heard { Hears (HostKey key.now ∷ []) (heard self.old) (heard self.new) };
 
     /// The session has ended. Whoever runs a session calls it once, after the last step.
     fn disconnected(&mut self, reason: DisconnectReason<Self::Error>) -> Result<(), Self::Error>
@@ -66,7 +70,7 @@ pub trait Handler: Send {
     /// `false` the channel is refused.
     fn should_accept_unknown_server_channel(&mut self, id: ChannelId, kind: &str) -> bool
         ensures { Opines keeps_defaults false
-            (handler_at (refusals self.old) (setting self.old) (asked self.old)) (handler_at (refusals self.new) (setting self.new) (asked self.new))
+            (handler_at (refusals self.old) (setting self.old) (heard self.old)) (handler_at (refusals self.new) (setting self.new) (heard self.new))
             result }
     {
         false
@@ -76,17 +80,17 @@ pub trait Handler: Send {
     /// that the next call is made with; the result doesn't change the window itself.
     fn adjust_window(&mut self, id: ChannelId, window: u32) -> u32
         ensures { Opines keeps_defaults window
-            (handler_at (refusals self.old) (setting self.old) (asked self.old)) (handler_at (refusals self.new) (setting self.new) (asked self.new))
+            (handler_at (refusals self.old) (setting self.old) (heard self.old)) (handler_at (refusals self.new) (setting self.new) (heard self.new))
             result }
     {
         window
     }
 
     /// The server's banner (RFC 4252, section 5.4), before the session is open.
-    #[tactic(auto, using(sshc_client_table::specs::GrownLaws::grown_same))]
+    #[tactic(auto, using(crate::proofs::HandlerLemmas::does_nothing))]
     fn auth_banner(&mut self, banner: &str, session: &mut Session) -> Result<(), Self::Error>
-        ensures { Handles keeps_defaults (Ok tt)
-            (handler_at (refusals self.old) (setting self.old) (asked self.old)) (handler_at (refusals self.new) (setting self.new) (asked self.new))
+        ensures { Handles keeps_defaults (Banner banner.now) (Ok tt)
+            (handler_at (refusals self.old) (setting self.old) (heard self.old)) (handler_at (refusals self.new) (setting self.new) (heard self.new))
             session.old session.new result }
     {
         Ok(())
@@ -94,22 +98,22 @@ pub trait Handler: Send {
 
     /// A key exchange is done. `session` is as it was before: at the first exchange it isn't open yet, and its host key
     /// has just been accepted.
-    #[tactic(auto, using(sshc_client_table::specs::GrownLaws::grown_same))]
+    #[tactic(auto, using(crate::proofs::HandlerLemmas::does_nothing))]
     fn kex_done(
         &mut self,
         shared_secret: Option<&[u8]>,
         names: &NamesChosen,
         session: &mut Session,
     ) -> Result<(), Self::Error>
-        ensures { Handles keeps_defaults (Ok tt)
-            (handler_at (refusals self.old) (setting self.old) (asked self.old)) (handler_at (refusals self.new) (setting self.new) (asked self.new))
+        ensures { Handles keeps_defaults (KexDone (option_copied shared_secret.entry) names.now) (Ok tt)
+            (handler_at (refusals self.old) (setting self.old) (heard self.old)) (handler_at (refusals self.new) (setting self.new) (heard self.new))
             session.old session.new result }
     {
         Ok(())
     }
 
     /// The server confirmed a channel of ours: its packet size and its window, in bytes.
-    #[tactic(auto, using(sshc_client_table::specs::GrownLaws::grown_same))]
+    #[tactic(auto, using(crate::proofs::HandlerLemmas::does_nothing))]
     fn channel_open_confirmation(
         &mut self,
         id: ChannelId,
@@ -117,67 +121,67 @@ pub trait Handler: Send {
         window_size: u32,
         session: &mut Session,
     ) -> Result<(), Self::Error>
-        ensures { Handles keeps_defaults (Ok tt)
-            (handler_at (refusals self.old) (setting self.old) (asked self.old)) (handler_at (refusals self.new) (setting self.new) (asked self.new))
+        ensures { Handles keeps_defaults (Happened id.0 (happened.Open max_packet_size window_size)) (Ok tt)
+            (handler_at (refusals self.old) (setting self.old) (heard self.old)) (handler_at (refusals self.new) (setting self.new) (heard self.new))
             session.old session.new result }
     {
         Ok(())
     }
 
     /// The server did what was asked on a channel.
-    #[tactic(auto, using(sshc_client_table::specs::GrownLaws::grown_same))]
+    #[tactic(auto, using(crate::proofs::HandlerLemmas::does_nothing))]
     fn channel_success(
         &mut self,
         channel: ChannelId,
         session: &mut Session,
     ) -> Result<(), Self::Error>
-        ensures { Handles keeps_defaults (Ok tt)
-            (handler_at (refusals self.old) (setting self.old) (asked self.old)) (handler_at (refusals self.new) (setting self.new) (asked self.new))
+        ensures { Handles keeps_defaults (Happened channel.0 happened.Success) (Ok tt)
+            (handler_at (refusals self.old) (setting self.old) (heard self.old)) (handler_at (refusals self.new) (setting self.new) (heard self.new))
             session.old session.new result }
     {
         Ok(())
     }
 
     /// The server did not do what was asked on a channel.
-    #[tactic(auto, using(sshc_client_table::specs::GrownLaws::grown_same))]
+    #[tactic(auto, using(crate::proofs::HandlerLemmas::does_nothing))]
     fn channel_failure(
         &mut self,
         channel: ChannelId,
         session: &mut Session,
     ) -> Result<(), Self::Error>
-        ensures { Handles keeps_defaults (Ok tt)
-            (handler_at (refusals self.old) (setting self.old) (asked self.old)) (handler_at (refusals self.new) (setting self.new) (asked self.new))
+        ensures { Handles keeps_defaults (Happened channel.0 happened.Failure) (Ok tt)
+            (handler_at (refusals self.old) (setting self.old) (heard self.old)) (handler_at (refusals self.new) (setting self.new) (heard self.new))
             session.old session.new result }
     {
         Ok(())
     }
 
     /// The server closed a channel, which is gone.
-    #[tactic(auto, using(sshc_client_table::specs::GrownLaws::grown_same))]
+    #[tactic(auto, using(crate::proofs::HandlerLemmas::does_nothing))]
     fn channel_close(
         &mut self,
         channel: ChannelId,
         session: &mut Session,
     ) -> Result<(), Self::Error>
-        ensures { Handles keeps_defaults (Ok tt)
-            (handler_at (refusals self.old) (setting self.old) (asked self.old)) (handler_at (refusals self.new) (setting self.new) (asked self.new))
+        ensures { Handles keeps_defaults (Happened channel.0 happened.Close) (Ok tt)
+            (handler_at (refusals self.old) (setting self.old) (heard self.old)) (handler_at (refusals self.new) (setting self.new) (heard self.new))
             session.old session.new result }
     {
         Ok(())
     }
 
     /// The server sends no more bytes on a channel.
-    #[tactic(auto, using(sshc_client_table::specs::GrownLaws::grown_same))]
+    #[tactic(auto, using(crate::proofs::HandlerLemmas::does_nothing))]
     fn channel_eof(&mut self, channel: ChannelId, session: &mut Session) -> Result<(), Self::Error>
-        ensures { Handles keeps_defaults (Ok tt)
-            (handler_at (refusals self.old) (setting self.old) (asked self.old)) (handler_at (refusals self.new) (setting self.new) (asked self.new))
+        ensures { Handles keeps_defaults (Happened channel.0 happened.Eof) (Ok tt)
+            (handler_at (refusals self.old) (setting self.old) (heard self.old)) (handler_at (refusals self.new) (setting self.new) (heard self.new))
             session.old session.new result }
     {
         Ok(())
     }
 
     /// The server refused a channel of ours, which is gone.
-    #[tactic(auto, using(sshc_client_table::specs::GrownLaws::grown_same))]
+    #[tactic(auto, using(crate::proofs::HandlerLemmas::does_nothing))]
     fn channel_open_failure(
         &mut self,
         channel: ChannelId,
@@ -186,29 +190,29 @@ pub trait Handler: Send {
         language: &str,
         session: &mut Session,
     ) -> Result<(), Self::Error>
-        ensures { Handles keeps_defaults (Ok tt)
-            (handler_at (refusals self.old) (setting self.old) (asked self.old)) (handler_at (refusals self.new) (setting self.new) (asked self.new))
+        ensures { Handles keeps_defaults (Happened channel.0 (happened.OpenFailure reason description.now language.now)) (Ok tt)
+            (handler_at (refusals self.old) (setting self.old) (heard self.old)) (handler_at (refusals self.new) (setting self.new) (heard self.new))
             session.old session.new result }
     {
         Ok(())
     }
 
     /// The server opens a session (RFC 4254, section 6.1).
-    #[tactic(auto, using(sshc_client_table::specs::GrownLaws::grown_same))]
+    #[tactic(auto, using(crate::proofs::HandlerLemmas::does_nothing))]
     fn server_channel_open_session(
         &mut self,
         id: ChannelId,
         session: &mut Session,
     ) -> Result<OpenAnswer, Self::Error>
-        ensures { Handles keeps_defaults (Ok OpenAnswer.Accept)
-            (handler_at (refusals self.old) (setting self.old) (asked self.old)) (handler_at (refusals self.new) (setting self.new) (asked self.new))
+        ensures { Handles keeps_defaults (ServerOpened id.0 opens.Session) (Ok OpenAnswer.Accept)
+            (handler_at (refusals self.old) (setting self.old) (heard self.old)) (handler_at (refusals self.new) (setting self.new) (heard self.new))
             session.old session.new result }
     {
         Ok(OpenAnswer::Accept)
     }
 
     /// The server opens a connection to a host (RFC 4254, section 7.2).
-    #[tactic(auto, using(sshc_client_table::specs::GrownLaws::grown_same))]
+    #[tactic(auto, using(crate::proofs::HandlerLemmas::does_nothing))]
     fn server_channel_open_direct_tcpip(
         &mut self,
         id: ChannelId,
@@ -218,30 +222,30 @@ pub trait Handler: Send {
         originator_port: u32,
         session: &mut Session,
     ) -> Result<OpenAnswer, Self::Error>
-        ensures { Handles keeps_defaults (Ok OpenAnswer.Accept)
-            (handler_at (refusals self.old) (setting self.old) (asked self.old)) (handler_at (refusals self.new) (setting self.new) (asked self.new))
+        ensures { Handles keeps_defaults (ServerOpened id.0 (opens.DirectTcpIp host.now port originator_address.now originator_port)) (Ok OpenAnswer.Accept)
+            (handler_at (refusals self.old) (setting self.old) (heard self.old)) (handler_at (refusals self.new) (setting self.new) (heard self.new))
             session.old session.new result }
     {
         Ok(OpenAnswer::Accept)
     }
 
     /// The server opens a connection to a socket (OpenSSH's PROTOCOL, section 2.4).
-    #[tactic(auto, using(sshc_client_table::specs::GrownLaws::grown_same))]
+    #[tactic(auto, using(crate::proofs::HandlerLemmas::does_nothing))]
     fn server_channel_open_direct_streamlocal(
         &mut self,
         id: ChannelId,
         socket_path: &str,
         session: &mut Session,
     ) -> Result<OpenAnswer, Self::Error>
-        ensures { Handles keeps_defaults (Ok OpenAnswer.Accept)
-            (handler_at (refusals self.old) (setting self.old) (asked self.old)) (handler_at (refusals self.new) (setting self.new) (asked self.new))
+        ensures { Handles keeps_defaults (ServerOpened id.0 (opens.DirectStreamLocal socket_path.now)) (Ok OpenAnswer.Accept)
+            (handler_at (refusals self.old) (setting self.old) (heard self.old)) (handler_at (refusals self.new) (setting self.new) (heard self.new))
             session.old session.new result }
     {
         Ok(OpenAnswer::Accept)
     }
 
     /// The server opens a connection to the display (RFC 4254, section 6.3.2).
-    #[tactic(auto, using(sshc_client_table::specs::GrownLaws::grown_same))]
+    #[tactic(auto, using(crate::proofs::HandlerLemmas::does_nothing))]
     fn server_channel_open_x11(
         &mut self,
         id: ChannelId,
@@ -249,15 +253,15 @@ pub trait Handler: Send {
         originator_port: u32,
         session: &mut Session,
     ) -> Result<OpenAnswer, Self::Error>
-        ensures { Handles keeps_defaults (Ok OpenAnswer.Accept)
-            (handler_at (refusals self.old) (setting self.old) (asked self.old)) (handler_at (refusals self.new) (setting self.new) (asked self.new))
+        ensures { Handles keeps_defaults (ServerOpened id.0 (opens.X11 originator_address.now originator_port)) (Ok OpenAnswer.Accept)
+            (handler_at (refusals self.old) (setting self.old) (heard self.old)) (handler_at (refusals self.new) (setting self.new) (heard self.new))
             session.old session.new result }
     {
         Ok(OpenAnswer::Accept)
     }
 
     /// A connection came to a port that the server forwards (RFC 4254, section 7.2).
-    #[tactic(auto, using(sshc_client_table::specs::GrownLaws::grown_same))]
+    #[tactic(auto, using(crate::proofs::HandlerLemmas::does_nothing))]
     fn server_channel_open_forwarded_tcpip(
         &mut self,
         id: ChannelId,
@@ -267,73 +271,73 @@ pub trait Handler: Send {
         originator_port: u32,
         session: &mut Session,
     ) -> Result<OpenAnswer, Self::Error>
-        ensures { Handles keeps_defaults (Ok OpenAnswer.Accept)
-            (handler_at (refusals self.old) (setting self.old) (asked self.old)) (handler_at (refusals self.new) (setting self.new) (asked self.new))
+        ensures { Handles keeps_defaults (ServerOpened id.0 (opens.ForwardedTcpIp host.now port originator_address.now originator_port)) (Ok OpenAnswer.Accept)
+            (handler_at (refusals self.old) (setting self.old) (heard self.old)) (handler_at (refusals self.new) (setting self.new) (heard self.new))
             session.old session.new result }
     {
         Ok(OpenAnswer::Accept)
     }
 
     /// A connection came to a socket that the server forwards (OpenSSH's PROTOCOL, section 2.4).
-    #[tactic(auto, using(sshc_client_table::specs::GrownLaws::grown_same))]
+    #[tactic(auto, using(crate::proofs::HandlerLemmas::does_nothing))]
     fn server_channel_open_forwarded_streamlocal(
         &mut self,
         id: ChannelId,
         socket_path: &str,
         session: &mut Session,
     ) -> Result<OpenAnswer, Self::Error>
-        ensures { Handles keeps_defaults (Ok OpenAnswer.Accept)
-            (handler_at (refusals self.old) (setting self.old) (asked self.old)) (handler_at (refusals self.new) (setting self.new) (asked self.new))
+        ensures { Handles keeps_defaults (ServerOpened id.0 (opens.ForwardedStreamLocal socket_path.now)) (Ok OpenAnswer.Accept)
+            (handler_at (refusals self.old) (setting self.old) (heard self.old)) (handler_at (refusals self.new) (setting self.new) (heard self.new))
             session.old session.new result }
     {
         Ok(OpenAnswer::Accept)
     }
 
     /// The server opens a connection to the user's agent.
-    #[tactic(auto, using(sshc_client_table::specs::GrownLaws::grown_same))]
+    #[tactic(auto, using(crate::proofs::HandlerLemmas::does_nothing))]
     fn server_channel_open_agent_forward(
         &mut self,
         id: ChannelId,
         session: &mut Session,
     ) -> Result<OpenAnswer, Self::Error>
-        ensures { Handles keeps_defaults (Ok OpenAnswer.Accept)
-            (handler_at (refusals self.old) (setting self.old) (asked self.old)) (handler_at (refusals self.new) (setting self.new) (asked self.new))
+        ensures { Handles keeps_defaults (ServerOpened id.0 opens.AgentForward) (Ok OpenAnswer.Accept)
+            (handler_at (refusals self.old) (setting self.old) (heard self.old)) (handler_at (refusals self.new) (setting self.new) (heard self.new))
             session.old session.new result }
     {
         Ok(OpenAnswer::Accept)
     }
 
     /// The server opens a channel of a type that isn't known, which `should_accept_unknown_server_channel` took.
-    #[tactic(auto, using(sshc_client_table::specs::GrownLaws::grown_same))]
+    #[tactic(auto, using(crate::proofs::HandlerLemmas::does_nothing))]
     fn server_channel_open_unknown(
         &mut self,
         id: ChannelId,
         session: &mut Session,
     ) -> Result<OpenAnswer, Self::Error>
-        ensures { Handles keeps_defaults (Ok (OpenAnswer.Reject ChannelOpenFailure.AdministrativelyProhibited))
-            (handler_at (refusals self.old) (setting self.old) (asked self.old)) (handler_at (refusals self.new) (setting self.new) (asked self.new))
+        ensures { Handles keeps_defaults (ServerOpened id.0 opens.Unknown) (Ok (OpenAnswer.Reject ChannelOpenFailure.AdministrativelyProhibited))
+            (handler_at (refusals self.old) (setting self.old) (heard self.old)) (handler_at (refusals self.new) (setting self.new) (heard self.new))
             session.old session.new result }
     {
         Ok(OpenAnswer::Reject(ChannelOpenFailure::AdministrativelyProhibited))
     }
 
     /// Bytes came on a channel.
-    #[tactic(auto, using(sshc_client_table::specs::GrownLaws::grown_same))]
+    #[tactic(auto, using(crate::proofs::HandlerLemmas::does_nothing))]
     fn data(
         &mut self,
         channel: ChannelId,
         body: &[u8],
         session: &mut Session,
     ) -> Result<(), Self::Error>
-        ensures { Handles keeps_defaults (Ok tt)
-            (handler_at (refusals self.old) (setting self.old) (asked self.old)) (handler_at (refusals self.new) (setting self.new) (asked self.new))
+        ensures { Handles keeps_defaults (Happened channel.0 (happened.Data body.now)) (Ok tt)
+            (handler_at (refusals self.old) (setting self.old) (heard self.old)) (handler_at (refusals self.new) (setting self.new) (heard self.new))
             session.old session.new result }
     {
         Ok(())
     }
 
     /// Bytes of a type came on a channel; type 1 is the standard error stream.
-    #[tactic(auto, using(sshc_client_table::specs::GrownLaws::grown_same))]
+    #[tactic(auto, using(crate::proofs::HandlerLemmas::does_nothing))]
     fn extended_data(
         &mut self,
         channel: ChannelId,
@@ -341,45 +345,45 @@ pub trait Handler: Send {
         body: &[u8],
         session: &mut Session,
     ) -> Result<(), Self::Error>
-        ensures { Handles keeps_defaults (Ok tt)
-            (handler_at (refusals self.old) (setting self.old) (asked self.old)) (handler_at (refusals self.new) (setting self.new) (asked self.new))
+        ensures { Handles keeps_defaults (Happened channel.0 (happened.ExtendedData ext body.now)) (Ok tt)
+            (handler_at (refusals self.old) (setting self.old) (heard self.old)) (handler_at (refusals self.new) (setting self.new) (heard self.new))
             session.old session.new result }
     {
         Ok(())
     }
 
     /// Whether we may do flow control (RFC 4254, section 6.8).
-    #[tactic(auto, using(sshc_client_table::specs::GrownLaws::grown_same))]
+    #[tactic(auto, using(crate::proofs::HandlerLemmas::does_nothing))]
     fn xon_xoff(
         &mut self,
         channel: ChannelId,
         client_can_do: bool,
         session: &mut Session,
     ) -> Result<(), Self::Error>
-        ensures { Handles keeps_defaults (Ok tt)
-            (handler_at (refusals self.old) (setting self.old) (asked self.old)) (handler_at (refusals self.new) (setting self.new) (asked self.new))
+        ensures { Handles keeps_defaults (Happened channel.0 (happened.XonXoff client_can_do)) (Ok tt)
+            (handler_at (refusals self.old) (setting self.old) (heard self.old)) (handler_at (refusals self.new) (setting self.new) (heard self.new))
             session.old session.new result }
     {
         Ok(())
     }
 
     /// The exit status of the remote command (RFC 4254, section 6.10).
-    #[tactic(auto, using(sshc_client_table::specs::GrownLaws::grown_same))]
+    #[tactic(auto, using(crate::proofs::HandlerLemmas::does_nothing))]
     fn exit_status(
         &mut self,
         channel: ChannelId,
         exit_status: u32,
         session: &mut Session,
     ) -> Result<(), Self::Error>
-        ensures { Handles keeps_defaults (Ok tt)
-            (handler_at (refusals self.old) (setting self.old) (asked self.old)) (handler_at (refusals self.new) (setting self.new) (asked self.new))
+        ensures { Handles keeps_defaults (Happened channel.0 (happened.ExitStatus exit_status)) (Ok tt)
+            (handler_at (refusals self.old) (setting self.old) (heard self.old)) (handler_at (refusals self.new) (setting self.new) (heard self.new))
             session.old session.new result }
     {
         Ok(())
     }
 
     /// The signal that ended the remote command (RFC 4254, section 6.10).
-    #[tactic(auto, using(sshc_client_table::specs::GrownLaws::grown_same))]
+    #[tactic(auto, using(crate::proofs::HandlerLemmas::does_nothing))]
     fn exit_signal(
         &mut self,
         channel: ChannelId,
@@ -389,8 +393,8 @@ pub trait Handler: Send {
         lang_tag: &str,
         session: &mut Session,
     ) -> Result<(), Self::Error>
-        ensures { Handles keeps_defaults (Ok tt)
-            (handler_at (refusals self.old) (setting self.old) (asked self.old)) (handler_at (refusals self.new) (setting self.new) (asked self.new))
+        ensures { Handles keeps_defaults (Happened channel.0 (happened.ExitSignal signal_name core_dumped error_message.now lang_tag.now)) (Ok tt)
+            (handler_at (refusals self.old) (setting self.old) (heard self.old)) (handler_at (refusals self.new) (setting self.new) (heard self.new))
             session.old session.new result }
     {
         Ok(())
@@ -398,29 +402,29 @@ pub trait Handler: Send {
 
     /// The server granted more bytes: `new_size` is the window that remains, in bytes, after the waiting bytes were
     /// sent.
-    #[tactic(auto, using(sshc_client_table::specs::GrownLaws::grown_same))]
+    #[tactic(auto, using(crate::proofs::HandlerLemmas::does_nothing))]
     fn window_adjusted(
         &mut self,
         channel: ChannelId,
         new_size: u32,
         session: &mut Session,
     ) -> Result<(), Self::Error>
-        ensures { Handles keeps_defaults (Ok tt)
-            (handler_at (refusals self.old) (setting self.old) (asked self.old)) (handler_at (refusals self.new) (setting self.new) (asked self.new))
+        ensures { Handles keeps_defaults (Happened channel.0 (happened.WindowAdjusted new_size)) (Ok tt)
+            (handler_at (refusals self.old) (setting self.old) (heard self.old)) (handler_at (refusals self.new) (setting self.new) (heard self.new))
             session.old session.new result }
     {
         Ok(())
     }
 
     /// The server announced host keys (OpenSSH's PROTOCOL, section 2.5). Nothing proves them yet.
-    #[tactic(auto, using(sshc_client_table::specs::GrownLaws::grown_same))]
+    #[tactic(auto, using(crate::proofs::HandlerLemmas::does_nothing))]
     fn openssh_ext_host_keys_announced(
         &mut self,
         keys: Vec<PublicKey>,
         session: &mut Session,
     ) -> Result<(), Self::Error>
-        ensures { Handles keeps_defaults (Ok tt)
-            (handler_at (refusals self.old) (setting self.old) (asked self.old)) (handler_at (refusals self.new) (setting self.new) (asked self.new))
+        ensures { Handles keeps_defaults (HostKeysAnnounced keys.items) (Ok tt)
+            (handler_at (refusals self.old) (setting self.old) (heard self.old)) (handler_at (refusals self.new) (setting self.new) (heard self.new))
             session.old session.new result }
     {
         Ok(())

@@ -7,6 +7,7 @@ mod config;
 mod handler;
 mod message;
 mod session;
+mod signal;
 mod stop;
 mod verdict;
 
@@ -15,6 +16,7 @@ pub use config::Config;
 pub use handler::Handler;
 pub use message::Msg;
 pub use session::Session;
+pub use signal::signal_copied;
 pub use sshc_auth::{
     ChannelMsg, Ended, Error, Event, KeyboardInteractiveAuthResponse, Method, RemoteDisconnectInfo,
     Settings, Step,

@@ -18,6 +18,7 @@ use Rattle.sshc_auth.specs.Promises.{Stepped}
 use Rattle.sshc_auth.specs.Row.{Did, Row, Span, Steps}
 use Rattle.sshc_auth.specs.OpeningState.{OpeningState}
 use Rattle.sshc_auth.specs.Stepping.{Answered, GateAnswers, GateRefused, Judged, Lent, LentGate, StepsBy, StepsTold, Tells, exchange_in, gained, lent, span_of, told_of, with_gate}
+use Rattle.sshc_client_table.specs.SessionRow.{Callback}
 use Rattle.sshc_client_table.specs.SessionState.{SessionState, runs}
 use Rattle.sshc_client_state.specs.OpeningStep.{StepsLent, goes_on, lent_session, life_behind, outbox_of}
 
@@ -91,11 +92,11 @@ same_outbox s old records_are muted_is =
     ap (λ (records : List Record). outbox records old.muted) records_are
     ∙ ap (λ (muted : Bool). outbox s.records muted) muted_is
 
-pub steps_lent : {E : Type 0} (gate : GateAnswers E) (event : Event) (s t : SessionState) (before after : OpeningState) (old new : Outgoing) (calls calls2 : List SignCall) (refusals refusals2 gate_refusals gate_refusals2 : ℕ) (setting setting2 : List (List ℕ)) (result : Step E) {count count2 : ℕ} →
+pub steps_lent : {E : Type 0} (gate : GateAnswers E) (event : Event) (s t : SessionState) (before after : OpeningState) (old new : Outgoing) (calls calls2 : List SignCall) (refusals refusals2 gate_refusals gate_refusals2 : ℕ) (setting setting2 : List (List ℕ)) (result : Step E) {heard heard2 : List Callback} →
     Stepped gate event (with_gate (lent before old calls refusals) gate_refusals setting) (with_gate (lent after new calls2 refusals2) gate_refusals2 setting2) result →
     s.opening ≡ before → old.records ≡ s.records → old.muted ≡ not (runs s.life) →
     t ≡ record s { opening = after; records = new.records; life = life_behind (goes_on result) s.life } →
-    StepsLent gate event (lent_session s calls refusals gate_refusals setting count) (lent_session t calls2 refusals2 gate_refusals2 setting2 count2) result
+    StepsLent gate event (lent_session s calls refusals gate_refusals setting heard) (lent_session t calls2 refusals2 gate_refusals2 setting2 heard2) result
 steps_lent gate event s t before after old new calls calls2 refusals refusals2 gate_refusals gate_refusals2 setting setting2 result stepped opening_is records_are muted_is rest_is = record {
   opening = after;
   said = new;

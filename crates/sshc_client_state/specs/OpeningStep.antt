@@ -11,21 +11,22 @@ use Rattle.sshc_auth.specs.Promises.{Stepped}
 use Rattle.sshc_auth.specs.Stepping.{GateAnswers, lent, with_gate}
 use Rattle.sshc_client_table.specs.declared.life.Life.{Life}
 use Rattle.sshc_client_table.specs.declared.life.Life.TheVariants.{Over, Runs}
+use Rattle.sshc_client_table.specs.SessionRow.{Callback}
 use Rattle.sshc_client_table.specs.SessionState.{SessionState, runs}
 
 -- what a step borrows besides its session, as it is at one moment: the signer's calls and refusals, and the gate's
--- refusals with what it judges by and how many host keys it was asked about
+-- refusals with what it judges by and the calls of it that it keeps, newest first
 pub record Lent : Type 0 where
   pub session : SessionState
   pub calls : List SignCall
   pub signer_refusals : ℕ
   pub gate_refusals : ℕ
   pub setting : List (List ℕ)
-  pub asked : ℕ
+  pub heard : List Callback
 
-abbrev pub lent_session : SessionState → List SignCall → ℕ → ℕ → List (List ℕ) → ℕ → Lent
-lent_session session calls signer_refusals gate_refusals setting asked =
-    record { session = session; calls = calls; signer_refusals = signer_refusals; gate_refusals = gate_refusals; setting = setting; asked = asked }
+abbrev pub lent_session : SessionState → List SignCall → ℕ → ℕ → List (List ℕ) → List Callback → Lent
+lent_session session calls signer_refusals gate_refusals setting heard =
+    record { session = session; calls = calls; signer_refusals = signer_refusals; gate_refusals = gate_refusals; setting = setting; heard = heard }
 
 -- the session continues after the opening's step
 abbrev pub goes_on : {E : Type 0} → Step E → Bool

@@ -9,6 +9,7 @@ use Rattle.sshc_wire.specs.declared.error.WireError.{WireError}
 use Rattle.sshc_wire.specs.declared.record.Record.{Record}
 use Rattle.sshc_wire.specs.declared.record.Record.TheVariants.{Channel}
 use Rattle.sshc_key.specs.KeyGrammar.{Key}
+use Rattle.sshc_key.specs.declared.identity.PublicKeyOrCertificate.{PublicKeyOrCertificate}
 use Rattle.sshc_transport.specs.declared.exchange.ExchangeNames.{ExchangeNames}
 use Rattle.sshc_auth.specs.declared.ended.Ended.{Ended}
 use Rattle.sshc_auth.specs.declared.error.Error.{Error}
@@ -17,8 +18,10 @@ use Rattle.sshc_client_packets.specs.declared.error.PacketError.{PacketError}
 use Rattle.sshc_client_table.specs.declared.open_answer.OpenAnswer.{OpenAnswer}
 use Rattle.sshc_client_table.specs.Moves.{Move, Tells}
 
--- a call of the handler, which borrows the session, with its arguments
+-- a call of the handler, with its arguments; each but `HostKey` borrows the session
 pub data Callback : Type 0 where
+  HostKey : (key : PublicKeyOrCertificate) → Callback
+  Banner : (text : List ℕ) → Callback
   KexDone : (secret : Option (List ℕ)) → (names : ExchangeNames) → Callback
   Happened : (id : ℕ) → (happened : ChannelRecord) → Callback  -- what the peer did on a channel, by its record
   ServerOpened : (id : ℕ) → (opened : ServerOpen) → Callback

@@ -4,6 +4,7 @@ ghost use Rattle.std.specs.Prelude.{◌≡◌, IfOk};
 ghost use Rattle.sshc_auth_event.specs.declared.channel_msg.ChannelMsg.TheVariants as msgs;
 
 use sshc_auth::ChannelMsg;
+use sshc_client::signal_copied;
 use sshc_wire::{List, NoMemory, Octets, Pty, Sig, Text};
 use std::alloc::Global;
 
@@ -104,26 +105,6 @@ pub fn subsystem(alloc: Global, want_reply: bool, name: &str) -> Result<ChannelM
         want_reply,
         name: Text::from_str(alloc, name)?,
     })
-}
-
-fn signal_copied(signal: &Sig) -> Result<Sig, NoMemory>
-    ensures { IfOk result (λ s. s ≡ signal.now) }
-{
-    match signal {
-        Sig::ABRT => Ok(Sig::ABRT),
-        Sig::ALRM => Ok(Sig::ALRM),
-        Sig::FPE => Ok(Sig::FPE),
-        Sig::HUP => Ok(Sig::HUP),
-        Sig::ILL => Ok(Sig::ILL),
-        Sig::INT => Ok(Sig::INT),
-        Sig::KILL => Ok(Sig::KILL),
-        Sig::PIPE => Ok(Sig::PIPE),
-        Sig::QUIT => Ok(Sig::QUIT),
-        Sig::SEGV => Ok(Sig::SEGV),
-        Sig::TERM => Ok(Sig::TERM),
-        Sig::USR1 => Ok(Sig::USR1),
-        Sig::Custom(name) => Ok(Sig::Custom(name.copy()?)),
-    }
 }
 
 /// A signal for the remote process (RFC 4254, section 6.9).

@@ -2,15 +2,16 @@
 
 ghost use Rattle.std.specs.Prelude.{◌≡◌, [], ◌∷◌, Ok};
 ghost use Rattle.sshc_client_table.specs.Moves.{Does, Grants, Tells};
-ghost use Rattle.sshc_client_table.specs.SessionRow.{on_channel, reports};
+ghost use Rattle.sshc_client_table.specs.SessionRow.{Happened, on_channel, reports};
 ghost use Rattle.sshc_client.specs.Handling.{handler_at};
 ghost use Rattle.sshc_client.specs.HandledRow.{Calls, FollowsOne};
 
 use super::Session;
 use crate::handler::Handler;
+use crate::signal::signal_copied;
 use crate::stop::{Stop, lent, went};
 use sshc_client_rows::Flow;
-use sshc_wire::{ChannelId, ChannelRecord, NoMemory, Record, Sig};
+use sshc_wire::{ChannelId, ChannelRecord, NoMemory, Record};
 
 impl Session {
     /// Calls the handler for what happened on a channel.
@@ -21,9 +22,9 @@ impl Session {
         happened: &ChannelRecord,
         handler: &mut H,
     ) -> Result<(), Stop<H::Error>>
-        ensures { Calls H.keeps_defaults (Ok tt)
-            (handler_at (H.refusals handler.old) (H.setting handler.old) (H.asked handler.old))
-            (handler_at (H.refusals handler.new) (H.setting handler.new) (H.asked handler.new))
+        ensures { Calls H.keeps_defaults (Happened id.0 happened.now) (Ok tt)
+            (handler_at (H.refusals handler.old) (H.setting handler.old) (H.heard handler.old))
+            (handler_at (H.refusals handler.new) (H.setting handler.new) (H.heard handler.new))
             self.old self.new result }
     {
         match happened {
@@ -62,7 +63,7 @@ impl Session {
                 error_message,
                 lang_tag,
             } => {
-                let signal = Sig::from_name(self.alloc, signal_name.name())?;
+                let signal = signal_copied(signal_name)?;
                 lent(handler.exit_signal(
                     id,
                     signal,
@@ -94,8 +95,8 @@ impl Session {
         handler: &mut H,
     ) -> Result<Flow, Stop<H::Error>>
         ensures row { FollowsOne H.keeps_defaults
-            (handler_at (H.refusals handler.old) (H.setting handler.old) (H.asked handler.old))
-            (handler_at (H.refusals handler.new) (H.setting handler.new) (H.asked handler.new))
+            (handler_at (H.refusals handler.old) (H.setting handler.old) (H.heard handler.old))
+            (handler_at (H.refusals handler.new) (H.setting handler.new) (H.heard handler.new))
             (reports [] id.0 happened []) self.old self.new result }
     {
         match self.call(id, &happened, handler) {
@@ -113,8 +114,8 @@ impl Session {
         handler: &mut H,
     ) -> Result<Flow, Stop<H::Error>>
         ensures row { FollowsOne H.keeps_defaults
-            (handler_at (H.refusals handler.old) (H.setting handler.old) (H.asked handler.old))
-            (handler_at (H.refusals handler.new) (H.setting handler.new) (H.asked handler.new))
+            (handler_at (H.refusals handler.old) (H.setting handler.old) (H.heard handler.old))
+            (handler_at (H.refusals handler.new) (H.setting handler.new) (H.heard handler.new))
             (reports [] id.0 happened (Grants id.0 0 ∷ [])) self.old self.new result }
     {
         match self.call(id, &happened, handler) {

@@ -3,6 +3,7 @@
 ghost use Rattle.std.specs.Prelude.{◌≡◌, true, [], ◌∷◌, Ok, option_copied};
 ghost use Rattle.sshc_wire.specs.declared.record.Record.TheVariants.{KexDone as KexDoneRecord};
 ghost use Rattle.sshc_client_table.specs.Moves.{Does, Resumes, Tells};
+ghost use Rattle.sshc_client_table.specs.SessionRow.{KexDone};
 ghost use Rattle.sshc_client_table.specs.SessionTable.Exchanges.{exchange_done_row, later_exchange_row};
 ghost use Rattle.sshc_auth.specs.OpeningTable.Exchange.{has_kept_key};
 ghost use Rattle.sshc_client.specs.Handling.{handler_at};
@@ -34,8 +35,8 @@ impl Session {
         handler: &mut H,
     ) -> Result<Flow, Stop<H::Error>>
         ensures { FollowsOne H.keeps_defaults
-            (handler_at (H.refusals handler.old) (H.setting handler.old) (H.asked handler.old))
-            (handler_at (H.refusals handler.new) (H.setting handler.new) (H.asked handler.new))
+            (handler_at (H.refusals handler.old) (H.setting handler.old) (H.heard handler.old))
+            (handler_at (H.refusals handler.new) (H.setting handler.new) (H.heard handler.new))
             (exchange_done_row self.old.opening.flag (has_kept_key self.old.opening exchange.now) exchange.now)
             self.old self.new result }
     {
@@ -55,8 +56,8 @@ impl Session {
         handler: &mut H,
     ) -> Result<Flow, Stop<H::Error>>
         ensures { FollowsOne H.keeps_defaults
-            (handler_at (H.refusals handler.old) (H.setting handler.old) (H.asked handler.old))
-            (handler_at (H.refusals handler.new) (H.setting handler.new) (H.asked handler.new))
+            (handler_at (H.refusals handler.old) (H.setting handler.old) (H.heard handler.old))
+            (handler_at (H.refusals handler.new) (H.setting handler.new) (H.heard handler.new))
             (later_exchange_row (has_kept_key self.old.opening exchange.now) exchange.now) self.old self.new result }
     {
         let same = self.connection.opening().has_kept_key(exchange);
@@ -73,8 +74,8 @@ impl Session {
         handler: &mut H,
     ) -> Result<Flow, Stop<H::Error>>
         ensures { FollowsOne H.keeps_defaults
-            (handler_at (H.refusals handler.old) (H.setting handler.old) (H.asked handler.old))
-            (handler_at (H.refusals handler.new) (H.setting handler.new) (H.asked handler.new))
+            (handler_at (H.refusals handler.old) (H.setting handler.old) (H.heard handler.old))
+            (handler_at (H.refusals handler.new) (H.setting handler.new) (H.heard handler.new))
             (later_exchange_row true exchange.now) self.old self.new result }
     {
         let kex = exchange.names.kex().copy()?;
@@ -91,8 +92,8 @@ impl Session {
     ) -> Result<Flow, Stop<H::Error>>
         requires { kex ≡ exchange.now.names.kex }
         ensures { FollowsOne H.keeps_defaults
-            (handler_at (H.refusals handler.old) (H.setting handler.old) (H.asked handler.old))
-            (handler_at (H.refusals handler.new) (H.setting handler.new) (H.asked handler.new))
+            (handler_at (H.refusals handler.old) (H.setting handler.old) (H.heard handler.old))
+            (handler_at (H.refusals handler.new) (H.setting handler.new) (H.heard handler.new))
             (later_exchange_row true exchange.now) self.old self.new result }
     {
         match self.call_kex_done(exchange, handler) {
@@ -107,9 +108,9 @@ impl Session {
         exchange: &ExchangeResult,
         handler: &mut H,
     ) -> Result<(), Stop<H::Error>>
-        ensures { Calls H.keeps_defaults (Ok tt)
-            (handler_at (H.refusals handler.old) (H.setting handler.old) (H.asked handler.old))
-            (handler_at (H.refusals handler.new) (H.setting handler.new) (H.asked handler.new))
+        ensures { Calls H.keeps_defaults (KexDone exchange.now.secret exchange.now.names) (Ok tt)
+            (handler_at (H.refusals handler.old) (H.setting handler.old) (H.heard handler.old))
+            (handler_at (H.refusals handler.new) (H.setting handler.new) (H.heard handler.new))
             self.old self.new result }
     {
         lent(handler.kex_done(secret_of(exchange), &exchange.names, self))

@@ -1,7 +1,7 @@
 //! A step before the session is open. The handler is called first, and lent the session, of which the opening remains a
 //! part; then the opening's step continues with the handler's verdict on the host key.
 
-ghost use Rattle.std.specs.Prelude.{◌≡◌, ◌&&◌, [], false, option_copied};
+ghost use Rattle.std.specs.Prelude.{◌≡◌, ◌&&◌, [], Some, false, option_copied};
 ghost use Rattle.sshc_auth.specs.OpeningTable.{asked_of};
 ghost use Rattle.sshc_auth.specs.Stepping.{HasExchange, exchange_in};
 ghost use Rattle.sshc_client_table.specs.SessionState.{is_open};
@@ -39,9 +39,9 @@ impl Session {
         exchange: &ExchangeResult,
         handler: &mut H,
     ) -> Result<bool, H::Error>
-        ensures { AsksHandler H.keeps_defaults (H.judges handler.old) (Asks.HostKey key.now)
-            (handler_at (H.refusals handler.old) (H.setting handler.old) (H.asked handler.old))
-            (handler_at (H.refusals handler.new) (H.setting handler.new) (H.asked handler.new))
+        ensures { AsksHandler H.keeps_defaults (H.judges handler.old) (Asks.HostKey key.now) (Some exchange.now)
+            (handler_at (H.refusals handler.old) (H.setting handler.old) (H.heard handler.old))
+            (handler_at (H.refusals handler.new) (H.setting handler.new) (H.heard handler.new))
             self.old self.new result }
     {
         if !handler.check_server_key(key)? {
@@ -52,7 +52,7 @@ impl Session {
     }
 
     /// Calls the handler as the opening's row asks. Returns whether a host key was accepted.
-    #[tactic(auto, using(crate::proofs::AskedLemmas::not_asked, crate::proofs::AskedLemmas::told_exchange, crate::proofs::AskedLemmas::told_banner, crate::proofs::AskedLemmas::refused_exchange, crate::proofs::AskedLemmas::refused_banner))]
+    #[tactic(auto, using(crate::proofs::AskedLemmas::not_asked, crate::proofs::AskedLemmas::told_exchange, crate::proofs::AskedLemmas::told_banner, crate::proofs::AskedLemmas::refused_exchange, crate::proofs::AskedLemmas::refused_banner, crate::proofs::AskedLemmas::judged_in))]
     fn ask_handler<H: Handler>(
         &mut self,
         asks: &Asks,
@@ -60,9 +60,9 @@ impl Session {
         handler: &mut H,
     ) -> Result<bool, H::Error>
         requires { HasExchange asks.now (exchange_in event.now) }
-        ensures { AsksHandler H.keeps_defaults (H.judges handler.old) asks.now
-            (handler_at (H.refusals handler.old) (H.setting handler.old) (H.asked handler.old))
-            (handler_at (H.refusals handler.new) (H.setting handler.new) (H.asked handler.new))
+        ensures { AsksHandler H.keeps_defaults (H.judges handler.old) asks.now (exchange_in event.now)
+            (handler_at (H.refusals handler.old) (H.setting handler.old) (H.heard handler.old))
+            (handler_at (H.refusals handler.new) (H.setting handler.new) (H.heard handler.new))
             self.old self.new result }
     {
         match asks {
@@ -94,8 +94,8 @@ impl Session {
         signer: &mut S,
     ) -> Step<H::Error>
         ensures { StepsBefore (verdict_gate H.told_as accepts) event.now
-            (lent_session self.old (S.calls signer.old) (S.refusals signer.old) 0 [] 0)
-            (lent_session self.new (S.calls signer.new) (S.refusals signer.new) 0 [] 0)
+            (lent_session self.old (S.calls signer.old) (S.refusals signer.old) 0 [] [])
+            (lent_session self.new (S.calls signer.new) (S.refusals signer.new) 0 [] [])
             result }
     {
         let mut verdict: Verdict<H> = Verdict {
@@ -144,9 +144,9 @@ impl Session {
         requires { is_open self.old.opening.phase ≡ false }
         ensures { Before H.keeps_defaults (handler_gate H.told_as (H.judges handler.old)) event.now
             (lent_session self.old (S.calls signer.old) (S.refusals signer.old) (H.refusals handler.old)
-            (H.setting handler.old) (H.asked handler.old))
+            (H.setting handler.old) (H.heard handler.old))
             (lent_session self.new (S.calls signer.new) (S.refusals signer.new) (H.refusals handler.new)
-            (H.setting handler.new) (H.asked handler.new))
+            (H.setting handler.new) (H.heard handler.new))
             result }
     {
         if self.connection.opening().is_closed() {
@@ -178,9 +178,9 @@ impl Session {
         requires asked { asks.now ≡ asked_of self.old.opening event.now }
         ensures { Before H.keeps_defaults (handler_gate H.told_as (H.judges handler.old)) event.now
             (lent_session self.old (S.calls signer.old) (S.refusals signer.old) (H.refusals handler.old)
-            (H.setting handler.old) (H.asked handler.old))
+            (H.setting handler.old) (H.heard handler.old))
             (lent_session self.new (S.calls signer.new) (S.refusals signer.new) (H.refusals handler.new)
-            (H.setting handler.new) (H.asked handler.new))
+            (H.setting handler.new) (H.heard handler.new))
             result }
     {
         match self.ask_handler(asks, event, handler) {

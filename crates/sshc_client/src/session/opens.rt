@@ -5,6 +5,7 @@ ghost use Rattle.sshc_mux.specs.ChannelTable.Opens.{awaited, next_number};
 ghost use Rattle.sshc_client_packets.specs.ChannelPackets.{lent_refusal};
 ghost use Rattle.sshc_client_table.specs.Moves.{Does, Tells};
 ghost use Rattle.sshc_client_table.specs.SessionState.{is_live};
+ghost use Rattle.sshc_client_table.specs.SessionRow.{ServerOpened};
 ghost use Rattle.sshc_client_table.specs.SessionTable.Opens.{channel_open_row, confirmed_row, failed_row, numbered_open_row, open_confirmation_row, open_failure_row, settled};
 ghost use Rattle.sshc_wire.specs.declared.record.Record.TheVariants.{ServerOpened as ServerOpenedRecord};
 ghost use Rattle.sshc_client.specs.Handling.{handler_at};
@@ -32,8 +33,8 @@ impl Session {
     ) -> Result<Flow, Stop<H::Error>>
         requires { is_live self.old ≡ true }
         ensures row { FollowsOne H.keeps_defaults
-            (handler_at (H.refusals handler.old) (H.setting handler.old) (H.asked handler.old))
-            (handler_at (H.refusals handler.new) (H.setting handler.new) (H.asked handler.new))
+            (handler_at (H.refusals handler.old) (H.setting handler.old) (H.heard handler.old))
+            (handler_at (H.refusals handler.new) (H.setting handler.new) (H.heard handler.new))
             (open_confirmation_row self.old body.now) self.old self.new result }
     {
         let c = read_confirmation(body)?;
@@ -49,8 +50,8 @@ impl Session {
     ) -> Result<Flow, Stop<H::Error>>
         requires { is_live self.old ≡ true }
         ensures row { FollowsOne H.keeps_defaults
-            (handler_at (H.refusals handler.old) (H.setting handler.old) (H.asked handler.old))
-            (handler_at (H.refusals handler.new) (H.setting handler.new) (H.asked handler.new))
+            (handler_at (H.refusals handler.old) (H.setting handler.old) (H.heard handler.old))
+            (handler_at (H.refusals handler.new) (H.setting handler.new) (H.heard handler.new))
             (confirmed_row (awaited c.recipient self.old.table) c) self.old self.new result }
     {
         if !self.connection.confirm(c)? {
@@ -75,8 +76,8 @@ impl Session {
     ) -> Result<Flow, Stop<H::Error>>
         requires { is_live self.old ≡ true }
         ensures row { FollowsOne H.keeps_defaults
-            (handler_at (H.refusals handler.old) (H.setting handler.old) (H.asked handler.old))
-            (handler_at (H.refusals handler.new) (H.setting handler.new) (H.asked handler.new))
+            (handler_at (H.refusals handler.old) (H.setting handler.old) (H.heard handler.old))
+            (handler_at (H.refusals handler.new) (H.setting handler.new) (H.heard handler.new))
             (open_failure_row self.old body.now) self.old self.new result }
     {
         let refusal = read_open_failure(body)?;
@@ -91,8 +92,8 @@ impl Session {
     ) -> Result<Flow, Stop<H::Error>>
         requires { is_live self.old ≡ true }
         ensures row { FollowsOne H.keeps_defaults
-            (handler_at (H.refusals handler.old) (H.setting handler.old) (H.asked handler.old))
-            (handler_at (H.refusals handler.new) (H.setting handler.new) (H.asked handler.new))
+            (handler_at (H.refusals handler.old) (H.setting handler.old) (H.heard handler.old))
+            (handler_at (H.refusals handler.new) (H.setting handler.new) (H.heard handler.new))
             (failed_row (awaited refusal.now.id.0 self.old.table) (lent_refusal refusal.now)) self.old self.new result }
     {
         let description = Text::from_str(self.alloc, refusal.description)?;
@@ -120,8 +121,8 @@ impl Session {
     ) -> Result<Flow, Stop<H::Error>>
         requires { is_live self.old ≡ true }
         ensures row { FollowsWith H.keeps_defaults
-            (handler_at (H.refusals handler.old) (H.setting handler.old) (H.asked handler.old))
-            (handler_at (H.refusals handler.new) (H.setting handler.new) (H.asked handler.new))
+            (handler_at (H.refusals handler.old) (H.setting handler.old) (H.heard handler.old))
+            (handler_at (H.refusals handler.new) (H.setting handler.new) (H.heard handler.new))
             (λ o. channel_open_row o self.old body.now) self.old self.new result }
     {
         let head = read_channel_open(body)?;
@@ -143,8 +144,8 @@ impl Session {
         requires live { is_live self.old ≡ true }
         requires known { is_unknown opened ≡ false }
         ensures row { FollowsWith H.keeps_defaults
-            (handler_at (H.refusals handler.old) (H.setting handler.old) (H.asked handler.old))
-            (handler_at (H.refusals handler.new) (H.setting handler.new) (H.asked handler.new))
+            (handler_at (H.refusals handler.old) (H.setting handler.old) (H.heard handler.old))
+            (handler_at (H.refusals handler.new) (H.setting handler.new) (H.heard handler.new))
             (λ o. numbered_open_row o (next_number self.old.table) sender opened) self.old self.new result }
     {
         let id = self.connection.reserve(sender)?;
@@ -161,8 +162,8 @@ impl Session {
     ) -> Result<Flow, Stop<H::Error>>
         requires { is_live self.old ≡ true }
         ensures row { FollowsWith H.keeps_defaults
-            (handler_at (H.refusals handler.old) (H.setting handler.old) (H.asked handler.old))
-            (handler_at (H.refusals handler.new) (H.setting handler.new) (H.asked handler.new))
+            (handler_at (H.refusals handler.old) (H.setting handler.old) (H.heard handler.old))
+            (handler_at (H.refusals handler.new) (H.setting handler.new) (H.heard handler.new))
             (λ o. numbered_open_row o (next_number self.old.table) sender ServerOpen.Unknown) self.old self.new result }
     {
         let id = self.connection.reserve(sender)?;
@@ -184,8 +185,8 @@ impl Session {
     ) -> Result<Flow, Stop<H::Error>>
         requires { Accepts H.keeps_defaults (default_answer opened) }
         ensures row { FollowsOne H.keeps_defaults
-            (handler_at (H.refusals handler.old) (H.setting handler.old) (H.asked handler.old))
-            (handler_at (H.refusals handler.new) (H.setting handler.new) (H.asked handler.new))
+            (handler_at (H.refusals handler.old) (H.setting handler.old) (H.heard handler.old))
+            (handler_at (H.refusals handler.new) (H.setting handler.new) (H.heard handler.new))
             (served id.0 opened) self.old self.new result }
     {
         match self.call_for_open(id, &opened, handler) {
@@ -223,9 +224,9 @@ impl Session {
         opened: &ServerOpen,
         handler: &mut H,
     ) -> Result<OpenAnswer, Stop<H::Error>>
-        ensures { Calls H.keeps_defaults (Ok (default_answer opened.now))
-            (handler_at (H.refusals handler.old) (H.setting handler.old) (H.asked handler.old))
-            (handler_at (H.refusals handler.new) (H.setting handler.new) (H.asked handler.new))
+        ensures { Calls H.keeps_defaults (ServerOpened id.0 opened.now) (Ok (default_answer opened.now))
+            (handler_at (H.refusals handler.old) (H.setting handler.old) (H.heard handler.old))
+            (handler_at (H.refusals handler.new) (H.setting handler.new) (H.heard handler.new))
             self.old self.new result }
     {
         match opened {

@@ -29,8 +29,8 @@ impl Session {
         handler: &mut H,
     ) -> Result<Flow, Stop<H::Error>>
         ensures { FollowsOne H.keeps_defaults
-            (handler_at (H.refusals handler.old) (H.setting handler.old) (H.asked handler.old))
-            (handler_at (H.refusals handler.new) (H.setting handler.new) (H.asked handler.new))
+            (handler_at (H.refusals handler.old) (H.setting handler.old) (H.heard handler.old))
+            (handler_at (H.refusals handler.new) (H.setting handler.new) (H.heard handler.new))
             (channel_request_row self.old body.now) self.old self.new result }
     {
         let head = read_request_head(body)?;
@@ -51,8 +51,8 @@ impl Session {
         handler: &mut H,
     ) -> Result<Flow, Stop<H::Error>>
         ensures { FollowsOne H.keeps_defaults
-            (handler_at (H.refusals handler.old) (H.setting handler.old) (H.asked handler.old))
-            (handler_at (H.refusals handler.new) (H.setting handler.new) (H.asked handler.new))
+            (handler_at (H.refusals handler.old) (H.setting handler.old) (H.heard handler.old))
+            (handler_at (H.refusals handler.new) (H.setting handler.new) (H.heard handler.new))
             (requested_row id.0 request) self.old self.new result }
     {
         match request {
@@ -94,8 +94,8 @@ impl Session {
         handler: &mut H,
     ) -> Result<Flow, Stop<H::Error>>
         ensures { FollowsOne H.keeps_defaults
-            (handler_at (H.refusals handler.old) (H.setting handler.old) (H.asked handler.old))
-            (handler_at (H.refusals handler.new) (H.setting handler.new) (H.asked handler.new))
+            (handler_at (H.refusals handler.old) (H.setting handler.old) (H.heard handler.old))
+            (handler_at (H.refusals handler.new) (H.setting handler.new) (H.heard handler.new))
             (global_request_row body.now) self.old self.new result }
     {
         match read_global_request(self.alloc, body) {
@@ -111,8 +111,8 @@ impl Session {
         handler: &mut H,
     ) -> Result<Flow, Stop<H::Error>>
         ensures { FollowsOne H.keeps_defaults
-            (handler_at (H.refusals handler.old) (H.setting handler.old) (H.asked handler.old))
-            (handler_at (H.refusals handler.new) (H.setting handler.new) (H.asked handler.new))
+            (handler_at (H.refusals handler.old) (H.setting handler.old) (H.heard handler.old))
+            (handler_at (H.refusals handler.new) (H.setting handler.new) (H.heard handler.new))
             (asked_row request) self.old self.new result }
     {
         match request {
@@ -134,8 +134,8 @@ impl Session {
         handler: &mut H,
     ) -> Result<Flow, Stop<H::Error>>
         ensures { FollowsOne H.keeps_defaults
-            (handler_at (H.refusals handler.old) (H.setting handler.old) (H.asked handler.old))
-            (handler_at (H.refusals handler.new) (H.setting handler.new) (H.asked handler.new))
+            (handler_at (H.refusals handler.old) (H.setting handler.old) (H.heard handler.old))
+            (handler_at (H.refusals handler.new) (H.setting handler.new) (H.heard handler.new))
             (asked_row (PeerGlobal.HostKeys keys)) self.old self.new result }
     {
         let blobs = key_blobs(self.alloc, keys.as_slice())?;
@@ -152,8 +152,8 @@ impl Session {
     ) -> Result<Flow, Stop<H::Error>>
         requires { blobs ≡ blobs_of keys }
         ensures { FollowsOne H.keeps_defaults
-            (handler_at (H.refusals handler.old) (H.setting handler.old) (H.asked handler.old))
-            (handler_at (H.refusals handler.new) (H.setting handler.new) (H.asked handler.new))
+            (handler_at (H.refusals handler.old) (H.setting handler.old) (H.heard handler.old))
+            (handler_at (H.refusals handler.new) (H.setting handler.new) (H.heard handler.new))
             (asking [] (HostKeysAnnounced keys) (Tells (AnnouncedRecord (blobs_of keys)) ∷ []))
             self.old self.new result }
     {
@@ -169,9 +169,9 @@ impl Session {
         keys: Vec<PublicKey>,
         handler: &mut H,
     ) -> Result<(), Stop<H::Error>>
-        ensures { Calls H.keeps_defaults (Ok tt)
-            (handler_at (H.refusals handler.old) (H.setting handler.old) (H.asked handler.old))
-            (handler_at (H.refusals handler.new) (H.setting handler.new) (H.asked handler.new))
+        ensures { Calls H.keeps_defaults (HostKeysAnnounced keys.items) (Ok tt)
+            (handler_at (H.refusals handler.old) (H.setting handler.old) (H.heard handler.old))
+            (handler_at (H.refusals handler.new) (H.setting handler.new) (H.heard handler.new))
             self.old self.new result }
     {
         lent(handler.openssh_ext_host_keys_announced(keys, self))

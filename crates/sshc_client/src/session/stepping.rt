@@ -32,16 +32,16 @@ impl Session {
         ensures steps { SessionSteps H.keeps_defaults (handler_gate H.told_as (H.judges handler.old))
             (V.accepts verifier.now) event.now
             (lent_session self.old (S.calls signer.old) (S.refusals signer.old) (H.refusals handler.old)
-            (H.setting handler.old) (H.asked handler.old))
+            (H.setting handler.old) (H.heard handler.old))
             (lent_session self.new (S.calls signer.new) (S.refusals signer.new) (H.refusals handler.new)
-            (H.setting handler.new) (H.asked handler.new))
+            (H.setting handler.new) (H.heard handler.new))
             result }
         ensures defaults { H.keeps_defaults
             → SessionStepped (handler_gate H.told_as (H.judges handler.old)) (V.accepts verifier.now) event.now
             (lent_session self.old (S.calls signer.old) (S.refusals signer.old) (H.refusals handler.old)
-            (H.setting handler.old) (H.asked handler.old))
+            (H.setting handler.old) (H.heard handler.old))
             (lent_session self.new (S.calls signer.new) (S.refusals signer.new) (H.refusals handler.new)
-            (H.setting handler.new) (H.asked handler.new))
+            (H.setting handler.new) (H.heard handler.new))
             result }
     {
         self.step_with(event, handler, signer, verifier)
@@ -58,9 +58,9 @@ impl Session {
         ensures { SessionSteps H.keeps_defaults (handler_gate H.told_as (H.judges handler.old))
             (V.accepts verifier.now) event.now
             (lent_session self.old (S.calls signer.old) (S.refusals signer.old) (H.refusals handler.old)
-            (H.setting handler.old) (H.asked handler.old))
+            (H.setting handler.old) (H.heard handler.old))
             (lent_session self.new (S.calls signer.new) (S.refusals signer.new) (H.refusals handler.new)
-            (H.setting handler.new) (H.asked handler.new))
+            (H.setting handler.new) (H.heard handler.new))
             result }
     {
         match self.connection.life() {
@@ -89,8 +89,8 @@ impl Session {
     ) -> Step<H::Error>
         requires { is_live self.old ≡ true }
         ensures steps { StepsOpen H.keeps_defaults H.told_as (V.accepts verifier.now) event.now
-            (handler_at (H.refusals handler.old) (H.setting handler.old) (H.asked handler.old))
-            (handler_at (H.refusals handler.new) (H.setting handler.new) (H.asked handler.new))
+            (handler_at (H.refusals handler.old) (H.setting handler.old) (H.heard handler.old))
+            (handler_at (H.refusals handler.new) (H.setting handler.new) (H.heard handler.new))
             self.old self.new result }
     {
         let answer = self.row(event, handler, verifier);
@@ -128,8 +128,8 @@ impl Session {
     ) -> Result<Flow, Stop<H::Error>>
         requires { is_live self.old ≡ true }
         ensures row { FollowsWith H.keeps_defaults
-            (handler_at (H.refusals handler.old) (H.setting handler.old) (H.asked handler.old))
-            (handler_at (H.refusals handler.new) (H.setting handler.new) (H.asked handler.new))
+            (handler_at (H.refusals handler.old) (H.setting handler.old) (H.heard handler.old))
+            (handler_at (H.refusals handler.new) (H.setting handler.new) (H.heard handler.new))
             (λ o. session_row (V.accepts verifier.now) o self.old event.now) self.old self.new result }
     {
         match event {

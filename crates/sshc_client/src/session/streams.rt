@@ -34,8 +34,8 @@ impl Session {
     ) -> Result<Flow, Stop<H::Error>>
         requires { is_live self.old ≡ true }
         ensures row { FollowsOne H.keeps_defaults
-            (handler_at (H.refusals handler.old) (H.setting handler.old) (H.asked handler.old))
-            (handler_at (H.refusals handler.new) (H.setting handler.new) (H.asked handler.new))
+            (handler_at (H.refusals handler.old) (H.setting handler.old) (H.heard handler.old))
+            (handler_at (H.refusals handler.new) (H.setting handler.new) (H.heard handler.new))
             (window_adjust_row self.old body.now) self.old self.new result }
     {
         let adjust = read_window_adjust(body)?;
@@ -56,8 +56,8 @@ impl Session {
     /// Calls the handler with a window target; its result is the next one, if it is above 0.
     fn retarget<H: Handler>(&mut self, id: ChannelId, target: u32, handler: &mut H)
         ensures { Retargets H.keeps_defaults target
-            (handler_at (H.refusals handler.old) (H.setting handler.old) (H.asked handler.old))
-            (handler_at (H.refusals handler.new) (H.setting handler.new) (H.asked handler.new))
+            (handler_at (H.refusals handler.old) (H.setting handler.old) (H.heard handler.old))
+            (handler_at (H.refusals handler.new) (H.setting handler.new) (H.heard handler.new))
             self.old self.new }
     {
         let window = handler.adjust_window(id, target);
@@ -77,8 +77,8 @@ impl Session {
     ) -> Result<Flow, Stop<H::Error>>
         requires { is_live self.old ≡ true }
         ensures row { FollowsWith H.keeps_defaults
-            (handler_at (H.refusals handler.old) (H.setting handler.old) (H.asked handler.old))
-            (handler_at (H.refusals handler.new) (H.setting handler.new) (H.asked handler.new))
+            (handler_at (H.refusals handler.old) (H.setting handler.old) (H.heard handler.old))
+            (handler_at (H.refusals handler.new) (H.setting handler.new) (H.heard handler.new))
             (λ o. reports (Receives id.0 len ∷ retargets o self.old id.0 len) id.0 said []) self.old self.new result }
     {
         let target = self.connection.window_target();
@@ -98,8 +98,8 @@ impl Session {
     ) -> Result<Flow, Stop<H::Error>>
         requires { is_live self.old ≡ true }
         ensures row { FollowsWith H.keeps_defaults
-            (handler_at (H.refusals handler.old) (H.setting handler.old) (H.asked handler.old))
-            (handler_at (H.refusals handler.new) (H.setting handler.new) (H.asked handler.new))
+            (handler_at (H.refusals handler.old) (H.setting handler.old) (H.heard handler.old))
+            (handler_at (H.refusals handler.new) (H.setting handler.new) (H.heard handler.new))
             (λ o. channel_data_row o self.old body.now) self.old self.new result }
     {
         let data = read_data(body)?;
@@ -120,8 +120,8 @@ impl Session {
     ) -> Result<Flow, Stop<H::Error>>
         requires { is_live self.old ≡ true }
         ensures row { FollowsWith H.keeps_defaults
-            (handler_at (H.refusals handler.old) (H.setting handler.old) (H.asked handler.old))
-            (handler_at (H.refusals handler.new) (H.setting handler.new) (H.asked handler.new))
+            (handler_at (H.refusals handler.old) (H.setting handler.old) (H.heard handler.old))
+            (handler_at (H.refusals handler.new) (H.setting handler.new) (H.heard handler.new))
             (λ o. channel_extended_data_row o self.old body.now) self.old self.new result }
     {
         let data = read_extended_data(body)?;
@@ -148,8 +148,8 @@ impl Session {
         handler: &mut H,
     ) -> Result<Flow, Stop<H::Error>>
         ensures row { FollowsOne H.keeps_defaults
-            (handler_at (H.refusals handler.old) (H.setting handler.old) (H.asked handler.old))
-            (handler_at (H.refusals handler.new) (H.setting handler.new) (H.asked handler.new))
+            (handler_at (H.refusals handler.old) (H.setting handler.old) (H.heard handler.old))
+            (handler_at (H.refusals handler.new) (H.setting handler.new) (H.heard handler.new))
             (channel_report_row self.old happened body.now) self.old self.new result }
     {
         let id = read_channel(body)?;
@@ -167,8 +167,8 @@ impl Session {
         handler: &mut H,
     ) -> Result<Flow, Stop<H::Error>>
         ensures row { FollowsOne H.keeps_defaults
-            (handler_at (H.refusals handler.old) (H.setting handler.old) (H.asked handler.old))
-            (handler_at (H.refusals handler.new) (H.setting handler.new) (H.asked handler.new))
+            (handler_at (H.refusals handler.old) (H.setting handler.old) (H.heard handler.old))
+            (handler_at (H.refusals handler.new) (H.setting handler.new) (H.heard handler.new))
             (channel_close_row self.old body.now) self.old self.new result }
     {
         let id = read_channel(body)?;

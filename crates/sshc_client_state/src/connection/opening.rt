@@ -1,6 +1,6 @@
 //! The opening's steps, before the session is open.
 
-ghost use Rattle.std.specs.Prelude.{◌≡◌};
+ghost use Rattle.std.specs.Prelude.{◌≡◌, []};
 ghost use Rattle.sshc_auth.specs.OpeningState.{shut};
 ghost use Rattle.sshc_auth.specs.Stepping.{gate_answers};
 ghost use Rattle.sshc_client_table.specs.declared.life.Life.TheVariants.{Over};
@@ -30,9 +30,9 @@ impl Connection {
     ) -> Step<G::Error>
         ensures { StepsLent (gate_answers G.told_as (G.judges gate.old) G.tells G.tells_banner) event.now
             (lent_session self.old (S.calls signer.old) (S.refusals signer.old) (G.refusals gate.old)
-            (G.setting gate.old) (G.asked gate.old))
+            (G.setting gate.old) [])
             (lent_session self.new (S.calls signer.new) (S.refusals signer.new) (G.refusals gate.new)
-            (G.setting gate.new) (G.asked gate.new))
+            (G.setting gate.new) [])
             result }
     {
         let step = self.opening.step(event, gate, signer, &mut self.outbox);

@@ -1,9 +1,8 @@
 //! A handler that keeps the list of its calls, and in each call does and returns what its plan states.
 
-ghost use Rattle.std.specs.Prelude.{◌≡◌, ◌≤◌, [], Ok, OnErr};
+ghost use Rattle.std.specs.Prelude.{◌≡◌, ◌≤◌, OnErr};
 ghost use Rattle.sshc_wire.specs.Faults.{Rose};
 ghost use Rattle.sshc_client_table.specs.Grown.{Grown};
-ghost use Rattle.sshc_client.specs.Handling.{Handles, handler_at};
 
 mod callbacks;
 
@@ -167,25 +166,25 @@ impl Listening {
     }
 
     /// A callback that returns nothing.
-    #[tactic(auto, using(crate::proofs::HeardLemmas::handles))]
     fn hear(&mut self, call: &str, values: &Values, session: &mut Session) -> Result<(), Refused>
-        ensures { Handles ⊥ (Ok tt) (handler_at self.old [] 0) (handler_at self.new [] 0)
-            session.old session.new result }
+        ensures grown { Grown session.old session.new }
+        ensures later { self.old ≤ self.new }
+        ensures cause { OnErr result (Rose self.old self.new) }
     {
         let called = self.called(call, values, session);
         self.answered(call, called)
     }
 
     /// A callback for a channel that the server opens.
-    #[tactic(auto, using(crate::proofs::HeardLemmas::handles))]
     fn hear_open(
         &mut self,
         call: &str,
         values: &Values,
         session: &mut Session,
     ) -> Result<OpenAnswer, Refused>
-        ensures { Handles ⊥ (Ok OpenAnswer.Accept) (handler_at self.old [] 0) (handler_at self.new [] 0)
-            session.old session.new result }
+        ensures grown { Grown session.old session.new }
+        ensures later { self.old ≤ self.new }
+        ensures cause { OnErr result (Rose self.old self.new) }
     {
         let called = self.called(call, values, session);
         self.open_answered(call, called)

@@ -1,4 +1,5 @@
 //! The calls of the handler of the tests.
+#![tactic(auto, using(crate::proofs::HeardLemmas::handles))]
 
 ghost use Rattle.std.specs.Prelude.{◌≡◌};
 ghost use Rattle.sshc_client.specs.Handling.{ended_by};
