@@ -1,6 +1,6 @@
 -- What taking an event does, for the session and for the agent: an event that can be read, and one whose fields can't
 -- be.
-use Rattle.std.proofs.Common.{◌≡◌, ℕ, Bool, List, Option, Some, None, Result, Ok, Err, inl, inr, refl, ap, sym, ◌∙◌}
+use Rattle.std.proofs.Common.{◌≡◌, ℕ, List, Option, Some, None, Result, Ok, Err, inl, inr, refl, ap}
 use Rattle.sshc_wire.specs.Contents.{append, WroteFront}
 use Rattle.sshc_wire.specs.declared.record.Record.{Record}
 use Rattle.sshc_wire.specs.declared.source.Failed.{Failed}

@@ -34,10 +34,6 @@ pub mod Promises
 pub mod RunCauses
 pub mod ScriptExtension
 pub mod StandardFacts
-pub mod StandardEvents
-pub mod StandardLogin
-pub mod StandardLearned
-pub mod StandardRows
 mod ShortUsers
 mod RunPasswords
 mod RunSigned

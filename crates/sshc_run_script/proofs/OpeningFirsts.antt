@@ -18,6 +18,7 @@ use Rattle.sshc_run_script.specs.OpeningRun.{OpeningRun, OpeningStop, opens_befo
 use Rattle.sshc_run_script.specs.Outcome.{Streams, stop_as, IsExact, EndsBy, Ends}
 use Rattle.sshc_run_script.specs.Part.{Own, own_events, own_records, own_calls, own_answers, HasPart, StopsOthers, StoppedByOther, StopsElse, IsWholePart, PartOf}
 use Rattle.sshc_run_reader.specs.Script.{Frame, ScriptStop, whole, bad, more as goes_further, taken, stop_of}
+use Rattle.sshc_run_script.specs.RunFaults.{fault_counts}
 use Rattle.sshc_run_script.specs.ScriptRun.{Run, at_end, at_first, run, events_run, script_run, run_on, asked_run, answers_of, answers_since}
 use Rattle.sshc_run_script.proofs.AnsweredQuestions.{answers_two}
 use Rattle.sshc_run_script.proofs.OpeningContinues.{prefixed}
@@ -224,7 +225,7 @@ module _ {O : Type 0} {L : Type 0} {P : Type 0} (short : Machine O) (long : Turn
     abbrev calls : List SignCall
     calls = since before.calls now.calls
 
-    pub opening_first_of : (a : Result Ended RunError) → Ends max 0 0 (script_run m max) before now a → IsOpeningFirst short own max (since before.calls now.calls) before.left before.held now.held
+    pub opening_first_of : (a : Result Ended RunError) → Ends max 0 0 (script_run m max) before now a → IsOpeningFirst short own max before now
     opening_first_of a ends = λ bytes said. (
       (script_run m max (answers_since before.calls now.calls) bytes).records,
       prefix_of m max before now a ends bytes said,
@@ -240,7 +241,7 @@ module _ {O : Type 0} {L : Type 0} {P : Type 0} (short : Machine O) (long : Turn
         let is = whole_says r bytes calls (made_of m max before now (Ok e) ends bytes said) (whole_where_ended own Cause (taken max bytes) r (part_run bytes) e none stop (seen_so (answers_since before.calls now.calls) bytes).whole) in
         ends_by (stop_of max bytes) o o.stop (part_run bytes (own_answers own calls)) (own_records own r.records) e (prefixed_so bytes calls) (ap (λ (x : Run). x.records) is) (ap (λ (x : Run). x.stop) is ∙ stop)
 
-    pub opening_done_of : (a : Result Ended RunError) → EndsNone Cause → Ends max 0 0 (script_run m max) before now a → IsOpeningDone short own max (since before.calls now.calls) before.left before.held now.held a
+    pub opening_done_of : (a : Result Ended RunError) → EndsNone Cause → Ends max 0 0 (script_run m max) before now a → IsOpeningDone short own max before now a
     opening_done_of (Err e) none ends = tt
     opening_done_of (Ok e) none ends = λ bytes said.
         let done = (done_of max (script_run m max) before now (Ok e) ends).1 bytes said in
@@ -262,6 +263,6 @@ module _ {O : Type 0} {L : Type 0} {P : Type 0} (short : Machine O) (long : Turn
         inl (complete_at a e bytes (script_run m max (answers_since before.calls now.calls) bytes) made valid others told (seen_so (answers_since before.calls now.calls) bytes).whole)
 
     pub opening_complete_of : (a : Result Ended RunError) (reads reads' writes writes' : ℕ) → Ends max 0 0 (script_run m max) before now a → (a ≡ Err errors.ReadFault → Rose reads reads') → (a ≡ Err errors.WriteFault → Rose writes writes') →
-        IsOpeningComplete short own Cause max (since before.calls now.calls) before.left reads reads' writes writes' a
+        IsOpeningComplete short own Cause max before now (fault_counts reads writes) (fault_counts reads' writes') a
     opening_complete_of a reads reads' writes writes' ends r w = λ bytes e said valid others quiet still.
         complete_told a e bytes (made_of m max before now a ends bytes said) valid others (told_of max (script_run m max) before now reads reads' writes writes' a ends bytes said r w quiet still)

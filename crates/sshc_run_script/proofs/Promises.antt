@@ -17,6 +17,7 @@ use Rattle.sshc_run_script.specs.Machine.{ended, refused, Machine}
 use Rattle.sshc_run_script.specs.Outcome.{Streams, Ending, told, cut, unread, ending_of, IsExact, EndsAs, EndsBy, Ends, HasEarlier, HasWritten}
 use Rattle.sshc_run_script.specs.RecordLines.{lines}
 use Rattle.sshc_run_reader.specs.Script.{taken, stop_of}
+use Rattle.sshc_run_script.specs.RunFaults.{fault_counts}
 use Rattle.sshc_run_script.specs.ScriptRun.{Run, at_first, run, script_run, answers_of, answers_since}
 use Rattle.sshc_run_script.specs.Configured.{RunSettings}
 use Rattle.sshc_run_script.specs.RunTurn.{run_machine}
@@ -76,7 +77,7 @@ module _ {S : Type 0} (m : Machine S) (max : ℕ) where
 
   -- the bytes that were written are a prefix of the whole script's records' lines, whatever the signer would answer
   -- then
-  pub prefix_later : (before now : Streams) (a : Result Ended RunError) → Ends max 0 0 (script_run m max) before now a → (later : List Answer) → IsPrefix (script_run m max (answers_since before.calls now.calls ++ later)) before.left before.held now.held
+  pub prefix_later : (before now : Streams) (a : Result Ended RunError) → Ends max 0 0 (script_run m max) before now a → (later : List Answer) → IsPrefix (script_run m max (answers_since before.calls now.calls ++ later)) before now
   prefix_later before now a (given, gained, end) later = λ bytes said.
       let here : WroteFront before.held now.held (lines (script_run m max (answers_of gained) given).records) = wrote_some (ending_of a) (script_run m max) given gained before now a end.by in
       let gained_is : gained ≡ since before.calls now.calls = sym (since_is before.calls now.calls gained end.asked) in
@@ -85,11 +86,11 @@ module _ {S : Type 0} (m : Machine S) (max : ℕ) where
       (prefix_by given bytes (answers_of gained) now.left before.held now.held (sym end.read ∙ said)
       (subst (λ (r : Run). WroteFront before.held now.held (lines r.records)) (sym (joined_at (answers_of gained) given)) here) later))
 
-  pub prefix_of : (before now : Streams) (a : Result Ended RunError) → Ends max 0 0 (script_run m max) before now a → IsPrefix (script_run m max (answers_since before.calls now.calls)) before.left before.held now.held
+  pub prefix_of : (before now : Streams) (a : Result Ended RunError) → Ends max 0 0 (script_run m max) before now a → IsPrefix (script_run m max (answers_since before.calls now.calls)) before now
   prefix_of before now a ends =
-      subst (λ (answers : List Answer). IsPrefix (script_run m max answers) before.left before.held now.held) (append-nil (answers_since before.calls now.calls)) (prefix_later before now a ends [])
+      subst (λ (answers : List Answer). IsPrefix (script_run m max answers) before now) (append-nil (answers_since before.calls now.calls)) (prefix_later before now a ends [])
 
-pub gate_of : (hosts : Hosts) (accepts : Accepts) (settings : RunSettings) (max : ℕ) (before now : Streams) (a : Result Ended RunError) → Ends max 0 0 (script_run (run_machine hosts accepts settings) max) before now a → IsGated hosts max before.left now.left before.held now.held
+pub gate_of : (hosts : Hosts) (accepts : Accepts) (settings : RunSettings) (max : ℕ) (before now : Streams) (a : Result Ended RunError) → Ends max 0 0 (script_run (run_machine hosts accepts settings) max) before now a → IsGated hosts max before now
 gate_of hosts accepts settings max before now a (given, gained, end) = (
   given,
   end.read,
@@ -118,10 +119,10 @@ same_table table given bytes gained before now a read said exact = same_by table
 pub with_answers : (P : List Answer → Type 0) (before now : Streams) (gained : List SignCall) → now.calls ≡ before.calls ++ gained → P (answers_of gained) → P (answers_since before.calls now.calls)
 with_answers P before now gained asked holds = subst (λ (calls : List SignCall). P (answers_of calls)) (sym (since_is before.calls now.calls gained asked)) holds
 
-pub done_of : (max : ℕ) (table : List Answer → List ℕ → Run) (before now : Streams) (a : Result Ended RunError) → Ends max 0 0 table before now a → IsDone (table (answers_since before.calls now.calls)) before.left now.left before.held now.held a
+pub done_of : (max : ℕ) (table : List Answer → List ℕ → Run) (before now : Streams) (a : Result Ended RunError) → Ends max 0 0 table before now a → IsDone (table (answers_since before.calls now.calls)) before now a
 done_of max table before now (Err e) ends = tt
 done_of max table before now (Ok e) (given, gained, end) =
-    with_answers (λ (answers : List Answer). IsDone (table answers) before.left now.left before.held now.held (Ok e)) before now gained end.asked (
+    with_answers (λ (answers : List Answer). IsDone (table answers) before now (Ok e)) before now gained end.asked (
       λ last. end.by.whole (ap Ok last),
       λ bytes said.
           (let same : table (answers_of gained) bytes ≡ table (answers_of gained) given = same_table table given bytes gained before now (Ok e) end.read said end.by in
@@ -134,10 +135,10 @@ kept_as cut table given gained before now e by early = λ front b more is.
     subst (λ (answers : List Answer). HasWritten before.held now.held (lines (table answers front).records)) (append-nil (answers_of gained)) (early [] front b more is)
 kept_as unread table given gained before now e by early = by
 
-pub kept_of : (max : ℕ) (table : List Answer → List ℕ → Run) (before now : Streams) (a : Result Ended RunError) → Ends max 0 0 table before now a → IsKept (table (answers_since before.calls now.calls)) before.left now.left before.held now.held a
+pub kept_of : (max : ℕ) (table : List Answer → List ℕ → Run) (before now : Streams) (a : Result Ended RunError) → Ends max 0 0 table before now a → IsKept (table (answers_since before.calls now.calls)) before now a
 kept_of max table before now (Ok e) ends = tt
 kept_of max table before now (Err e) (given, gained, end) =
-    with_answers (λ (answers : List Answer). IsKept (table answers) before.left now.left before.held now.held (Err e)) before now gained end.asked (given, end.read, kept_as (ending_of (Err e)) table given gained before now e end.by end.early)
+    with_answers (λ (answers : List Answer). IsKept (table answers) before now (Err e)) before now gained end.asked (given, end.read, kept_as (ending_of (Err e)) table given gained before now e end.by end.early)
 
 refused_not : (table : List Answer → List ℕ → Run) (given bytes : List ℕ) (gained : List SignCall) (before now : Streams) (e : Ended) (x : RunError) → before.left ≡ prepend given now.left → before.left ≡ Some bytes → (table (answers_of gained) bytes).stop ≡ ended e →
     IsExact table given gained before now (Err x) → ⊥
@@ -150,7 +151,7 @@ ended_same : (x y : Ended) → ended x ≡ ended y → x ≡ y
 ended_same x y h = cc
 
 complete_by : (max : ℕ) (table : List Answer → List ℕ → Run) (before now : Streams) (reads reads' writes writes' : ℕ) (a : Result Ended RunError) (given : List ℕ) (gained : List SignCall) → EndsBy max 0 0 table before now a given gained →
-    (a ≡ Err errors.ReadFault → Rose reads reads') → (a ≡ Err errors.WriteFault → Rose writes writes') → IsComplete (table (answers_of gained)) before.left reads reads' writes writes' a
+    (a ≡ Err errors.ReadFault → Rose reads reads') → (a ≡ Err errors.WriteFault → Rose writes writes') → IsComplete (table (answers_of gained)) before (fault_counts reads writes) (fault_counts reads' writes') a
 complete_by max table before now reads reads' writes writes' (Ok x) given gained end r w = λ bytes e said good quiet still.
     let same : table (answers_of gained) bytes ≡ table (answers_of gained) given = same_table table given bytes gained before now (Ok x) end.read said end.by in
     let ends : ended x ≡ ended e = sym end.by.stop ∙ ap (λ (t : Run). t.stop) (sym same) ∙ good in
@@ -161,6 +162,6 @@ complete_by max table before now reads reads' writes writes' (Err errors.WriteFa
 complete_by max table before now reads reads' writes writes' (Err x) given gained end r w = λ bytes e said good quiet still. absurd (refused_not table given bytes gained before now e x end.read said good end.by)
 
 pub complete_of : (max : ℕ) (table : List Answer → List ℕ → Run) (before now : Streams) (reads reads' writes writes' : ℕ) (a : Result Ended RunError) → Ends max 0 0 table before now a →
-    (a ≡ Err errors.ReadFault → Rose reads reads') → (a ≡ Err errors.WriteFault → Rose writes writes') → IsComplete (table (answers_since before.calls now.calls)) before.left reads reads' writes writes' a
+    (a ≡ Err errors.ReadFault → Rose reads reads') → (a ≡ Err errors.WriteFault → Rose writes writes') → IsComplete (table (answers_since before.calls now.calls)) before (fault_counts reads writes) (fault_counts reads' writes') a
 complete_of max table before now reads reads' writes writes' a (given, gained, end) r w =
-    with_answers (λ (answers : List Answer). IsComplete (table answers) before.left reads reads' writes writes' a) before now gained end.asked (complete_by max table before now reads reads' writes writes' a given gained end r w)
+    with_answers (λ (answers : List Answer). IsComplete (table answers) before (fault_counts reads writes) (fault_counts reads' writes') a) before now gained end.asked (complete_by max table before now reads reads' writes writes' a given gained end r w)

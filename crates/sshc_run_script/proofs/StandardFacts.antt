@@ -1,6 +1,5 @@
 -- The script of a password login and its records, computed from the definitions. Its bytes and its lines are listed in
--- docs/FORMATS.md; the steps of its opening are computed in sshc_auth, and the whole run is proved in StandardLogin
--- and is a test.
+-- docs/FORMATS.md; the steps of its opening are computed in sshc_auth, and the whole run is a test.
 use Rattle.std.proofs.Common.{◌≡◌, ℕ, ◌+◌, List, [], ◌∷◌, ◌++◌, length, take, refl}
 use Rattle.std.specs.Prelude.{codes}
 use Rattle.sshc_wire.specs.Reads.{byte_at, number_at}

@@ -18,8 +18,9 @@ use Rattle.sshc_run_reader.specs.declared.event_kind.EventKind.TheVariants as ki
 use Rattle.sshc_run_script.specs.declared.known_hosts_handler.HandlerError.{HandlerError}
 use Rattle.sshc_run_script.specs.KnownHosts.{Hosts, verdict}
 use Rattle.sshc_run_script.specs.Machine.{ended, refused}
-use Rattle.sshc_run_script.specs.Outcome.{Ending, told, cut, unread, ending_of, HasWritten}
+use Rattle.sshc_run_script.specs.Outcome.{Ending, Streams, told, cut, unread, ending_of, HasWritten}
 use Rattle.sshc_run_script.specs.RecordLines.{lines}
+use Rattle.sshc_run_script.specs.RunFaults.{FaultCounts}
 use Rattle.sshc_run_reader.specs.EventReading.{event_of}
 use Rattle.sshc_run_reader.specs.Script.{Frame, taken}
 use Rattle.sshc_run_script.specs.ScriptRun.{Run}
@@ -59,22 +60,22 @@ is_accepted hosts frames = is_yes (said_of_first hosts frames)
 
 -- unless the bytes that were read hold an exchange whose host key is accepted first, no payload is written, not even in
 -- part
-abbrev pub IsGated : Hosts → ℕ → Option (List ℕ) → Option (List ℕ) → Option (List ℕ) → Option (List ℕ) → Type 0
-IsGated hosts max script left held written =
-    (given : List ℕ) × (script ≡ prepend given left)
-    × (is_accepted hosts (taken max given) ≡ false → (records : List Record) × NonePayload records × WroteFront held written (lines records))
+abbrev pub IsGated : Hosts → ℕ → Streams → Streams → Type 0
+IsGated hosts max before now =
+    (given : List ℕ) × (before.left ≡ prepend given now.left)
+    × (is_accepted hosts (taken max given) ≡ false → (records : List Record) × NonePayload records × WroteFront before.held now.held (lines records))
 
 -- the bytes that are written are a prefix of the lines of the whole script's records
-abbrev pub IsPrefix : (List ℕ → Run) → Option (List ℕ) → Option (List ℕ) → Option (List ℕ) → Type 0
-IsPrefix table script held written = (bytes : List ℕ) → script ≡ Some bytes → WroteFront held written (lines (table bytes).records)
+abbrev pub IsPrefix : (List ℕ → Run) → Streams → Streams → Type 0
+IsPrefix table before now = (bytes : List ℕ) → before.left ≡ Some bytes → WroteFront before.held now.held (lines (table bytes).records)
 
 -- with Ok, the table ends the whole script in this way, and all its records are written; at the script's end no byte of
 -- it remains
-abbrev pub IsDone : (List ℕ → Run) → Option (List ℕ) → Option (List ℕ) → Option (List ℕ) → Option (List ℕ) → Result Ended RunError → Type 0
-IsDone table script left held written (Ok e) =
-    (e ≡ ScriptEnd → IsAtEnd left)
-    × ((bytes : List ℕ) → script ≡ Some bytes → ((table bytes).stop ≡ ended e) × (written ≡ append held (lines (table bytes).records)))
-IsDone table script left held written (Err e) = Unit {0}
+abbrev pub IsDone : (List ℕ → Run) → Streams → Streams → Result Ended RunError → Type 0
+IsDone table before now (Ok e) =
+    (e ≡ ScriptEnd → IsAtEnd now.left)
+    × ((bytes : List ℕ) → before.left ≡ Some bytes → ((table bytes).stop ≡ ended e) × (now.held ≡ append before.held (lines (table bytes).records)))
+IsDone table before now (Err e) = Unit {0}
 
 -- after a cut write, all records are written of the events before the last one that was read, whether read whole or in
 -- part; with every other error, also those of the last event's row, and the error is the table's over the bytes that
@@ -84,16 +85,16 @@ KeptBy told table given held written e = ((table given).stop ≡ refused e) × (
 KeptBy cut table given held written e = (front : List ℕ) (b : ℕ) (more : List ℕ) → given ≡ front ++ b ∷ more → HasWritten held written (lines (table front).records)
 KeptBy unread table given held written e = written ≡ append held (lines (table given).records)
 
-abbrev pub IsKept : (List ℕ → Run) → Option (List ℕ) → Option (List ℕ) → Option (List ℕ) → Option (List ℕ) → Result Ended RunError → Type 0
-IsKept table script left held written (Ok e) = Unit {0}
-IsKept table script left held written (Err e) = (given : List ℕ) × (script ≡ prepend given left) × KeptBy (ending_of (Err e)) table given held written e
+abbrev pub IsKept : (List ℕ → Run) → Streams → Streams → Result Ended RunError → Type 0
+IsKept table before now (Ok e) = Unit {0}
+IsKept table before now (Err e) = (given : List ℕ) × (before.left ≡ prepend given now.left) × KeptBy (ending_of (Err e)) table given before.held now.held e
 
 -- a script is valid if the table ends it in this way, and refuses no event of it
 abbrev pub IsValidScript : (List ℕ → Run) → List ℕ → Ended → Type 0
 IsValidScript table script e = (table script).stop ≡ ended e
 
--- for a valid script the result is its end or out of memory, if no count rises
-abbrev pub IsComplete : (List ℕ → Run) → Option (List ℕ) → ℕ → ℕ → ℕ → ℕ → Result Ended RunError → Type 0
-IsComplete table script reads reads' writes writes' answer =
-    (bytes : List ℕ) (e : Ended) → script ≡ Some bytes → IsValidScript table bytes e → (Rose reads reads' → ⊥) → (Rose writes writes' → ⊥) →
+-- for a valid script the result is its end or out of memory, if no count of faults rises
+abbrev pub IsComplete : (List ℕ → Run) → Streams → FaultCounts → FaultCounts → Result Ended RunError → Type 0
+IsComplete table before was is answer =
+    (bytes : List ℕ) (e : Ended) → before.left ≡ Some bytes → IsValidScript table bytes e → (Rose was.reads is.reads → ⊥) → (Rose was.writes is.writes → ⊥) →
     (answer ≡ Ok e) ⊎ (answer ≡ Err errors.NoMemory)

@@ -1,5 +1,5 @@
 -- A session between two events of a run.
-use Rattle.std.specs.Prelude.{◌≡◌, Bool, false, []}
+use Rattle.std.specs.Prelude.{◌≡◌, false, []}
 use Rattle.sshc_auth.specs.declared.step.Step.{Step}
 use Rattle.sshc_auth.specs.declared.step.Step.TheVariants as steps
 use Rattle.sshc_client_table.specs.declared.life.Life.TheVariants.{Runs}

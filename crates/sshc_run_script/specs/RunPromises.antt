@@ -27,7 +27,7 @@ use Rattle.sshc_run_script.specs.Outcome.{Ends}
 use Rattle.sshc_run_script.specs.Part.{own_answers}
 use Rattle.sshc_run_script.specs.PasswordRuns.{PasswordsAreAsked}
 use Rattle.sshc_run_script.specs.ReplyOrder.{AreInOrder}
-use Rattle.sshc_run_script.specs.RunOutside.{RunOutside, CountsMoved, streams_of}
+use Rattle.sshc_run_script.specs.RunOutside.{RunOutside, CountsMoved, faults_of, streams_of}
 use Rattle.sshc_run_script.specs.RunTurn.{run_machine}
 use Rattle.sshc_run_script.specs.ScriptRun.{Run, script_run, answers_of}
 use Rattle.sshc_run_script.specs.SessionPart.{session_own, IsAgentCause}
@@ -81,32 +81,32 @@ pub record RunPromises (asked : RunAsked) (before now : RunOutside) (answer : Re
   -- what was read, what was written, the signer's calls and the result, by the tables over the script's events
   pub run : Ends asked.max_events 0 0 (table_of asked) (streams_of before) (streams_of now) answer
   -- no payload is written, not even in part, unless the known hosts text accepts the host key of the first exchange
-  pub gate : IsGated asked.hosts asked.max_events before.source.left now.source.left before.sink.held now.sink.held
+  pub gate : IsGated asked.hosts asked.max_events (streams_of before) (streams_of now)
   -- the bytes that are written are a prefix of the lines of the whole script's records, however the run ends
-  pub prefix : IsPrefix (answered_table asked before now) before.source.left before.sink.held now.sink.held
+  pub prefix : IsPrefix (answered_table asked before now) (streams_of before) (streams_of now)
   -- Ok is the end of the whole script by the tables, and all its records are written
-  pub done : IsDone (answered_table asked before now) before.source.left now.source.left before.sink.held now.sink.held answer
+  pub done : IsDone (answered_table asked before now) (streams_of before) (streams_of now) answer
   -- with every error but WriteFault and NoMemory all records of the events before it are written, and those of its own
   -- row
-  pub kept : IsKept (answered_table asked before now) before.source.left now.source.left before.sink.held now.sink.held answer
+  pub kept : IsKept (answered_table asked before now) (streams_of before) (streams_of now) answer
   -- if the tables accept every event of a script, the result is its end or out of memory, if no count of faults rises
-  pub complete : IsComplete (answered_table asked before now) before.source.left before.source.faults now.source.faults before.sink.faults now.sink.faults answer
+  pub complete : IsComplete (answered_table asked before now) (streams_of before) (faults_of before) (faults_of now) answer
   -- each end and each error has its cause: a state that the tables come to and the event there, or what follows the
   -- events
   pub causes : IsCaused asked.hosts asked.accepts asked.settings asked.max_events (answers_of (calls_since before now)) before.source.left answer
   -- the session's records that are written are a prefix of the opening table's outputs or, once that table opens the
   -- session, all of them followed by more, whatever events of agents are in between
-  pub opening : IsOpeningFirst (opening_table asked) session_own asked.max_events (calls_since before now) before.source.left before.sink.held now.sink.held
+  pub opening : IsOpeningFirst (opening_table asked) session_own asked.max_events (streams_of before) (streams_of now)
   -- if that table opens the session, the first exchange has a plain host key that the known hosts text accepts by its
   -- meaning: all its lines for the host can be read, none revokes or contradicts the key, and one records it
   pub accepted : IsOpenedByAccepted asked.hosts (opening_table asked) session_own asked.max_events (calls_since before now) before.source.left
   -- if that table opens the session, with Ok all of its outputs are written; else exactly these are, and Ok is the
   -- table's end
-  pub opening_done : IsOpeningDone (opening_table asked) session_own asked.max_events (calls_since before now) before.source.left before.sink.held now.sink.held answer
+  pub opening_done : IsOpeningDone (opening_table asked) session_own asked.max_events (streams_of before) (streams_of now) answer
   -- for a valid script of whose agents' events none stops the run, the result is its end or out of memory, if no count
   -- of faults rises
-  pub opening_complete : IsOpeningComplete (opening_table asked) session_own IsAgentCause asked.max_events (calls_since before now)
-      before.source.left before.source.faults now.source.faults before.sink.faults now.sink.faults answer
+  pub opening_complete : IsOpeningComplete (opening_table asked) session_own IsAgentCause asked.max_events (streams_of before) (streams_of now)
+      (faults_of before) (faults_of now) answer
   -- at each state that the session comes to, our global requests that were answered are the first of those written, in
   -- order
   pub replies : AreInOrder asked.hosts asked.accepts asked.settings asked.max_events (session_answers before now) before.source.left

@@ -3,6 +3,9 @@
 use clap::{Arg, Command, Error};
 use std::alloc::Global;
 
+/// The version of all programs here, which this one tells.
+static VERSION: &str = "0.1.0";
+
 /// What is read from standard input.
 static INPUTS: [&str; 2] = ["records", "script"];
 
@@ -32,6 +35,7 @@ fn parsed<'a>(alloc: Global, words: &'a [String]) -> Result<Arguments<'a>, Error
         .value_name("FILE")
         .help("show the events of the script in FILE first");
     let command = Command::new(alloc, "sshc_show")
+        .version(VERSION)
         .about("Prints records and events of an SSH session, each as one readable line")
         .arg(input)?
         .arg(events)?;

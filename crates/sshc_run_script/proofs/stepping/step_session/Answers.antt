@@ -7,14 +7,14 @@ use Rattle.sshc_run_script.proofs.stepping.step_session.Goals as goal
 
 pub returns-clause-came : goal.returns-clause-came
 returns-clause-came g c =
-    let was : Lent = lent_session c.args.at.now.session (g.G.LocalSigner.calls c.args.signer.now) (g.G.LocalSigner.refusals c.args.signer.now) c.args.gate.now.refusals (c.args.gate.now.host ∷ c.args.gate.now.known ∷ []) 0 in
-    let is : Lent = lent_session c.step.new.self (g.G.LocalSigner.calls c.step.new.signer) (g.G.LocalSigner.refusals c.step.new.signer) c.step.new.handler.refusals (c.step.new.handler.host ∷ c.step.new.handler.known ∷ []) 0 in
+    let was : Lent = lent_session c.args.at.now.session (g.G.LocalSigner.calls c.args.signer.now) (g.G.LocalSigner.refusals c.args.signer.now) c.args.gate.now.refusals (c.args.gate.now.host ∷ c.args.gate.now.known ∷ []) [] in
+    let is : Lent = lent_session c.step.new.self (g.G.LocalSigner.calls c.step.new.signer) (g.G.LocalSigner.refusals c.step.new.signer) c.step.new.handler.refusals (c.step.new.handler.host ∷ c.step.new.handler.known ∷ []) [] in
     session_came (hosts_of c.args.gate.now) (g.V.Verifier.accepts c.args.verifier.now) c.args.at.now.place c.args.event.now was is c.step.result c.requires.ready (c.step.ensures.defaults tt)
 
 pub returns-clause-ready : goal.returns-clause-ready
 returns-clause-ready g c =
-    let was : Lent = lent_session c.args.at.now.session (g.G.LocalSigner.calls c.args.signer.now) (g.G.LocalSigner.refusals c.args.signer.now) c.args.gate.now.refusals (c.args.gate.now.host ∷ c.args.gate.now.known ∷ []) 0 in
-    let is : Lent = lent_session c.step.new.self (g.G.LocalSigner.calls c.step.new.signer) (g.G.LocalSigner.refusals c.step.new.signer) c.step.new.handler.refusals (c.step.new.handler.host ∷ c.step.new.handler.known ∷ []) 0 in
+    let was : Lent = lent_session c.args.at.now.session (g.G.LocalSigner.calls c.args.signer.now) (g.G.LocalSigner.refusals c.args.signer.now) c.args.gate.now.refusals (c.args.gate.now.host ∷ c.args.gate.now.known ∷ []) [] in
+    let is : Lent = lent_session c.step.new.self (g.G.LocalSigner.calls c.step.new.signer) (g.G.LocalSigner.refusals c.step.new.signer) c.step.new.handler.refusals (c.step.new.handler.host ∷ c.step.new.handler.known ∷ []) [] in
     session_ready (hosts_of c.args.gate.now) (g.V.Verifier.accepts c.args.verifier.now) c.args.at.now.place c.args.event.now was is c.step.result c.requires.ready (c.step.ensures.defaults tt)
 
 pub returns-clause-same : goal.returns-clause-same
@@ -22,6 +22,6 @@ returns-clause-same g c = hosts_kept c.args.gate.now c.step.new.handler c.step.e
 
 pub returns-clause-gained : goal.returns-clause-gained
 returns-clause-gained g c =
-    let was : Lent = lent_session c.args.at.now.session (g.G.LocalSigner.calls c.args.signer.now) (g.G.LocalSigner.refusals c.args.signer.now) c.args.gate.now.refusals (c.args.gate.now.host ∷ c.args.gate.now.known ∷ []) 0 in
-    let is : Lent = lent_session c.step.new.self (g.G.LocalSigner.calls c.step.new.signer) (g.G.LocalSigner.refusals c.step.new.signer) c.step.new.handler.refusals (c.step.new.handler.host ∷ c.step.new.handler.known ∷ []) 0 in
+    let was : Lent = lent_session c.args.at.now.session (g.G.LocalSigner.calls c.args.signer.now) (g.G.LocalSigner.refusals c.args.signer.now) c.args.gate.now.refusals (c.args.gate.now.host ∷ c.args.gate.now.known ∷ []) [] in
+    let is : Lent = lent_session c.step.new.self (g.G.LocalSigner.calls c.step.new.signer) (g.G.LocalSigner.refusals c.step.new.signer) c.step.new.handler.refusals (c.step.new.handler.host ∷ c.step.new.handler.known ∷ []) [] in
     session_gained (hosts_of c.args.gate.now) (g.V.Verifier.accepts c.args.verifier.now) c.args.at.now.place c.args.event.now was is c.step.result c.requires.ready (c.step.ensures.defaults tt)
