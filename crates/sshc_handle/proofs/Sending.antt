@@ -110,7 +110,7 @@ module _ (H E : RattleType) where
   pub state_send : IsSend H → IsSend (HandleState.the_row H)
   state_send h =
       let s = session_send in let e = event_send in
-      search (octets.the_send, binding.the_field_send, tickets.the_send, end.the_field_send, timers.the_field_send, sendable, crosses) depth 60 fits 60000
+      search (binding.the_field_send, tickets.the_send, end.the_field_send, timers.the_field_send, sendable, crosses) depth 60 fits 60000
 
   shared_send : IsSend H → IsSend (Shared.the_row H)
   shared_send h = let s = state_send h in search (sendable, crosses) depth 60 fits 60000

@@ -1,6 +1,7 @@
 //! A session for programs with threads: calls that submit and wait, and the runner that takes turns.
 #![tactic(auto)]
 
+mod beside;
 mod caller;
 mod channel;
 mod channels;
@@ -14,6 +15,7 @@ mod short;
 mod signing;
 mod stopping;
 
+pub use beside::at_once;
 pub use channel::Channel;
 pub use connecting::{Maker, connect, connect_stream};
 pub use handle::Handle;

@@ -98,11 +98,12 @@ impl<H> Shared<H> {
         }
     }
 
-    /// Wakes those that wait for the records that are held behind the first of this number.
+    /// Wakes those that wait for the records that were held since there were so many.
     pub(crate) fn wake_behind(&self, state: MutexGuard<'_, HandleState<H>>, before: usize) {
+        let fresh = state.held().len().saturating_sub(before);
         let mut last = None;
         let mut on_channel = false;
-        for said in state.held().iter().skip(before) {
+        for said in state.held().rev().take(fresh) {
             if let Some(number) = last {
                 self.place(number).notify_all();
             }

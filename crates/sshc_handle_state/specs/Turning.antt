@@ -19,6 +19,7 @@ use Rattle.sshc_auth.specs.declared.step.Step.{Step}
 use Rattle.sshc_auth.specs.declared.step.Step.TheVariants as steps
 use Rattle.sshc_auth.specs.Stepping.{GateAnswers}
 use Rattle.sshc_client_packets.specs.HostKeyProof.{Accepts}
+use Rattle.sshc_client_table.specs.SessionRow.{Callback}
 use Rattle.sshc_client_table.specs.SessionState.{SessionState}
 use Rattle.sshc_client_state.specs.OpeningStep.{Lent, goes_on, lent_session}
 use Rattle.sshc_client.specs.HandledStep.{SessionSteps}
@@ -35,21 +36,20 @@ use Rattle.sshc_handle_state.specs.Dealing.{DealsBy}
 
 -- ---- the signer and the handler in a turn
 
--- the signer's calls and refusals, and the handler's refusals with what it judges by, and how many host keys it was
--- asked about
+-- the signer's calls and refusals, and the handler's refusals with what it judges by, and the calls of it that it keeps
 pub record CallersAt : Type 0 where
   pub calls : List SignCall
   pub signer_refusals : ℕ
   pub refusals : ℕ
   pub setting : List (List ℕ)
-  pub asked : ℕ
+  pub heard : List Callback
 
-abbrev pub callers_at : List SignCall → ℕ → ℕ → List (List ℕ) → ℕ → CallersAt
-callers_at calls signer_refusals refusals setting asked =
-    record { calls = calls; signer_refusals = signer_refusals; refusals = refusals; setting = setting; asked = asked }
+abbrev pub callers_at : List SignCall → ℕ → ℕ → List (List ℕ) → List Callback → CallersAt
+callers_at calls signer_refusals refusals setting heard =
+    record { calls = calls; signer_refusals = signer_refusals; refusals = refusals; setting = setting; heard = heard }
 
 abbrev pub lent_to : SessionState → CallersAt → Lent
-lent_to session c = lent_session session c.calls c.signer_refusals c.refusals c.setting c.asked
+lent_to session c = lent_session session c.calls c.signer_refusals c.refusals c.setting c.heard
 
 -- ---- the binding of the first exchange
 

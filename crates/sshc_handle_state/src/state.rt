@@ -1,6 +1,6 @@
 //! What the threads of a handle share.
 
-ghost use Rattle.std.specs.Prelude.{◌≡◌, ◌<◌, ◌++◌, Some, IfOk, OnErr, OnOk, is_some};
+ghost use Rattle.std.specs.Prelude.{◌≡◌, ◌<◌, ◌++◌, Some, IfOk, OnErr, OnOk, is_some, length, take};
 ghost use Rattle.std.specs.List.{list_any};
 ghost use Rattle.std.specs.VecDeque.{deque_capacity, deque_len};
 ghost use Rattle.sshc_wire.specs.Outgoing.{listed};
@@ -23,6 +23,7 @@ use sshc_handle_tickets::Tickets;
 use sshc_key::AgentSessionBinding;
 use sshc_wire::{ChannelId, List, NoMemory, Octets, Record, Text, Ticket};
 use std::collections::VecDeque;
+use std::collections::btree_map::Values;
 use std::marker::{Model, PhantomData};
 
 /// A session with the events that are submitted to it, the records that are held for those who wait, and its timers.
@@ -197,9 +198,9 @@ impl<H> HandleState<H> {
         Ok(due)
     }
 
-    /// The records that nobody has taken yet, the oldest first.
-    pub fn held(&self) -> &[Record]
-        ensures { result.now ≡ self.now.tickets.held }
+    /// The records that nobody has taken yet, the oldest first, but for those of tickets that were dropped at the end.
+    pub fn held(&self) -> Values<'_, u64, Record>
+        ensures { take (length result) self.now.tickets.held ≡ result }
     {
         self.tickets.held()
     }

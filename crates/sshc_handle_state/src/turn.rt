@@ -156,9 +156,9 @@ impl<H: Handler> HandleState<H> {
         ensures { TakesEvent H.keeps_defaults (handler_gate H.told_as (H.judges handler.old))
             (V.accepts verifier.now) event self.old self.new
             (callers_at (S.calls signer.old) (S.refusals signer.old)
-            (H.refusals handler.old) (H.setting handler.old) (H.asked handler.old))
+            (H.refusals handler.old) (H.setting handler.old) (H.heard handler.old))
             (callers_at (S.calls signer.new) (S.refusals signer.new)
-            (H.refusals handler.new) (H.setting handler.new) (H.asked handler.new))
+            (H.refusals handler.new) (H.setting handler.new) (H.heard handler.new))
             (link_at (T.answers transport.old) (T.handed transport.old) (T.faults transport.old))
             (link_at (T.answers transport.new) (T.handed transport.new) (T.faults transport.new)) result }
     {
@@ -183,9 +183,9 @@ impl<H: Handler> HandleState<H> {
         ensures { Turns H.keeps_defaults (handler_gate H.told_as (H.judges handler.old)) (V.accepts verifier.now) now
             self.old self.new
             (callers_at (S.calls signer.old) (S.refusals signer.old)
-            (H.refusals handler.old) (H.setting handler.old) (H.asked handler.old))
+            (H.refusals handler.old) (H.setting handler.old) (H.heard handler.old))
             (callers_at (S.calls signer.new) (S.refusals signer.new)
-            (H.refusals handler.new) (H.setting handler.new) (H.asked handler.new))
+            (H.refusals handler.new) (H.setting handler.new) (H.heard handler.new))
             (link_at (T.answers transport.old) (T.handed transport.old) (T.faults transport.old))
             (link_at (T.answers transport.new) (T.handed transport.new) (T.faults transport.new)) result }
     {

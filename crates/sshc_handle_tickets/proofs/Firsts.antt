@@ -1,7 +1,6 @@
 -- The first element of a list that passes a test, found by its place.
-use Rattle.std.proofs.Common.{◌≡◌, refl, ℕ, zero, suc, ◌+◌, ◌<◌, ◌≤◌, Bool, true, false, List, [], ◌∷◌, ◌++◌, length, take, drop, Option, Some, None, ap, ◌∙◌, sym, slice_index_or, arith}
+use Rattle.std.proofs.Common.{◌≡◌, refl, ℕ, zero, suc, ◌<◌, ◌≤◌, Bool, true, false, List, [], ◌∷◌, length, take, Some, None, ap, slice_index_or, arith}
 use Rattle.std.proofs.lemmas.List.{take_all}
-use Rattle.std.specs.Prelude.{◌||◌}
 use Rattle.std.specs.List.{list_any, remove}
 use Rattle.sshc_wire.specs.Cases.{neither}
 use Rattle.sshc_handle_tickets.specs.Tickets.{first_of, without_first}

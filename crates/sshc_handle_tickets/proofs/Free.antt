@@ -1,5 +1,5 @@
 -- The first number that isn't taken, by trying one after the other.
-use Rattle.std.proofs.Common.{◌≡◌, refl, ℕ, zero, suc, ◌+◌, ◌-◌, ◌<◌, arith, Bool, true, false, Option, Some, None}
+use Rattle.std.proofs.Common.{◌≡◌, refl, ℕ, zero, suc, ◌+◌, ◌-◌, ◌<◌, arith, true, false, Some, None}
 use Rattle.sshc_handle_tickets.specs.Tickets.{TicketState, free_within, is_taken, number_after}
 
 pub free_found : (tries : ℕ) (s : TicketState) (number : ℕ) → 0 < tries → is_taken s (number_after number) ≡ false → free_within tries s number ≡ Some (number_after number)

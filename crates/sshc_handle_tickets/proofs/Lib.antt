@@ -1,3 +1,3 @@
 pub mod Firsts
 mod Free
-mod Happened
+mod Over

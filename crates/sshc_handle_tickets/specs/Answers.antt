@@ -1,6 +1,6 @@
 -- How a method of a handle reads its answer from a record of its ticket. Whatever a method waits for, a session that
 -- ends first reads as `Disconnect`; a record that isn't an answer to it is passed over.
-use Rattle.std.specs.Prelude.{◌≡◌, ℕ, Bool, true, false, List, Option, Some, None, Result, Ok, Err, bytes_eq, codes, if◌then◌else◌}
+use Rattle.std.specs.Prelude.{ℕ, Bool, true, false, List, Option, Some, None, Result, Ok, Err, bytes_eq, codes, if◌then◌else◌}
 use Rattle.std.specs.List.{list_any}
 use Rattle.sshc_wire.specs.declared.hash_alg.HashAlg.{HashAlg}
 use Rattle.sshc_wire.specs.declared.hash_alg.HashAlg.TheVariants as hashes

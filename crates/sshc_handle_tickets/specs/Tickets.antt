@@ -1,8 +1,11 @@
 -- The tickets that are open, and the records that are held until someone asks for them.
-use Rattle.std.specs.Prelude.{◌≡◌, ℕ, zero, suc, ◌+◌, ◌-◌, ◌<◌, ◌^◌, Bool, true, false, nat_eq, if◌then◌else◌, not, ◌&&◌, ◌||◌, List, [], ◌∷◌, ◌++◌, Option, Some, None, is_some, filter}
+unfoldable pub use Rattle.sshc_handle_line.specs.Lines.{first_of, without_first}
+pub use Rattle.sshc_handle_line.specs.Lines.{is_number}
+pub use Rattle.sshc_handle_line.specs.Numbers.{channel_of, ticket_of}
+use Rattle.std.specs.Prelude.{ℕ, zero, suc, ◌+◌, ◌-◌, ◌^◌, Bool, true, false, nat_eq, if◌then◌else◌, not, ◌||◌, List, [], ◌∷◌, ◌++◌, Option, Some, None, is_some, filter, map}
 use Rattle.std.specs.List.{list_any}
 use Rattle.sshc_wire.specs.declared.record.Record.{Record}
-use Rattle.sshc_wire.specs.declared.record.Record.TheVariants.{Auth, Channel, Resolved, ServerOpened}
+use Rattle.sshc_wire.specs.declared.record.Record.TheVariants.{Channel, Resolved, ServerOpened}
 use Rattle.sshc_wire.specs.declared.channel_id.ChannelId.{ChannelId}
 use Rattle.sshc_wire.specs.declared.channel_record.ChannelRecord.TheVariants.{Close, Open}
 use Rattle.sshc_wire.specs.declared.resolution.Resolution.TheVariants.{Dropped}
@@ -20,23 +23,8 @@ pub record TicketState : Type 0 where
 
 -- ---- which records are a ticket's
 
--- the number of the ticket that a record names
-abbrev pub ticket_of : Record → Option ℕ
-ticket_of (Resolved ticket resolution) = Some ticket.0
-ticket_of (Auth ticket asked) = Some ticket.0
-ticket_of said = None
-
-abbrev pub is_number : ℕ → Option ℕ → Bool
-is_number number None = false
-is_number number (Some named) = nat_eq named number
-
 abbrev pub is_of : ℕ → Record → Bool
 is_of number said = is_number number (ticket_of said)
-
--- the number of the channel on which something happened
-abbrev pub channel_of : Record → Option ℕ
-channel_of (Channel id happened) = Some id.0
-channel_of said = None
 
 abbrev pub is_on : ℕ → Record → Bool
 is_on number said = is_number number (channel_of said)
@@ -71,18 +59,6 @@ unfoldable pub free_within : ℕ → TicketState → ℕ → Option ℕ
 free_within zero s number = None
 free_within (suc tries) s number = if is_taken s (number_after number) then free_within tries s (number_after number) else Some (number_after number)
 
--- ---- records that are taken
-
--- the first that passes, if there is one
-unfoldable pub first_of : {A : Type 0} → (A → Bool) → List A → Option A
-first_of test [] = None
-first_of test (x ∷ xs) = if test x then Some x else first_of test xs
-
--- all but the first that passes
-unfoldable pub without_first : {A : Type 0} → (A → Bool) → List A → List A
-without_first test [] = []
-without_first test (x ∷ xs) = if test x then xs else x ∷ without_first test xs
-
 -- ---- records that are held
 
 -- the tickets whose answer is due after a record: an answer settles its own
@@ -108,3 +84,20 @@ closed_with said closed = closed
 
 abbrev pub dropped : Ticket → Record
 dropped ticket = Resolved ticket Dropped
+
+-- ---- how tickets are kept: once the session is over the open ones are those that were dropped
+
+-- the tickets that are open
+abbrev pub left_due : Bool → List Ticket → List Ticket
+left_due true due = []
+left_due false due = due
+
+-- the records that are held, with those of dropped tickets
+abbrev pub held_at : Bool → List Record → List Ticket → List Record
+held_at true held due = held ++ map dropped due
+held_at false held due = held
+
+-- the number of the ticket that a record answers
+abbrev pub answered : Record → Option ℕ
+answered (Resolved ticket resolution) = Some ticket.0
+answered said = None

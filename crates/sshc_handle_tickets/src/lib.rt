@@ -8,4 +8,5 @@ pub use answers::{
     algs_answer, auth_answer, done_answer, open_answer, port_answer, prompt_answer, reply_answer,
 };
 pub use sshc_auth::{AuthResult, KeyboardInteractiveAuthResponse};
-pub use tickets::{Tickets, channel_of, ticket_of};
+pub use sshc_handle_line::{channel_of, ticket_of};
+pub use tickets::Tickets;

@@ -1,56 +1,39 @@
 //! The tickets that are open, and the records that are held until someone asks for them.
 
-ghost use Rattle.std.specs.Prelude.{◌≡◌, ◌+◌, ◌≤◌, ◌++◌, [], ◌∷◌, Some, false, length, map, filter, not, IfOk, IfSome, OnErr, OnOk};
+ghost use Rattle.std.specs.Prelude.{◌≡◌, ◌+◌, ◌≤◌, ◌++◌, [], ◌∷◌, Some, false, length, map, filter, not, take, IfOk, IfSome, OnErr, OnOk};
 ghost use Rattle.std.specs.List.{list_any};
 ghost use Rattle.std.specs.Vec.{vec_capacity, vec_len};
 ghost use Rattle.sshc_wire.specs.declared.channel_id.ChannelId.{ChannelId};
-ghost use Rattle.sshc_handle_tickets.specs.Tickets.{channel_in, channel_of, closed_behind, closed_with, dropped, first_of, free_within, is_channel, is_of, is_on, is_on_some, is_taken, is_ticket, number_after, opened_by, due_behind, ticket_of, without_first};
+ghost use Rattle.sshc_handle_tickets.specs.Tickets.{answered, channel_in, closed_behind, closed_with, dropped, due_behind, first_of, free_within, is_channel, is_of, is_on, is_on_some, is_taken, is_ticket, number_after, opened_by, without_first};
 
+use sshc_handle_line::Line;
 use sshc_wire::{ChannelId, ChannelRecord, NoMemory, Record, Resolution, Ticket};
 use std::alloc::Global;
+use std::collections::btree_map::Values;
 use std::marker::Model;
 
-/// The tickets whose answer is due, and the records that nobody has taken yet, the oldest first. There is room for an
-/// answer to each open ticket.
+/// The tickets whose answer is due, and the records that nobody has taken yet, the oldest first. Once the session is over
+/// the tickets that were open stand for their answers, that they were dropped. What is held is found by its number; only
+/// the closed channels are looked through.
 #[derive(Drop)]
 pub struct Tickets {
-    due: Vec<Ticket>,
-    held: Vec<Record>,
+    due: Line<Ticket>,
+    held: Line<Record>,
     closed: Vec<ChannelId>,
     last: u32,
+    is_over: bool,
 }
 
 impl Model for Tickets {
-    ghost use Rattle.std.specs.Prelude.{◌+◌, ◌≤◌};
+    ghost use Rattle.std.specs.Prelude.{◌+◌, ◌≤◌, length};
     ghost use Rattle.std.specs.Vec.{vec_capacity, vec_len};
-    ghost use Rattle.sshc_handle_tickets.specs.Tickets.{TicketState};
+    ghost use Rattle.sshc_handle_tickets.specs.Tickets.{TicketState, held_at, left_due};
 
     ghost Value = { TicketState };
 
-    ghost view = { λ t. record { due = t.due.items; held = t.held.items; closed = t.closed.items; last = t.last } };
+    ghost view = { λ t. record { due = left_due t.is_over t.due; held = held_at t.is_over t.held t.due; closed = t.closed.items; last = t.last } };
 
-    ghost invariant = { λ t. (vec_len t.held + vec_len t.due ≤ vec_capacity t.held) × (vec_len t.held + vec_len t.due + vec_len t.closed ≤ vec_capacity t.closed) };
-}
-
-/// The number of the ticket that a record names.
-pub fn ticket_of(said: &Record) -> Option<u32>
-    ensures { result ≡ ticket_of said.now }
-{
-    match said {
-        Record::Resolved { ticket, .. } => Some(ticket.0),
-        Record::Auth { ticket, .. } => Some(ticket.0),
-        _ => None,
-    }
-}
-
-/// The number of the channel on which something happened.
-pub fn channel_of(said: &Record) -> Option<u32>
-    ensures { result ≡ channel_of said.now }
-{
-    match said {
-        Record::Channel { id, .. } => Some(id.0),
-        _ => None,
-    }
+    ghost invariant = { λ t. length t.held + vec_len t.closed ≤ vec_capacity t.closed };
 }
 
 /// The number of the channel that a record opens.
@@ -67,38 +50,13 @@ fn opened_by(said: &Record) -> Option<u32>
     }
 }
 
-fn is_on(number: u32, said: &Record) -> bool
-    ensures { result ≡ is_on number said.now }
-{
-    match channel_of(said) {
-        Some(named) => named == number,
-        None => false,
-    }
-}
-
-/// Whether the record is of what happened on a channel.
-fn is_on_some(said: &Record) -> bool
-    ensures { result ≡ is_on_some said.now }
-{
-    channel_of(said).is_some()
-}
-
-/// The channel on which something happened.
-fn channel_in(said: &Record) -> Option<ChannelId>
-    ensures { result ≡ channel_in (Some said.now) }
+/// The number of the ticket that a record answers.
+fn answered(said: &Record) -> Option<u32>
+    ensures { result ≡ answered said.now }
 {
     match said {
-        Record::Channel { id, .. } => Some(*id),
+        Record::Resolved { ticket, .. } => Some(ticket.0),
         _ => None,
-    }
-}
-
-fn is_of(number: u32, said: &Record) -> bool
-    ensures { result ≡ is_of number said.now }
-{
-    match ticket_of(said) {
-        Some(named) => named == number,
-        None => false,
     }
 }
 
@@ -115,10 +73,11 @@ impl Tickets {
         ensures { result ≡ record { due = []; held = []; closed = []; last = 0 } }
     {
         Tickets {
-            due: Vec::new(alloc),
-            held: Vec::new(alloc),
+            due: Line::new(alloc),
+            held: Line::new(alloc),
             closed: Vec::new(alloc),
             last: 0,
+            is_over: false,
         }
     }
 
@@ -126,14 +85,15 @@ impl Tickets {
     pub fn is_due(&self, number: u32) -> bool
         ensures { result ≡ list_any (is_ticket number) self.now.due }
     {
-        self.due.iter().any(|ticket| ticket.0 == number)
+        !self.is_over && self.due.has_ticket(number)
     }
 
     /// Whether a record is held that names a ticket of this number.
+    #[tactic(auto, using(crate::proofs::Over::named_over))]
     fn is_named(&self, number: u32) -> bool
         ensures { result ≡ list_any (is_of number) self.now.held }
     {
-        self.held.iter().any(|said| is_of(number, said))
+        self.held.has_ticket(number) || self.is_over && self.due.has_ticket(number)
     }
 
     fn is_taken(&self, number: u32) -> bool
@@ -142,7 +102,7 @@ impl Tickets {
         self.is_due(number) || self.is_named(number)
     }
 
-    #[tactic(auto, using(crate::proofs::Free::free_found, crate::proofs::Free::free_later, crate::proofs::Free::free_none))]
+    #[tactic(auto, using(crate::proofs::Free::free_found, crate::proofs::Free::free_later, crate::proofs::Free::free_none, crate::proofs::Over::count_over))]
     /// The first number after the last one opened that isn't taken.
     fn free(&self) -> Option<u32>
         ensures { result ≡ free_within (length self.now.due + length self.now.held + 1) self.now self.now.last }
@@ -158,68 +118,53 @@ impl Tickets {
     }
 
     /// Opens a ticket, with the room for its answer. Its number is the first after the last one opened that is neither
-    /// open nor named by a held record; if no number is free, it returns `NoMemory`.
+    /// open nor named by a held record; if no number is free, it returns `NoMemory`, and so it does behind `drop_open`.
     pub fn open_ticket(&mut self) -> Result<Ticket, NoMemory>
         ensures number { IfOk result (λ ticket. free_within (length self.old.due + length self.old.held + 1) self.old self.old.last ≡ Some ticket.0) }
         ensures opened { IfOk result (λ ticket. self.new ≡ record self.old { due = self.old.due ++ ticket ∷ []; last = ticket.0 }) }
         ensures err { OnErr result (self.new ≡ self.old) }
     {
+        if self.is_over {
+            return Err(NoMemory);
+        }
         let Some(number) = self.free() else {
             return Err(NoMemory);
         };
-        self.held.reserve(self.due.len() + 1)?;
-        self.closed.reserve(self.held.len() + self.due.len() + 1)?;
         self.due.push(Ticket(number))?;
         self.last = number;
         Ok(Ticket(number))
     }
 }
 
-#[tactic(auto, using(crate::proofs::Firsts::first_found, crate::proofs::Firsts::first_cut, crate::proofs::Firsts::none_found, crate::proofs::Firsts::none_cut, crate::proofs::Firsts::passed_on))]
-/// Takes the first record that this ticket's number names.
-fn take_first_of(held: &mut Vec<Record>, number: u32) -> Option<Record>
-    ensures taken { result ≡ first_of (is_of number) held.old.items }
-    ensures rest { held.new.items ≡ without_first (is_of number) held.old.items }
-    ensures room { vec_capacity held.new ≡ vec_capacity held.old }
-    ensures fewer { vec_len held.new ≤ vec_len held.old }
-    ensures one { IfSome result (λ said. vec_len held.new + 1 ≡ vec_len held.old) }
+/// Takes the answer of a ticket that was dropped.
+#[tactic(auto, using(crate::proofs::Over::first_dropped, crate::proofs::Over::none_dropped, crate::proofs::Over::without_dropped))]
+fn take_dropped(dropped_tickets: &mut Line<Ticket>, number: u32) -> Option<Record>
+    ensures taken { result ≡ first_of (is_of number) (map dropped dropped_tickets.old) }
+    ensures rest { map dropped dropped_tickets.new ≡ without_first (is_of number) (map dropped dropped_tickets.old) }
 {
-    for at in 0..held.len() {
-        if is_of(number, &held[at]) {
-            return Some(held.remove(at));
-        }
+    match dropped_tickets.take_of_ticket(number) {
+        Some(ticket) => Some(Record::Resolved {
+            ticket,
+            resolution: Resolution::Dropped,
+        }),
+        None => None,
     }
-    None
 }
 
-#[tactic(auto, using(crate::proofs::Firsts::first_found, crate::proofs::Firsts::first_cut, crate::proofs::Firsts::none_found, crate::proofs::Firsts::none_cut, crate::proofs::Firsts::passed_on))]
-/// Takes the first record of what happened on the channel of this number.
-fn take_first_on(held: &mut Vec<Record>, number: u32) -> Option<Record>
-    ensures taken { result ≡ first_of (is_on number) held.old.items }
-    ensures rest { held.new.items ≡ without_first (is_on number) held.old.items }
-    ensures room { vec_capacity held.new ≡ vec_capacity held.old }
-    ensures fewer { vec_len held.new ≤ vec_len held.old }
-    ensures one { IfSome result (λ said. vec_len held.new + 1 ≡ vec_len held.old) }
+/// Takes the first record that names a ticket, or else the answer of one that was dropped.
+#[tactic(auto, using(crate::proofs::Over::some_front, crate::proofs::Over::some_cut, crate::proofs::Over::none_front, crate::proofs::Over::none_cut))]
+fn take_behind(
+    held: &mut Line<Record>,
+    dropped_tickets: &mut Line<Ticket>,
+    number: u32,
+) -> Option<Record>
+    ensures taken { result ≡ first_of (is_of number) (held.old ++ map dropped dropped_tickets.old) }
+    ensures rest { held.new ++ map dropped dropped_tickets.new ≡ without_first (is_of number) (held.old ++ map dropped dropped_tickets.old) }
+    ensures fewer { length held.new ≤ length held.old }
 {
-    for at in 0..held.len() {
-        if is_on(number, &held[at]) {
-            return Some(held.remove(at));
-        }
-    }
-    None
-}
-
-#[tactic(auto, using(crate::proofs::Firsts::first_found, crate::proofs::Firsts::first_cut, crate::proofs::Firsts::none_found, crate::proofs::Firsts::none_cut, crate::proofs::Firsts::passed_on))]
-/// Removes the first ticket of this number, if there is one.
-fn settle(due: &mut Vec<Ticket>, number: u32)
-    ensures rest { due.new.items ≡ without_first (is_ticket number) due.old.items }
-    ensures fewer { vec_len due.new ≤ vec_len due.old }
-{
-    for at in 0..due.len() {
-        if due[at].0 == number {
-            let _ticket = due.remove(at);
-            return;
-        }
+    match held.take_of_ticket(number) {
+        Some(said) => Some(said),
+        None => take_dropped(dropped_tickets, number),
     }
 }
 
@@ -233,11 +178,12 @@ fn forget(closed: &mut Vec<ChannelId>, number: u32)
 }
 
 impl Tickets {
-    /// The records that nobody has taken yet, the oldest first.
-    pub fn held(&self) -> &[Record]
-        ensures { result.now ≡ self.now.held }
+    /// The records that nobody has taken yet, the oldest first, but for those of tickets that were dropped.
+    #[tactic(auto, using(crate::proofs::Over::front_held))]
+    pub fn held(&self) -> Values<'_, u64, Record>
+        ensures { take (length result) self.now.held ≡ result }
     {
-        self.held.as_slice()
+        self.held.iter()
     }
 
     /// Takes the oldest record that is held for this ticket.
@@ -245,16 +191,21 @@ impl Tickets {
         ensures taken { result ≡ first_of (is_of ticket.0) self.old.held }
         ensures rest { self.new ≡ record self.old { held = without_first (is_of ticket.0) self.old.held } }
     {
-        take_first_of(&mut self.held, ticket.0)
+        if self.is_over {
+            take_behind(&mut self.held, &mut self.due, ticket.0)
+        } else {
+            self.held.take_of_ticket(ticket.0)
+        }
     }
 
     /// Takes the oldest record that is held of what happened on this channel. With its close the channel counts as
     /// closed.
+    #[tactic(auto, using(crate::proofs::Over::on_first, crate::proofs::Over::on_rest))]
     pub fn poll_channel(&mut self, id: ChannelId) -> Option<Record>
         ensures taken { result ≡ first_of (is_on id.0) self.old.held }
         ensures rest { self.new ≡ record self.old { held = without_first (is_on id.0) self.old.held; closed = closed_with result self.old.closed } }
     {
-        let said = take_first_on(&mut self.held, id.0);
+        let said = self.held.take_on_channel(id.0);
         if let Some(
             Record::Channel {
                 id,
@@ -268,23 +219,19 @@ impl Tickets {
     }
 
     /// Whether a record is held of what happened on this channel.
+    #[tactic(auto, using(crate::proofs::Over::on_any))]
     pub fn holds_of(&self, id: ChannelId) -> bool
         ensures { result ≡ list_any (is_on id.0) self.now.held }
     {
-        self.held.iter().any(|said| is_on(id.0, said))
+        self.held.has_channel(id.0)
     }
 
-    #[tactic(auto, using(crate::proofs::Happened::channel_found, crate::proofs::Happened::no_channel, crate::proofs::Firsts::passed_on))]
+    #[tactic(auto, using(crate::proofs::Over::channel_some, crate::proofs::Over::channel_none))]
     /// The channel of the oldest record that is held of what happened on a channel; `None` if none is held.
     pub fn first_channel(&self) -> Option<ChannelId>
         ensures { result ≡ channel_in (first_of is_on_some self.now.held) }
     {
-        for at in 0..self.held.len() {
-            if is_on_some(&self.held[at]) {
-                return channel_in(&self.held[at]);
-            }
-        }
-        None
+        Some(ChannelId(self.held.first_channel()?))
     }
 
     /// Whether the close of this channel was taken.
@@ -303,50 +250,37 @@ impl Tickets {
         }
     }
 
-    /// Holds a record; an answer settles its ticket.
+    /// Holds a record; an answer settles its ticket. Behind `drop_open` it returns `NoMemory`.
+    #[tactic(auto, using(crate::proofs::Over::settled, crate::proofs::Over::unsettled))]
     pub fn hold(&mut self, said: Record) -> Result<(), NoMemory>
         ensures ok { OnOk result (self.new ≡ record self.old { due = due_behind said self.old.due; held = self.old.held ++ said ∷ []; closed = closed_behind (opened_by said) self.old.closed }) }
         ensures err { OnErr result (self.new ≡ self.old) }
     {
-        if let Err(refused) = self.held.reserve(self.due.len() + 1) {
+        if self.is_over {
+            drop(said);
+            return Err(NoMemory);
+        }
+        if let Err(refused) = self.closed.reserve(self.held.len() + 1) {
             drop(said);
             return Err(refused.into());
         }
-        let most = self.held.len() + self.due.len() + 1;
-        if let Err(refused) = self.closed.reserve(most) {
-            drop(said);
-            return Err(refused.into());
-        }
-        if let Some(number) = opened_by(&said) {
+        let opened = opened_by(&said);
+        let answered = answered(&said);
+        self.held.push(said)?;
+        if let Some(number) = opened {
             forget(&mut self.closed, number);
         }
-        if let Record::Resolved { ticket, .. } = &said {
-            settle(&mut self.due, ticket.0);
+        if let Some(number) = answered {
+            let _ticket = self.due.take_of_ticket(number);
         }
-        self.held.push_reserved(said);
         Ok(())
     }
 
-    /// Settles every open ticket as dropped, in the room that was reserved when it was opened.
+    /// Settles every open ticket as dropped, without taking memory. From then on no ticket is opened and nothing is held.
+    #[tactic(auto, using(crate::proofs::Over::all_dropped))]
     pub fn drop_open(&mut self)
         ensures { self.new ≡ record self.old { due = []; held = self.old.held ++ map dropped self.old.due } }
     {
-        push_dropped(&mut self.held, &self.due);
-        self.due.clear();
-    }
-}
-
-/// An answer for each ticket, as dropped.
-fn push_dropped(held: &mut Vec<Record>, due: &[Ticket])
-    requires { vec_len held.old + length due.now ≤ vec_capacity held.old }
-    ensures held { held.new.items ≡ held.old.items ++ map dropped due.now }
-    ensures room { vec_capacity held.new ≡ vec_capacity held.old }
-    ensures more { vec_len held.new ≡ vec_len held.old + length due.now }
-{
-    for at in 0..due.len() {
-        held.push_reserved(Record::Resolved {
-            ticket: due[at],
-            resolution: Resolution::Dropped,
-        });
+        self.is_over = true;
     }
 }

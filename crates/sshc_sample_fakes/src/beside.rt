@@ -5,10 +5,9 @@ use crate::keeper::Keeper;
 use crate::server::Server;
 use crate::transport::FakeTransport;
 use sshc_client::Error;
-use sshc_handle::{Handle, Runner};
+use sshc_handle::{Handle, Runner, at_once};
 use sshc_toy::{RefusingVerifier, ToySigner};
 use std::sync::Wait;
-use std::thread;
 use std::thread::Threads;
 use std::time::Clock;
 
@@ -30,19 +29,5 @@ pub fn run_beside<
 >(rt: &R, handle: &Handle<Keeper>, runner: FakeRunner<P>, user: F) -> (A, Result<(), Error>)
     requires { F.IsAlwaysCallable user }
 {
-    thread::join(rt, || user(handle), || runner.run(rt))
-}
-
-/// Uses a session from two threads at once, and returns what each use returned.
-pub fn at_once<
-    A: Send,
-    B,
-    F: FnOnce(&Handle<Keeper>) -> A + Send,
-    G: FnOnce(&Handle<Keeper>) -> B,
-    R: Threads,
->(rt: &R, handle: &Handle<Keeper>, first: F, second: G) -> (A, B)
-    requires first { F.IsAlwaysCallable first }
-    requires second { G.IsAlwaysCallable second }
-{
-    thread::join(rt, || first(handle), || second(handle))
+    at_once(rt, handle, user, |_handle| runner.run(rt))
 }

@@ -4,6 +4,7 @@
 
 mod beside;
 mod clock;
+mod far;
 mod host;
 mod keeper;
 mod keys;
@@ -11,11 +12,13 @@ mod server;
 mod sessions;
 mod transport;
 
-pub use beside::{FakeRunner, at_once, run_beside};
+pub use beside::{FakeRunner, run_beside};
 pub use clock::{StillClock, TickingClock};
+pub use far::{FarServer, FarTransport, across_threads};
 pub use host::{HOST_KEY, Host};
 pub use keeper::Keeper;
 pub use keys::{fake_certificate, fake_key, fake_pair};
 pub use server::{Coming, Server};
 pub use sessions::{hosted, opened};
+pub use sshc_handle::at_once;
 pub use transport::FakeTransport;

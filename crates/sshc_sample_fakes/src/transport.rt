@@ -1,15 +1,10 @@
 //! A transport over memory.
 
-ghost use Rattle.std.specs.Prelude.{◌≤◌, IfSome, IsTrue, IsSome, ◌↔◌, length, ◌≡◌, true, None};
-ghost use Rattle.sshc_transport.specs.Transports.{AreShortNames, IsShortEvent, IsShortExchange, IsShortKey, IsShortPart};
-
 use crate::server::{Coming, Server};
-use sshc_transport::{ExchangeKey, ExchangeResult, NamesChosen, Transport, TransportEvent};
+use sshc_handle::is_short;
+use sshc_transport::{Transport, TransportEvent};
 use sshc_wire::{Failed, NoMemory};
 use std::alloc::Global;
-
-/// The most bytes of one part.
-const LONGEST: usize = 262_144;
 
 /// A transport whose server is in memory. Contracts don't see what was passed to it.
 #[derive(Drop)]
@@ -40,54 +35,6 @@ impl<P: Server + Drop> FakeTransport<P> {
     /// The server closes the stream after what it sent.
     pub fn ends(&mut self) {
         self.coming.end();
-    }
-}
-
-fn is_short_key(key: &ExchangeKey) -> bool
-    ensures { result ≡ true → IsShortKey key.now }
-{
-    match key {
-        ExchangeKey::Missing => true,
-        ExchangeKey::Key(blob) => blob.as_slice().len() <= LONGEST,
-        ExchangeKey::Certificate(blob) => blob.as_slice().len() <= LONGEST,
-    }
-}
-
-fn are_short(names: &NamesChosen) -> bool
-    ensures { result ≡ true → AreShortNames names.now }
-{
-    let names = names.names();
-    names.kex.as_str().len() <= LONGEST
-        && names.key.as_str().len() <= LONGEST
-        && names.cipher.as_str().len() <= LONGEST
-        && names.client_mac.as_str().len() <= LONGEST
-        && names.server_mac.as_str().len() <= LONGEST
-}
-
-fn is_short_exchange(exchange: &ExchangeResult) -> bool
-    ensures { result ≡ true → IsShortExchange exchange.now }
-{
-    let secret = match &exchange.secret {
-        Some(secret) => secret.as_slice().len() <= LONGEST,
-        None => true,
-    };
-    secret
-        && is_short_key(&exchange.key)
-        && exchange.session_hash.as_slice().len() <= LONGEST
-        && exchange.signature.as_slice().len() <= LONGEST
-        && are_short(&exchange.names)
-}
-
-fn is_short(event: &TransportEvent) -> bool
-    ensures { result ≡ true → IsShortEvent event.now }
-{
-    match event {
-        TransportEvent::Done(exchange) => is_short_exchange(exchange),
-        TransportEvent::Payload(packet) => packet.as_slice().len() <= LONGEST,
-        TransportEvent::PeerKexinit
-        | TransportEvent::Failed
-        | TransportEvent::RekeyLimit
-        | TransportEvent::Quiet => true,
     }
 }
 

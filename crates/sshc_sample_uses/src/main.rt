@@ -5,13 +5,12 @@
 mod faces;
 
 use sshc_client::{ChannelMsg, Config, Error};
-use sshc_handle::{AuthResult, Handle, connect_stream};
+use sshc_handle::{AuthResult, Handle, at_once, connect_stream};
 use sshc_sample_fakes::{FakeTransport, Host, Keeper, StillClock};
 use sshc_toy::{RefusingVerifier, ToySigner};
 use sshc_wire::Disconnect;
 use std::alloc::Global;
 use std::sync::Wait;
-use std::thread;
 
 /// The output of a command, and its status.
 #[derive(Drop)]
@@ -76,10 +75,11 @@ fn main(rt: HostRuntime) -> anyhow::Result<()> {
         RefusingVerifier,
         StillClock(0),
     )?;
-    let (output, _left) = thread::join(
+    let (output, _left) = at_once(
         &rt,
-        || greet_and_leave(&rt, alloc, &handle),
-        || runner.run(&rt),
+        &handle,
+        |handle| greet_and_leave(&rt, alloc, handle),
+        |_handle| runner.run(&rt),
     );
     let output = output?;
     print!(&rt;

@@ -2,6 +2,8 @@
 #![tactic(auto)]
 
 #[cfg(test)]
+mod agents;
+#[cfg(test)]
 mod answers;
 #[cfg(test)]
 mod calls;
@@ -10,13 +12,19 @@ mod connecting;
 #[cfg(test)]
 mod defaults;
 #[cfg(test)]
+mod leaving;
+#[cfg(test)]
 mod logins;
+#[cfg(test)]
+mod looking;
 #[cfg(test)]
 mod maker;
 #[cfg(test)]
 mod packets;
 #[cfg(test)]
 mod payloads;
+#[cfg(test)]
+mod proving;
 #[cfg(test)]
 mod rules;
 #[cfg(test)]

@@ -49,6 +49,21 @@ impl Server for Script {
     }
 }
 
+/// A server that awaits these packets, and goes on behind an exchange that the client begins.
+pub(crate) fn awaiting(alloc: Global, lines: &'static [Line]) -> Script {
+    script_with(alloc, lines, b"")
+}
+
+/// The same with a last packet.
+fn script_with(alloc: Global, lines: &'static [Line], last: &'static [u8]) -> Script {
+    Script {
+        host: Host::new(alloc, 1),
+        lines,
+        at: 0,
+        last,
+    }
+}
+
 /// A session over such a server, which its first exchange opens unless it has to log in.
 pub(crate) fn scripted(
     alloc: Global,
@@ -65,16 +80,10 @@ pub(crate) fn parting(
     lines: &'static [Line],
     last: &'static [u8],
 ) -> Result<(Handle<Keeper>, FakeRunner<Script>), Error> {
-    let host = Host::new(alloc, 1);
-    let coming = host.greeting()?;
+    let coming = Host::new(alloc, 1).greeting()?;
     let mut config = Config::default_in(alloc)?;
     config.anonymous = anonymous;
-    let script = Script {
-        host,
-        lines,
-        at: 0,
-        last,
-    };
+    let script = script_with(alloc, lines, last);
     connect_stream(
         alloc,
         config,

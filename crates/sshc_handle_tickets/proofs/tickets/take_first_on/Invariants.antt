@@ -1,7 +1,0 @@
-use Rattle.std.proofs.Common.{◌≡◌}
-use Rattle.sshc_handle_tickets.specs.Tickets.{is_on}
-use Rattle.sshc_handle_tickets.proofs.Firsts.{IsPassed}
-use Rattle.sshc_handle_tickets.proofs.tickets.take_first_on.Given as goal
-
-abbrev pub invariant-loop-at : goal.invariant-loop-at
-invariant-loop-at l = record { same : l.held ≡ l.initial.held; passed : IsPassed (is_on l.number) l.held.items l.at }

@@ -1,9 +1,0 @@
-use denote.Param.Send.{sendable}
-use Rattle.std.proofs.Crossing.{crosses}
-use Rattle.sshc_handle.proofs.Sending.{handle_sync}
-use Rattle.sshc_sample_fakes.proofs.beside.run_beside.Goals as goal
-
--- the closure holds the use and the handle
-pub join-requires-send-F : goal.join-requires-send-F
-join-requires-send-F g c κs within =
-    let f = c.type_bounds.send-F in search (handle_sync, sendable, crosses) depth 20 fits 20000
