@@ -1,9 +1,11 @@
 #!/usr/bin/env python3
-"""What `sshc agent SOCKET` bears, outside the gate: more connections than it has descriptors for, and any umask; and that it
-refuses a folder that others enter. It starts and stops the agent itself.
+"""What an agent of this repository bears, outside the gate: more connections than it has descriptors for, and any umask;
+and that it refuses a folder that others enter. It starts and stops the agent itself.
 
 Usage: examples/agent/lasting.py COMMAND [WORDS..]
-COMMAND runs the program: crates/sshc/out/sshc after `rt run` there, or before any proof `rt try --seconds 600 --` there.
+COMMAND and WORDS run the agent, with the socket's path behind them: crates/sshc/out/sshc agent, or
+crates/sshc_agent_main/out/sshc_agent_main, after `rt run` in that crate; before any proof `rt try --seconds 600 --` in
+crates/sshc_agent_main, or with `agent` behind it in crates/sshc.
 """
 import os
 import resource
@@ -25,7 +27,7 @@ NOT_BOUND = 46
 
 def start(command, path, umask=0o077):
     return subprocess.Popen(
-        [*command, "agent", path], umask=umask, stdin=subprocess.DEVNULL, stdout=subprocess.DEVNULL, stderr=subprocess.DEVNULL
+        [*command, path], umask=umask, stdin=subprocess.DEVNULL, stdout=subprocess.DEVNULL, stderr=subprocess.DEVNULL
     )
 
 

@@ -20,6 +20,7 @@ use Rattle.sshc_agent_shared.specs.contracts.shared.AgentShared as AgentShared
 use Rattle.sshc_agent_shared.specs.contracts.seat.Seat as Seat
 use Rattle.sshc_agent_shared.specs.contracts.room.Rooms as Rooms
 use Rattle.sshc_agent_shared.proofs.bytes.KeptBytes.TheSendSync as bytes
+use Rattle.sshc_agent_shared.proofs.form.Both.TheSendSync as both
 use Rattle.sshc_agent_shared.proofs.kept.KeptCall.TheSendSync as call
 use Rattle.sshc_agent_shared.proofs.kept.KeptEntry.TheSendSync as entry
 use Rattle.sshc_agent.specs.contracts.seats.Seats as Seats
@@ -33,7 +34,7 @@ pub private_send : IsSend PrivateKey.the_row
 private_send = core.private_send
 
 rooms_send : IsSend (Rooms.the_field).row
-rooms_send = search (bytes.the_send, sendable, crosses) depth 20 fits 20000
+rooms_send = search (bytes.the_send, both.the_field_send, sendable, crosses) depth 30 fits 60000
 
 module _ (L : RattleType) (n : Named L.Denot) (g : Ghosts L.Denot) (l : IsSend L) where
   generation_send : IsSend (Generation.the_row L n g)

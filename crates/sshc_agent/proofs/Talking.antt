@@ -14,7 +14,9 @@ use Rattle.sshc_agent_core.specs.FrameLaws.{gives_more, gives_on, pushed_on}
 use Rattle.sshc_agent_shared.specs.declared.call.Call.{Call}
 use Rattle.sshc_agent_shared.specs.Kept.{SeatState}
 use Rattle.sshc_agent.specs.declared.turn.Next.TheVariants as steps
-use Rattle.sshc_agent.specs.Talk.{AllGoOn, Allows, Closes, Confirms, Ending, EndsLast, Fetched, FitsQuestion, Follows, GoesOn, IsCall, IsClose, IsClosed, IsRefused, Last, EndsWith, Opens, Question, RanOut, Serves, Serving, StreamSeen, Turned, closed, framed, framed_in, key, question, read_failed, refused, replies_of, reply, request, starved, whole, write_failed}
+use Rattle.sshc_agent.specs.declared.turn.Ended.{Ended}
+use Rattle.sshc_agent.specs.declared.turn.Ended.TheVariants as ends
+use Rattle.sshc_agent.specs.Talk.{AllGoOn, Allows, Closes, Confirms, Ending, EndsLast, Fetched, FitsQuestion, Follows, GoesOn, IsCall, IsClose, IsClosed, IsRefused, Last, EndsWith, Opens, Question, RanOut, Returns, Serves, Serving, StreamSeen, Turned, closed, framed, framed_in, key, question, read_failed, refused, replies_of, reply, request, starved, whole, write_failed}
 
 -- ---- bytes
 
@@ -446,14 +448,12 @@ module _ (allows : Allows) (confirms : Confirms) (before : StreamSeen) (seat0 : 
     pub asks_turn : (given : AgentInput) → Turned allows confirms input mid next seat seat' (steps.Asks given) → Serving allows confirms before next seat0 seat' frames' (Some given)
     asks_turn given (c, is, (q, asks, fits, silent, same)) = round_asks given c q is asks fits silent same
 
-    pub refused_turn : Turned allows confirms input mid next seat seat' steps.Refused → Serves allows confirms before next seat0 seat' (Ok tt)
-    refused_turn (is, same) = round_refused is same
-
-    pub closed_turn : Turned allows confirms input mid next seat seat' steps.Closed → Serves allows confirms before next seat0 seat' (Ok tt)
-    closed_turn (c, is, (shut, same)) = round_closed c is shut same
-
-    pub write_failed_turn : Turned allows confirms input mid next seat seat' steps.WriteFailed → Serves allows confirms before next seat0 seat' (Ok tt)
-    write_failed_turn (c, is, (none, (front, rest, parts, wrote), rose)) = round_write_failed c is none front rest parts wrote rose
-
-    pub starved_turn : (e : NoMemory) → Turned allows confirms input mid next seat seat' steps.Starved → Serves allows confirms before next seat0 seat' (Err e)
-    starved_turn e (c, is, (none, (front, rest, parts, wrote))) = round_starved e c is none front rest parts wrote
+    pub ended_turn : (ended : Ended) (result : Result (Unit {0}) NoMemory) → Returns ended result → Turned allows confirms input mid next seat seat' (steps.Ends ended) → Serves allows confirms before next seat0 seat' result
+    ended_turn ends.Refused (Ok done) returns (is, same) = round_refused is same
+    ended_turn ends.Refused (Err e) returns t = absurd returns
+    ended_turn ends.Closed (Ok done) returns (c, is, (shut, same)) = round_closed c is shut same
+    ended_turn ends.Closed (Err e) returns t = absurd returns
+    ended_turn ends.WriteFailed (Ok done) returns (c, is, (none, (front, rest, parts, wrote), rose)) = round_write_failed c is none front rest parts wrote rose
+    ended_turn ends.WriteFailed (Err e) returns t = absurd returns
+    ended_turn ends.Starved (Ok done) returns t = absurd returns
+    ended_turn ends.Starved (Err e) returns (c, is, (none, (front, rest, parts, wrote))) = round_starved e c is none front rest parts wrote

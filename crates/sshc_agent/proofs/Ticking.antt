@@ -14,7 +14,10 @@ use Rattle.sshc_agent_shared.specs.Calls.{call_of}
 use Rattle.sshc_agent_shared.specs.Closing.{Tells}
 use Rattle.sshc_agent_shared.specs.Kept.{SeatState, refused_once}
 use Rattle.sshc_agent.specs.Moments.{IsTick, Timed, TimedSoFar, moments_of}
-use Rattle.sshc_agent.specs.Talk.{Closes, IsCall, IsRefused}
+use Rattle.sshc_agent.specs.declared.turn.Next.TheVariants as steps
+use Rattle.sshc_agent.specs.declared.turn.Ended.{Ended}
+use Rattle.sshc_agent.specs.declared.turn.Ended.TheVariants as ends
+use Rattle.sshc_agent.specs.Talk.{Allows, Closes, Confirms, IsCall, IsRefused, StreamSeen, Turned}
 
 -- ---- one call
 
@@ -89,6 +92,13 @@ module _ (told0 : Option (List ℕ)) (seat0 : SeatState) where
           moments = t.tick ∙ (ap (λ (x : Option (List ℕ)). append x (t.now ∷ [])) s.moments ∙ append-append told0 (moments_of s.added) (t.now ∷ []));
           once = inr (refl, subst (λ (n : ℕ). Rose n seat'.refused) s.unrefused is.counted);
         }
+
+    -- whatever it ended by
+    pub ended_last : (allows : Allows) (confirms : Confirms) (input : AgentInput) (before after : StreamSeen) (ended : Ended) → Turned allows confirms input before after seat seat' (steps.Ends ended) → Timed told0 told' seat0 seat'
+    ended_last allows confirms input before after ends.Refused t = refused_last t.0
+    ended_last allows confirms input before after ends.Closed t = called_last input t.0 t.1
+    ended_last allows confirms input before after ends.WriteFailed t = called_last input t.0 t.1
+    ended_last allows confirms input before after ends.Starved t = called_last input t.0 t.1
 
     pub closed_last : Closes seat seat' → Timed told0 told' seat0 seat'
     closed_last (inl (c, is, silent, unsaid)) = called_last inputs.Close c is

@@ -15,6 +15,8 @@ use Rattle.sshc_agent_shared.specs.declared.call.Call.{Call}
 use Rattle.sshc_agent_shared.specs.Kept.{SeatState}
 use Rattle.sshc_agent.specs.declared.turn.Next.{Next}
 use Rattle.sshc_agent.specs.declared.turn.Next.TheVariants as steps
+use Rattle.sshc_agent.specs.declared.turn.Ended.{Ended}
+use Rattle.sshc_agent.specs.declared.turn.Ended.TheVariants as ends
 
 -- ---- questions
 
@@ -224,15 +226,21 @@ abbrev pub Answered : Allows → Confirms → StreamSeen → StreamSeen → Agen
 Answered allows confirms before after output steps.Goes = (IsClosed output → ⊥) × (question output ≡ None) × (after.held ≡ append before.held (reply output))
 Answered allows confirms before after output (steps.Asks answer) =
     (asked : Question) × (question output ≡ Some asked) × FitsQuestion allows confirms (Some asked) answer × (reply output ≡ []) × (after.held ≡ before.held)
-Answered allows confirms before after output steps.Refused = ⊥
-Answered allows confirms before after output steps.Closed = IsClosed output × (after.held ≡ before.held)
-Answered allows confirms before after output steps.WriteFailed = (question output ≡ None) × WroteFront before after (reply output) × Rose before.write_faults after.write_faults
-Answered allows confirms before after output steps.Starved = (question output ≡ None) × WroteFront before after (reply output)
+Answered allows confirms before after output (steps.Ends ends.Refused) = ⊥
+Answered allows confirms before after output (steps.Ends ends.Closed) = IsClosed output × (after.held ≡ before.held)
+Answered allows confirms before after output (steps.Ends ends.WriteFailed) = (question output ≡ None) × WroteFront before after (reply output) × Rose before.write_faults after.write_faults
+Answered allows confirms before after output (steps.Ends ends.Starved) = (question output ≡ None) × WroteFront before after (reply output)
 
 -- the effect of one call, by what comes after it
 abbrev pub Turned : Allows → Confirms → AgentInput → StreamSeen → StreamSeen → SeatState → SeatState → Next → Type 0
-Turned allows confirms input before after seat seat' steps.Refused = IsRefused seat seat' × (after.held ≡ before.held)
+Turned allows confirms input before after seat seat' (steps.Ends ends.Refused) = IsRefused seat seat' × (after.held ≡ before.held)
 Turned allows confirms input before after seat seat' next = (call : Call) × IsCall seat seat' input call × Answered allows confirms before after call.output next
+
+-- the serving returns out of memory only where memory ran out
+abbrev pub Returns : Ended → Result (Unit {0}) NoMemory → Type 0
+Returns ends.Starved result = RanOut result
+Returns ended (Ok done) = Unit {0}
+Returns ended (Err e) = ⊥
 
 -- the call of Close, which asks no question and writes nothing; or it was refused
 abbrev pub Closes : SeatState → SeatState → Type 0

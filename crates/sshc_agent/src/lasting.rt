@@ -5,7 +5,7 @@ ghost use Rattle.sshc_agent.specs.Signing.{SignsLasting};
 
 use crate::fetching::fetch;
 use crate::outside::Agent;
-use crate::turn::{Next, follow};
+use crate::turn::{Ended, Next, follow};
 use sshc_agent_core::{AgentInput, AgentOutput, Frames};
 use sshc_agent_shared::{AgentLasting, Keeper, LastingRefused, Settings};
 use sshc_key::LocalSigner;
@@ -52,7 +52,7 @@ fn lasting_turn<
     ensures signs { SignsLasting L.asks conn (G.calls signer.old) (G.calls signer.new) }
 {
     match lasting_called(rt, shared, conn, input, signer, clock, keeper) {
-        Err(_) => Next::Refused,
+        Err(_) => Next::Ends(Ended::Refused),
         Ok(output) => follow(output, stream, agent),
     }
 }
@@ -105,10 +105,7 @@ pub fn serve_lasting_one<
             ) {
                 Next::Goes => answer = None,
                 Next::Asks(input) => answer = Some(input),
-                Next::Refused => return Ok(()),
-                Next::Closed => return Ok(()),
-                Next::WriteFailed => return Ok(()),
-                Next::Starved => return Err(NoMemory),
+                Next::Ends(ended) => return ended.result(),
             },
         }
     }

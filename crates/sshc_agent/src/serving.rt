@@ -62,10 +62,7 @@ pub fn serve_one<
                 match next {
                     Next::Goes => answer = None,
                     Next::Asks(input) => answer = Some(input),
-                    Next::Refused => return (seat, Ok(())),
-                    Next::Closed => return (seat, Ok(())),
-                    Next::WriteFailed => return (seat, Ok(())),
-                    Next::Starved => return (seat, Err(NoMemory)),
+                    Next::Ends(ended) => return (seat, ended.result()),
                 }
             }
         }

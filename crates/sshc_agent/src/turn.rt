@@ -6,13 +6,13 @@ ghost use Rattle.sshc_wire.specs.Faults.{HasCause};
 ghost use Rattle.sshc_agent_shared.specs.declared.call.Call.{Call as Kept};
 ghost use Rattle.sshc_agent.specs.Moments.{IsTick};
 ghost use Rattle.sshc_agent.specs.Signing.{Caused, Signs};
-ghost use Rattle.sshc_agent.specs.Talk.{Answered, Closes, IsCall, IsRefused, Turned, seen};
+ghost use Rattle.sshc_agent.specs.Talk.{Answered, Closes, IsCall, IsRefused, Returns, Turned, seen};
 
 use crate::outside::{Agent, Pause};
 use sshc_agent_core::{AgentInput, AgentOutput};
 use sshc_agent_shared::{AgentShared, CallRefused, Seat, Settings};
 use sshc_key::LocalSigner;
-use sshc_wire::{AgentStream, Clock, Failed, write_whole};
+use sshc_wire::{AgentStream, Clock, Failed, NoMemory, write_whole};
 use std::sync::Wait;
 use std::sync::ledger::Ledger;
 
@@ -23,14 +23,33 @@ pub(crate) enum Next {
     Goes,
     /// The answer to a question.
     Asks(AgentInput),
-    /// Nothing: the call was refused.
+    /// Nothing.
+    Ends(Ended),
+}
+
+/// Why a call is the last one.
+#[derive(Clone, Copy)]
+pub(crate) enum Ended {
+    /// It was refused.
     Refused,
-    /// Nothing: the agent closed the connection.
+    /// The agent closed the connection.
     Closed,
-    /// Nothing: writing the answer failed.
+    /// Writing its answer failed.
     WriteFailed,
-    /// Nothing: memory ran out while the answer was written.
+    /// Memory ran out while its answer was written.
     Starved,
+}
+
+impl Ended {
+    /// What the serving of the connection returns.
+    pub(crate) fn result(self) -> Result<(), NoMemory>
+        ensures { Returns self result }
+    {
+        match self {
+            Ended::Starved => Err(NoMemory),
+            Ended::Refused | Ended::Closed | Ended::WriteFailed => Ok(()),
+        }
+    }
 }
 
 /// Writes the answer. Nothing is read from the stream.
@@ -62,8 +81,8 @@ pub(crate) fn follow<S: AgentStream, A: Agent>(
     match output {
         AgentOutput::Answer(frame) => match write_answer(stream, frame.as_slice()) {
             Ok(()) => Next::Goes,
-            Err(Failed::Fault) => Next::WriteFailed,
-            Err(Failed::NoMemory) => Next::Starved,
+            Err(Failed::Fault) => Next::Ends(Ended::WriteFailed),
+            Err(Failed::NoMemory) => Next::Ends(Ended::Starved),
         },
         AgentOutput::AskRequest(message) => {
             Next::Asks(AgentInput::RequestAnswer(agent.confirm_request(message)))
@@ -72,7 +91,7 @@ pub(crate) fn follow<S: AgentStream, A: Agent>(
             Next::Asks(AgentInput::KeyAnswer(agent.confirm(blob.as_slice())))
         }
         AgentOutput::Nothing => Next::Goes,
-        AgentOutput::Closed(_) => Next::Closed,
+        AgentOutput::Closed(_) => Next::Ends(Ended::Closed),
     }
 }
 
@@ -135,7 +154,7 @@ pub(crate) fn turn<
 {
     let (seat, answer) = called(rt, shared, seat, input, signer, pause, clock);
     match answer {
-        Err(_) => (seat, Next::Refused),
+        Err(_) => (seat, Next::Ends(Ended::Refused)),
         Ok(output) => {
             let next = follow(output, stream, agent);
             (seat, next)

@@ -1,5 +1,5 @@
 -- What is kept across the seam of two generations, and how they lead on.
-use Rattle.std.proofs.Common.{◌≡◌, ℕ, suc, ◌+◌, ◌<◌, ◌≤◌, ◌*◌, Bool, List, [], ◌∷◌, ◌++◌, length, length-append, map, sum_by, take, slice_index, Result, Ok, Err, IfOk, OnOk, OnErr, All, refl, sym, ap, subst, ◌∙◌, arith}
+use Rattle.std.proofs.Common.{◌≡◌, ℕ, suc, ◌+◌, ◌<◌, ◌≤◌, Bool, List, [], ◌∷◌, ◌++◌, length, length-append, sum_by, take, slice_index, Result, Ok, Err, IfOk, OnOk, OnErr, All, refl, sym, ap, subst, ◌∙◌, arith}
 use Rattle.std.proofs.lemmas.Grind.{take_at_read}
 use Rattle.std.proofs.lemmas.List.Elements.{Contains-append_left, Contains-append_right}
 use Rattle.sshc_key.specs.Signers.{SignCall}
@@ -9,14 +9,13 @@ use Rattle.sshc_agent_core.specs.declared.input.AgentOutput.{AgentOutput}
 use Rattle.sshc_agent_core.specs.AgentHistory.{AreNumbered, Leads}
 use Rattle.sshc_agent_core.specs.AgentList.{AgentList, empty_list, forgotten}
 use Rattle.sshc_agent_core.specs.AgentTable.{Steps}
-use Rattle.sshc_agent_core.specs.Connections.{standing_of}
 use Rattle.sshc_agent_core.specs.StepLaws.{forgotten_others, step_others}
 use Rattle.sshc_agent_shared.specs.declared.error.CloseError.{CloseError}
 use Rattle.sshc_agent_shared.specs.declared.error.LastingRefused.{LastingRefused}
 use Rattle.sshc_agent_shared.specs.declared.error.CloseError.TheVariants.{NoMemory, SeatsOut, Torn}
 use Rattle.sshc_agent_shared.specs.Calls.{call_of, calls_of, journal_weight}
 use Rattle.sshc_agent_shared.specs.Closing.{Accounts, AccountsFrom, LockedCause, TornCause}
-use Rattle.sshc_agent_shared.specs.Generations.{CarriesOn, IsLastingStep, IsNone, IsReached, LeadOn, Past, PastState, conns_of, forgotten_all, next_of, renewed}
+use Rattle.sshc_agent_shared.specs.Generations.{CarriesOn, IsLastingStep, IsReached, LeadOn, Past, PastState, conns_of, forgotten_all, next_of, renewed}
 use Rattle.sshc_agent_shared.specs.Kept.{Adds, GenerationState, IsHistoryFrom, SeatState, SharedState, weight_of}
 
 -- forgetting connections changes nothing else

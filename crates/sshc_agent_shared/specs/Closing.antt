@@ -1,5 +1,5 @@
 -- When a shared agent can be closed, and why not; and what a caller knows about a call.
-use Rattle.std.specs.Prelude.{◌≡◌, ◌≢◌, ◌≤◌, ℕ, Bool, List, [], ◌∷◌, ◌++◌, length, Option, slice_get, All, Contains, sum_by}
+use Rattle.std.specs.Prelude.{◌≡◌, ◌≢◌, ◌≤◌, ℕ, Bool, List, [], length, Option, slice_get, All, Contains, sum_by}
 use Rattle.sshc_agent_core.specs.declared.entry.Entry.{Entry}
 use Rattle.sshc_agent_core.specs.AgentHistory.{AreNumbered, IsLegal, KeepsOthers, Leads, count_of}
 use Rattle.sshc_agent_core.specs.AgentList.{AgentList}

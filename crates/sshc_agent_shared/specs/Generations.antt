@@ -1,7 +1,7 @@
 -- Generations of an agent's history. When a journal is full, its history is closed, and the next one begins with the
 -- agent as it is; only connections that ended are forgotten.
 -- The code keeps the agent itself across the seam, and of the past nothing.
-use Rattle.std.specs.Prelude.{◌≡◌, ℕ, Bool, List, [], ◌∷◌, ◌++◌, length, map}
+use Rattle.std.specs.Prelude.{◌≡◌, ℕ, Bool, List, [], ◌∷◌, map}
 use Rattle.sshc_key.specs.Signers.{SignCall}
 use Rattle.sshc_agent_core.specs.declared.entry.Entry.{Entry}
 use Rattle.sshc_agent_core.specs.AgentHistory.{AreNumbered, KeepsOthers, Leads}
@@ -9,7 +9,7 @@ use Rattle.sshc_agent_core.specs.AgentList.{AgentList, empty_list, forgotten}
 use Rattle.sshc_agent_core.specs.AgentTable.{Steps}
 use Rattle.sshc_agent_core.specs.Connections.{standing_of}
 use Rattle.sshc_agent_shared.specs.declared.call.Call.{Call}
-use Rattle.sshc_agent_shared.specs.Kept.{GenerationState, SeatState, SharedState, new_seat}
+use Rattle.sshc_agent_shared.specs.Kept.{GenerationState, SeatState, new_seat}
 
 -- the connections are forgotten one after the other
 abbrev pub forgotten_all : List ℕ → AgentList → AgentList

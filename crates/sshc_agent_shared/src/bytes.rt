@@ -1,6 +1,7 @@
 //! Bytes of frames and answers, of which the journal and the seats keep one copy together.
 
-ghost use Rattle.std.specs.Prelude.{◌≡◌, IfOk};
+ghost use Rattle.std.specs.Prelude.{◌≡◌, IfErr, IfOk};
+ghost use Rattle.std.specs.Arc.{arc_value};
 
 use sshc_wire::{NoMemory, Octets};
 use std::alloc::Global;
@@ -58,6 +59,18 @@ impl KeptBytes {
         match &self.held {
             Held::Shared(bytes) => bytes.as_slice(),
             Held::Own(bytes) => bytes.as_slice(),
+        }
+    }
+
+    /// The bytes where others share them, or all that there is.
+    pub(crate) fn into_shared(self) -> Result<Arc<Octets, Global>, KeptBytes>
+        ensures shared { IfOk result (λ a. arc_value a ≡ self) }
+        ensures alone { IfErr result (λ k. k ≡ self) }
+    {
+        let KeptBytes { held } = self;
+        match held {
+            Held::Shared(bytes) => Ok(bytes),
+            Held::Own(buffer) => Err(KeptBytes::alone(buffer)),
         }
     }
 

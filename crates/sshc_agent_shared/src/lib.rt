@@ -7,6 +7,7 @@ mod call;
 mod closing;
 mod counts;
 mod error;
+mod form;
 mod generation;
 mod groups;
 mod kept;

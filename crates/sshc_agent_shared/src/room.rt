@@ -7,11 +7,12 @@ ghost use Rattle.sshc_agent_core.specs.AnswerBytes.{answer_bytes};
 ghost use Rattle.sshc_agent_shared.specs.Calls.{call_of, entry_of};
 ghost use Rattle.sshc_agent_shared.specs.Counting.{count_in};
 ghost use Rattle.sshc_agent_shared.specs.KeptForms.{input_of, output_of};
-ghost use Rattle.sshc_agent_shared.specs.Rooms.{AreMade, HasRoom};
+ghost use Rattle.sshc_agent_shared.specs.Rooms.{AreMade, HasBoxes, HasRoom, IsMade};
 
 use crate::bytes::KeptBytes;
 use crate::counts::Counts;
-use crate::kept::{FAILED, InputForm, KeptCall, KeptEntry, OutputForm, SUCCEEDED, same_bytes};
+use crate::form::{Both, FAILED, Form, InputForm, OutputForm, SUCCEEDED, same_bytes};
+use crate::kept::{KeptCall, KeptEntry};
 use sshc_agent_core::{AgentInput, AgentOutput};
 use sshc_key::agent_msg::IDENTITIES_ANSWER;
 use sshc_wire::{NoMemory, Octets};
@@ -20,17 +21,24 @@ use std::alloc::Global;
 /// The maximal number of bytes in an answer: those of a frame, and its length.
 const ANSWER_BYTES: usize = 262_148;
 
-/// A buffer for the bytes that an entry keeps of an answer and one for those of the call, which are used if no other
-/// memory can be allocated for them; and the latest listing, whose bytes the next equal one shares.
+/// A buffer for the bytes that are kept of an answer, which is used if no other memory can be allocated for them, and a
+/// box for an input with its output.
+#[derive(Drop)]
+pub(crate) struct Room {
+    pub(crate) bytes: Option<Box<Vec<u8>>>,
+    pub(crate) both: Option<Box<Both>>,
+}
+
+/// Room for an entry and room for a call; and the latest listing, whose bytes the next equal one shares.
 #[derive(Drop)]
 pub(crate) struct Rooms {
-    kept: Option<Box<Vec<u8>>>,
-    told: Option<Box<Vec<u8>>>,
+    kept: Room,
+    told: Room,
     listing: Option<KeptBytes>,
 }
 
 /// Reserves room for the longest answer.
-fn make_room(alloc: Global, buffer: &mut Option<Box<Vec<u8>>>) -> Result<(), NoMemory>
+fn make_buffer(alloc: Global, buffer: &mut Option<Box<Vec<u8>>>) -> Result<(), NoMemory>
     ensures { OnOk result (HasRoom buffer.new) }
 {
     if let Some(room) = buffer {
@@ -45,6 +53,32 @@ fn make_room(alloc: Global, buffer: &mut Option<Box<Vec<u8>>>) -> Result<(), NoM
     };
     *buffer = Some(room);
     Ok(())
+}
+
+/// Reserves a box, if there is none.
+fn make_box(alloc: Global, spare: &mut Option<Box<Both>>) -> Result<(), NoMemory>
+    ensures { OnOk result (IsSome spare.new) }
+{
+    if spare.is_some() {
+        return Ok(());
+    }
+    let both = Both {
+        input: InputForm::Close,
+        output: OutputForm::Nothing,
+    };
+    let Ok(both) = Box::new(alloc, both) else {
+        return Err(NoMemory);
+    };
+    *spare = Some(both);
+    Ok(())
+}
+
+/// Reserves both.
+fn make_room(alloc: Global, room: &mut Room) -> Result<(), NoMemory>
+    ensures { OnOk result (IsMade room.new) }
+{
+    make_buffer(alloc, &mut room.bytes)?;
+    make_box(alloc, &mut room.both)
 }
 
 /// The bytes in the buffer that was reserved for them.
@@ -98,8 +132,14 @@ impl Rooms {
     /// No room yet.
     pub(crate) fn new() -> Rooms {
         Rooms {
-            kept: None,
-            told: None,
+            kept: Room {
+                bytes: None,
+                both: None,
+            },
+            told: Room {
+                bytes: None,
+                both: None,
+            },
             listing: None,
         }
     }
@@ -138,11 +178,15 @@ impl Rooms {
     fn twice(&mut self, alloc: Global, bytes: &[u8]) -> (KeptBytes, KeptBytes)
         requires made { AreMade self.old }
         requires short { length bytes.now ≤ 262148 }
-        ensures { (result.0 ≡ bytes.now) × (result.1 ≡ bytes.now) }
+        ensures twice { (result.0 ≡ bytes.now) × (result.1 ≡ bytes.now) }
+        ensures boxes { HasBoxes self.new }
     {
         match shared_twice(alloc, &mut self.listing, bytes) {
             Ok(two) => two,
-            Err(NoMemory) => (filled(&mut self.kept, bytes), filled(&mut self.told, bytes)),
+            Err(NoMemory) => (
+                filled(&mut self.kept.bytes, bytes),
+                filled(&mut self.told.bytes, bytes),
+            ),
         }
     }
 
@@ -150,7 +194,8 @@ impl Rooms {
     fn outputs(&mut self, alloc: Global, output: &AgentOutput) -> (OutputForm, OutputForm)
         requires made { AreMade self.old }
         requires short { answer_bytes output.now ≤ 262148 }
-        ensures { (output_of result.0 ≡ output.now) × (output_of result.1 ≡ output.now) }
+        ensures outputs { (output_of result.0 ≡ output.now) × (output_of result.1 ≡ output.now) }
+        ensures boxes { HasBoxes self.new }
     {
         match output {
             AgentOutput::Answer(frame) => {
@@ -197,13 +242,11 @@ impl Rooms {
         let (input, theirs) = inputs;
         let entry = KeptCall {
             moment,
-            input,
-            output: kept,
+            form: Form::new(&mut self.kept.both, input, kept),
         };
         let call = KeptCall {
             moment,
-            input: theirs,
-            output: told,
+            form: Form::new(&mut self.told.both, theirs, told),
         };
         (KeptEntry::new(conn, number, entry), call)
     }

@@ -8,6 +8,8 @@ mod frames;
 #[cfg(test)]
 mod joined;
 #[cfg(test)]
+mod lasting;
+#[cfg(test)]
 mod serving;
 #[cfg(test)]
 mod sharing;

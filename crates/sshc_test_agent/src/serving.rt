@@ -2,6 +2,7 @@
 
 mod faults;
 mod flags;
+mod generations;
 mod listener;
 mod locking;
 mod threads;

@@ -3,6 +3,7 @@
 mod deadlines;
 mod inputs;
 mod locking;
+mod outside;
 mod pieces;
 mod signer;
 mod steps;

@@ -18,7 +18,7 @@ use std::thread::Threads;
 
 /// A clock that always returns the same moment.
 #[derive(Clone, Copy, Drop)]
-struct Standstill;
+pub(crate) struct Standstill;
 
 impl Clock for Standstill {
     ghost told = { λ s. None };

@@ -1,6 +1,6 @@
 use Rattle.sshc_agent.specs.Talk.{seen}
-use Rattle.sshc_agent.proofs.Talking.{asks_turn, begun, closed_turn, goes_turn, gone, refused_turn, starved_turn, unfetched, write_failed_turn}
-use Rattle.sshc_agent.proofs.Ticking.{called_last, closed_last, no_call, one_more, refused_last, stopped}
+use Rattle.sshc_agent.proofs.Talking.{asks_turn, begun, ended_turn, goes_turn, gone, unfetched}
+use Rattle.sshc_agent.proofs.Ticking.{closed_last, ended_last, no_call, one_more, stopped}
 use Rattle.sshc_agent.proofs.Signed.{caused_nothing, caused_on, signs_nothing, signs_on}
 use Rattle.sshc_agent.proofs.serving.serve_one.Goals as goal
 
@@ -62,62 +62,21 @@ loop-preserved g c =
       caused_on _ _ _ _ _ _ c.loop.invariant.5 c.turn-next_seat.ensures.caused,
     )
 
-pub returns-in-Refused : goal.returns-in-Refused
-returns-in-Refused g c =
+pub returns-in-Ends : goal.returns-in-Ends
+returns-in-Ends g c =
     let f = rw c.in-Ok-Some.field-0-is at c.in-Ok-Some.ensures.fetched in
-    let t = rw c.in-Refused.is at c.turn-next_seat.ensures.turned in
+    let t = rw c.in-Ends.is at c.turn-next_seat.ensures.turned in
     record {
       serves =
-          refused_turn _ _ _ _ (seen (g.S.Source.left c.loop.stream) (g.S.Sink.contents c.loop.stream) (g.S.Source.faults c.loop.stream) (g.S.Sink.faults c.loop.stream))
+          ended_turn _ _ _ _ (seen (g.S.Source.left c.loop.stream) (g.S.Sink.contents c.loop.stream) (g.S.Source.faults c.loop.stream) (g.S.Sink.faults c.loop.stream))
           (seen (g.S.Source.left c.fetch.new.stream) (g.S.Sink.contents c.fetch.new.stream) (g.S.Source.faults c.fetch.new.stream) (g.S.Sink.faults c.fetch.new.stream))
           (seen (g.S.Source.left c.turn-next_seat.new.stream) (g.S.Sink.contents c.turn-next_seat.new.stream) (g.S.Source.faults c.turn-next_seat.new.stream) (g.S.Sink.faults c.turn-next_seat.new.stream))
-          _ _ c.loop.frames c.fetch.new.frames c.loop.answer c.in-Ok-Some.input c.loop.invariant.2 f c.fetch.ensures.later c.fetch.ensures.unwritten c.turn-next_seat.ensures.unread c.turn-next_seat.ensures.later t;
-      moments = refused_last _ _ _ _ _ _ c.loop.invariant.3 c.turn-next_seat.ensures.tick t.0;
-      signs = signs_on _ _ _ _ _ _ c.loop.invariant.4 c.turn-next_seat.ensures.signs;
-      caused = caused_on _ _ _ _ _ _ c.loop.invariant.5 c.turn-next_seat.ensures.caused;
-    }
-
-pub returns-in-Closed : goal.returns-in-Closed
-returns-in-Closed g c =
-    let f = rw c.in-Ok-Some.field-0-is at c.in-Ok-Some.ensures.fetched in
-    let t = rw c.in-Closed.is at c.turn-next_seat.ensures.turned in
-    record {
-      serves =
-          closed_turn _ _ _ _ (seen (g.S.Source.left c.loop.stream) (g.S.Sink.contents c.loop.stream) (g.S.Source.faults c.loop.stream) (g.S.Sink.faults c.loop.stream))
+          _ _ c.loop.frames c.fetch.new.frames c.loop.answer c.in-Ok-Some.input c.loop.invariant.2 f c.fetch.ensures.later c.fetch.ensures.unwritten c.turn-next_seat.ensures.unread c.turn-next_seat.ensures.later c.in-Ends.ended c.result.result c.result.ensures t;
+      moments =
+          ended_last _ _ _ _ _ _ c.loop.invariant.3 c.turn-next_seat.ensures.tick (g.A.Agent.allows c.args.agent.now) (g.A.Agent.confirms c.args.agent.now) c.in-Ok-Some.input
           (seen (g.S.Source.left c.fetch.new.stream) (g.S.Sink.contents c.fetch.new.stream) (g.S.Source.faults c.fetch.new.stream) (g.S.Sink.faults c.fetch.new.stream))
           (seen (g.S.Source.left c.turn-next_seat.new.stream) (g.S.Sink.contents c.turn-next_seat.new.stream) (g.S.Source.faults c.turn-next_seat.new.stream) (g.S.Sink.faults c.turn-next_seat.new.stream))
-          _ _ c.loop.frames c.fetch.new.frames c.loop.answer c.in-Ok-Some.input c.loop.invariant.2 f c.fetch.ensures.later c.fetch.ensures.unwritten c.turn-next_seat.ensures.unread c.turn-next_seat.ensures.later t;
-      moments = called_last _ _ _ _ _ _ c.loop.invariant.3 c.turn-next_seat.ensures.tick _ t.0 t.1;
-      signs = signs_on _ _ _ _ _ _ c.loop.invariant.4 c.turn-next_seat.ensures.signs;
-      caused = caused_on _ _ _ _ _ _ c.loop.invariant.5 c.turn-next_seat.ensures.caused;
-    }
-
-pub returns-in-WriteFailed : goal.returns-in-WriteFailed
-returns-in-WriteFailed g c =
-    let f = rw c.in-Ok-Some.field-0-is at c.in-Ok-Some.ensures.fetched in
-    let t = rw c.in-WriteFailed.is at c.turn-next_seat.ensures.turned in
-    record {
-      serves =
-          write_failed_turn _ _ _ _ (seen (g.S.Source.left c.loop.stream) (g.S.Sink.contents c.loop.stream) (g.S.Source.faults c.loop.stream) (g.S.Sink.faults c.loop.stream))
-          (seen (g.S.Source.left c.fetch.new.stream) (g.S.Sink.contents c.fetch.new.stream) (g.S.Source.faults c.fetch.new.stream) (g.S.Sink.faults c.fetch.new.stream))
-          (seen (g.S.Source.left c.turn-next_seat.new.stream) (g.S.Sink.contents c.turn-next_seat.new.stream) (g.S.Source.faults c.turn-next_seat.new.stream) (g.S.Sink.faults c.turn-next_seat.new.stream))
-          _ _ c.loop.frames c.fetch.new.frames c.loop.answer c.in-Ok-Some.input c.loop.invariant.2 f c.fetch.ensures.later c.fetch.ensures.unwritten c.turn-next_seat.ensures.unread c.turn-next_seat.ensures.later t;
-      moments = called_last _ _ _ _ _ _ c.loop.invariant.3 c.turn-next_seat.ensures.tick _ t.0 t.1;
-      signs = signs_on _ _ _ _ _ _ c.loop.invariant.4 c.turn-next_seat.ensures.signs;
-      caused = caused_on _ _ _ _ _ _ c.loop.invariant.5 c.turn-next_seat.ensures.caused;
-    }
-
-pub returns-in-Starved : goal.returns-in-Starved
-returns-in-Starved g c =
-    let f = rw c.in-Ok-Some.field-0-is at c.in-Ok-Some.ensures.fetched in
-    let t = rw c.in-Starved.is at c.turn-next_seat.ensures.turned in
-    record {
-      serves =
-          starved_turn _ _ _ _ (seen (g.S.Source.left c.loop.stream) (g.S.Sink.contents c.loop.stream) (g.S.Source.faults c.loop.stream) (g.S.Sink.faults c.loop.stream))
-          (seen (g.S.Source.left c.fetch.new.stream) (g.S.Sink.contents c.fetch.new.stream) (g.S.Source.faults c.fetch.new.stream) (g.S.Sink.faults c.fetch.new.stream))
-          (seen (g.S.Source.left c.turn-next_seat.new.stream) (g.S.Sink.contents c.turn-next_seat.new.stream) (g.S.Source.faults c.turn-next_seat.new.stream) (g.S.Sink.faults c.turn-next_seat.new.stream))
-          _ _ c.loop.frames c.fetch.new.frames c.loop.answer c.in-Ok-Some.input c.loop.invariant.2 f c.fetch.ensures.later c.fetch.ensures.unwritten c.turn-next_seat.ensures.unread c.turn-next_seat.ensures.later _ t;
-      moments = called_last _ _ _ _ _ _ c.loop.invariant.3 c.turn-next_seat.ensures.tick _ t.0 t.1;
+          c.in-Ends.ended t;
       signs = signs_on _ _ _ _ _ _ c.loop.invariant.4 c.turn-next_seat.ensures.signs;
       caused = caused_on _ _ _ _ _ _ c.loop.invariant.5 c.turn-next_seat.ensures.caused;
     }

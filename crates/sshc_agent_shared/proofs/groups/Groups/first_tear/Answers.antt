@@ -1,7 +1,6 @@
 use Rattle.std.proofs.Common.{◌≡◌, ◌≢◌, List, [], map, sym, ap, subst, ◌∙◌, IfOk, MatchOption, slice_get, option_map, unwrap_or}
 use Rattle.sshc_agent_shared.specs.declared.call.Call.{Call}
 use Rattle.sshc_agent_shared.specs.Calls.{call_in}
-use Rattle.sshc_agent_shared.specs.Groups.{entries_at}
 use Rattle.sshc_agent_shared.proofs.Parting.{map_twice}
 use Rattle.sshc_agent_shared.proofs.groups.Groups.first_tear.Goals as goal
 

@@ -1,0 +1,6 @@
+use denote.Param.Send.{sendable}
+use Rattle.sshc_agent_words.proofs.Sending.{signer_send}
+use Rattle.sshc_test_agent.proofs.serving.generations.last_calls.Goals as goal
+
+pub serve_generations-requires-send-G : goal.serve_generations-requires-send-G
+serve_generations-requires-send-G g c κs within = search (signer_send, sendable) depth 20
