@@ -1,0 +1,63 @@
+package sazhonthil
+
+import (
+	"bytes"
+	"encoding/hex"
+	"os"
+	"strconv"
+	"strings"
+	"testing"
+)
+
+func field(word string) []byte {
+	got, _ := hex.DecodeString(strings.Trim(word, "-"))
+	return got
+}
+
+// The worked runs, as tests/rows.py prints them to the file that ROWS names.
+func TestRows(t *testing.T) {
+	text, err := os.ReadFile(os.Getenv("ROWS"))
+	if err != nil {
+		t.Fatal(err)
+	}
+	lines := strings.Split(strings.TrimSpace(string(text)), "\n")
+	for _, line := range lines {
+		words := strings.Split(line, " ")
+		session, err := NewSession("localhost", 13265, string(field(words[1])))
+		if err != nil {
+			t.Fatal(err)
+		}
+		records, status, detail := session.Take(field(words[2]))
+		if strconv.Itoa(int(status)) != words[3] || strconv.FormatUint(detail, 10) != words[4] {
+			t.Errorf("%s: %d %d", words[0], status, detail)
+		}
+		if len(records) != len(words)-5 {
+			t.Fatalf("%s: %d records", words[0], len(records))
+		}
+		for i, record := range records {
+			if hex.EncodeToString(record) != words[5+i] {
+				t.Errorf("%s: record %d is %x", words[0], i, record)
+			}
+		}
+		session.Close()
+	}
+	t.Logf("go: %d rows", len(lines))
+}
+
+func TestAgentAndHosts(t *testing.T) {
+	agent, err := NewAgent(false)
+	if err != nil {
+		t.Fatal(err)
+	}
+	defer agent.Close()
+	if question, err := agent.Asks(0, 1, 0, []byte{11}); question != nil || err != nil {
+		t.Error(question, err)
+	}
+	status, answer, _ := agent.Take(0, 1, 0, []byte{11}, 0, nil)
+	if status != OK || !bytes.Equal(answer, []byte{0, 0, 0, 5, 12, 0, 0, 0, 0}) {
+		t.Error(status, answer)
+	}
+	if status, _ := CheckHost("localhost", 22, "", nil); status != 5 {
+		t.Error(status)
+	}
+}

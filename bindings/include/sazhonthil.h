@@ -1,0 +1,196 @@
+/* sazhonthil.h: a proved SSH client core for C, C++, and whatever calls C.
+ *
+ * The library does no I/O, starts no thread, takes no lock, keeps no global state and computes no cryptography but the
+ * HMAC-SHA1 of hashed known hosts lines. Events go in as bytes, records come out as bytes; docs/FORMATS.md has both. The
+ * key exchange, the ciphers and the check of the server's signature over the exchange hash are the caller's: see "What a
+ * driver has to do" there.
+ *
+ * Each call below has a contract in crates/sazhonthil that is proved. What a contract can't check, the caller owes:
+ *
+ * - A pointer and a length fit: so many bytes may be read there, or written where the parameter isn't const. Where the
+ *   length is 0 the pointer may be NULL. No other pointer may be NULL.
+ * - What is written doesn't overlap anything else that is passed to the same call.
+ * - A struct is zeroed before its `_new` (SSHC_SESSION_INIT, SSHC_AGENT_INIT), never written by hand, and never copied
+ *   while it holds something: give its address.
+ *
+ * Objects. A session and an agent are small structs of the caller's. {0} holds nothing, and so does a struct after
+ * `_free`. A call on a struct that holds nothing returns SSHC_MISUSE and does nothing, and so does `_new` on one that
+ * holds something; a second `_free` does nothing. So use after free and double free are answers, not undefined behaviour.
+ *
+ * Bytes. Pointers aren't kept after a call. Text is UTF-8 without a 0 at its end. Bytes that the library hands out are
+ * copied to the front of the caller's memory: all of them, with SSHC_OK, or none, with SSHC_NO_ROOM; *size is how many
+ * there are in both cases.
+ *
+ * Memory. The library takes memory by malloc, realloc and free, through three functions in runtime.c. No call ends the
+ * process: where memory runs out the answer is SSHC_NO_MEMORY. A session whose `_take` returned it is over.
+ *
+ * Threads. One object: one call at a time, on whichever thread, ordered as the caller orders any memory. Two objects: any
+ * two threads at once. No call from a signal handler.
+ */
+#ifndef SAZHONTHIL_H
+#define SAZHONTHIL_H
+
+#include <stddef.h>
+#include <stdint.h>
+
+#ifdef __cplusplus
+extern "C" {
+#endif
+
+/* The number of the interface that this header declares. It grows with each call that is added; its high half changes
+ * where a call that was there changes. Compare with what the library returns before the first other call. */
+#define SSHC_ABI 0x00010000u
+uint32_t sshc_abi(void);
+
+/* Below 20 the statuses are this interface's own; from 20 they are those of the program `sshc` (docs/FORMATS.md, "The
+ * program's last line and status"). */
+typedef uint32_t sshc_status;
+enum {
+  SSHC_OK = 0,
+  SSHC_UNKNOWN = 1,            /* no line of the known hosts has the key; also for a certificate */
+  SSHC_MISUSE = 2,             /* the struct holds nothing, or `_new` on one that holds something */
+  SSHC_NOT_TEXT = 3,           /* the host or the known hosts aren't UTF-8 */
+  SSHC_BAD_INPUT = 4,          /* an agent's input has no such number, or its frame is too long */
+  SSHC_BAD_KEY = 5,            /* the bytes aren't one whole key */
+  SSHC_NOTHING = 6,            /* no record, no question, no output */
+  SSHC_NO_ROOM = 7,            /* the caller's memory is too small; nothing was taken */
+  SSHC_OVER = 8,               /* an earlier call ended the session, or it was refused */
+  SSHC_REMOTE_DISCONNECT = 9,  /* the server ended the session */
+  SSHC_DISCONNECTED = 10,      /* the user ended the session */
+  SSHC_CLOSED = 11,            /* the session ended since no user is left */
+  SSHC_ASKS_SIGNATURE = 12,    /* the agent wants a signature before it takes the input */
+  SSHC_ASKS_REQUEST = 13,      /* the agent asks the user whether the request is allowed */
+  SSHC_ASKS_KEY = 14,          /* the agent asks the user whether the key may sign */
+  SSHC_CLOSED_TOO_LONG = 15,   /* the agent closes the connection: a frame is too long */
+  SSHC_CLOSED_UNREADABLE = 16, /* the agent closes the connection: a sign request can't be read */
+  SSHC_CLOSED_REFUSED = 17,    /* the agent closes the connection: the signature was refused */
+  SSHC_NO_MEMORY = 20,
+  SSHC_READ_FAULT = 21,        /* never returned: the library reads no file */
+  SSHC_WRITE_FAULT = 22,       /* never returned */
+  SSHC_SIGNER_FAULT = 23,      /* a pair at hand was to sign, which this interface doesn't do: use method 4 or 5 */
+  SSHC_BAD_EVENT = 24,         /* the bytes aren't whole events; *detail is the place */
+  SSHC_OUT_OF_TURN = 25,       /* the event may not come now; *detail is the place */
+  SSHC_SCRIPT_TOO_LONG = 26,   /* more than max_events events */
+  SSHC_TRANSPORT_FAILED = 27,
+  SSHC_UNKNOWN_KEY = 28,       /* the known hosts don't have the server's key */
+  SSHC_KEY_CHANGED = 29,       /* they have another one of its algorithm; *detail is the line */
+  SSHC_DECODE = 30,            /* the key of a line for the host isn't base64 */
+  SSHC_SSH_KEY = 31,           /* the key of a line for the host isn't a key */
+  SSHC_INCONSISTENT = 32,      /* the server sent what it may not send */
+  SSHC_PENDING = 33,
+  SSHC_NO_AUTH_METHOD = 34,
+  SSHC_NOT_AUTHENTICATED = 35,
+  SSHC_SSH_ENCODING = 36,
+  SSHC_INVALID_DISCONNECT = 37,
+  SSHC_RECV_ERROR = 38,
+  SSHC_KEEPALIVE_TIMEOUT = 39,
+  SSHC_INACTIVITY_TIMEOUT = 40,
+  SSHC_REVOKED = 42,           /* a line revokes the server's key; *detail is the line */
+  SSHC_REKEY_KEY = 43          /* a later exchange has another host key than the first */
+};
+
+/* ---- known hosts */
+
+/* Whether the known hosts text accepts the key (its blob, RFC 4253, section 6.6) for the host at the port: SSHC_OK,
+ * SSHC_UNKNOWN, SSHC_KEY_CHANGED or SSHC_REVOKED with the line's number from 1 in *line, SSHC_DECODE, SSHC_SSH_KEY,
+ * SSHC_BAD_KEY, SSHC_NOT_TEXT, SSHC_NO_MEMORY. *line is 0 but for those two. */
+sshc_status sshc_known_hosts_check(const uint8_t *host, size_t host_len, uint16_t port, const uint8_t *known, size_t known_len,
+                                   const uint8_t *key, size_t key_len, uint64_t *line);
+
+/* Copies what is to be added at the end of the known hosts text so that it has the key: SSHC_OK, SSHC_NO_ROOM,
+ * SSHC_BAD_KEY, SSHC_NOT_TEXT, SSHC_NO_MEMORY. Nothing is judged: check first. *size is set with the first two alone. */
+sshc_status sshc_known_hosts_learn(const uint8_t *host, size_t host_len, uint16_t port, const uint8_t *known, size_t known_len,
+                                   const uint8_t *key, size_t key_len, uint8_t *to, size_t to_len, size_t *size);
+
+/* ---- a session */
+
+typedef struct sshc_session {
+  uint32_t live; /* private */
+  void *at;      /* private */
+} sshc_session;
+#define SSHC_SESSION_INIT {0, NULL}
+
+/* Sizes are bytes, times milliseconds. */
+typedef struct sshc_settings {
+  uint64_t keepalive_interval;  /* 0: none. The clock is the caller's: it hands in KEEPALIVE_TIMER */
+  uint64_t keepalive_max;       /* how many keepalives may stay unanswered; 0 sets no bound */
+  uint64_t inactivity_timeout;  /* 0: none. The caller hands in INACTIVITY_TIMER */
+  uint32_t window_size;         /* how many bytes a channel's peer may send at first */
+  uint32_t maximum_packet_size; /* the most bytes of a channel's packet */
+  uint32_t max_events;          /* the most events that a session takes */
+  uint32_t anonymous;           /* not 0: no user is authenticated, the first exchange opens the session */
+} sshc_settings;
+
+/* No keepalives (3 unanswered ones where there are), no inactivity limit, a window of 2097152, packets of 32768, 4294967295
+ * events, not anonymous. */
+void sshc_settings_default(sshc_settings *settings);
+
+/* Makes a session, where the struct holds nothing: SSHC_OK, SSHC_MISUSE, SSHC_NOT_TEXT, SSHC_NO_MEMORY. It goes on only
+ * with a server whose host key is a plain key that the known hosts text accepts for the host at the port. */
+sshc_status sshc_session_new(sshc_session *session, const sshc_settings *settings, const uint8_t *host, size_t host_len,
+                             uint16_t port, const uint8_t *known, size_t known_len);
+
+/* Hands in events, mostly one, as a script has them: u32 length of what follows, u64 moment, u8 kind, fields. The records
+ * that weren't read are dropped.
+ * SSHC_OK: the session took them and goes on; their records are there.
+ * SSHC_REMOTE_DISCONNECT, SSHC_DISCONNECTED, SSHC_CLOSED: an event ended the session; the records up to that are there.
+ * SSHC_NO_MEMORY and all above it: an event was refused, and the session is over; the records of the events before it
+ * are there, and those of its own row (with SSHC_NO_MEMORY maybe fewer). *detail is the place or line that the status
+ * names, and otherwise 0; a place counts all bytes that were handed in since `_new`.
+ * SSHC_OVER: it was over before. */
+sshc_status sshc_session_take(sshc_session *session, const uint8_t *events, size_t events_len, uint64_t *detail);
+
+/* Copies the next record of the last `_take`: SSHC_OK, SSHC_NO_ROOM, SSHC_NOTHING after the last one, SSHC_MISUSE. */
+sshc_status sshc_session_record(sshc_session *session, uint8_t *to, size_t to_len, size_t *size);
+
+/* Frees what the struct holds and leaves {0}. */
+void sshc_session_free(sshc_session *session);
+
+/* ---- an agent (draft-miller-ssh-agent) whose caller signs
+ *
+ * The agent holds keys with their constraints, and a lock. For each input of a connection: first `_asks` whether a
+ * signature is wanted; if so sign the part 0 by the key of the parts 1 and 2; then `_take` with the same input, moment
+ * and connection and the signature, and send `_answer` where it returned SSHC_OK. Between the two calls no other input may
+ * be taken: then a signature counts as none. Inputs:
+ *   0 a frame, without its length, of at most 262144 bytes      1 a frame's length was above that
+ *   2, 3 the user allows the request asked about, or not        4, 5 confirms the use of the key asked about, or not
+ *   6 the client went away. Of all but 0 the frame is empty. */
+
+typedef struct sshc_agent {
+  uint32_t live; /* private */
+  void *at;      /* private */
+} sshc_agent;
+#define SSHC_AGENT_INIT {0, NULL}
+
+/* Makes an agent without keys: SSHC_OK, SSHC_MISUSE, SSHC_NO_MEMORY. Unless asks is 0 the user is asked about each request. */
+sshc_status sshc_agent_new(sshc_agent *agent, uint32_t asks);
+
+/* What the step with this input asks to be signed: SSHC_ASKS_SIGNATURE, with *hash 0 (none), 1 (SHA-256) or 2 (SHA-512),
+ * SSHC_NOTHING, SSHC_BAD_INPUT, SSHC_NO_MEMORY, SSHC_MISUSE. No key, lock or connection changes. */
+sshc_status sshc_agent_asks(sshc_agent *agent, uint64_t moment, uint32_t connection, uint32_t input, const uint8_t *frame,
+                            size_t frame_len, uint32_t *hash);
+
+/* Copies a part of that question: 0 the bytes to sign, 1 the public key's blob, 2 the key pair as ADD_IDENTITY has it. */
+sshc_status sshc_agent_asked(sshc_agent *agent, uint32_t part, uint8_t *to, size_t to_len, size_t *size);
+
+/* Takes the input. told: 0 nothing was asked, 1 this is the signature (a signature blob of at most 65536 bytes), 2 it is
+ * refused. SSHC_OK: `_answer` has the frame to send, with its length. SSHC_ASKS_REQUEST: the user is asked, and
+ * *request is 0 REQUEST_IDENTITIES, 1 ADD, 2 REMOVE, 3 REMOVE_ALL, 4 SIGN, 5 LOCK, 6 UNLOCK. SSHC_ASKS_KEY: `_answer` has
+ * the key's blob. SSHC_NOTHING. SSHC_CLOSED_TOO_LONG, _UNREADABLE, _REFUSED and SSHC_NO_MEMORY: close the connection.
+ * SSHC_BAD_INPUT, SSHC_MISUSE. */
+sshc_status sshc_agent_take(sshc_agent *agent, uint64_t moment, uint32_t connection, uint32_t input, const uint8_t *frame,
+                            size_t frame_len, uint32_t told, const uint8_t *signature, size_t signature_len, uint32_t *request);
+
+/* Copies the bytes of the last output: SSHC_OK, SSHC_NO_ROOM, SSHC_MISUSE. */
+sshc_status sshc_agent_answer(sshc_agent *agent, uint8_t *to, size_t to_len, size_t *size);
+
+/* Forgets a connection that ended, whose number no later one has: SSHC_OK, SSHC_MISUSE. */
+sshc_status sshc_agent_forget(sshc_agent *agent, uint32_t connection);
+
+/* Frees what the struct holds and leaves {0}. */
+void sshc_agent_free(sshc_agent *agent);
+
+#ifdef __cplusplus
+}
+#endif
+#endif

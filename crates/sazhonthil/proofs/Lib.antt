@@ -1,0 +1,3 @@
+pub mod AsBoxAgent
+pub mod AsBoxSession
+pub mod SessionReads

@@ -1,0 +1,27 @@
+-- The answer for a judgement.
+use Rattle.std.proofs.Common.{◌≡◌, ◌⊎◌, inl, inr, ℕ, Bool, Result, Ok, Err, ap, sym, ◌∙◌}
+use Rattle.sshc_key.specs.Gives.{GivesAll}
+use Rattle.sshc_key.specs.declared.error.Error.{Error}
+use Rattle.sshc_key.specs.declared.error.Error.TheVariants.{NoMemory, CouldNotReadKey, NoHomeDir, KeyChanged, AgentProtocolError, AgentFailure, Decode, SshKey, SshEncoding, EnvVar, BadAuthSock, Utf8, ReadFault, WriteFault, UnexpectedEnd, Revoked}
+use Rattle.sshc_c_calls.specs.declared.hosts.HostAnswer.{HostAnswer}
+use Rattle.sshc_c_calls.specs.HostAnswers.{IsAnswer, answer_of}
+
+-- the answer for what a call returned is that for what it yields, or out of memory
+pub judged_says : (v r : Result Bool Error) (given : HostAnswer) → GivesAll (λ b. b) v r → given ≡ answer_of v → IsAnswer (answer_of r) given
+judged_says (Ok b) r given e f = inr (f ∙ ap answer_of (sym e))
+judged_says (Err NoMemory) r given e f = inl f
+judged_says (Err CouldNotReadKey) r given e f = inr (f ∙ ap answer_of (sym e))
+judged_says (Err NoHomeDir) r given e f = inr (f ∙ ap answer_of (sym e))
+judged_says (Err (KeyChanged line)) r given e f = inr (f ∙ ap answer_of (sym e))
+judged_says (Err AgentProtocolError) r given e f = inr (f ∙ ap answer_of (sym e))
+judged_says (Err AgentFailure) r given e f = inr (f ∙ ap answer_of (sym e))
+judged_says (Err Decode) r given e f = inr (f ∙ ap answer_of (sym e))
+judged_says (Err SshKey) r given e f = inr (f ∙ ap answer_of (sym e))
+judged_says (Err SshEncoding) r given e f = inr (f ∙ ap answer_of (sym e))
+judged_says (Err EnvVar) r given e f = inr (f ∙ ap answer_of (sym e))
+judged_says (Err BadAuthSock) r given e f = inr (f ∙ ap answer_of (sym e))
+judged_says (Err Utf8) r given e f = inr (f ∙ ap answer_of (sym e))
+judged_says (Err ReadFault) r given e f = inr (f ∙ ap answer_of (sym e))
+judged_says (Err WriteFault) r given e f = inr (f ∙ ap answer_of (sym e))
+judged_says (Err UnexpectedEnd) r given e f = inr (f ∙ ap answer_of (sym e))
+judged_says (Err (Revoked line)) r given e f = inr (f ∙ ap answer_of (sym e))

@@ -1,0 +1,6 @@
+pub mod AgentInputs
+pub mod AgentOutputs
+pub mod CopiedOut
+pub mod HostAnswers
+pub mod Questions
+pub mod RecordLines

@@ -1,0 +1,18 @@
+//! What the calls of the C interface return, over values: statuses, bytes that are copied out, records read back from
+//! their lines, known hosts, and an agent whose caller signs.
+#![tactic(auto)]
+
+mod agent;
+mod agent_input;
+mod copying;
+mod hosts;
+mod question;
+mod reading;
+pub mod status;
+
+pub use agent::AgentRun;
+pub use agent_input::input_of;
+pub use copying::copy_out;
+pub use hosts::{HostAnswer, check_key, learn_key};
+pub use question::Question;
+pub use reading::{ReadRecord, read_record};
