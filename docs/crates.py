@@ -1,7 +1,8 @@
 #!/usr/bin/env python3
-"""Writes the list of crates into README.md and docs/ARCHITECTURE.md, from crates.txt, which is the one list.
+"""Writes the list of crates into README.md and docs/ARCHITECTURE.md, from crates.txt, which is the one list, and into
+docs/DEFINITIONS.md the files that a promise rests on, with their lines.
 
-    python3 docs/crates.py           writes both
+    python3 docs/crates.py           writes them
     python3 docs/crates.py --check   fails where one of them differs
 
 In crates.txt a block that begins with a comment of one line, ended by a full stop or a colon, and no crate directly
@@ -50,9 +51,48 @@ def architecture():
     return "\n".join(out) + "\n"
 
 
+# A promise, and the files of definitions that it rests on besides those of the promises above it; a folder stands for
+# all of its files.
+PROMISES = [
+    ("No packet before the known hosts text accepts the host key (`gate`)", "sshc_run_script", "Headline KnownHosts RecordLines"),
+    ("", "sshc_hosts", "MatchingLines Judgement"),
+    ("", "sshc_run_reader", "Script"),
+    ("What is written is what the tables say (`opening`, `prefix`, `kept`, `done`)", "sshc_run_script", "OpeningFirst OpeningRun Outcome ScriptRun Machine Turn RunTurn SessionTurn"),
+    ("", "sshc_auth", "OpeningState Row OpeningTable OpeningTable/"),
+    ("", "sshc_client_table", "SessionState SessionRow Moves SessionTable SessionTable/"),
+    ("Each end and each error has its cause (`causes`)", "sshc_run_script", "Causes ReachedStates"),
+    ("", "sshc_auth", "Causes"),
+    ("", "sshc_client_table", "OpenCauses"),
+    ("Signatures, passwords, replies and opens (`signed`, `calls`, `passwords`, `replies`, `opens`)", "sshc_run_script", "SignedRequests PasswordRuns ReplyOrder OpenAnswers"),
+    ("", "sshc_auth_request", "RequestTexts"),
+    ("Channels (`channels`)", "sshc_run_script", "ChannelRuns"),
+    ("", "sshc_mux", "ChannelState ChannelTable ChannelTable/ Packets ChannelAccount"),
+    ("One history of one agent (`agents`)", "sshc_run_script", "AgentRuns"),
+    ("", "sshc_agent_core", "KeyList Deadlines AgentFrames AgentTable Turn AgentHistory LocksHold"),
+]
+
+
+def definitions():
+    """A row for each promise: the files that it rests on, with their lines, and the sum."""
+    rows = []
+    for promise, crate, names in PROMISES:
+        if promise:
+            rows.append([promise, [], 0])
+        for name in names.split():
+            at = TOP / "crates" / crate / "specs" / name
+            files = sorted(at.iterdir()) if name.endswith("/") else [at.with_suffix(".antt")]
+            lines = sum(len(file.read_text().splitlines()) for file in files)
+            rows[-1][1].append(f"{crate}: {name} ({lines})" if not rows[-1][1] or crate != rows[-1][3] else f"{name} ({lines})")
+            rows[-1][2] += lines
+            rows[-1][3:] = [crate]
+    out = ["| Promise | Files below `specs/` of the crate, with their lines | Sum |", "|---|---|---|"]
+    return "\n".join(out + [f"| {row[0]} | {', '.join(row[1])} | {row[2]} |" for row in rows]) + "\n"
+
+
 def main():
     wrong = []
-    for path, text in (("README.md", readme()), ("docs/ARCHITECTURE.md", architecture())):
+    texts = {"README.md": readme(), "docs/ARCHITECTURE.md": architecture(), "docs/DEFINITIONS.md": definitions()}
+    for path, text in texts.items():
         file = TOP / path
         before, rest = file.read_text().split(BEGIN)
         _, after = rest.split(END)
@@ -62,7 +102,7 @@ def main():
             if "--check" not in sys.argv:
                 file.write_text(now)
     if "--check" in sys.argv and wrong:
-        sys.exit(f"differs from crates.txt: {' '.join(wrong)}")
+        sys.exit(f"differs from what docs/crates.py writes: {' '.join(wrong)}")
 
 
 main()
