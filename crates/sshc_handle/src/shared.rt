@@ -17,7 +17,7 @@ use std::thread::{Parker, yield_now};
 use std::time::{Clock, Duration};
 
 /// Over how many conditions the calls that wait are spread, by the numbers of their tickets and channels.
-const PLACES: u32 = 256;
+const PLACES: u32 = 1024;
 
 /// The session under its lock. A thread that submits wakes the runner, and the runner wakes those that wait for a
 /// record of a ticket or a channel that it holds.
