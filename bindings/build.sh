@@ -23,7 +23,8 @@ python3 "$here/check_header.py" "$here/include/sazhonthil.h" "$top/crates/sazhon
 cc -O2 -fPIC -Wall -Wextra -c "$here/runtime/runtime.c" -o "$out/runtime.o"
 rm -f "$out/libsazhonthil_runtime.a"
 ar rcs "$out/libsazhonthil_runtime.a" "$out/runtime.o"
-cc -shared -o "$out/libsazhonthil.so" "$out/runtime.o" -Wl,--whole-archive "$out/libsazhonthil.a" -Wl,--no-whole-archive
+mkdir -p "$out/shared"
+cc -shared -o "$out/shared/libsazhonthil.so" "$out/runtime.o" -Wl,--whole-archive "$out/libsazhonthil.a" -Wl,--no-whole-archive
 
 # C, under AddressSanitizer with its search for leaks: the worked rows, misuse, and each request for memory refused once
 python3 "$here/tests/rows.py" "$rows" --dump > "$out/rows"
@@ -35,7 +36,7 @@ done
 "$out/misuse.by"
 done="$done C"
 
-export PYTHONDONTWRITEBYTECODE=1 SAZHONTHIL="$out/libsazhonthil.so" SAZHONTHIL_LIB="$out" ROWS="$out/rows"
+export PYTHONDONTWRITEBYTECODE=1 SAZHONTHIL="$out/shared/libsazhonthil.so" SAZHONTHIL_LIB="$out" ROWS="$out/rows"
 python3 "$here/tests/rows.py" "$rows"
 done="$done Python"
 

@@ -14,8 +14,8 @@
  *   while it holds something: give its address.
  *
  * Objects. A session and an agent are small structs of the caller's. {0} holds nothing, and so does a struct after
- * `_free`. A call on a struct that holds nothing returns SSHC_MISUSE and does nothing, and so does `_new` on one that
- * holds something; a second `_free` does nothing. So use after free and double free are answers, not undefined behaviour.
+ * `_free`. A call on a struct that holds nothing returns SSHC_MISUSE and does nothing (*size and *detail become 0, nothing
+ * else is written), and so does `_new` on one that holds something; a second `_free` does nothing. So use after free and double free are answers, not undefined behaviour.
  *
  * Bytes. Pointers aren't kept after a call. Text is UTF-8 without a 0 at its end. Bytes that the library hands out are
  * copied to the front of the caller's memory: all of them, with SSHC_OK, or none, with SSHC_NO_ROOM; *size is how many
@@ -137,7 +137,8 @@ sshc_status sshc_session_new(sshc_session *session, const sshc_settings *setting
  * SSHC_NO_MEMORY and all above it: an event was refused, and the session is over; the records of the events before it
  * are there, and those of its own row (with SSHC_NO_MEMORY maybe fewer). *detail is the place or line that the status
  * names, and otherwise 0; a place counts all bytes that were handed in since `_new`.
- * SSHC_OVER: it was over before. */
+ * SSHC_OVER: it was over before. Bytes behind the event that ended the session or was refused aren't read.
+ * The agent of the kinds 40 to 43 is there too, but signs nothing: for one that does there is sshc_agent. */
 sshc_status sshc_session_take(sshc_session *session, const uint8_t *events, size_t events_len, uint64_t *detail);
 
 /* Copies the next record of the last `_take`: SSHC_OK, SSHC_NO_ROOM, SSHC_NOTHING after the last one, SSHC_MISUSE. */
@@ -150,8 +151,8 @@ void sshc_session_free(sshc_session *session);
  *
  * The agent holds keys with their constraints, and a lock. For each input of a connection: first `_asks` whether a
  * signature is wanted; if so sign the part 0 by the key of the parts 1 and 2; then `_take` with the same input, moment
- * and connection and the signature, and send `_answer` where it returned SSHC_OK. Between the two calls no other input may
- * be taken: then a signature counts as none. Inputs:
+ * and connection and the signature, and send `_answer` where it returned SSHC_OK. If another input was taken between the
+ * two, ask again: the signature would count for what the input asks then, and nothing refuses it. Inputs:
  *   0 a frame, without its length, of at most 262144 bytes      1 a frame's length was above that
  *   2, 3 the user allows the request asked about, or not        4, 5 confirms the use of the key asked about, or not
  *   6 the client went away. Of all but 0 the frame is empty. */
@@ -166,18 +167,21 @@ typedef struct sshc_agent {
 sshc_status sshc_agent_new(sshc_agent *agent, uint32_t asks);
 
 /* What the step with this input asks to be signed: SSHC_ASKS_SIGNATURE, with *hash 0 (none), 1 (SHA-256) or 2 (SHA-512),
- * SSHC_NOTHING, SSHC_BAD_INPUT, SSHC_NO_MEMORY, SSHC_MISUSE. No key, lock or connection changes. */
+ * SSHC_NOTHING, SSHC_BAD_INPUT, SSHC_NO_MEMORY, SSHC_MISUSE. No key, lock, connection or last output changes. The question
+ * before is gone: unless SSHC_ASKS_SIGNATURE is returned every part is empty. */
 sshc_status sshc_agent_asks(sshc_agent *agent, uint64_t moment, uint32_t connection, uint32_t input, const uint8_t *frame,
                             size_t frame_len, uint32_t *hash);
 
-/* Copies a part of that question: 0 the bytes to sign, 1 the public key's blob, 2 the key pair as ADD_IDENTITY has it. */
+/* Copies a part of that question: 0 the bytes to sign, 1 the public key's blob, 2 (and any other number) the key pair as
+ * ADD_IDENTITY has it. SSHC_OK, SSHC_NO_ROOM, SSHC_MISUSE. */
 sshc_status sshc_agent_asked(sshc_agent *agent, uint32_t part, uint8_t *to, size_t to_len, size_t *size);
 
-/* Takes the input. told: 0 nothing was asked, 1 this is the signature (a signature blob of at most 65536 bytes), 2 it is
- * refused. SSHC_OK: `_answer` has the frame to send, with its length. SSHC_ASKS_REQUEST: the user is asked, and
+/* Takes the input. told: 0 nothing was asked, 1 this is the signature (a signature blob of at most 65536 bytes), 2 (and any
+ * other number) it is refused. With 0 where a signature was asked, and with a longer signature, memory counts as having
+ * run out. SSHC_OK: `_answer` has the frame to send, with its length. SSHC_ASKS_REQUEST: the user is asked, and
  * *request is 0 REQUEST_IDENTITIES, 1 ADD, 2 REMOVE, 3 REMOVE_ALL, 4 SIGN, 5 LOCK, 6 UNLOCK. SSHC_ASKS_KEY: `_answer` has
  * the key's blob. SSHC_NOTHING. SSHC_CLOSED_TOO_LONG, _UNREADABLE, _REFUSED and SSHC_NO_MEMORY: close the connection.
- * SSHC_BAD_INPUT, SSHC_MISUSE. */
+ * SSHC_BAD_INPUT, SSHC_MISUSE. `_answer` has no bytes but where it is named here. */
 sshc_status sshc_agent_take(sshc_agent *agent, uint64_t moment, uint32_t connection, uint32_t input, const uint8_t *frame,
                             size_t frame_len, uint32_t told, const uint8_t *signature, size_t signature_len, uint32_t *request);
 

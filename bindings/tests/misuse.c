@@ -80,6 +80,9 @@ static void agents(void) {
   check(sshc_agent_answer(&agent, to, 8, &size) == SSHC_NO_ROOM && size == 9, "too little room");
   check(sshc_agent_answer(&agent, to, sizeof to, &size) == SSHC_OK && size == 9 && memcmp(to, "\0\0\0\5\14\0\0\0\0", 9) == 0, "the answer");
   check(sshc_agent_take(&agent, 0, 1, 9, NULL, 0, 0, NULL, 0, &request) == SSHC_BAD_INPUT, "no such input");
+  check(sshc_agent_answer(&agent, to, sizeof to, &size) == SSHC_OK && size == 0, "no answer of another input");
+  for (uint32_t part = 0; part < 4; part++)
+    check(sshc_agent_asked(&agent, part, to, sizeof to, &size) == SSHC_OK && size == 0, "no part where nothing was asked");
   check(sshc_agent_take(&agent, 0, 2, 1, NULL, 0, 0, NULL, 0, &request) == SSHC_CLOSED_TOO_LONG, "a frame that is too long");
   check(sshc_agent_forget(&agent, 2) == SSHC_OK, "forget");
   sshc_agent_free(&agent);

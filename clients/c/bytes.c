@@ -1,5 +1,6 @@
 #include "bytes.h"
 
+#include <openssl/crypto.h>
 #include <stdarg.h>
 #include <stdio.h>
 #include <stdlib.h>
@@ -8,11 +9,22 @@
 void fail(const char *format, ...) {
   va_list given;
   va_start(given, format);
-  fputs("client: ", stderr);
-  vfprintf(stderr, format, given);
-  fputc('\n', stderr);
+  char line[1024];
+  vsnprintf(line, sizeof line, format, given);
   va_end(given);
+  fputs("client: ", stderr);
+  print_safe(stderr, text_of(line));
+  fputc('\n', stderr);
   exit(255);
+}
+
+void print_safe(FILE *to, slice text) {
+  for (size_t i = 0; i < text.len; i++) {
+    uint8_t byte = text.at[i];
+    bool is_control = (byte < 0x20 && byte != '\n' && byte != '\t') || byte == 0x7f;
+    bool is_later_control = byte >= 0x80 && byte < 0xa0 && (i == 0 || text.at[i - 1] == 0xc2); /* U+0080 to U+009F */
+    fputc(is_control || is_later_control ? '?' : byte, to);
+  }
 }
 
 slice slice_of(const void *at, size_t len) { return (slice){at, len}; }
@@ -34,7 +46,7 @@ char *copy_text(slice text) {
 }
 
 void bytes_free(bytes *it) {
-  if (it->at != NULL) memset(it->at, 0, it->room);
+  if (it->at != NULL) OPENSSL_cleanse(it->at, it->room);
   free(it->at);
   *it = (bytes){0};
 }

@@ -5,6 +5,7 @@
 #include <stdbool.h>
 #include <stddef.h>
 #include <stdint.h>
+#include <stdio.h>
 
 /* Bytes in memory of their own. {0} is empty. `from` is where the bytes begin that weren't taken yet. */
 typedef struct bytes {
@@ -67,5 +68,7 @@ slice get_rest(reader *it);
 /* Prints a line to standard error, and ends the program with status 255. */
 _Noreturn void fail(const char *format, ...) __attribute__((format(printf, 1, 2)));
 char *copy_text(slice text);
+/* Prints text of a peer's, with a ? for each control character but line feeds and tabs. */
+void print_safe(FILE *to, slice text);
 
 #endif

@@ -15,7 +15,7 @@
 #include <sys/socket.h>
 #include <unistd.h>
 
-enum { REKEY_SECONDS = 3600, BY_APPLICATION = 11, SERVER_OPENS = 90, MOST_BANNERS = 64 };
+enum { REKEY_SECONDS = 3600, BY_APPLICATION = 11, SERVER_OPENS = 90, MOST_BANNERS = 64, LEAVING_MS = 3000 };
 
 static const char USAGE[] =
     "client [-p PORT] [-l USER] [-k KNOWN_HOSTS] [-w PASSWORD_FILE] [-c CIPHERS] [-a HOST_KEY_ALGORITHMS] [-r REKEY_BYTES]\n"
@@ -24,6 +24,7 @@ static const char USAGE[] =
 /* ---- events */
 
 bytes *todo_begin(client *it, uint8_t kind, size_t *begun) {
+  if (bytes_count(&it->todo) > MOST_WAITING) give_up(it, "too many events wait");
   *begun = begin_string(&it->todo);
   put_u8(&it->todo, kind);
   return &it->todo;
@@ -38,7 +39,7 @@ static void record_auth(client *it, uint8_t how, uint32_t ticket, reader *fields
 
 static void show_banner(client *it, slice text) {
   if (++it->banners > MOST_BANNERS) give_up(it, "too many banners");
-  if (!it->asked.is_quiet) fwrite(text.at, 1, text.len, stderr);
+  if (!it->asked.is_quiet) print_safe(stderr, text);
 }
 
 static void take_record(client *it, slice record) {
@@ -84,10 +85,10 @@ void deliver(client *it) {
 }
 
 void give_up(client *it, const char *why) {
-  fprintf(stderr, "client: %s\n", why);
+  char *said = copy_text(text_of(why));
   core_free(&it->core);
   transport_free(&it->line);
-  exit(255);
+  fail("%s", said);
 }
 
 static void simple_event(client *it, uint8_t kind) {
@@ -127,6 +128,7 @@ static void exchange_done(client *it) {
   bool is_first = it->begun_exchange == 0;
   it->begun_exchange = now_ms();
   deliver(it);
+  transport_release(line);
   if (is_first) login_begin(it);
 }
 
@@ -216,13 +218,16 @@ static void leave(client *it) {
     put_text(to, "");
     deliver(it);
   }
-  fcntl(it->line.socket, F_SETFL, fcntl(it->line.socket, F_GETFL) & ~O_NONBLOCK);
-  transport_write(&it->line);
+  struct pollfd line = {.fd = it->line.socket, .events = POLLOUT};
+  for (uint64_t end = now_ms() + LEAVING_MS; transport_waiting(&it->line) != 0 && !it->line.ended && now_ms() < end;) {
+    poll(&line, 1, 100);
+    transport_write(&it->line);
+  }
 }
 
 static void run(client *it) {
   for (;;) {
-    transport_read(&it->line);
+    if (!it->is_behind) transport_read(&it->line);
     take_arrivals(it);
     run_todo(it);
     take_timers(it);
@@ -301,11 +306,30 @@ static char *joined(int count, char **words) {
   return made;
 }
 
+static void check_names(const char *list, bool (*is_known)(slice), const char *what) {
+  while (*list != 0) {
+    size_t len = strcspn(list, ",");
+    if (!is_known(slice_of(list, len))) fail("%.*s is no %s that the client has", (int)len, list, what);
+    list += list[len] == ',' ? len + 1 : len;
+  }
+}
+
+static bool is_cipher(slice name) { return cipher_named(name) != CIPHER_NONE; }
+
+static bool is_key_algorithm(slice name) {
+  static const char *const ALL[] = {"ssh-ed25519", "ecdsa-sha2-nistp256", "ecdsa-sha2-nistp384", "ecdsa-sha2-nistp521", "rsa-sha2-512", "rsa-sha2-256"};
+  for (size_t i = 0; i < sizeof ALL / sizeof *ALL; i++)
+    if (slice_is(name, ALL[i])) return true;
+  return false;
+}
+
 static void read_words(options *to, int count, char **words) {
   *to = (options){.port = 22, .ciphers = "aes256-gcm@openssh.com,chacha20-poly1305@openssh.com,aes256-ctr",
                   .keys = "ssh-ed25519,ecdsa-sha2-nistp256,ecdsa-sha2-nistp384,ecdsa-sha2-nistp521,rsa-sha2-512,rsa-sha2-256"};
   read_options(to, count, words);
   if (optind >= count) fail("%s", USAGE);
+  check_names(to->ciphers, is_cipher, "cipher");
+  check_names(to->keys, is_key_algorithm, "host key algorithm");
   char *host = words[optind++], *at = strrchr(host, '@');
   if (at != NULL) *at = 0, to->user = host, host = at + 1;
   to->host = host;
@@ -322,9 +346,13 @@ static bytes read_known_hosts(const options *asked) {
   char path[4096];
   const char *home = getenv("HOME");
   snprintf(path, sizeof path, "%s/.ssh/known_hosts", home == NULL ? "" : home);
-  int file = open(asked->known_hosts == NULL ? path : asked->known_hosts, O_RDONLY);
-  if (file < 0) return text;
-  for (ssize_t got; (got = read(file, bytes_room(&text, 65536), 65536)) > 0;) bytes_grew(&text, (size_t)got);
+  const char *name = asked->known_hosts == NULL ? path : asked->known_hosts;
+  int file = open(name, O_RDONLY);
+  if (file < 0 && errno == ENOENT) return text;
+  ssize_t got = file < 0 ? -1 : 1;
+  while (got > 0 || (got < 0 && file >= 0 && errno == EINTR))
+    if ((got = read(file, bytes_room(&text, 65536), 65536)) > 0) bytes_grew(&text, (size_t)got);
+  if (got < 0) fail("%s can't be read: %s", name, strerror(errno));
   close(file);
   return text;
 }
@@ -347,18 +375,32 @@ static int connect_host(const options *asked) {
   return made;
 }
 
+static int flags[3];
+
+static void restore_flags(void) {
+  for (int i = 0; i < 3; i++)
+    if (flags[i] >= 0) fcntl(i, F_SETFL, flags[i]);
+}
+
+/* The flags of standard input, output and error are others' too. */
+static void keep_flags(void) {
+  for (int i = 0; i < 3; i++) flags[i] = fcntl(i, F_GETFL);
+  atexit(restore_flags);
+}
+
 static void free_all(client *it) {
   core_free(&it->core);
   transport_free(&it->line);
   agent_close(&it->agent);
   bytes_free(&it->todo);
   bytes_free(&it->agent_keys);
-  free(it->password);
+  forget_text(it->password);
   for (size_t i = 0; i < MOST_STREAMS; i++) bytes_free(&it->streams[i].to_out), bytes_free(&it->streams[i].to_err);
 }
 
 int main(int count, char **words) {
   static client it;
+  keep_flags();
   signal(SIGPIPE, SIG_IGN);
   it.agent.socket = -1;
   read_words(&it.asked, count, words);

@@ -49,7 +49,7 @@ typedef struct client {
   bytes agent_keys;
   reader keys_left;
   char *password;
-  bool is_open, tried_password, tried_prompts, publickey_allowed;
+  bool is_open, tried_password, tried_prompts;
   uint32_t login_ticket, banners;
 
   stream streams[MOST_STREAMS];
@@ -57,7 +57,7 @@ typedef struct client {
   uint32_t last_open, last_most, last_window; /* of the record that told of an open */
   uint32_t forward_tickets[MOST_FORWARDS];
   int exit_status;
-  bool is_done, is_leaving, is_behind; /* is_behind: packets wait for descriptors */
+  bool is_done, is_behind; /* is_behind: packets wait for descriptors */
   uint64_t begun_exchange, next_keepalive;
 } client;
 
@@ -68,6 +68,8 @@ void deliver(client *it);
 _Noreturn void give_up(client *it, const char *why);
 
 /* ---- login.c */
+/* Frees a text, which may be NULL, after its bytes were overwritten. */
+void forget_text(char *text);
 void login_begin(client *it);
 void login_failed(client *it, reader *fields);
 void login_sign(client *it, reader *fields, bool is_certificate);

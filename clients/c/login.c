@@ -1,45 +1,58 @@
-/* The login: keys of an agent, prompts, a password, in this order, as far as the server takes them. */
+/* The login: the server is asked by the method "none" what it takes; then keys of an agent, a password, prompts, in this
+ * order, each only where the server names its method. */
 #include "client.h"
 
+#include <openssl/crypto.h>
 #include <stdio.h>
 #include <stdlib.h>
 #include <string.h>
 #include <termios.h>
 #include <unistd.h>
 
-enum { BY_PASSWORD = 1, BY_OUTSIDE_KEY = 4, BY_PROMPTS = 6, SHA_512 = 2 };
+enum { BY_NONE = 0, BY_PASSWORD = 1, BY_OUTSIDE_KEY = 4, BY_PROMPTS = 6, SHA_512 = 2 };
 
-/* Reads a line without echo where there is a terminal. */
-static char *read_hidden(const char *prompt) {
+void forget_text(char *text) {
+  if (text == NULL) return;
+  OPENSSL_cleanse(text, strlen(text));
+  free(text);
+}
+
+/* The first line of a file without its end; NULL where there is none. */
+static char *line_of(FILE *from) {
+  char line[1024], *made = NULL;
+  if (fgets(line, sizeof line, from) != NULL) {
+    line[strcspn(line, "\r\n")] = 0;
+    made = copy_text(text_of(line));
+  }
+  OPENSSL_cleanse(line, sizeof line);
+  return made;
+}
+
+/* Reads a line from the terminal; NULL where there is none. */
+static char *ask_terminal(slice prompt, bool echo) {
   struct termios was, hidden;
   FILE *terminal = fopen("/dev/tty", "r+");
   if (terminal == NULL) return NULL;
-  fputs(prompt, terminal);
+  print_safe(terminal, prompt);
   fflush(terminal);
   tcgetattr(fileno(terminal), &was);
   hidden = was;
   hidden.c_lflag &= ~(tcflag_t)ECHO;
-  tcsetattr(fileno(terminal), TCSAFLUSH, &hidden);
-  char line[1024];
-  char *got = fgets(line, sizeof line, terminal);
-  tcsetattr(fileno(terminal), TCSAFLUSH, &was);
-  fputc('\n', terminal);
+  if (!echo) tcsetattr(fileno(terminal), TCSAFLUSH, &hidden);
+  char *made = line_of(terminal);
+  if (!echo) tcsetattr(fileno(terminal), TCSAFLUSH, &was);
+  if (!echo) fputc('\n', terminal);
   fclose(terminal);
-  if (got == NULL) return NULL;
-  line[strcspn(line, "\r\n")] = 0;
-  return copy_text(text_of(line));
+  return made;
 }
 
 static char *read_password(client *it) {
-  if (it->asked.password_file == NULL) return read_hidden("password: ");
+  if (it->asked.password_file == NULL) return ask_terminal(text_of("password: "), false);
   FILE *file = fopen(it->asked.password_file, "r");
   if (file == NULL) fail("%s can't be read", it->asked.password_file);
-  char line[1024] = "";
-  char *got = fgets(line, sizeof line, file);
+  char *made = line_of(file);
   fclose(file);
-  if (got == NULL) return NULL;
-  line[strcspn(line, "\r\n")] = 0;
-  return copy_text(text_of(line));
+  return made;
 }
 
 static const char *password_of(client *it) {
@@ -90,7 +103,7 @@ static bool is_plain_key(slice key) {
 
 /* Whether a key of the agent was left to try. */
 static bool try_next_key(client *it) {
-  while (it->publickey_allowed && it->keys_left.left != 0) {
+  while (it->keys_left.left != 0) {
     slice key = get_string(&it->keys_left);
     if (it->keys_left.bad) return false;
     if (!is_plain_key(key)) continue;
@@ -101,11 +114,12 @@ static bool try_next_key(client *it) {
 }
 
 void login_begin(client *it) {
-  it->publickey_allowed = true;
   agent_connect(&it->agent);
   agent_keys(&it->agent, &it->agent_keys);
   it->keys_left = read_slice(bytes_slice(&it->agent_keys));
-  if (!try_next_key(it)) try_password(it);
+  size_t begun;
+  begin_request(it, BY_NONE, &begun);
+  todo_end(it, begun);
 }
 
 static bool lists_name(slice list, const char *name) {
@@ -117,8 +131,7 @@ static bool lists_name(slice list, const char *name) {
 
 void login_failed(client *it, reader *fields) {
   slice methods = get_string(fields);
-  it->publickey_allowed = lists_name(methods, "publickey");
-  if (try_next_key(it)) return;
+  if (lists_name(methods, "publickey") && try_next_key(it)) return;
   if (lists_name(methods, "password") && !it->tried_password) return try_password(it);
   if (lists_name(methods, "keyboard-interactive") && !it->tried_prompts) return try_prompts(it);
   char why[300];
@@ -147,12 +160,13 @@ void login_sign(client *it, reader *fields, bool is_certificate) {
   bytes_free(&signature);
 }
 
-static void answer_prompt(client *it, bytes *to, slice prompt, bool echo) {
-  if (!echo || it->asked.password_file != NULL) return put_text(to, password_of(it));
-  char *words = copy_text(prompt), *answer = read_hidden(words);
-  put_text(to, answer == NULL ? "" : answer);
-  free(answer);
-  free(words);
+/* Shows a prompt and reads its answer. The password of -w answers a single prompt without echo, and no other. */
+static void answer_prompt(client *it, bytes *to, slice prompt, bool echo, bool is_alone) {
+  if (it->asked.password_file != NULL && is_alone && !echo) return put_text(to, password_of(it));
+  char *answer = ask_terminal(prompt, echo);
+  if (answer == NULL) give_up(it, "there is no terminal to answer the server's prompts");
+  put_text(to, answer);
+  forget_text(answer);
 }
 
 void login_prompts(client *it, reader *fields) {
@@ -165,7 +179,8 @@ void login_prompts(client *it, reader *fields) {
   put_u32(to, count);
   for (uint32_t i = 0; i < count && !fields->bad; i++) {
     slice prompt = get_string(fields);
-    answer_prompt(it, to, prompt, get_bool(fields));
+    bool echo = get_bool(fields);
+    if (!fields->bad) answer_prompt(it, to, prompt, echo, count == 1);
   }
   todo_end(it, begun);
 }

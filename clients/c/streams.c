@@ -74,6 +74,7 @@ static void ask_remote(client *it, size_t i) {
 void streams_begin(client *it) {
   for (size_t i = 0; i < it->asked.remotes; i++) ask_remote(it, i);
   if (it->asked.no_command) return;
+  it->exit_status = 255; /* until the server tells the command's */
   stream *at = new_stream(it, STREAM_SESSION);
   at->ticket = ++it->tickets;
   at->in = 0, at->out = 1, at->err = 2;
@@ -105,8 +106,12 @@ static void open_failed(client *it, stream *at, uint32_t reason) {
 }
 
 void streams_resolved(client *it, uint32_t ticket, uint8_t how, reader *fields) {
-  for (size_t i = 0; i < it->asked.remotes; i++)
-    if (it->forward_tickets[i] == ticket && how == DENIED) give_up(it, "the server forwards no port");
+  for (size_t i = 0; i < it->asked.remotes; i++) {
+    if (it->forward_tickets[i] != ticket) continue;
+    if (how != FORWARD_PORT && how != DONE) give_up(it, "the server forwards no port");
+    if (how == FORWARD_PORT && it->asked.remote[i].port == 0) it->asked.remote[i].port = (uint16_t)get_u32(fields);
+    return;
+  }
   for (size_t i = 0; i < MOST_STREAMS; i++) {
     stream *at = &it->streams[i];
     if (at->kind == STREAM_FREE || at->ticket != ticket) continue;
@@ -134,7 +139,7 @@ static int connect_to(const char *host, uint16_t port) {
 
 static const forward *remote_of(client *it, uint32_t port) {
   for (size_t i = 0; i < it->asked.remotes; i++)
-    if (it->asked.remote[i].port == port || it->asked.remote[i].port == 0) return &it->asked.remote[i];
+    if (it->asked.remote[i].port == port) return &it->asked.remote[i];
   return NULL;
 }
 
@@ -163,6 +168,14 @@ void streams_server_opened(client *it, reader *fields) {
   at->most = it->last_most < CHUNK ? it->last_most : CHUNK;
 }
 
+/* Writes what the descriptor takes at once, and keeps the rest. */
+static void hand_out(bytes *waiting, int to, slice data) {
+  ssize_t written = bytes_count(waiting) == 0 && to >= 0 ? write(to, data.at, data.len) : 0;
+  if (written < 0 && errno != EAGAIN && errno != EINTR) return;
+  size_t done = written < 0 ? 0 : (size_t)written;
+  put(waiting, data.at + done, data.len - done);
+}
+
 static void channel_closed(client *it, stream *at) {
   at->is_closed = true;
   at->in = at->kind == STREAM_SESSION ? -1 : at->in;
@@ -185,8 +198,8 @@ void streams_record(client *it, uint8_t kind, reader *fields) {
   if (kind == EXIT_SIGNAL && at->kind == STREAM_SESSION) it->exit_status = 255;
   if (kind == CHANNEL_DATA || kind == EXTENDED_DATA) {
     if (kind == EXTENDED_DATA) get_u32(fields);
-    slice data = get_string(fields);
-    put(kind == EXTENDED_DATA && at->err >= 0 ? &at->to_err : &at->to_out, data.at, data.len);
+    bool is_error = kind == EXTENDED_DATA && at->err >= 0;
+    hand_out(is_error ? &at->to_err : &at->to_out, is_error ? at->err : at->out, get_string(fields));
   }
 }
 
@@ -200,7 +213,7 @@ size_t streams_waiting(const client *it) {
 
 bool streams_may_read(const client *it, const stream *at) {
   return at->kind != STREAM_FREE && at->is_open && !at->in_ended && !at->is_closed && at->in >= 0 && at->window != 0 &&
-         it->line.state == KEX_IDLE && !it->is_leaving && transport_waiting(&it->line) < MOST_WAITING && bytes_count(&it->todo) == 0;
+         it->line.state == KEX_IDLE && at->most != 0 && transport_waiting(&it->line) < MOST_WAITING && bytes_count(&it->todo) == 0;
 }
 
 static void write_out(bytes *from, int to) {
@@ -273,7 +286,7 @@ static void accept_one(client *it, const forward *from) {
 
 void streams_move(client *it) {
   for (size_t i = 0; i < it->asked.locals; i++)
-    if (it->is_open && !it->is_leaving) accept_one(it, &it->asked.local[i]);
+    if (it->is_open) accept_one(it, &it->asked.local[i]);
   for (size_t i = 0; i < MOST_STREAMS; i++)
     if (it->streams[i].kind != STREAM_FREE) move_stream(it, &it->streams[i]);
 }

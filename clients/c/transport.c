@@ -11,7 +11,8 @@ enum {
   DISCONNECT = 1, IGNORE = 2, DEBUG = 4, KEXINIT = 20, NEWKEYS = 21, KEX_ECDH_INIT = 30, KEX_ECDH_REPLY = 31,
   LONGEST_PACKET = 262144, /* of the padded part; the core takes packets of at most 32768 bytes of data */
   LONGEST_VERSION = 255,
-  MOST_LINES = 64 /* before the version line */
+  MOST_LINES = 64, /* before the version line */
+  MOST_WAITS = 64 << 20
 };
 
 static const char OUR_VERSION[] = "SSH-2.0-Sazhonthil_0.1";
@@ -57,10 +58,16 @@ static void flush_held(transport *it) {
 
 void transport_send(transport *it, slice packet) {
   if (packet.len == 0) return;
-  if (it->state == KEX_IDLE || packet.at[0] == DISCONNECT)
+  if (bytes_count(&it->out) + bytes_count(&it->held) > MOST_WAITS) return failed(it, "too much waits to be sent");
+  if ((it->state == KEX_IDLE && !it->is_held) || packet.at[0] == DISCONNECT)
     send_now(it, packet);
   else
     put_string(&it->held, packet);
+}
+
+void transport_release(transport *it) {
+  it->is_held = false;
+  flush_held(it);
 }
 
 /* ---- KEXINIT (RFC 4253, section 7.1) */
@@ -154,7 +161,8 @@ static bool negotiate(transport *it) {
     for (int i = 0; i < 17; i++) get_u8(&again);
     it->strict = lists(get_string(&again), text_of("kex-strict-s-v00@openssh.com"));
   }
-  return c->kex.len != 0 && c->key.len != 0 && c->cipher_out.len != 0 && c->cipher_in.len != 0 && macs && plain;
+  bool sealed = cipher_named(c->cipher_out) != CIPHER_NONE && cipher_named(c->cipher_in) != CIPHER_NONE;
+  return c->kex.len != 0 && c->key.len != 0 && sealed && macs && plain;
 }
 
 static void answer_kexinit(transport *it) {
@@ -273,7 +281,7 @@ static arrival take_new_keys(transport *it) {
   it->bytes_since = it->packets_since = 0;
   OPENSSL_cleanse(it->secret.at, it->secret.room);
   bytes_clear(&it->secret);
-  flush_held(it);
+  it->is_held = true;
   return (arrival){ARRIVED_EXCHANGE, {0}};
 }
 

@@ -43,7 +43,7 @@ typedef struct transport {
 
   char *our_version, *peer_version;
   kex_state state;
-  bool strict, is_first, peers_guess;
+  bool strict, is_first, peers_guess, is_held;
   uint32_t lines_before; /* the version line */
   bytes our_init, peer_init;
   kex_kind kind;
@@ -70,6 +70,8 @@ void transport_write(transport *it);
 arrival transport_next(transport *it);
 /* Sends a packet of the core, or holds it until an exchange of ours is done. */
 void transport_send(transport *it, slice packet);
+/* After an exchange the packets that were held wait until the core took the exchange: then they are sent. */
+void transport_release(transport *it);
 /* Sends our KEXINIT, unless an exchange runs. */
 void transport_begin_exchange(transport *it);
 /* Whether the keys have done enough (RFC 4253, section 9), by bytes or packets. */

@@ -21,7 +21,7 @@ from cryptography.hazmat.primitives.serialization import Encoding, PublicFormat
 
 CLIENT = os.path.abspath(sys.argv[1])
 KEXINIT, NEWKEYS, ECDH_INIT, ECDH_REPLY = 20, 21, 30, 31
-SERVICE_ACCEPT, USERAUTH_FAILURE, USERAUTH_SUCCESS, BANNER = 6, 51, 52, 53
+DISCONNECT, SERVICE_ACCEPT, USERAUTH_FAILURE, USERAUTH_SUCCESS, BANNER = 1, 6, 51, 52, 53
 
 
 def raw(key):
@@ -180,6 +180,9 @@ class Peer:
         for _ in range(100000 if self.mode == "banners" else 0):
             self.send(bytes([BANNER]) + string(b"hello\n") + string(b""))
         self.end_at("cut-within-login")
+        if self.mode == "names-no-password":
+            self.send(bytes([USERAUTH_FAILURE]) + string(b"publickey,hostbased") + b"\0")
+            assert self.receive()[0] == DISCONNECT, "the password was sent"
         if self.mode == "no-methods":
             self.send(bytes([USERAUTH_FAILURE]) + string(b"telepathy") + b"\0")
         if self.mode == "cut-failure":
@@ -203,7 +206,8 @@ class Peer:
             self.rekey()
         self.send(b"\x63" + struct.pack(">I", 1))
         self.send(b"\x5e" + struct.pack(">I", 1) + string(b"well\n"))
-        self.send(b"\x62" + struct.pack(">I", 1) + string(b"exit-status") + b"\0" + struct.pack(">I", 0))
+        if self.mode != "no-exit-status":
+            self.send(b"\x62" + struct.pack(">I", 1) + string(b"exit-status") + b"\0" + struct.pack(">I", 0))
         self.send(b"\x61" + struct.pack(">I", 1))
         while True:
             self.receive()
@@ -244,7 +248,7 @@ class Peer:
 
 
 ENDED = "the server closed the connection"
-# what the server does wrong, and what the client says then
+# what the server does wrong, and what the client says then; "" is nothing, with status 0, and None nothing, with 255
 WANTED = {
     "nothing": "",
     "no-version": "no version line of SSH",
@@ -277,6 +281,7 @@ WANTED = {
     "banners": "too many banners",
     "cut-within-login": ENDED,
     "no-methods": "permission denied ()",
+    "names-no-password": "permission denied (publickey,hostbased)",
     "cut-failure": "ssh-encoding",
     "cut-before-channel": ENDED,
     "other-channel": "inconsistent",
@@ -284,6 +289,7 @@ WANTED = {
     "command-refused": "the server doesn't start the command",
     "cut-within-command": ENDED,
     "other-key-later": "rekey-key",
+    "no-exit-status": None,
 }
 
 
@@ -306,11 +312,11 @@ def main():
             file.write("secret\n")
         for mode, said in WANTED.items():
             got = run(mode, folder)
-            wanted = (255, "", f"client: {said}") if said else (0, "well\n", "")
+            wanted = (255, "", f"client: {said}") if said else (0 if said == "" else 255, "well\n", "")
             if got != wanted:
                 wrong += 1
                 print(f"{mode}: {got!r:.300} and not {wanted}")
-    print(f"client: {len(WANTED)} servers, {wrong} of them ended otherwise than they are to")
+    print(f"client: {len(WANTED) - 1} servers that do wrong and one that doesn't; {wrong} ended otherwise than they are to")
     return wrong != 0
 
 

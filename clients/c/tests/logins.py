@@ -110,6 +110,19 @@ def forwards(scratch, port):
         running.wait()
 
 
+def curves(scratch):
+    """The other key exchange, and the host keys on the larger curves."""
+    for kind in ("ecdsa384", "ecdsa521"):
+        scratch.make_key(f"host_{kind}", kind)
+    keys = "".join(f"HostKey {scratch.folder}/host_{kind}\n" for kind in ("ecdsa384", "ecdsa521"))
+    port = scratch.sshd(more=f"KexAlgorithms ecdh-sha2-nistp256\n{keys}")
+    scratch.know(port, "ed25519", "ecdsa384", "ecdsa521")
+    for key in ("ssh-ed25519", "ecdsa-sha2-nistp384", "ecdsa-sha2-nistp521"):
+        want(client(scratch, port, "-a", key, "localhost", "echo hello")[:2], (0, b"hello\n"), f"ecdh-sha2-nistp256 {key}")
+    want(client(scratch, port, "-c", "aes128-ctr", "localhost", "true")[::2], (255, "client: aes128-ctr is no cipher that the client has\n"), "another cipher")
+    want(client(scratch, port, "-k", "/", "localhost", "true")[0], 255, "known hosts that can't be read")
+
+
 def hosts(scratch, port):
     scratch.know(port)
     want(client(scratch, port, "localhost", "true")[::2], (255, "client: unknown-key\n"), "no known host")
@@ -146,6 +159,7 @@ def main():
         prompts = scratch.sshd(password="no")
         scratch.know(prompts, "ed25519")
         want(client(scratch, prompts, "localhost", "echo hello", agent=False)[:2], (0, b"hello\n"), "prompts")
+        curves(scratch)
         ran.append("sshd")
         if shutil.which("dropbear") and shutil.which("dropbearkey"):
             simple(scratch, scratch.dropbear(), "dropbear")

@@ -23,6 +23,7 @@ PasswordAuthentication {password}
 KbdInteractiveAuthentication yes
 Subsystem sftp internal-sftp
 MaxStartups 100
+{more}
 """
 
 
@@ -75,8 +76,8 @@ class Scratch:
         shutil.rmtree(self.folder, ignore_errors=True)
 
     def make_key(self, name, kind):
-        more = ["-b", "2048"] if kind == "rsa" else []
-        subprocess.run(["ssh-keygen", "-q", "-t", kind, *more, "-N", "", "-C", "", "-f", f"{self.folder}/{name}"], check=True)
+        more = ["-b", "2048"] if kind == "rsa" else ["-b", kind[5:]] if kind.startswith("ecdsa") and kind != "ecdsa" else []
+        subprocess.run(["ssh-keygen", "-q", "-t", kind[:5] if kind.startswith("ecdsa") else kind, *more, "-N", "", "-C", "", "-f", f"{self.folder}/{name}"], check=True)
 
     def read(self, name):
         with open(f"{self.folder}/{name}") as file:
@@ -102,9 +103,9 @@ class Scratch:
 
     # ---- servers
 
-    def sshd(self, password="yes"):
+    def sshd(self, password="yes", more=""):
         port = free_port()
-        self.write("config", SSHD.format(port=port, folder=self.folder, password=password))
+        self.write("config", SSHD.format(port=port, folder=self.folder, password=password, more=more))
         os.makedirs("/run/sshd", exist_ok=True)
         self.start(["/usr/sbin/sshd", "-D", "-f", f"{self.folder}/config", "-E", f"{self.folder}/log"])
         until_open(port)

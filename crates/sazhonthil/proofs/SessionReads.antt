@@ -6,7 +6,7 @@ use Rattle.hex.specs.Hex.{encode_lower}
 use Rattle.sshc_key.specs.Signers.{SignCall}
 use Rattle.sshc_wire.specs.DigitLines.{text_line}
 use Rattle.sshc_c_calls.specs.declared.reading.ReadRecord.TheVariants as reads
-use Rattle.sshc_c_calls.specs.RecordLines.{FirstIs, ReadsFirst}
+use Rattle.sshc_c_calls.specs.RecordLines.{FirstIs, HasNoLine, ReadsFirst}
 use Rattle.sshc_c_calls.proofs.Decoding.{length_encoded}
 use Rattle.sshc_client.specs.declared.config.Config.{Config}
 use Rattle.sshc_client_packets.specs.HostKeyProof.{Accepts}
@@ -89,9 +89,62 @@ takes_first run lines bytes rest before after at size is first =
 zero_six : {A : Type 0} (status : ℕ) → status ≡ 0 → status ≡ 6 → A
 zero_six status zero six = absurd (omega (arith, zero, six))
 
+seven_six : {A : Type 0} (status : ℕ) → status ≡ 7 → status ≡ 6 → A
+seven_six status seven six = absurd (omega (arith, seven, six))
+
+copied_nothing : {A : Type 0} (size : ℕ) → reads.Copied size ≡ reads.Nothing → A
+copied_nothing size e = absurd cc
+
+room_nothing : {A : Type 0} (size : ℕ) → reads.NoRoom size ≡ reads.Nothing → A
+room_nothing size e = absurd cc
+
+nothing_copied : {A : Type 0} (size : ℕ) → reads.Nothing ≡ reads.Copied size → A
+nothing_copied size e = absurd cc
+
+nothing_room : {A : Type 0} (size : ℕ) → reads.Nothing ≡ reads.NoRoom size → A
+nothing_room size e = absurd cc
+
+room_copied : {A : Type 0} (a b : ℕ) → reads.NoRoom a ≡ reads.Copied b → A
+room_copied a b e = absurd cc
+
+room_size : (a b : ℕ) → reads.NoRoom a ≡ reads.NoRoom b → a ≡ b
+room_size a b e = cc
+
 pub read_on : (run : Paused) (lines before after : List ℕ) (at size : ℕ) → ReadsFirst (drop at lines) before after (reads.Copied size)
     → ReadsRecord (taking run (drop at lines)) (taking run (drop (at + (2 * size + 1)) lines)) before after size 0
 read_on run lines before after at size reads_first = record {
   first = λ bytes rest small is. takes_first run lines bytes rest before after at size is (reads_first.first bytes rest small is);
   nothing = zero_six 0 refl;
+  none = λ no_line. copied_nothing size (reads_first.none no_line).0;
+  run = refl;
+}
+
+no_first : {A : Type 0} (bytes before after : List ℕ) → FirstIs bytes before after reads.Nothing → A
+no_first bytes before after first =
+    ⊎_elim (λ more. nothing_room (length bytes) (first.no_room more).0) (λ fits. nothing_copied (length bytes) (first.copied fits).0) (cases_lt (length before) (length bytes))
+
+pub read_none : (old : Taking) (left before after : List ℕ) (size : ℕ) → ReadsFirst left before after reads.Nothing → left ≡ old.left → size ≡ 0 → ReadsRecord old old before after size 6
+read_none old left before after size reads_first same zero = record {
+  first = λ bytes rest small is. no_first bytes before after (reads_first.first bytes rest small (same ∙ is));
+  nothing = λ _. subst HasNoLine same (reads_first.nothing refl).0;
+  none = λ _. (refl, zero, refl, (reads_first.nothing refl).1);
+  run = refl;
+}
+
+room_first : (old : Taking) (bytes rest before after : List ℕ) (size : ℕ) → FirstIs bytes before after (reads.NoRoom size) → TakesFirst bytes rest old old before after size 7
+room_first old bytes rest before after size first =
+    let same : size ≡ length bytes
+    = ⊎_elim (λ more. room_size size (length bytes) (first.no_room more).0) (λ fits. room_copied size (length bytes) (first.copied fits).0) (cases_lt (length before) (length bytes)) in
+    record {
+      counted = same;
+      copied = λ fits. room_copied size (length bytes) (first.copied fits).0;
+      no_room = λ more. (refl, refl, (first.no_room more).1);
+    }
+
+pub read_no_room : (old : Taking) (left before after : List ℕ) (size : ℕ) → ReadsFirst left before after (reads.NoRoom size) → left ≡ old.left → ReadsRecord old old before after size 7
+read_no_room old left before after size reads_first same = record {
+  first = λ bytes rest small is. room_first old bytes rest before after size (reads_first.first bytes rest small (same ∙ is));
+  nothing = seven_six 7 refl;
+  none = λ no_line. room_nothing size (reads_first.none (subst HasNoLine (sym same) no_line)).0;
+  run = refl;
 }

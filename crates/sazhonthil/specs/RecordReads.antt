@@ -15,4 +15,8 @@ pub record ReadsRecord (old new : Taking) (before after : List ℕ) (size status
   -- of lines that begin with the line of some bytes these are read
   pub first : (bytes rest : List ℕ) → IsBytes bytes → old.left ≡ text_line bytes ++ rest → TakesFirst bytes rest old new before after size status
   -- that nothing is left is reported only where no line is left
-  pub nothing : status ≡ 6 → HasNoLine old.left × (new ≡ old) × (after ≡ before)
+  pub nothing : status ≡ 6 → HasNoLine old.left
+  -- and then it is, and nothing changes
+  pub none : HasNoLine old.left → (status ≡ 6) × (size ≡ 0) × (new ≡ old) × (after ≡ before)
+  -- the run is as it was
+  pub run : new.run ≡ old.run

@@ -1,11 +1,11 @@
 //! An agent: the struct of the caller's, and the calls. The caller signs.
 
-ghost use Rattle.std.specs.Prelude.{◌≡◌, ◌≢◌, [], Option, Some, None, IsNone, IsSome, IfSome, option_map};
+ghost use Rattle.std.specs.Prelude.{◌≡◌, ◌≢◌, ◌⊎◌, [], Option, Some, None, IsNone, IsSome, IfSome, option_map};
 ghost use Rattle.sshc_agent_core.specs.AgentList.{empty_list, forgotten};
 ghost use Rattle.sshc_c_calls.specs.AgentInputs.{input_of};
 ghost use Rattle.sshc_c_calls.specs.AgentOutputs.{answer_told, said_as, TakesNumber};
 ghost use Rattle.sshc_c_calls.specs.CopiedOut.{CopiedOut};
-ghost use Rattle.sshc_c_calls.specs.Questions.{AsksNumber};
+ghost use Rattle.sshc_c_calls.specs.Questions.{AsksNumber, HasNoParts};
 ghost use Rattle.sazhonthil.specs.SettingsKept.{is_yes};
 ghost use Rattle.sazhonthil.specs.AskedParts.{part_of};
 
@@ -61,10 +61,12 @@ impl AgentHandle {
 /// request.
 #[unsafe(no_mangle)]
 pub extern "C" fn sshc_agent_new(alloc: Global, agent: &mut AgentHandle, asks: u32) -> u32
-    ensures made { result ≡ 0 → IfSome agent.new.held.run (λ run. run.core ≡ empty_list (is_yes asks)) }
+    ensures made { result ≡ 0 → IfSome agent.new.held.run (λ run. (run.core ≡ empty_list (is_yes asks))
+        × (run.said ≡ []) × HasNoParts run.question) }
     ensures held { result ≡ 0 → IsSome agent.new.held.run }
     ensures kept { result ≢ 0 → agent.new.held.run ≡ agent.old.held.run }
     ensures misuse { IsSome agent.old.held.run → result ≡ 2 }
+    ensures status { agent.old.held.run ≡ None → (result ≡ 0) ⊎ (result ≡ 20) }
 {
     if agent.live != 0 {
         return MISUSE;
@@ -92,9 +94,13 @@ pub extern "C" fn sshc_agent_asks(
 ) -> u32
     ensures asks { IfSome agent.old.held.run (λ before. IfSome agent.new.held.run (λ after.
         AsksNumber now conn (input_of input frame.now) before.core after.question result
-        × (hash.new ≡ after.question.hash) × (after.core ≡ before.core))) }
+        × (hash.new ≡ after.question.hash))) }
+    // Nothing else changes: neither the agent nor the bytes of its last output.
+    ensures same { IfSome agent.old.held.run (λ before. IfSome agent.new.held.run (λ after.
+        (after.core ≡ before.core) × (after.said ≡ before.said))) }
     ensures held { IsSome agent.old.held.run → IsSome agent.new.held.run }
-    ensures misuse { agent.old.held.run ≡ None → (result ≡ 2) × (agent.new.held.run ≡ None) }
+    ensures misuse { agent.old.held.run ≡ None →
+        (result ≡ 2) × (hash.new ≡ hash.old) × (agent.new.held.run ≡ None) }
 {
     match agent.take(alloc) {
         None => MISUSE,
@@ -131,7 +137,7 @@ pub extern "C" fn sshc_agent_asked(
     ensures copied { IfSome agent.old.held.run (λ run.
         CopiedOut (part_of run.question part) to.old to.new size.new result) }
     ensures kept { agent.new.held.run ≡ agent.old.held.run }
-    ensures misuse { agent.old.held.run ≡ None → (result ≡ 2) × (size.new ≡ 0) }
+    ensures misuse { agent.old.held.run ≡ None → (result ≡ 2) × (size.new ≡ 0) × (to.new ≡ to.old) }
 {
     match agent.take(alloc) {
         None => {
@@ -165,7 +171,8 @@ pub extern "C" fn sshc_agent_take(
         TakesNumber now conn (input_of input frame.now) (answer_told told signature.now) before.core after.core
         (said_as after.said number.new result))) }
     ensures held { IsSome agent.old.held.run → IsSome agent.new.held.run }
-    ensures misuse { agent.old.held.run ≡ None → (result ≡ 2) × (agent.new.held.run ≡ None) }
+    ensures misuse { agent.old.held.run ≡ None →
+        (result ≡ 2) × (number.new ≡ number.old) × (agent.new.held.run ≡ None) }
 {
     match agent.take(alloc) {
         None => MISUSE,
@@ -188,7 +195,7 @@ pub extern "C" fn sshc_agent_answer(
 ) -> u32
     ensures copied { IfSome agent.old.held.run (λ run. CopiedOut run.said to.old to.new size.new result) }
     ensures kept { agent.new.held.run ≡ agent.old.held.run }
-    ensures misuse { agent.old.held.run ≡ None → (result ≡ 2) × (size.new ≡ 0) }
+    ensures misuse { agent.old.held.run ≡ None → (result ≡ 2) × (size.new ≡ 0) × (to.new ≡ to.old) }
 {
     match agent.take(alloc) {
         None => {

@@ -1,6 +1,6 @@
 //! A session: the struct of the caller's, and the calls.
 
-ghost use Rattle.std.specs.Prelude.{◌≡◌, ◌≢◌, [], Option, Some, None, IsNone, IsSome, IfSome, IfOk, option_map};
+ghost use Rattle.std.specs.Prelude.{◌≡◌, ◌≢◌, ◌⊎◌, [], Option, Some, None, IsNone, IsSome, IfSome, IfOk, option_map};
 ghost use Rattle.std.specs.Str.{IsUtf8};
 ghost use Rattle.sshc_run_script.specs.PausedRuns.{nothing_yet, IsRun};
 ghost use Rattle.sazhonthil.specs.RecordReads.{ReadsRecord};
@@ -66,6 +66,7 @@ fn boxed(
     known: &str,
 ) -> Result<Box<SessionRun>, NoMemory>
     ensures run { IfOk result (λ b. IsRun (asked_by settings.now host.now port known.now) nothing_yet b.value.run) }
+    ensures left { IfOk result (λ b. b.value.left ≡ []) }
 {
     let run = SessionRun::start(alloc, settings, host, port, known)?;
     match Box::new(alloc, run) {
@@ -87,11 +88,13 @@ pub extern "C" fn sshc_session_new(
 ) -> u32
     // The session is the run of no event: what is handed in later has all promises of a run of a script.
     ensures made { result ≡ 0 → IfSome session.new.held.run
-        (λ s. IsRun (asked_by settings.now host.now port known.now) nothing_yet s.run) }
+        (λ s. IsRun (asked_by settings.now host.now port known.now) nothing_yet s.run × (s.left ≡ [])) }
     ensures held { result ≡ 0 → IsSome session.new.held.run }
     ensures kept { result ≢ 0 → session.new.held.run ≡ session.old.held.run }
     ensures misuse { IsSome session.old.held.run → result ≡ 2 }
-    ensures not_text { result ≡ 3 → IsUtf8 host.now → IsUtf8 known.now → ⊥ }
+    // The status where it holds nothing.
+    ensures text { session.old.held.run ≡ None → IsUtf8 host.now → IsUtf8 known.now → (result ≡ 0) ⊎ (result ≡ 20) }
+    ensures no_text { session.old.held.run ≡ None → (IsUtf8 host.now → IsUtf8 known.now → ⊥) → result ≡ 3 }
 {
     if session.live != 0 {
         return MISUSE;
@@ -154,7 +157,7 @@ pub extern "C" fn sshc_session_record(
         ReadsRecord before after to.old to.new size.new result)) }
     ensures held { IsSome session.old.held.run → IsSome session.new.held.run }
     ensures misuse { session.old.held.run ≡ None →
-        (result ≡ 2) × (size.new ≡ 0) × (session.new.held.run ≡ None) }
+        (result ≡ 2) × (size.new ≡ 0) × (to.new ≡ to.old) × (session.new.held.run ≡ None) }
 {
     match session.take(alloc) {
         None => {

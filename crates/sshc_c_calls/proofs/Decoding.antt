@@ -1,16 +1,14 @@
 -- Records read back from their lines.
-use Rattle.std.proofs.Common.{◌≡◌, ◌⊎◌, inl, inr, ℕ, zero, suc, ◌+◌, ◌*◌, ◌/◌, ◌%◌, ◌<◌, ◌≤◌, Bool, true, false, List, [], ◌∷◌, ◌++◌, length, take, drop, get_or, slice_index, slice_set, Option, Some, None, refl, sym, ap, subst, ◌∙◌, arith, ⊎_elim}
+use Rattle.std.proofs.Common.{◌≡◌, ℕ, zero, suc, ◌+◌, ◌*◌, ◌/◌, ◌%◌, ◌<◌, ◌≤◌, true, false, List, [], ◌∷◌, ◌++◌, length, take, drop, get_or, slice_index, slice_set, Option, Some, None, refl, sym, ap, subst, ◌∙◌, arith, ⊎_elim}
 use Rattle.std.specs.Prelude.{◌==◌}
-use Rattle.std.specs.List.{All}
-use Rattle.std.proofs.lemmas.Bool.{cases_lt, false≢true, eq-eqb}
-use Rattle.std.proofs.lemmas.List.Elements.{All-from_get_or}
+use Rattle.std.proofs.lemmas.Bool.{cases_lt, false≢true, eq-eqb, eqb-true}
+use Rattle.std.proofs.lemmas.List.Elements.{All-from_get_or, All-get_or}
 use Rattle.std.proofs.lemmas.List.{append_assoc, append-nil, drop_all, take_all, take_more_set, length-append, get_or_append_left, get_or-append-add, take_at}
 use Rattle.hex.specs.Hex.{encode_lower, encode_with, lower_digits}
 use Rattle.hex.proofs.Pairs.{drop-pair}
 use Rattle.memchr.specs.Find.{IsFirstByte, is_byte}
 use Rattle.sshc_wire.specs.DigitLines.{text_line}
 use Rattle.sshc_wire.specs.Wire.{IsBytes}
-use Rattle.sshc_c_calls.specs.declared.reading.ReadRecord.{ReadRecord}
 use Rattle.sshc_c_calls.specs.declared.reading.ReadRecord.TheVariants as reads
 use Rattle.sshc_c_calls.specs.RecordLines.{FirstIs, HasNoLine, ReadsFirst, decoded, digit_value}
 
@@ -161,7 +159,12 @@ pub reads_nothing : (lines before : List ℕ) → IsFirstByte (is_byte 10) lines
 reads_nothing lines before none = record {
   first = λ bytes rest small is. none_some (2 * length bytes) (end_of_line lines bytes rest None small is none);
   nothing = λ _. (no_line lines none, refl);
+  none = λ _. (refl, refl);
 }
+
+-- a line feed that was found
+some_line : {A : Type 0} (lines : List ℕ) (end : ℕ) → IsFirstByte (is_byte 10) lines (Some end) → HasNoLine lines → A
+some_line lines end (before, here) none = absurd (All-get_or (λ b. b ≡ 10 → ⊥) lines end 0 before.high none (eqb-true (get_or lines end 0) 10 here))
 
 first_no_room : (before bytes : List ℕ) (size : ℕ) → size ≡ length bytes → length before < size → FirstIs bytes before before (reads.NoRoom size)
 first_no_room before bytes size same more = record {
@@ -183,6 +186,7 @@ reads_no_room lines before end found more = record {
   first = λ bytes rest small is.
       first_no_room before bytes (end / 2) (half end (length bytes) (some_is end (2 * length bytes) (end_of_line lines bytes rest (Some end) small is found))) more;
   nothing = no_room_nothing (end / 2);
+  none = some_line lines end found;
 }
 
 first_copied : (lines before after bytes rest : List ℕ) (size : ℕ) → IsBytes bytes → lines ≡ text_line bytes ++ rest → size ≡ length bytes → size ≤ length before
@@ -205,4 +209,5 @@ reads_copied lines before written end found fits is_written = record {
       (half end (length bytes) (some_is end (2 * length bytes) (end_of_line lines bytes rest (Some end) small is found))) fits
       (ap (λ (xs : List ℕ). xs ++ drop (end / 2) before) is_written);
   nothing = copied_nothing (end / 2);
+  none = some_line lines end found;
 }

@@ -11,7 +11,6 @@ use Rattle.sshc_agent_core.specs.AgentList.{AgentList}
 use Rattle.sshc_agent_core.specs.AgentTable.{Steps}
 use Rattle.sshc_agent_core.specs.Asked.{asked_of}
 use Rattle.sshc_agent_core.specs.Turn.{told_calls}
-use Rattle.sshc_c_calls.specs.AgentInputs.{input_of}
 
 abbrev pub status_of : AgentOutput → ℕ
 status_of (outputs.Answer frame) = 0
@@ -67,7 +66,12 @@ pub record TakesInput (now conn : ℕ) (input : AgentInput) (answer : Option Ans
   pub number : said.number ≡ number_of output
   pub status : said.status ≡ status_of output
 
--- the number names no input, memory ran out before the step, and then nothing happened; or the input was taken
+-- nothing is said, under this status
+abbrev pub SaysNothing : Said → ℕ → Type 0
+SaysNothing said status = (said.status ≡ status) × (said.bytes ≡ []) × (said.number ≡ 0)
+
+-- the number names no input, or memory ran out before the step, and then nothing happened and nothing is said; or the
+-- input was taken
 abbrev pub TakesNumber : ℕ → ℕ → Option AgentInput → Option Answer → AgentList → AgentList → Said → Type 0
-TakesNumber now conn None answer old new said = (said.status ≡ 4) × (new ≡ old)
-TakesNumber now conn (Some input) answer old new said = ((said.status ≡ 20) × (new ≡ old)) ⊎ TakesInput now conn input answer old new said
+TakesNumber now conn None answer old new said = SaysNothing said 4 × (new ≡ old)
+TakesNumber now conn (Some input) answer old new said = (SaysNothing said 20 × (new ≡ old)) ⊎ TakesInput now conn input answer old new said

@@ -1,5 +1,5 @@
 -- What a step of an agent asks to be signed, as a caller in C gets it.
-use Rattle.std.specs.Prelude.{◌≡◌, ◌⊎◌, ℕ, List, [], Option, Some, None}
+use Rattle.std.specs.Prelude.{◌≡◌, ◌⊎◌, ℕ, [], Option, Some, None}
 use Rattle.sshc_wire.specs.declared.hash_alg.HashAlg.{HashAlg}
 use Rattle.sshc_wire.specs.declared.hash_alg.HashAlg.TheVariants as hashes
 use Rattle.sshc_key.specs.Asking.{SignRequest}
@@ -32,12 +32,16 @@ pub record HasParts (asked : Asked) (question : Question) : Type 0 where
   pub key : question.key ≡ key_text asked.key.now.public.0
   pub pair : question.pair ≡ key_pair_text asked.key.now
 
+-- no question
+abbrev pub HasNoParts : Question → Type 0
+HasNoParts question = (question.hash ≡ 0) × (question.bytes ≡ []) × (question.key ≡ []) × (question.pair ≡ [])
+
 -- what a call returns that asks for the question of an input: 6 if there is none, 12 with its parts, 4 if the number names
--- no input, 20 if memory ran out
+-- no input, 20 if memory ran out; the question before is gone
 abbrev pub AsksRequest : Option SignRequest → Question → ℕ → Type 0
-AsksRequest None question status = status ≡ 6
-AsksRequest (Some asked) question status = (status ≡ 20) ⊎ ((status ≡ 12) × IsQuestion asked question)
+AsksRequest None question status = (status ≡ 6) × HasNoParts question
+AsksRequest (Some asked) question status = ((status ≡ 20) × HasNoParts question) ⊎ ((status ≡ 12) × IsQuestion asked question)
 
 abbrev pub AsksNumber : ℕ → ℕ → Option AgentInput → AgentList → Question → ℕ → Type 0
-AsksNumber now conn None list question status = status ≡ 4
-AsksNumber now conn (Some input) list question status = (status ≡ 20) ⊎ AsksRequest (asked_of now conn input list) question status
+AsksNumber now conn None list question status = (status ≡ 4) × HasNoParts question
+AsksNumber now conn (Some input) list question status = ((status ≡ 20) × HasNoParts question) ⊎ AsksRequest (asked_of now conn input list) question status

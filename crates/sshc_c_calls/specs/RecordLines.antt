@@ -1,5 +1,5 @@
 -- Records read back from their lines: each line is a record's bytes as lower-case hexadecimal digits, and a line feed.
-use Rattle.std.specs.Prelude.{◌≡◌, ◌≤◌, ◌<◌, ◌+◌, ◌*◌, ◌/◌, ◌%◌, ◌++◌, ◌∷◌, [], ℕ, List, Option, Some, None, length, drop}
+use Rattle.std.specs.Prelude.{◌≡◌, ◌≤◌, ◌<◌, ◌+◌, ◌*◌, ◌/◌, ◌%◌, ◌++◌, ◌∷◌, [], ℕ, List, length, drop}
 use Rattle.std.specs.List.{All}
 use Rattle.sshc_wire.specs.DigitLines.{text_line}
 use Rattle.sshc_wire.specs.Wire.{IsBytes}
@@ -31,6 +31,8 @@ pub record ReadsFirst (lines before after : List ℕ) (answer : ReadRecord) : Ty
   pub first : (bytes rest : List ℕ) → IsBytes bytes → lines ≡ text_line bytes ++ rest → FirstIs bytes before after answer
   -- nothing is read only where no line is whole
   pub nothing : answer ≡ reads.Nothing → HasNoLine lines × (after ≡ before)
+  -- and then nothing is
+  pub none : HasNoLine lines → (answer ≡ reads.Nothing) × (after ≡ before)
 
 -- the line that was read is whole
 abbrev pub IsWithin : List ℕ → ReadRecord → Type 0

@@ -5,7 +5,7 @@ ghost use Rattle.sshc_agent_core.specs.AgentList.{empty_list, forgotten};
 ghost use Rattle.sshc_agent_core.specs.Asked.{asked_of, told_of};
 ghost use Rattle.sshc_c_calls.specs.AgentInputs.{input_of};
 ghost use Rattle.sshc_c_calls.specs.AgentOutputs.{answer_told, bytes_of, message_number, number_of, said_as, status_of, TakesInput, TakesNumber};
-ghost use Rattle.sshc_c_calls.specs.Questions.{AsksNumber, AsksRequest};
+ghost use Rattle.sshc_c_calls.specs.Questions.{AsksNumber, AsksRequest, HasNoParts};
 
 use crate::agent_input::input_of;
 use crate::question::Question;
@@ -56,7 +56,8 @@ impl AgentRun {
     /// No keys and no lock. If `asks`, the user is asked about each request.
     pub fn new(alloc: Global, asks: bool) -> AgentRun
         ensures core { result.core ≡ empty_list asks }
-        ensures said { result.said ≡ [] }
+        ensures said { (result.said ≡ []) × (result.number ≡ 0) }
+        ensures question { HasNoParts result.question }
     {
         AgentRun {
             core: AgentCore::new(alloc, asks),
@@ -71,8 +72,9 @@ impl AgentRun {
     fn ask_input(&mut self, alloc: Global, now: u64, conn: u32, input: &AgentInput) -> u32
         ensures asks { AsksRequest (asked_of now conn input.now self.old.core) self.new.question result }
         ensures core { self.new.core ≡ self.old.core }
-        ensures said { self.new.said ≡ self.old.said }
+        ensures said { (self.new.said ≡ self.old.said) × (self.new.number ≡ self.old.number) }
     {
+        self.question = Question::none(alloc);
         match self.core.asks(now, conn, input) {
             None => NOTHING,
             Some(asked) => match Question::of(alloc, &asked) {
@@ -90,11 +92,14 @@ impl AgentRun {
     pub fn ask(&mut self, alloc: Global, now: u64, conn: u32, number: u32, frame: &[u8]) -> u32
         ensures asks { AsksNumber now conn (input_of number frame.now) self.old.core self.new.question result }
         ensures core { self.new.core ≡ self.old.core }
-        ensures said { self.new.said ≡ self.old.said }
+        ensures said { (self.new.said ≡ self.old.said) × (self.new.number ≡ self.old.number) }
     {
         match input_of(alloc, number, frame) {
             Ok(input) => self.ask_input(alloc, now, conn, &input),
-            Err(status) => status,
+            Err(status) => {
+                self.question = Question::none(alloc);
+                status
+            }
         }
     }
 
@@ -164,14 +169,18 @@ impl AgentRun {
     {
         match input_of(alloc, number, frame) {
             Ok(input) => self.take_input(alloc, now, conn, &input, told, signature),
-            Err(status) => status,
+            Err(status) => {
+                self.said = Octets::new(alloc);
+                self.number = 0;
+                status
+            }
         }
     }
 
     /// Forgets a connection that ended.
     pub fn forget(&mut self, conn: u32)
         ensures core { self.new.core ≡ forgotten conn self.old.core }
-        ensures said { self.new.said ≡ self.old.said }
+        ensures said { (self.new.said ≡ self.old.said) × (self.new.number ≡ self.old.number) }
     {
         self.core.forget(conn);
     }

@@ -3,7 +3,7 @@
 ghost use Rattle.std.specs.Prelude.{◌≡◌, IfOk};
 ghost use Rattle.sshc_key.specs.KeyGrammar.{key_text};
 ghost use Rattle.sshc_key.specs.PairGrammar.{key_pair_text};
-ghost use Rattle.sshc_c_calls.specs.Questions.{hash_number, HasParts};
+ghost use Rattle.sshc_c_calls.specs.Questions.{hash_number, HasNoParts, HasParts};
 
 use sshc_agent_core::Asked;
 use sshc_key::{HashAlg, PrivateKey, PublicKeyBase64, write_key_pair};
@@ -49,7 +49,9 @@ fn pair_of(alloc: Global, key: &PrivateKey) -> Result<Octets, NoMemory>
 
 impl Question {
     /// No question.
-    pub fn none(alloc: Global) -> Question {
+    pub fn none(alloc: Global) -> Question
+        ensures { HasNoParts result }
+    {
         Question {
             hash: 0,
             bytes: Octets::new(alloc),
