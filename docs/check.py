@@ -16,6 +16,8 @@ import sys
 TOP = pathlib.Path(__file__).resolve().parent.parent
 # Documents about names that aren't this repository's, or not any more: only paths and crates are looked up there.
 OTHERS = ("CHANGELOG.md", "docs/DIFFERENCES.md", "docs/SITUATIONS.md", "docs/WRONG_BODIES.md", "docs/DECISIONS.md", "bench/")
+# Functions of the C library.
+STANDARD = {"memcpy", "memmove", "memset"}
 ENDING = r"(?:rt|antt|md|py|sh|c|h|rs|go|txt|edit)"
 PATH = re.compile(rf"(?<![\w./-])((?:[\w.-]+/)+[\w.-]+\.{ENDING})(?![\w/])")
 CRATE = re.compile(r"\bsshc_[a-z_]*[a-z]\b(?!_)")
@@ -51,7 +53,7 @@ def main():
     folders = {str(parent) for name in files for parent in pathlib.PurePath(name).parents}
     ends = {"/".join(parts[at:]) for name in [*files, *folders] for parts in [name.split("/")] for at in range(len(parts))}
     crates = {line.split(":")[0].split()[0] for line in (TOP / "crates.txt").read_text().splitlines() if ":" in line and not line.startswith("#")}
-    words = set()
+    words = set(STANDARD)
     for name in files:
         if not name.endswith(".md") or name == "docs/WRONG_BODIES.md":
             try:

@@ -1,6 +1,6 @@
 #!/usr/bin/env python3
-"""Writes the list of crates into README.md and docs/ARCHITECTURE.md, from crates.txt, which is the one list, and into
-docs/DEFINITIONS.md the files that a promise rests on, with their lines.
+"""Writes the list of crates and a diagram of their families into README.md and docs/ARCHITECTURE.md, from crates.txt,
+and into docs/DEFINITIONS.md the files that a promise rests on, with their lines.
 
     python3 docs/crates.py           writes them
     python3 docs/crates.py --check   fails where one of them differs
@@ -12,6 +12,9 @@ import sys
 
 TOP = pathlib.Path(__file__).resolve().parent.parent
 BEGIN, END = "<!-- crates: written by docs/crates.py -->", "<!-- end of crates -->"
+DIAGRAM, DIAGRAM_END = "<!-- diagram: written by docs/crates.py -->", "<!-- end of diagram -->"
+# Families that only stand on the others, and are left out of the diagram.
+LEAVES = ("Samples", "Worked rows", "Tests", "Measurements")
 
 
 def groups():
@@ -89,14 +92,44 @@ def definitions():
     return "\n".join(out + [f"| {row[0]} | {', '.join(row[1])} | {row[2]} |" for row in rows]) + "\n"
 
 
+def diagram():
+    """The families, with an arrow from each to those further down the list that use it, but for arrows that others imply."""
+    families = [(title.split(":")[0], crates) for title, crates in groups() if not title.startswith(LEAVES)]
+    home = {name: title for title, crates in families for name, _, _ in crates}
+    order = [title for title, _ in families]
+    below = {
+        title: {home[x] for _, _, libraries in crates for x in libraries if x in home} & set(order[: order.index(title)])
+        for title, crates in families
+    }
+
+    def all_below(title, seen):
+        for other in below[title] - seen:
+            seen.add(other)
+            all_below(other, seen)
+        return seen
+
+    number = {title: f"f{at}" for at, (title, _) in enumerate(families)}
+    out = ["```mermaid", "flowchart BT"] + [f'    {number[title]}["{title}"]' for title, _ in families]
+    for title, _ in families:
+        direct = [x for x in below[title] if not any(x in all_below(y, set()) for y in below[title] - {x})]
+        if direct:
+            out.append(f"    {' & '.join(sorted(number[x] for x in direct))} --> {number[title]}")
+    return "\n".join(out + ["```"]) + "\n"
+
+
 def main():
     wrong = []
-    texts = {"README.md": readme(), "docs/ARCHITECTURE.md": architecture(), "docs/DEFINITIONS.md": definitions()}
-    for path, text in texts.items():
+    texts = [
+        ("README.md", BEGIN, END, readme()),
+        ("docs/ARCHITECTURE.md", BEGIN, END, architecture()),
+        ("docs/ARCHITECTURE.md", DIAGRAM, DIAGRAM_END, diagram()),
+        ("docs/DEFINITIONS.md", BEGIN, END, definitions()),
+    ]
+    for path, begin, end, text in texts:
         file = TOP / path
-        before, rest = file.read_text().split(BEGIN)
-        _, after = rest.split(END)
-        now = f"{before}{BEGIN}\n\n{text}\n{END}{after}"
+        before, rest = file.read_text().split(begin)
+        _, after = rest.split(end)
+        now = f"{before}{begin}\n\n{text}\n{end}{after}"
         if now != file.read_text():
             wrong.append(path)
             if "--check" not in sys.argv:
