@@ -62,7 +62,7 @@ impl<H: Handler> Channel<H> {
             if state.is_channel_closed(self.id) || state.is_over() {
                 return None;
             }
-            state = self.shared.wait(rt, state, self.id.0);
+            state = self.shared.wait_on(rt, state, self.id);
         }
         unreachable!()
     }

@@ -16,7 +16,8 @@ use std::sync::{Arc, Condvar, Mutex, MutexGuard, Wait};
 use std::thread::{Parker, yield_now};
 use std::time::{Clock, Duration};
 
-/// Over how many conditions the calls that wait are spread, by the numbers of their tickets and channels.
+/// Over how many conditions the calls that wait for tickets are spread, by their numbers, and over how many those that wait
+/// for channels.
 const PLACES: u32 = 1024;
 
 /// The session under its lock. A thread that submits wakes the runner, and the runner wakes those that wait for a
@@ -27,7 +28,9 @@ pub(crate) struct Shared<H> {
     pub(crate) state: Mutex<HandleState<H>>,
     /// Where the runner rests. It is woken when something was submitted, or the transport has something.
     runner: Arc<Parker, Global>,
-    /// Each notified when a record of a ticket or a channel of its numbers is held, and at the runner's end.
+    /// Each notified when a record of a ticket of its numbers is held, and at the runner's end.
+    answered: Vec<Condvar>,
+    /// Each notified when a record of a channel of its numbers is held, and at the runner's end.
     told: Vec<Condvar>,
     /// Notified when a record of any channel is held, and at the runner's end.
     happened: Condvar,
@@ -38,14 +41,17 @@ pub(crate) struct Shared<H> {
 
 impl<H> Shared<H> {
     pub(crate) fn new(alloc: Global, state: HandleState<H>) -> Result<Shared<H>, NoMemory> {
+        let mut answered = Vec::new(alloc);
         let mut told = Vec::new(alloc);
         for _ in 0..PLACES {
+            answered.push(Condvar::new())?;
             told.push(Condvar::new())?;
         }
         Ok(Shared {
             alloc,
             state: Mutex::new(state),
             runner: Arc::new(alloc, Parker::new())?,
+            answered,
             told,
             happened: Condvar::new(),
             ended: Condvar::new(),
@@ -61,6 +67,9 @@ impl<H> Shared<H> {
     /// Marks that the runner has come to its end, and wakes those that wait.
     fn close(&self) {
         self.closed.store(true, Ordering::SeqCst);
+        for place in self.answered.iter() {
+            place.notify_all();
+        }
         for place in self.told.iter() {
             place.notify_all();
         }
@@ -90,11 +99,30 @@ impl<H> Shared<H> {
         Ok(Arc::try_clone(&self.runner)?)
     }
 
-    /// Where those wait that wait for a record of the ticket or the channel of this number.
-    fn place(&self, number: u32) -> &Condvar {
+    /// Where those wait that wait for a record of the ticket of this number.
+    fn place_of_ticket(&self, number: u32) -> &Condvar {
+        match self.answered.get((number % PLACES) as usize) {
+            Some(place) => place,
+            None => &self.ended,
+        }
+    }
+
+    /// Where those wait that wait for a record of the channel of this number.
+    fn place_of_channel(&self, number: u32) -> &Condvar {
         match self.told.get((number % PLACES) as usize) {
             Some(place) => place,
             None => &self.ended,
+        }
+    }
+
+    /// Where those wait that wait for this record; none do for one that names neither.
+    fn place_of(&self, said: &Record) -> Option<&Condvar> {
+        match ticket_of(said) {
+            Some(number) => Some(self.place_of_ticket(number)),
+            None => match channel_of(said) {
+                Some(number) => Some(self.place_of_channel(number)),
+                None => None,
+            },
         }
     }
 
@@ -104,15 +132,15 @@ impl<H> Shared<H> {
         let mut last = None;
         let mut on_channel = false;
         for said in state.held().rev().take(fresh) {
-            if let Some(number) = last {
-                self.place(number).notify_all();
+            if let Some(place) = last {
+                Condvar::notify_all(place);
             }
-            last = number_of(said);
+            last = self.place_of(said);
             on_channel = on_channel || channel_of(said).is_some();
         }
         drop(state);
-        if let Some(number) = last {
-            self.place(number).notify_all();
+        if let Some(place) = last {
+            Condvar::notify_all(place);
         }
         if on_channel {
             self.happened.notify_all();
@@ -121,17 +149,27 @@ impl<H> Shared<H> {
 
     /// Wakes those that wait for what happens on this channel.
     pub(crate) fn wake_channel(&self, id: ChannelId) {
-        self.place(id.0).notify_all();
+        self.place_of_channel(id.0).notify_all();
     }
 
-    /// Waits until a record may be held for the ticket or the channel of this number.
-    pub(crate) fn wait<'a, R: Wait>(
+    /// Waits until a record may be held for this ticket.
+    fn wait<'a, R: Wait>(
         &self,
         rt: &R,
         state: MutexGuard<'a, HandleState<H>>,
-        number: u32,
+        ticket: Ticket,
     ) -> MutexGuard<'a, HandleState<H>> {
-        self.place(number).wait(rt, state)
+        self.place_of_ticket(ticket.0).wait(rt, state)
+    }
+
+    /// Waits until something may be held of what happened on this channel.
+    pub(crate) fn wait_on<'a, R: Wait>(
+        &self,
+        rt: &R,
+        state: MutexGuard<'a, HandleState<H>>,
+        id: ChannelId,
+    ) -> MutexGuard<'a, HandleState<H>> {
+        self.place_of_channel(id.0).wait(rt, state)
     }
 
     /// Waits until a record is held of what happened on this channel, the session has ended, or the limit is over.
@@ -142,7 +180,7 @@ impl<H> Shared<H> {
         id: ChannelId,
         limit: Duration,
     ) -> MutexGuard<'a, HandleState<H>> {
-        let (state, _is_over) = self.place(id.0).wait_timeout_while(
+        let (state, _is_over) = self.place_of_channel(id.0).wait_timeout_while(
             rt,
             state,
             limit,
@@ -246,7 +284,7 @@ impl<H> Shared<H> {
                     resolution: Resolution::Dropped,
                 };
             }
-            state = self.wait(rt, state, ticket.0);
+            state = self.wait(rt, state, ticket);
         }
         unreachable!()
     }
@@ -262,13 +300,5 @@ impl<H> Drop for RunnersPart<H> {
         let RunnersPart { shared } = self;
         shared.leave();
         shared.close();
-    }
-}
-
-/// The number of the ticket or the channel of a record.
-fn number_of(said: &Record) -> Option<u32> {
-    match ticket_of(said) {
-        Some(number) => Some(number),
-        None => channel_of(said),
     }
 }
