@@ -1,8 +1,10 @@
 -- A call that follows its row, and a step with a gate: why it refuses or ends, what it asked the gate, and what the
 -- gate returned.
-use Rattle.std.proofs.Common.{◌≡◌, ◌≢◌, inl, inr, Bool, true, false, List, Option, Some, None, Result, Ok, Err, refl, sym, subst}
+use Rattle.std.proofs.Common.{◌≡◌, ◌≢◌, inl, inr, ℕ, Bool, true, false, List, ◌++◌, Option, Some, None, Result, Ok, Err, refl, ap, sym, subst, ◌∙◌, append-nil, arith}
+use Rattle.std.proofs.Math.Seq.{drop-length}
 use Rattle.sshc_wire.specs.declared.record.Record.{Record}
 use Rattle.sshc_key.specs.Asking.{Asking, done, asks}
+use Rattle.sshc_key.specs.Signers.{SignCall}
 use Rattle.sshc_auth_event.specs.HostKey.{host_key}
 use Rattle.sshc_key.specs.declared.identity.PublicKeyOrCertificate.{PublicKeyOrCertificate}
 use Rattle.sshc_wire.specs.Outgoing.{Outgoing}
@@ -21,7 +23,7 @@ use Rattle.sshc_auth.specs.declared.step.Told.TheVariants as telling
 use Rattle.sshc_auth.specs.Causes.{IsCause, WasToldNo, HasCause, IsEndCause, Why, why, Caused, AllCaused, SaysNoTo, GateSaysNo, HasGateCause}
 use Rattle.sshc_auth.specs.OpeningState.{OpeningState}
 use Rattle.sshc_auth.specs.OpeningTable.{open_row, asked_of, key_asked, FitsAsked}
-use Rattle.sshc_auth.specs.Stepping.{GateAnswers, LentGate, Answered, Judged, Tells, exchange_in, told_of, map_step}
+use Rattle.sshc_auth.specs.Stepping.{GateAnswers, LentGate, Answered, Judged, Tells, exchange_in, SignerGrows, told_of, map_step}
 use Rattle.sshc_auth.specs.Row.{Row, Next, Span, SignerAt, FollowsAsking}
 use Rattle.sshc_auth.specs.AskedLaws.{first_asks}
 use Rattle.sshc_auth.specs.CauseLaws.{SaysAlso, cause_also, open_cause}
@@ -88,3 +90,10 @@ fits_asked gate o old mid told asking.Nothing (is, same) = cc
 fits_asked gate o old mid told (asking.HostKey key) (verdict, judges, judged) = fits_judged (told_of gate o) old mid told key verdict judged
 fits_asked gate o old mid told asking.Exchange tells = fits_told (told_of gate o) old mid told tells
 fits_asked gate o old mid told (asking.Banner shown) tells = fits_told (gate.tells_banner shown) old mid told tells
+
+-- a signer that isn't asked
+pub unasked : (calls : List SignCall) (refusals : ℕ) → SignerGrows calls calls refusals refusals
+unasked calls refusals = record {
+  gained = sym (append-nil calls) ∙ ap (λ (more : List SignCall). calls ++ more) (sym (drop-length calls));
+  later = omega arith;
+}

@@ -37,9 +37,11 @@ use Rattle.sshc_auth.specs.declared.step.Told.{Told}
 use Rattle.sshc_auth.specs.declared.step.Told.TheVariants.{Went}
 use Rattle.sshc_auth.specs.Extensions.{extensions_at}
 use Rattle.sshc_auth.specs.OpeningState.{OpeningState, is_awaiting}
+use Rattle.sshc_wire.specs.Outgoing.{Outgoing}
+use Rattle.sshc_auth.specs.OpeningTable.{asked_of}
 use Rattle.sshc_auth.specs.OpeningTable.AuthPrompts.{prompts_at}
 use Rattle.sshc_auth.specs.Row.{Row, Next, stays, opens, ends as ends_with, refuses}
-use Rattle.sshc_auth.specs.Stepping.{GateAnswers, Lent, LentGate}
+use Rattle.sshc_auth.specs.Stepping.{Answered, GateAnswers, Lent, LentGate, exchange_in}
 
 -- ---- turns
 
@@ -348,11 +350,15 @@ SaysNoTo judges (Some key) = judges key (Ok false)
 abbrev pub GateSaysNo : {E : Type 0} → GateAnswers E → ExchangeResult → Type 0
 GateSaysNo gate x = SaysNoTo gate.judges (host_key x.key)
 
--- a step is refused for a cause, with its error as the gate reports it, or because the gate refused, whose count of
--- refusals then rose; an end has its cause
+-- the gate returned this error when it was asked what the row asks
+abbrev pub GateRefuses : {E : Type 0} → GateAnswers E → Event → Lent → E → Type 0
+GateRefuses gate event was e = (mid : Outgoing) × Answered gate (exchange_in event) was.outbox mid (Err e) (asked_of was.opening event)
+
+-- a step is refused for a cause, with its error as the gate reports it, or because the gate refused, with the gate's
+-- error, and its count of refusals rose; an end has its cause
 abbrev pub HasGateCause : {E : Type 0} → GateAnswers E → Event → LentGate → LentGate → Step E → Type 0
 HasGateCause gate event was is (steps.Refused e) =
     ((why : Error) × (e ≡ gate.told_as why) × IsCause (GateSaysNo gate) was.rest.opening event why × CountRose was.rest.refusals is.rest.refusals why)
-    ⊎ Rose was.refusals is.refusals
+    ⊎ (GateRefuses gate event was.rest e × Rose was.refusals is.refusals)
 HasGateCause gate event was is (steps.Ended e) = IsEndCause was.rest.opening event e
 HasGateCause gate event was is answer = Unit {0}

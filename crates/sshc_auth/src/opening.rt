@@ -1,7 +1,8 @@
 //! The opening: from the first key exchange to an authenticated user.
 
-ghost use Rattle.std.specs.Prelude.{◌≡◌, option_copied};
-ghost use Rattle.sshc_wire.specs.Outgoing.{listed};
+ghost use Rattle.std.specs.Prelude.{◌≡◌, ◌++◌, ◌∷◌, [], OnOk, OnErr, option_copied};
+ghost use Rattle.sshc_wire.specs.Outgoing.{listed, shown};
+ghost use Rattle.sshc_wire.specs.declared.resolution.Resolution.TheVariants.{Dropped};
 ghost use Rattle.sshc_auth.specs.OpeningState.{start, shut, is_awaiting};
 ghost use Rattle.sshc_auth.specs.OpeningTable.{asked_of, FitsAsked};
 ghost use Rattle.sshc_auth.specs.OpeningTable.Exchange.{has_kept_key};
@@ -15,7 +16,7 @@ use crate::step::{Flow, Step, Told};
 use sshc_auth_event::{Event, SharedMethod, is_same_key};
 use sshc_key::LocalSigner;
 use sshc_transport::{ExchangeFlag, ExchangeKey, ExchangeResult, PendingCount};
-use sshc_wire::{List, Octets, Outbox, Record, Resolution, Text, Ticket};
+use sshc_wire::{List, NoMemory, Octets, Outbox, Record, Resolution, Text, Ticket};
 use std::alloc::Global;
 use std::marker::Model;
 
@@ -309,6 +310,34 @@ impl Opening {
             }
         }
     }
+}
+
+/// Adds the record that resolves a ticket, if there is one, or changes nothing.
+pub fn resolve(out: &mut Outbox, ticket: Ticket, resolution: Resolution) -> Result<(), NoMemory>
+    ensures ok { OnOk result
+        (out.new.records ≡ out.old.records ++ shown out.old.muted (resolved ticket resolution)) }
+    ensures err { OnErr result (out.new.records ≡ out.old.records) }
+    ensures same { out.new.muted ≡ out.old.muted }
+{
+    if ticket.0 == 0 {
+        return Ok(());
+    }
+    out.push(Record::Resolved { ticket, resolution })
+}
+
+/// Adds the record that drops a ticket's request, if there is one, and the packet behind it, or changes nothing.
+pub fn drop_and_send(out: &mut Outbox, ticket: Ticket, packet: Octets) -> Result<(), NoMemory>
+    ensures ok { OnOk result
+        (out.new.records
+        ≡ out.old.records ++ shown out.old.muted (resolved ticket Dropped ++ Record.Payload packet ∷ [])) }
+    ensures err { OnErr result (out.new.records ≡ out.old.records) }
+    ensures same { out.new.muted ≡ out.old.muted }
+{
+    if ticket.0 == 0 {
+        return out.push_packet(&[], packet.as_slice());
+    }
+    let dropped = resolved(ticket, Resolution::Dropped);
+    out.push_both(dropped, Some(Record::Payload(packet)))
 }
 
 /// The record that resolves a ticket; `None` for ticket 0.

@@ -7,7 +7,7 @@ ghost use Rattle.sshc_auth.specs.OpeningTable.Auth.{userauth_failure_row, userau
 ghost use Rattle.sshc_auth.specs.OpeningTable.AuthKey.{taken};
 ghost use Rattle.sshc_auth.specs.Row.{Follows, span};
 
-use super::{Class, Opening, Phase, resolved};
+use super::{Class, Opening, Phase, drop_and_send, resolve, resolved};
 use crate::error::Error;
 use crate::slot::clear;
 use crate::step::Flow;
@@ -82,7 +82,7 @@ impl Opening {
             remaining_methods,
             partial_success,
         };
-        out.push_both(resolved(self.ticket, failure), None)?;
+        resolve(out, self.ticket, failure)?;
         if is_empty {
             return Err(Error::NoAuthMethod);
         }
@@ -144,12 +144,11 @@ impl Opening {
         ensures row { Follows (authenticate_again_row self.old ticket user.now method.now)
             (span self.old self.new out.old out.new) result }
     {
-        let user = user.copy()?;
-        let request = request_packet(self.alloc, &user, method.as_method())?;
+        let other_user = self.user_to_keep(user)?;
+        let request = request_packet(self.alloc, user, method.as_method())?;
         let kept = method.share()?;
-        let dropped = resolved(self.ticket, Resolution::Dropped);
-        let added = out.push_both(dropped, Some(Record::Payload(request)));
-        self.ask(ticket, user, kept, added)?;
+        let added = drop_and_send(out, self.ticket, request);
+        self.ask(ticket, other_user, kept, added)?;
         Ok(Flow::Went)
     }
 }

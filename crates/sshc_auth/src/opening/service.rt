@@ -1,6 +1,7 @@
 //! Rows of phase Service: the service is asked for, and the user's request is stored (RFC 4253, section 10).
 
 ghost use Rattle.std.specs.Prelude.{◌≡◌, IfOk, OnOk, OnErr};
+ghost use Rattle.std.specs.Option.{unwrap_or};
 ghost use Rattle.sshc_wire.specs.Outgoing.{listed};
 ghost use Rattle.sshc_auth.specs.OpeningState.{class_of};
 ghost use Rattle.sshc_auth.specs.OpeningTable.Service.{service_packet_row, service_accept_row, authenticate_first_row, stored_request, asked_for_service, as_records, asked_by};
@@ -77,25 +78,35 @@ impl Opening {
         ensures row { Follows (authenticate_first_row self.old ticket user.now method.now)
             (span self.old self.new out.old out.new) result }
     {
-        let user = user.copy()?;
+        let other_user = self.user_to_keep(user)?;
         let request = self.asking_for_service()?;
         let kept = method.share()?;
         let dropped = resolved(self.ticket, Resolution::Dropped);
         let added = out.push_both(dropped, as_record(request));
-        self.ask(ticket, user, kept, added)?;
+        self.ask(ticket, other_user, kept, added)?;
         self.requested = true;
         Ok(Flow::Went)
     }
 
-    /// Keeps what the user asked for last, unless memory ran out before.
+    /// A copy of the user's name; `None` if that name is stored already.
+    pub(super) fn user_to_keep(&self, user: &Text) -> Result<Option<Text>, NoMemory>
+        ensures { IfOk result (λ other. unwrap_or other self.now.user ≡ user.now) }
+    {
+        if self.user.as_str() == user.as_str() {
+            return Ok(None);
+        }
+        Ok(Some(user.copy()?))
+    }
+
+    /// Keeps what the user asked for last, unless memory ran out before. No name is the stored one.
     pub(super) fn ask(
         &mut self,
         ticket: Ticket,
-        user: Text,
+        user: Option<Text>,
         method: SharedMethod,
         before: Result<(), NoMemory>,
     ) -> Result<(), NoMemory>
-        ensures ok { OnOk result (self.new ≡ asked_by self.old ticket user method) }
+        ensures ok { OnOk result (self.new ≡ asked_by self.old ticket (unwrap_or user self.old.user) method) }
         ensures err { OnErr result (self.new ≡ self.old) }
         ensures same { result ≡ before }
     {
@@ -103,7 +114,9 @@ impl Opening {
         put_unless(&mut self.method, method, before)?;
         self.ticket = ticket;
         self.class = class;
-        self.user = user;
+        if let Some(user) = user {
+            self.user = user;
+        }
         Ok(())
     }
 

@@ -1,7 +1,7 @@
-use Rattle.std.proofs.Common.{Ok, inr, rules, sym}
+use Rattle.std.proofs.Common.{Ok, Err, inr, rules, sym}
 use Rattle.sshc_auth.specs.Stepping.{exchange_in, gate_answers, lent, with_gate}
 use Rattle.sshc_auth.specs.AskedLaws.{has_exchange}
-use Rattle.sshc_auth.proofs.StepLemmas.{fits_asked, told_cause}
+use Rattle.sshc_auth.proofs.StepLemmas.{fits_asked, told_cause, unasked}
 use Rattle.sshc_auth.proofs.opening.Opening.step_asked.Goals as goal
 
 pub ask_gate-requires : goal.ask_gate-requires
@@ -23,5 +23,16 @@ returns-in-Ok-clause-stepped g c =
       row = λ fresh. inr (Ok c.in-Ok.told, c.ask_gate.new.out, answered, (c.apply.result, c.as_told.ensures, c.apply.ensures.row fresh));
       cause = told_cause gate c.args.event.now was is c.args.out.now c.ask_gate.new.out c.in-Ok.told c.apply.result c.as_told.result c.as_told.ensures c.requires.fresh answered c.apply.ensures.cause;
       signer = search rules;
+      keeps = search rules;
+    }
+
+pub returns-in-Err-clause-stepped : goal.returns-in-Err-clause-stepped
+returns-in-Err-clause-stepped g c =
+    let answered = rw (sym c.requires.asked) at c.in-Err.ensures.answered in
+    record {
+      closed = search rules;
+      row = λ fresh. inr (Err c.in-Err.e, c.ask_gate.new.out, answered, search rules);
+      cause = inr ((c.ask_gate.new.out, answered), c.in-Err.ensures.cause);
+      signer = unasked (g.S.LocalSigner.calls c.args.signer.now) (g.S.LocalSigner.refusals c.args.signer.now);
       keeps = search rules;
     }
