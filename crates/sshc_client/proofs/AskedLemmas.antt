@@ -30,9 +30,17 @@ use Rattle.sshc_client_table.specs.Grown.{Grown}
 use Rattle.sshc_client_table.specs.GrownLaws.{grown_same}
 use Rattle.sshc_client_state.specs.OpeningStep.{StepsLent, goes_on, lent_session, outbox_of}
 use Rattle.sshc_client.specs.Asked.{AsksHandler, IsVerdict, Said, Says, StepsBefore, verdict_gate}
-use Rattle.sshc_client.specs.Handling.{HandlerAt, HandlerHeard, Handles}
-use Rattle.sshc_client.specs.HandledStep.{AddsNothing, EndsBy, calls_asked, exchange_call, handler_gate, has_left}
-use Rattle.sshc_client.proofs.HandlerLemmas.{keeps_on, same_handler, rose_later, no_default, unheard}
+use Rattle.sshc_client.specs.Handling.{HandlerAt, HandlerHeard, HandlerKept, Handles}
+use Rattle.sshc_client.specs.HandledStep.{AddsNothing, EndsBy, HearsAsked, exchange_call, handler_gate, has_left}
+use Rattle.sshc_client.proofs.HandlerLemmas.{keeps_on, same_handler, rose_later, no_default}
+
+-- whatever it was asked, its count of refusals never fell, and what it judges by didn't change
+pub heard_keeps : {E : Type 0} (judges : PublicKeyOrCertificate → Result Bool E → Type 0) (asks : Asks) (exchange : Option ExchangeResult) (was is : HandlerAt) → HearsAsked judges asks exchange was is → HandlerKept was is
+heard_keeps judges asking.Nothing exchange was is keeps = record { later = keeps.later; kept = keeps.kept }
+heard_keeps judges (asking.HostKey key) exchange was is (inl keeps) = record { later = keeps.later; kept = keeps.kept }
+heard_keeps judges (asking.HostKey key) exchange was is (inr (says, keeps)) = record { later = keeps.later; kept = keeps.kept }
+heard_keeps judges asking.Exchange exchange was is keeps = record { later = keeps.later; kept = keeps.kept }
+heard_keeps judges (asking.Banner text) exchange was is keeps = record { later = keeps.later; kept = keeps.kept }
 
 -- ---- the handler's verdict
 
@@ -70,17 +78,14 @@ refused_banner defaults judges exchange was is old new e text h = record {
   keeps = h.keeps;
 }
 
-heard_key : (key : PublicKeyOrCertificate) (x : ExchangeResult) (was is : HandlerAt) → HandlerHeard (HostKey key ∷ []) was is → HandlerHeard (calls_asked (asking.HostKey key) (Some x)) was is
-heard_key key x was is heard = keeps_on was is is heard (unheard (KexDone x.secret x.names ∷ []) is is (same_handler is))
-
 -- the host key was judged
 pub key_said_no : {E : Type 0} (defaults : Type 0) (judges : PublicKeyOrCertificate → Result Bool E → Type 0) (key : PublicKeyOrCertificate) (x : ExchangeResult) (was is : HandlerAt) (s : SessionState) →
     judges key (Ok false) → HandlerHeard (HostKey key ∷ []) was is → AsksHandler {E = E} defaults judges (asking.HostKey key) (Some x) was is s s (Ok false)
-key_said_no defaults judges key x was is s says keeps = record { said = (says, λ plain. refl); grown = grown_same s; unlent = λ none. refl; keeps = heard_key key x was is keeps }
+key_said_no defaults judges key x was is s says keeps = record { said = (says, λ plain. refl); grown = grown_same s; unlent = λ none. refl; keeps = inl keeps }
 
 pub key_refused : {E : Type 0} (defaults : Type 0) (judges : PublicKeyOrCertificate → Result Bool E → Type 0) (key : PublicKeyOrCertificate) (x : ExchangeResult) (was is : HandlerAt) (s : SessionState) (e : E) →
     judges key (Err e) → Rose was.refusals is.refusals → HandlerHeard (HostKey key ∷ []) was is → AsksHandler defaults judges (asking.HostKey key) (Some x) was is s s (Err e)
-key_refused defaults judges key x was is s e says rose keeps = record { said = (inl (says, refl), rose); grown = grown_same s; unlent = λ none. refl; keeps = heard_key key x was is keeps }
+key_refused defaults judges key x was is s e says rose keeps = record { said = (inl (says, refl), rose); grown = grown_same s; unlent = λ none. refl; keeps = inl keeps }
 
 pub key_told : {E : Type 0} (defaults : Type 0) (judges : PublicKeyOrCertificate → Result Bool E → Type 0) (key : PublicKeyOrCertificate) (x : ExchangeResult) (was mid is : HandlerAt) (old new : SessionState) (u : Unit {0}) →
     judges key (Ok true) → HandlerHeard (HostKey key ∷ []) was mid → Handles {E = E} defaults (KexDone x.secret x.names) (Ok tt) mid is old new (Ok u) → AsksHandler {E = E} defaults judges (asking.HostKey key) (Some x) was is old new (Ok true)
@@ -88,16 +93,16 @@ key_told defaults judges key x was mid is old new u says keeps h = record {
   said = (says, λ plain. (h.default_body plain).1);
   grown = h.grown;
   unlent = λ none. absurd (none tt);
-  keeps = keeps_on was mid is keeps h.keeps;
+  keeps = inr (says, keeps_on was mid is keeps h.keeps);
 }
 
 pub key_told_refused : {E : Type 0} (defaults : Type 0) (judges : PublicKeyOrCertificate → Result Bool E → Type 0) (key : PublicKeyOrCertificate) (x : ExchangeResult) (was mid is : HandlerAt) (old new : SessionState) (e : E) →
-    HandlerHeard (HostKey key ∷ []) was mid → Handles {T = Unit {0}} defaults (KexDone x.secret x.names) (Ok tt) mid is old new (Err e) → AsksHandler defaults judges (asking.HostKey key) (Some x) was is old new (Err e)
-key_told_refused defaults judges key x was mid is old new e keeps h = record {
+    judges key (Ok true) → HandlerHeard (HostKey key ∷ []) was mid → Handles {T = Unit {0}} defaults (KexDone x.secret x.names) (Ok tt) mid is old new (Err e) → AsksHandler defaults judges (asking.HostKey key) (Some x) was is old new (Err e)
+key_told_refused defaults judges key x was mid is old new e says keeps h = record {
   said = (inr (tt, λ plain. no_default tt e (h.default_body plain).0), rose_later was.refusals mid.refusals is.refusals keeps.later h.cause);
   grown = h.grown;
   unlent = λ none. absurd (none tt);
-  keeps = keeps_on was mid is keeps h.keeps;
+  keeps = inr (says, keeps_on was mid is keeps h.keeps);
 }
 
 -- the exchange of an event
@@ -165,7 +170,7 @@ caused told_as judges accepts event was is r r2 setting setting2 steps.Went clos
 caused told_as judges accepts event was is r r2 setting setting2 steps.Opened closed said cause = tt
 caused told_as judges accepts event was is r r2 setting setting2 steps.Closed closed said cause = tt
 caused told_as judges accepts event was is r r2 setting setting2 (steps.Ended e) closed said cause = cause
-caused told_as judges accepts event was is r r2 setting setting2 (steps.Refused e) closed said (inr rose) = absurd (never_rose rose)
+caused told_as judges accepts event was is r r2 setting setting2 (steps.Refused e) closed said (inr (refuses, rose)) = absurd (never_rose rose)
 caused told_as judges accepts event was is r r2 setting setting2 (steps.Refused e) closed said (inl (why, is_told, cause, rose)) =
     let also = cause_also (GateSaysNo (verdict_gate told_as accepts)) (GateSaysNo (handler_gate told_as judges)) was.opening event why
     (says_also told_as judges accepts was.opening event (by was.opening.closed refl) said) cause in

@@ -5,6 +5,7 @@ use Rattle.sshc_wire.specs.Faults.{Rose}
 use Rattle.sshc_key.specs.Signers.{SignCall}
 use Rattle.sshc_key.specs.declared.identity.PublicKeyOrCertificate.{PublicKeyOrCertificate}
 use Rattle.sshc_auth_event.specs.declared.event.Event.{Event}
+use Rattle.sshc_transport.specs.declared.exchange.ExchangeResult.{ExchangeResult}
 use Rattle.sshc_auth.specs.declared.error.Error.{Error}
 use Rattle.sshc_auth.specs.declared.error.Error.TheVariants.{NoMemory}
 use Rattle.sshc_auth.specs.declared.step.Asks.{Asks}
@@ -23,9 +24,9 @@ use Rattle.sshc_client_table.specs.GrownLaws.{grown_same}
 use Rattle.sshc_client_table.specs.KeepLaws.{grown_keeps}
 use Rattle.sshc_client_state.specs.OpeningStep.{lent_session}
 use Rattle.sshc_client.specs.Asked.{AsksHandler, IsVerdict, Refuses, RefusesKey, Said, StepsBefore, verdict_gate}
-use Rattle.sshc_client.specs.Handling.{HandlerHeard, handler_at}
-use Rattle.sshc_client.specs.HandledStep.{Before, IsCall, RefusedBefore, StepsBehind, WhyRefused, calls_asked, handler_gate, shut_session}
-use Rattle.sshc_client.proofs.AskedLemmas.{lent_with}
+use Rattle.sshc_client.specs.Handling.{HandlerAt, HandlerHeard, handler_at}
+use Rattle.sshc_client.specs.HandledStep.{Before, HearsAsked, IsCall, RefusedBefore, StepsBehind, WhyRefused, handler_gate, shut_session}
+use Rattle.sshc_client.proofs.AskedLemmas.{heard_keeps, lent_with}
 use Rattle.sshc_client.proofs.HandlerLemmas.{same_handler, unheard}
 
 pub exchange_there : (s : OpeningState) (event : Event) (asks : Asks) → asks ≡ asked_of s event → HasExchange asks (exchange_in event)
@@ -38,12 +39,24 @@ closed_asks s event closed = rw closed refl
 gate_keeps : {calls : List Callback} (r r2 : ℕ) (setting setting2 : List (List ℕ)) {heard heard2 : List Callback} → HandlerHeard calls (handler_at r setting heard) (handler_at r2 setting2 heard2) → GateKeeps r r2 setting setting2
 gate_keeps r r2 setting setting2 keeps = record { later = keeps.later; kept = keeps.kept }
 
+asked_keeps : {E : Type 0} (judges : PublicKeyOrCertificate → Result Bool E → Type 0) (asks : Asks) (exchange : Option ExchangeResult) (r r2 : ℕ) (setting setting2 : List (List ℕ)) (heard heard2 : List Callback) →
+    HearsAsked judges asks exchange (handler_at r setting heard) (handler_at r2 setting2 heard2) → GateKeeps r r2 setting setting2
+asked_keeps judges asks exchange r r2 setting setting2 heard heard2 keeps =
+    let kept = heard_keeps judges asks exchange (handler_at r setting heard) (handler_at r2 setting2 heard2) keeps in record { later = kept.later; kept = kept.kept }
+
+-- a handler that wasn't called
+unasked : {E : Type 0} (judges : PublicKeyOrCertificate → Result Bool E → Type 0) (asks : Asks) (exchange : Option ExchangeResult) (h : HandlerAt) → HearsAsked judges asks exchange h h
+unasked judges asking.Nothing exchange h = same_handler h
+unasked judges (asking.HostKey key) exchange h = inl (unheard _ h h (same_handler h))
+unasked judges asking.Exchange exchange h = unheard _ h h (same_handler h)
+unasked judges (asking.Banner text) exchange h = unheard _ h h (same_handler h)
+
 -- the opening is closed, and nothing is called
 pub steps_closed : {E : Type 0} (defaults : Type 0) (told_as : Error → E) (judges : PublicKeyOrCertificate → Result Bool E → Type 0) (event : Event) (s t : SessionState) (calls calls2 : List SignCall) (x x2 r : ℕ) (setting : List (List ℕ)) (result : Step E) {heard : List Callback} →
     s.opening.closed ≡ true → StepsBefore (verdict_gate told_as false) event (lent_session s calls x 0 [] []) (lent_session t calls2 x2 0 [] []) result →
     Before defaults (handler_gate told_as judges) event (lent_session s calls x r setting heard) (lent_session t calls2 x2 r setting heard) result
-steps_closed {E = E} defaults told_as judges event s t calls calls2 x x2 r setting result closed b =
-    let keeps = same_handler (handler_at r setting _) in
+steps_closed {E = E} defaults told_as judges event s t calls calls2 x x2 r setting result {heard = heard} closed b =
+    let keeps = same_handler (handler_at r setting heard) in
     record {
       steps_on = inl (record {
         mid = s;
@@ -56,7 +69,7 @@ steps_closed {E = E} defaults told_as judges event s t calls calls2 x x2 r setti
             (subst (λ (asks : Asks). IsVerdict judges asks false) (sym (closed_asks s.opening event closed)) refl) (gate_keeps r r setting setting keeps) b.stepped;
         ends = b.ends;
       });
-      keeps = unheard _ _ _ keeps;
+      keeps = unasked judges (asked_of s.opening event) (exchange_in event) (handler_at r setting heard);
     }
 
 -- the handler let the opening continue
@@ -75,10 +88,10 @@ steps_behind {E = E} defaults told_as judges event asks accepts s mid t calls ca
     step = b.step;
     stepped = lent_with told_as judges accepts event mid b.last calls calls2 x x2 r r2 setting setting2 b.step
         (subst (λ (a : Asks). IsVerdict judges a accepts) (asked ∙ ap (λ (o : OpeningState). asked_of o event) (sym ((grown_keeps s mid h.grown).closed early).0)) h.said.0)
-        (gate_keeps r r2 setting setting2 h.keeps) b.stepped;
+        (asked_keeps judges asks (exchange_in event) r r2 setting setting2 heard heard2 h.keeps) b.stepped;
     ends = b.ends;
   });
-  keeps = subst (λ (a : Asks). HandlerHeard (calls_asked a (exchange_in event)) (handler_at r setting heard) (handler_at r2 setting2 heard2)) asked h.keeps;
+  keeps = subst (λ (a : Asks). HearsAsked judges a (exchange_in event) (handler_at r setting heard) (handler_at r2 setting2 heard2)) asked h.keeps;
 }
 
 why_refused : {E : Type 0} (defaults : Type 0) (told_as : Error → E) (judges : PublicKeyOrCertificate → Result Bool E → Type 0) (event : Event) (asks : Asks) (s mid t : SessionState) (calls calls2 : List SignCall) (x x2 r r2 : ℕ) (setting setting2 : List (List ℕ)) (e : E) (heard heard2 : List Callback) →
@@ -107,14 +120,14 @@ refused_before {E = E} defaults told_as judges event asks s mid calls x r r2 set
     calls = refl;
     refusals = refl;
   });
-  keeps = subst (λ (a : Asks). HandlerHeard (calls_asked a (exchange_in event)) (handler_at r setting heard) (handler_at r2 setting2 heard2)) asked h.keeps;
+  keeps = subst (λ (a : Asks). HearsAsked judges a (exchange_in event) (handler_at r setting heard) (handler_at r2 setting2 heard2)) asked h.keeps;
 }
 
 -- memory ran out before the handler was asked
 pub ran_out : {E : Type 0} (defaults : Type 0) (told_as : Error → E) (judges : PublicKeyOrCertificate → Result Bool E → Type 0) (event : Event) (s : SessionState) (calls : List SignCall) (x r : ℕ) (setting : List (List ℕ)) (e : E) {heard : List Callback} →
     s.opening.closed ≡ false → e ≡ told_as NoMemory →
     Before defaults (handler_gate told_as judges) event (lent_session s calls x r setting heard) (lent_session (shut_session s) calls x r setting heard) (steps.Refused e)
-ran_out defaults told_as judges event s calls x r setting e fresh is = record {
+ran_out defaults told_as judges event s calls x r setting e {heard = heard} fresh is = record {
   steps_on = inr (record {
     fresh = fresh;
     mid = s;
@@ -126,7 +139,7 @@ ran_out defaults told_as judges event s calls x r setting e fresh is = record {
     calls = refl;
     refusals = refl;
   });
-  keeps = unheard _ _ _ (same_handler (handler_at r setting _));
+  keeps = unasked judges (asked_of s.opening event) (exchange_in event) (handler_at r setting heard);
 }
 
 first_of_two : (a b : Bool) → a && b ≡ false → b ≡ true → a ≡ false

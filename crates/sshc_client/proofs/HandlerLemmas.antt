@@ -20,9 +20,9 @@ use Rattle.sshc_client_packets.specs.declared.channel_open.Sender.{Sender}
 use Rattle.sshc_client_packets.specs.ChannelPackets.{Refusal}
 use Rattle.sshc_client_table.specs.SessionState.{SessionState, own_window}
 use Rattle.sshc_client_table.specs.Moves.{Confirms, Does, Fails, Fronts, Grants, Move, Receives, Rejects, Reserves, Targets, Tells, after, done, onto}
-use Rattle.sshc_client_table.specs.SessionRow.{Callback, Opinions, ServerOpened, SessionRow, asking, behind_moves, ends, goes, passed_over, refused, refuses, reports}
+use Rattle.sshc_client_table.specs.SessionRow.{Callback, Opinions, ServerOpened, SessionRow, UnknownOffered, WindowRefilled, asking, behind_moves, calls_of, opining, plain_row, ends, goes, passed_over, refused, refuses, reports}
 use Rattle.sshc_client_table.specs.SessionTable.Opens.{confirmed_row, failed_row, numbered_open_row, served_row, serving_row, settled}
-use Rattle.sshc_client_table.specs.SessionTable.Streams.{retargets}
+use Rattle.sshc_client_table.specs.SessionTable.Streams.{bytes_row}
 use Rattle.sshc_client_table.specs.Grown.{Grown}
 use Rattle.sshc_client_table.specs.GrownLaws.{done-append, grown_same}
 use Rattle.sshc_client_rows.specs.declared.flow.Flow.{Flow}
@@ -31,7 +31,7 @@ use Rattle.sshc_client_rows.specs.Follows.{Follows, all_moves, default_opinions}
 use Rattle.sshc_client.specs.declared.stop.Stop.{Stop}
 use Rattle.sshc_client.specs.declared.stop.Stop.TheVariants.{Own, Handler}
 use Rattle.sshc_client.specs.Handling.{HandlerAt, HandlerHeard, Handles, Hears, Opines}
-use Rattle.sshc_client.specs.HandledRow.{Accepts, Calls, Cut, calls_of, CutBehind, FollowsOne, FollowsRow, FollowsWith, Handled, HandlerRefused, LetGo, Retargets, default_answer, is_unknown, lent_result, own_result, served, target_moves, went_result}
+use Rattle.sshc_client.specs.HandledRow.{Accepts, Calls, Cut, CutBehind, FollowsOne, FollowsRow, FollowsWith, Handled, HandlerRefused, LetGo, Retargets, default_answer, is_unknown, lent_result, own_result, served, target_moves, went_result}
 
 -- ---- the handler's result
 
@@ -180,7 +180,7 @@ own_one {E = E} defaults h row old new r result is f = record {
   opinions = default_opinions old;
   default = λ plain. refl;
   follows = subst (λ (x : Result Flow (Stop E)). FollowsRow defaults h h row old new x) (sym is) (plain_row_follows E defaults h h row old new r f);
-  keeps = unheard (calls_of row.asks) h h (same_handler h);
+  keeps = unheard (calls_of row) h h (same_handler h);
 }
 
 pub own_with : {E : Type 0} (defaults : Type 0) (h : HandlerAt) (row : Opinions → SessionRow) (old new : SessionState) (r : Result Flow Error) (result : Result Flow (Stop E)) →
@@ -189,7 +189,7 @@ own_with {E = E} defaults h row old new r result is f = record {
   opinions = default_opinions old;
   default = λ plain. refl;
   follows = subst (λ (x : Result Flow (Stop E)). FollowsRow defaults h h (row (default_opinions old)) old new x) (sym is) (plain_row_follows E defaults h h (row (default_opinions old)) old new r f);
-  keeps = unheard (calls_of (row (default_opinions old)).asks) h h (same_handler h);
+  keeps = unheard (calls_of (row (default_opinions old))) h h (same_handler h);
 }
 
 passed_follows : (row : SessionRow) (old new : SessionState) → row ≡ passed_over → new ≡ old → Follows row old new (Ok flows.Went)
@@ -225,7 +225,7 @@ nothing_done moves old new same = subst (Fronts moves old) (sym same) (none_done
 
 pub ran_out_one : {E : Type 0} (defaults : Type 0) (h : HandlerAt) (row : SessionRow) (old new : SessionState) →
     new ≡ old → FollowsOne {E = E} defaults h h row old new (Err (Own NoMemory))
-ran_out_one defaults h row old new same = record { opinions = default_opinions old; default = λ plain. refl; follows = inl (refl, inl (nothing_done row.front old new same)); keeps = unheard (calls_of row.asks) h h (same_handler h) }
+ran_out_one defaults h row old new same = record { opinions = default_opinions old; default = λ plain. refl; follows = inl (refl, inl (nothing_done row.front old new same)); keeps = unheard (calls_of row) h h (same_handler h) }
 
 pub ran_out_with : {E : Type 0} (defaults : Type 0) (h : HandlerAt) (row : Opinions → SessionRow) (old new : SessionState) →
     new ≡ old → FollowsWith {E = E} defaults h h row old new (Err (Own NoMemory))
@@ -233,7 +233,7 @@ ran_out_with defaults h row old new same = record {
   opinions = default_opinions old;
   default = λ plain. refl;
   follows = inl (refl, inl (nothing_done (row (default_opinions old)).front old new same));
-  keeps = unheard (calls_of (row (default_opinions old)).asks) h h (same_handler h);
+  keeps = unheard (calls_of (row (default_opinions old))) h h (same_handler h);
 }
 
 -- ---- a move before a row
@@ -266,12 +266,26 @@ reports_front defaults was is m id said told back old new r same f =
     (front_one defaults was is m (reports [] id told back) old new r f)
 
 -- a call that was made before
-pub called_before : {E : Type 0} (defaults : Type 0) (was mid is : HandlerAt) (row : SessionRow) (old new : SessionState) (r : Result Flow (Stop E)) →
-    HandlerHeard [] was mid → FollowsRow defaults mid is row old new r → FollowsRow defaults was is row old new r
+pub called_before : {E : Type 0} {calls : List Callback} (defaults : Type 0) (was mid is : HandlerAt) (row : SessionRow) (old new : SessionState) (r : Result Flow (Stop E)) →
+    HandlerHeard calls was mid → FollowsRow defaults mid is row old new r → FollowsRow defaults was is row old new r
 called_before defaults was mid is row old new (Ok flows.Went) keeps f = f
 called_before defaults was mid is row old new (Ok (flows.Ended e)) keeps f = f
 called_before defaults was mid is row old new (Err (Own e)) keeps f = f
 called_before defaults was mid is row old new (Err (Handler e)) keeps f = record { asked = f.asked; grown = f.grown; rose = rose_later was.refusals mid.refusals is.refusals keeps.later f.rose; changed = f.changed }
+
+-- a row whose call isn't lent the session
+pub opined_row : {E : Type 0} (defaults : Type 0) (was is : HandlerAt) (call : Option Callback) (row : SessionRow) (old new : SessionState) (r : Result Flow (Stop E)) →
+    FollowsRow defaults was is row old new r → FollowsRow defaults was is (opining call row) old new r
+opined_row defaults was is call row old new (Ok flows.Went) f = (f.0, record { mid = f.1.mid; answer = f.1.answer; let_go = f.1.let_go; is = f.1.is })
+opined_row defaults was is call row old new (Ok (flows.Ended e)) f = (f.0, record { mid = f.1.mid; answer = f.1.answer; let_go = f.1.let_go; is = f.1.is })
+opined_row defaults was is call row old new (Err (Own e)) (inl (memory, inl f)) = inl (memory, inl f)
+opined_row defaults was is call row old new (Err (Own e)) (inl (memory, inr f)) = inl (memory, inr (record { mid = f.mid; answer = f.answer; let_go = f.let_go; is = f.is }))
+opined_row defaults was is call row old new (Err (Own e)) (inr f) = inr (f.0, record { mid = f.1.mid; answer = f.1.answer; let_go = f.1.let_go; is = f.1.is })
+opined_row defaults was is call row old new (Err (Handler e)) f = record { asked = f.asked; grown = f.grown; rose = f.rose; changed = f.changed }
+
+-- a body that returns the default
+pub opines_default : {T : Type 0} (defaults : Type 0) (call : Callback) (default : T) (h : HandlerAt) → Opines defaults call default h h default
+opines_default defaults call default h = record { keeps = unheard (call ∷ []) h h (same_handler h); default_body = λ plain. refl }
 
 -- ---- our window is refilled
 
@@ -287,27 +301,28 @@ retarget_row defaults was is false id len said window old new r f =
 
 pub kept_window : {E : Type 0} (defaults : Type 0) (was is : HandlerAt) (id len : ℕ) (said : ChannelRecord) (old new : SessionState) (r : Result Flow (Stop E)) →
     adjusted_at id len (own_window old) old.table ≡ false → FollowsOne defaults was is (reports [] id said []) (after (Receives id len) old) new r →
-    FollowsWith defaults was is (λ o. reports (Receives id len ∷ retargets o old id len) id said []) old new r
+    FollowsWith defaults was is (λ o. bytes_row o old id len said) old new r
 unfolding asking
 kept_window defaults was is id len said old new r kept f = record {
   opinions = default_opinions old;
   default = λ plain. refl;
-  follows = rw kept (front_row defaults was is (Receives id len) (reports [] id said []) old new r f.follows);
-  keeps = f.keeps;
+  follows = rw kept (opined_row defaults was is None (reports (Receives id len ∷ []) id said []) old new r (front_row defaults was is (Receives id len) (reports [] id said []) old new r f.follows));
+  keeps = rw kept f.keeps;
 }
 
 pub brought_back : {E : Type 0} (defaults : Type 0) (was mid is : HandlerAt) (id len : ℕ) (said : ChannelRecord) (old last new : SessionState) (r : Result Flow (Stop E)) →
-    adjusted_at id len (own_window old) old.table ≡ true → Retargets defaults old.window_target was mid (after (Receives id len) old) last →
+    adjusted_at id len (own_window old) old.table ≡ true → Retargets defaults id old.window_target was mid (after (Receives id len) old) last →
     FollowsOne defaults mid is (reports [] id said []) last new r →
-    FollowsWith defaults was is (λ o. reports (Receives id len ∷ retargets o old id len) id said []) old new r
+    FollowsWith defaults was is (λ o. bytes_row o old id len said) old new r
 unfolding asking
 brought_back defaults was mid is id len said old last new r back asked f =
     let follows = subst (λ (s : SessionState). FollowsRow defaults mid is (reports [] id said []) s new r) asked.left f.follows in
     record {
       opinions = record { takes_unknown = false; window_target = asked.window };
       default = λ plain. ap (λ (w : ℕ). record { takes_unknown = false; window_target = w }) (asked.opines.default_body plain);
-      follows = rw back (retarget_row defaults was is (nat_lt 0 asked.window) id len said asked.window old new r (called_before defaults was mid is (reports [] id said []) _ new r asked.opines.keeps follows));
-      keeps = keeps_on was mid is asked.opines.keeps f.keeps;
+      follows = rw back (opined_row defaults was is (Some (WindowRefilled id old.window_target)) (reports (Receives id len ∷ (if nat_lt 0 asked.window then Targets asked.window ∷ [] else [])) id said []) old new r
+          (retarget_row defaults was is (nat_lt 0 asked.window) id len said asked.window old new r (called_before defaults was mid is (reports [] id said []) _ new r asked.opines.keeps follows)));
+      keeps = rw back (keeps_on was mid is asked.opines.keeps f.keeps);
     }
 
 -- ---- opens
@@ -387,26 +402,25 @@ pub let_go_open : {E : Type 0} (defaults : Type 0) (default answer : OpenAnswer)
 let_go_open {E = E} defaults default answer was is id opened old mid new moved result is_so accepts h m =
     subst (λ (x : Result Flow (Stop E)). FollowsOne {E = E} defaults was is (served id opened) old new x) (sym is_so) (let_go_served {E = E} defaults default answer was is id opened old mid new moved accepts h m)
 
-known_row : (takes : Bool) (sender : Sender) (id : ℕ) (opened : ServerOpen) → is_unknown opened ≡ false → served_row takes sender id opened ≡ serving_row sender id opened
-known_row true sender id opened known = refl
-known_row false sender id opens.Unknown known = absurd cc
-known_row false sender id opens.Session known = refl
-known_row false sender id (opens.DirectTcpIp a b c d) known = refl
-known_row false sender id (opens.DirectStreamLocal a) known = refl
-known_row false sender id (opens.X11 a b) known = refl
-known_row false sender id (opens.ForwardedTcpIp a b c d) known = refl
-known_row false sender id (opens.ForwardedStreamLocal a) known = refl
-known_row false sender id opens.AgentForward known = refl
+known_row : (takes : Bool) (sender : Sender) (id : ℕ) (kind : List ℕ) (opened : ServerOpen) → is_unknown opened ≡ false → served_row takes sender id kind opened ≡ serving_row sender id opened
+known_row takes sender id kind opens.Unknown known = absurd cc
+known_row takes sender id kind opens.Session known = refl
+known_row takes sender id kind (opens.DirectTcpIp a b c d) known = refl
+known_row takes sender id kind (opens.DirectStreamLocal a) known = refl
+known_row takes sender id kind (opens.X11 a b) known = refl
+known_row takes sender id kind (opens.ForwardedTcpIp a b c d) known = refl
+known_row takes sender id kind (opens.ForwardedStreamLocal a) known = refl
+known_row takes sender id kind opens.AgentForward known = refl
 
-pub known_open : {E : Type 0} (defaults : Type 0) (was is : HandlerAt) (number : Option ℕ) (sender : Sender) (id : ℕ) (opened : ServerOpen) (old new : SessionState) (r : Result Flow (Stop E)) →
+pub known_open : {E : Type 0} (defaults : Type 0) (was is : HandlerAt) (number : Option ℕ) (sender : Sender) (id : ℕ) (kind : List ℕ) (opened : ServerOpen) (old new : SessionState) (r : Result Flow (Stop E)) →
     number ≡ Some id → is_unknown opened ≡ false → FollowsOne defaults was is (served id opened) (after (Reserves sender) old) new r →
-    FollowsWith defaults was is (λ o. numbered_open_row o number sender opened) old new r
+    FollowsWith defaults was is (λ o. numbered_open_row o number sender kind opened) old new r
 unfolding served
-known_open defaults was is number sender id opened old new r numbered known f = record {
+known_open defaults was is number sender id kind opened old new r numbered known f = record {
   opinions = default_opinions old;
   default = λ plain. refl;
-  follows = rw numbered (subst (λ (row : SessionRow). FollowsRow defaults was is row old new r) (sym (known_row false sender id opened known)) (front_row defaults was is (Reserves sender) (served id opened) old new r f.follows));
-  keeps = rw numbered (subst (λ (row : SessionRow). HandlerHeard (calls_of row.asks) was is) (sym (known_row false sender id opened known)) f.keeps);
+  follows = rw numbered (subst (λ (row : SessionRow). FollowsRow defaults was is row old new r) (sym (known_row false sender id kind opened known)) (front_row defaults was is (Reserves sender) (served id opened) old new r f.follows));
+  keeps = rw numbered (subst (λ (row : SessionRow). HandlerHeard (calls_of row) was is) (sym (known_row false sender id kind opened known)) f.keeps);
 }
 
 -- a handler that keeps its defaults accepts an open of a known type
@@ -423,49 +437,50 @@ known_accepts defaults opens.AgentForward known = inl refl
 not_taken : true ≡ false → ⊥
 not_taken same = absurd cc
 
-pub taken_open : {E : Type 0} (defaults : Type 0) (was mid is : HandlerAt) (number : Option ℕ) (sender : Sender) (id : ℕ) (old new : SessionState) (r : Result Flow (Stop E)) →
-    number ≡ Some id → Opines defaults false was mid true → FollowsOne defaults mid is (served id opens.Unknown) (after (Reserves sender) old) new r →
-    FollowsWith defaults was is (λ o. numbered_open_row o number sender opens.Unknown) old new r
+pub taken_open : {E : Type 0} (defaults : Type 0) (was mid is : HandlerAt) (number : Option ℕ) (sender : Sender) (id : ℕ) (kind : List ℕ) (old new : SessionState) (r : Result Flow (Stop E)) →
+    number ≡ Some id → Opines defaults (UnknownOffered id kind) false was mid true → FollowsOne defaults mid is (served id opens.Unknown) (after (Reserves sender) old) new r →
+    FollowsWith defaults was is (λ o. numbered_open_row o number sender kind opens.Unknown) old new r
 unfolding served
-taken_open defaults was mid is number sender id old new r numbered opines f = record {
+taken_open defaults was mid is number sender id kind old new r numbered opines f = record {
   opinions = record { takes_unknown = true; window_target = old.window_target };
   default = λ plain. absurd (not_taken (opines.default_body plain));
-  follows = rw numbered (front_row defaults was is (Reserves sender) (served id opens.Unknown) old new r (called_before defaults was mid is (served id opens.Unknown) _ new r opines.keeps f.follows));
+  follows = rw numbered (opined_row defaults was is (Some (UnknownOffered id kind)) (serving_row sender id opens.Unknown) old new r
+      (front_row defaults was is (Reserves sender) (served id opens.Unknown) old new r (called_before defaults was mid is (served id opens.Unknown) _ new r opines.keeps f.follows)));
   keeps = rw numbered (keeps_on was mid is opines.keeps f.keeps);
 }
 
 -- a handler that takes an unknown type doesn't keep its defaults
-pub taken_accepts : (defaults : Type 0) (was mid : HandlerAt) (default : OpenAnswer) → Opines defaults false was mid true → Accepts defaults default
-taken_accepts defaults was mid default opines = inr (λ plain. not_taken (opines.default_body plain))
+pub taken_accepts : (defaults : Type 0) (call : Callback) (was mid : HandlerAt) (default : OpenAnswer) → Opines defaults call false was mid true → Accepts defaults default
+taken_accepts defaults call was mid default opines = inr (λ plain. not_taken (opines.default_body plain))
 
 -- an open of an unknown type is refused, since the handler doesn't take it
-pub not_taken_open : {E : Type 0} (defaults : Type 0) (was is : HandlerAt) (number : Option ℕ) (sender : Sender) (id : ℕ) (old new : SessionState) →
-    number ≡ Some id → Opines defaults false was is false → new ≡ after (Rejects id UnknownChannelType) (after (Reserves sender) old) →
-    FollowsWith {E = E} defaults was is (λ o. numbered_open_row o number sender opens.Unknown) old new (Ok flows.Went)
-not_taken_open {E = E} defaults was is number sender id old new numbered opines left = record {
+abbrev refused_moves : Sender → ℕ → List Move
+refused_moves sender id = Reserves sender ∷ Rejects id UnknownChannelType ∷ []
+
+not_taken_by : {E : Type 0} (defaults : Type 0) (was is : HandlerAt) (number : Option ℕ) (sender : Sender) (id : ℕ) (kind : List ℕ) (old new : SessionState) (r : Result Flow Error) →
+    number ≡ Some id → Opines defaults (UnknownOffered id kind) false was is false → Follows (plain_row (refused_moves sender id)) old new r →
+    FollowsWith {E = E} defaults was is (λ o. numbered_open_row o number sender kind opens.Unknown) old new (own_result r)
+not_taken_by {E = E} defaults was is number sender id kind old new r numbered opines f = record {
   opinions = default_opinions old;
   default = λ plain. refl;
-  follows = rw numbered (plain_row_follows E defaults was is (served_row false sender id opens.Unknown) old new (Ok flows.Went) (refl, left));
+  follows = rw numbered (opined_row defaults was is (Some (UnknownOffered id kind)) (plain_row (refused_moves sender id)) old new (own_result r)
+      (plain_row_follows E defaults was is (plain_row (refused_moves sender id)) old new r f));
   keeps = rw numbered opines.keeps;
 }
 
-not_taken_cut : {E : Type 0} (defaults : Type 0) (was is : HandlerAt) (number : Option ℕ) (sender : Sender) (id : ℕ) (old new : SessionState) →
-    number ≡ Some id → Opines defaults false was is false → new ≡ after (Reserves sender) old →
-    FollowsWith {E = E} defaults was is (λ o. numbered_open_row o number sender opens.Unknown) old new (Err (Own NoMemory))
-not_taken_cut {E = E} defaults was is number sender id old new numbered opines left = record {
-  opinions = default_opinions old;
-  default = λ plain. refl;
-  follows = rw numbered (plain_row_follows E defaults was is (served_row false sender id opens.Unknown) old new (Err NoMemory) (inl (refl, inr (inl left))));
-  keeps = rw numbered opines.keeps;
-}
+pub not_taken_open : {E : Type 0} (defaults : Type 0) (was is : HandlerAt) (number : Option ℕ) (sender : Sender) (id : ℕ) (kind : List ℕ) (old new : SessionState) →
+    number ≡ Some id → Opines defaults (UnknownOffered id kind) false was is false → new ≡ after (Rejects id UnknownChannelType) (after (Reserves sender) old) →
+    FollowsWith {E = E} defaults was is (λ o. numbered_open_row o number sender kind opens.Unknown) old new (Ok flows.Went)
+not_taken_open {E = E} defaults was is number sender id kind old new numbered opines left =
+    not_taken_by {E = E} defaults was is number sender id kind old new (Ok flows.Went) numbered opines (refl, left)
 
-pub not_taken_ran_out : {E : Type 0} (defaults : Type 0) (was is : HandlerAt) (number : Option ℕ) (sender : Sender) (id : ℕ) (old new : SessionState) (result : Result Flow (Stop E)) →
-    IsErrAnd result (λ e. e ≡ Own NoMemory) → number ≡ Some id → Opines defaults false was is false → new ≡ after (Reserves sender) old →
-    FollowsWith {E = E} defaults was is (λ o. numbered_open_row o number sender opens.Unknown) old new result
-not_taken_ran_out defaults was is number sender id old new (Ok flow) never numbered opines left = absurd never
-not_taken_ran_out {E = E} defaults was is number sender id old new (Err e) same numbered opines left =
-    subst (λ (x : Stop E). FollowsWith {E = E} defaults was is (λ o. numbered_open_row o number sender opens.Unknown) old new (Err x)) (sym same)
-    (not_taken_cut {E = E} defaults was is number sender id old new numbered opines left)
+pub not_taken_ran_out : {E : Type 0} (defaults : Type 0) (was is : HandlerAt) (number : Option ℕ) (sender : Sender) (id : ℕ) (kind : List ℕ) (old new : SessionState) (result : Result Flow (Stop E)) →
+    IsErrAnd result (λ e. e ≡ Own NoMemory) → number ≡ Some id → Opines defaults (UnknownOffered id kind) false was is false → new ≡ after (Reserves sender) old →
+    FollowsWith {E = E} defaults was is (λ o. numbered_open_row o number sender kind opens.Unknown) old new result
+not_taken_ran_out defaults was is number sender id kind old new (Ok flow) never numbered opines left = absurd never
+not_taken_ran_out {E = E} defaults was is number sender id kind old new (Err e) same numbered opines left =
+    subst (λ (x : Stop E). FollowsWith {E = E} defaults was is (λ o. numbered_open_row o number sender kind opens.Unknown) old new (Err x)) (sym same)
+    (not_taken_by {E = E} defaults was is number sender id kind old new (Err NoMemory) numbered opines (inl (refl, inr (inl left))))
 
 -- ---- a row that is equal to another
 

@@ -10,7 +10,7 @@ use Rattle.std.specs.Prelude.{◌==◌, length}
 use Rattle.sshc_client_table.specs.SessionState.{SessionState, is_live}
 use Rattle.sshc_client_table.specs.Moves.{Counts, Hears, Move, after}
 use Rattle.sshc_client_table.specs.MoveLaws.{is_done}
-use Rattle.sshc_client_table.specs.SessionRow.{Opinions, SessionRow, behind_moves, passed_over}
+use Rattle.sshc_client_table.specs.SessionRow.{Opinions, SessionRow, behind_moves, calls_of, passed_over}
 use Rattle.sshc_client_table.specs.SessionTable.{disconnect_row, held_row, numbered_row, packet_row, payload_row}
 use Rattle.sshc_client_table.specs.SessionTable.Opens.{channel_open_row, open_confirmation_row, open_failure_row}
 use Rattle.sshc_client_table.specs.SessionTable.Replies.{request_failure_row, request_success_row}
@@ -20,7 +20,7 @@ use Rattle.sshc_client_rows.specs.declared.flow.Flow.{Flow}
 use Rattle.sshc_client_rows.specs.Follows.{Follows, default_opinions}
 use Rattle.sshc_client.specs.declared.stop.Stop.{Stop}
 use Rattle.sshc_client.specs.Handling.{HandlerAt, HandlerHeard}
-use Rattle.sshc_client.specs.HandledRow.{FollowsRow, FollowsWith, calls_of, own_result}
+use Rattle.sshc_client.specs.HandledRow.{FollowsRow, FollowsWith, own_result}
 use Rattle.sshc_client.proofs.HandlerLemmas.{front_row, own_with}
 
 abbrev unheard : SessionState → SessionState
@@ -77,7 +77,7 @@ first_move defaults was is m late row s new r opinions same f = record {
   opinions = f.opinions;
   default = λ plain. f.default plain ∙ opinions;
   follows = front_row defaults was is m (row f.opinions) s new r (subst (λ (x : SessionRow). FollowsRow defaults was is x (after m s) new r) (same f.opinions) f.follows);
-  keeps = subst (λ (x : SessionRow). HandlerHeard (calls_of x.asks) was is) (same f.opinions) f.keeps;
+  keeps = subst (λ (x : SessionRow). HandlerHeard (calls_of x) was is) (same f.opinions) f.keeps;
 }
 
 pub heard_first : {E : Type 0} (defaults : Type 0) (was is : HandlerAt) (accepts : Accepts) (s t new : SessionState) (len number : ℕ) (body : List ℕ) (r : Result Flow (Stop E)) → is_live s ≡ true → t ≡ after Hears s →

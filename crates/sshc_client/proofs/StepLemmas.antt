@@ -43,6 +43,7 @@ use Rattle.sshc_client.specs.Handling.{HandlerAt, handler_at}
 use Rattle.sshc_client.specs.HandledRow.{Cut, CutBehind, FollowsRow, FollowsWith, Handled, LetGo}
 use Rattle.sshc_client.specs.HandledStep.{Before, EndsBy, EndsRow, RefusedBefore, SessionSteps, StepsBehind, StepsOpen, WhyRefused, handler_of, has_left, shut_session}
 use Rattle.sshc_client.specs.Stepping.{SessionStepped, StepsRow}
+use Rattle.sshc_client.proofs.AskedLemmas.{heard_keeps}
 use Rattle.sshc_client.proofs.HandlerLemmas.{done_onto}
 use Rattle.sshc_client.proofs.LawLemmas.{open_keeps}
 
@@ -148,7 +149,7 @@ row_caused {E = E} defaults told_as was is row old last new event (Err (Own e)) 
 row_caused {E = E} defaults told_as was is row old last new event (Err (Own e)) result caused left_by (inr f) ends_so =
     subst (λ (z : Step E). IsCausedOpen defaults told_as was is old event z) (sym ends_so.0) (inl (e, refl, subst (λ (n : Next). NextCaused (open_why old event) n) f.0 caused))
 row_caused {E = E} defaults told_as was is row old last new event (Err (Handler e)) result caused left_by f ends_so =
-    subst (λ (z : Step E). IsCausedOpen defaults told_as was is old event z) (sym ends_so.0) (inr f.rose)
+    subst (λ (z : Step E). IsCausedOpen defaults told_as was is old event z) (sym ends_so.0) (inr (f.rose, f.changed))
 
 -- a handler that keeps its defaults leaves no session
 nobody_leaves : (defaults : Type 0) (accepts : Accepts) (o : Opinions) (old last : SessionState) (event : Event) → is_live old ≡ true →
@@ -259,7 +260,7 @@ why_so {E = E} defaults gate event s mid calls calls2 x r r2 setting setting2 t 
 why_so defaults gate event s mid calls calls2 x r r2 setting setting2 t e plain fresh same keeps is (inr (inl (key, asked, says, still, rose))) =
     rw (is, still) (shut_so gate event s calls calls2 x r r2 setting setting2 e fresh same keeps
     (inr (Err e, outgoing s, refuses_key gate (exchange_in event) (outgoing s) key e (asked_of s.opening event) asked says, (refl, refl, refl, same)))
-    (inr rose))
+    (inr ((outgoing s, refuses_key gate (exchange_in event) (outgoing s) key e (asked_of s.opening event) asked says), rose)))
 why_so defaults gate event s mid calls calls2 x r r2 setting setting2 t e plain fresh same keeps is (inr (inr (rose, called_so, own_body))) = absurd (own_body plain)
 
 refused_so : {E : Type 0} (defaults : Type 0) (gate : GateAnswers E) (event : Event) (s t : SessionState) (calls calls2 : List SignCall) (x x2 r r2 : ℕ) (setting setting2 : List (List ℕ)) (result : Step E) {heard heard2 : List Callback} → defaults → GateKeeps r r2 setting setting2 →
@@ -287,6 +288,7 @@ plain_step defaults gate accepts event s t calls calls2 x x2 r r2 setting settin
   silent = steps_so.silent;
   opening = λ later. opening_so defaults gate event s t calls calls2 x x2 r r2 setting setting2 result plain (record { later = steps_so.keeps.later; kept = steps_so.keeps.kept }) (runs_of _ s.life later) (steps_so.opening later);
   row = λ live. (open_so defaults gate.told_as accepts event _ _ s t result plain live (steps_so.row live).0, (steps_so.row live).1);
+  signer = steps_so.signer;
 }
 
 -- ---- a step by the session's life
@@ -323,6 +325,7 @@ over_steps defaults gate accepts event s calls x r setting over = record {
   laws = λ live. absurd (no_run _ s.life (ap runs over) live);
   heard = λ later. absurd (no_run _ s.life (ap runs over) later);
   keeps = record { later = not_more r; kept = refl };
+  signer = not_more x;
 }
 
 pub left_steps : {E : Type 0} (defaults : Type 0) (gate : GateAnswers E) (accepts : Accepts) (event : Event) (s t : SessionState) (calls : List SignCall) (x r : ℕ) (setting : List (List ℕ)) {heard : List Callback} →
@@ -337,6 +340,7 @@ left_steps defaults gate accepts event s t calls x r setting left stopped = reco
   laws = λ live. absurd (no_run _ s.life (ap runs left) live);
   heard = λ later. absurd (no_run _ s.life (ap runs left) later);
   keeps = record { later = not_more r; kept = refl };
+  signer = not_more x;
 }
 
 pub live_steps : {E : Type 0} (defaults : Type 0) (gate : GateAnswers E) (accepts : Accepts) (event : Event) (s t : SessionState) (calls : List SignCall) (x r r2 : ℕ) (setting setting2 : List (List ℕ)) (result : Step E) {heard heard2 : List Callback} →
@@ -352,7 +356,13 @@ live_steps defaults gate accepts event s t calls x r r2 setting setting2 result 
   laws = λ is_so. open_keeps defaults gate.told_as accepts event (handler_at r setting _) (handler_at r2 setting2 _) s t result live steps_so;
   heard = λ later. absurd (open_early _ (runs s.life) live later);
   keeps = record { later = steps_so.follows.keeps.later; kept = steps_so.follows.keeps.kept };
+  signer = not_more x;
 }
+
+signer_later : {E : Type 0} (defaults : Type 0) (gate : GateAnswers E) (event : Event) (was is : Lent) (result : Step E) →
+    StepsBehind defaults gate event was is result ⊎ RefusedBefore defaults gate event was is result → was.signer_refusals ≤ is.signer_refusals
+signer_later defaults gate event was is result (inl b) = b.stepped.stepped.signer.later
+signer_later defaults gate event was is result (inr b) = omega (arith, b.refusals)
 
 pub before_steps : {E : Type 0} (defaults : Type 0) (gate : GateAnswers E) (accepts : Accepts) (event : Event) (s t : SessionState) (calls calls2 : List SignCall) (x x2 r r2 : ℕ) (setting setting2 : List (List ℕ)) (result : Step E) {heard heard2 : List Callback} →
     s.life ≡ Runs → is_live s ≡ false → Before defaults gate event (lent_session s calls x r setting heard) (lent_session t calls2 x2 r2 setting2 heard2) result →
@@ -365,8 +375,9 @@ before_steps defaults gate accepts event s t calls calls2 x x2 r r2 setting sett
   row = λ live. absurd (not_both (is_live s) dead live);
   caused = λ live. absurd (not_both (is_live s) dead live);
   laws = λ live. absurd (not_both (is_live s) dead live);
-  heard = λ later. b.keeps.heard;
-  keeps = record { later = b.keeps.later; kept = b.keeps.kept };
+  heard = λ later. b.keeps;
+  keeps = heard_keeps gate.judges (asked_of s.opening event) (exchange_in event) (handler_at r setting _) (handler_at r2 setting2 _) b.keeps;
+  signer = signer_later defaults gate event _ _ result b.steps_on;
 }
 
 pub nobody_left_ends : {E : Type 0} (b c : Bool) (last new : SessionState) (step : Step E) → c ≡ false → new ≡ last → EndsBy (b && c) last new step step

@@ -12,8 +12,8 @@ use Rattle.sshc_auth.specs.Stepping.{GateAnswers, gate_answers}
 use Rattle.sshc_client_table.specs.SessionState.{SessionState}
 use Rattle.sshc_client_table.specs.Grown.{Grown}
 use Rattle.sshc_client_state.specs.OpeningStep.{Lent, StepsLent, goes_on}
-use Rattle.sshc_client.specs.Handling.{HandlerAt, HandlerHeard}
-use Rattle.sshc_client.specs.HandledStep.{AddsNothing, EndsBy, IsCall, calls_asked, has_left}
+use Rattle.sshc_client.specs.Handling.{HandlerAt}
+use Rattle.sshc_client.specs.HandledStep.{AddsNothing, EndsBy, HearsAsked, IsCall, has_left}
 
 -- the verdict
 abbrev pub Says : {E : Type 0} → Bool → PublicKeyOrCertificate → Result Bool E → Type 0
@@ -48,7 +48,7 @@ pub record AsksHandler {E : Type 0} (defaults : Type 0) (judges : PublicKeyOrCer
   -- where the row makes no call, nobody is lent the session
   pub unlent : (IsCall asks → ⊥) → new ≡ old
   -- it hears what the row asks, with the values of the event
-  pub keeps : HandlerHeard (calls_asked asks exchange) was is
+  pub keeps : HearsAsked judges asks exchange was is
 
 -- the opening's step, and the end of a session that the user left meanwhile
 pub record StepsBefore {E : Type 0} (gate : GateAnswers E) (event : Event) (was is : Lent) (result : Step E) : Type 0 where

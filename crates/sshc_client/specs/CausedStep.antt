@@ -13,11 +13,11 @@ use Rattle.sshc_client_table.specs.SessionState.{SessionState}
 use Rattle.sshc_client.specs.Handling.{HandlerAt}
 
 -- it ends as the event ends a session, or since a handler with a body of its own left the session that it was lent; it
--- refuses for an error's cause, or since the handler refused
+-- refuses for an error's cause, or since a handler with a body of its own refused
 abbrev pub IsCausedOpen : {E : Type 0} → Type 0 → (Error → E) → HandlerAt → HandlerAt → SessionState → Event → Step E → Type 0
 IsCausedOpen defaults told_as was is s event steps.Went = Unit {0}
 IsCausedOpen defaults told_as was is s event (steps.Ended e) = IsEndCause s.opening event e ⊎ ((e ≡ Disconnected) × (defaults → ⊥))
 IsCausedOpen defaults told_as was is s event (steps.Refused x) =
-    ((e : Error) × (x ≡ told_as e) × IsOpenCause s event e) ⊎ Rose was.refusals is.refusals
+    ((e : Error) × (x ≡ told_as e) × IsOpenCause s event e) ⊎ (Rose was.refusals is.refusals × (defaults → ⊥))
 IsCausedOpen defaults told_as was is s event steps.Opened = ⊥
 IsCausedOpen defaults told_as was is s event steps.Closed = ⊥

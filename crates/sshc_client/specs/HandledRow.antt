@@ -15,7 +15,7 @@ use Rattle.sshc_client_table.specs.declared.open_answer.OpenAnswer.{OpenAnswer}
 use Rattle.sshc_client_table.specs.declared.open_answer.OpenAnswer.TheVariants.{Accept, Reject}
 use Rattle.sshc_client_table.specs.SessionState.{SessionState}
 use Rattle.sshc_client_table.specs.Moves.{Fronts, Move, Targets, Tells, done}
-use Rattle.sshc_client_table.specs.SessionRow.{Callback, Opinions, ServerOpened, SessionRow, ends, goes, refuses}
+use Rattle.sshc_client_table.specs.SessionRow.{Callback, Opinions, ServerOpened, SessionRow, WindowRefilled, calls_of, ends, goes, refuses}
 use Rattle.sshc_client_table.specs.SessionTable.Opens.{settled}
 use Rattle.sshc_client_table.specs.Grown.{Grown}
 use Rattle.sshc_client_rows.specs.declared.flow.Flow.{Flow}
@@ -62,18 +62,13 @@ FollowsRow defaults was is row old new (Err (Own e)) =
     ((e ≡ NoMemory) × Cut defaults row old new) ⊎ ((row.next ≡ refuses e) × Handled defaults row old new)
 FollowsRow defaults was is row old new (Err (Handler e)) = HandlerRefused defaults was is row old new
 
--- the call that a row asks, if it asks one
-abbrev pub calls_of : Option Callback → List Callback
-calls_of None = []
-calls_of (Some call) = call ∷ []
-
 -- a call that follows the row chosen by what the handler returns from a callback that isn't lent the session; the handler
 -- hears what the row asks, and nothing else
 pub record FollowsWith {E : Type 0} (defaults : Type 0) (was is : HandlerAt) (row : Opinions → SessionRow) (old new : SessionState) (result : Result Flow (Stop E)) : Type 0 where
   pub opinions : Opinions
   pub default : defaults → opinions ≡ default_opinions old
   pub follows : FollowsRow defaults was is (row opinions) old new result
-  pub keeps : HandlerHeard (calls_of (row opinions).asks) was is
+  pub keeps : HandlerHeard (calls_of (row opinions)) was is
 
 -- a call that follows one row
 abbrev pub FollowsOne : {E : Type 0} → Type 0 → HandlerAt → HandlerAt → SessionRow → SessionState → SessionState → Result Flow (Stop E) → Type 0
@@ -103,6 +98,7 @@ lent_result (Err e) = Err (Handler e)
 -- the handler is called for an open of the peer's under this number
 unfoldable pub served : ℕ → ServerOpen → SessionRow
 served id opened = record {
+  opinion = None;
   front = [];
   asks = Some (ServerOpened id opened);
   back = λ answer. Tells (ServerOpenedRecord (record { 0 = id }) opened) ∷ settled id answer;
@@ -127,7 +123,7 @@ abbrev pub target_moves : ℕ → List Move
 target_moves window = if nat_lt 0 window then Targets window ∷ [] else []
 
 -- the handler was called with a window target, and its result is the next one
-pub record Retargets (defaults : Type 0) (target : ℕ) (was is : HandlerAt) (old new : SessionState) : Type 0 where
+pub record Retargets (defaults : Type 0) (id target : ℕ) (was is : HandlerAt) (old new : SessionState) : Type 0 where
   pub window : ℕ
-  pub opines : Opines defaults target was is window
+  pub opines : Opines defaults (WindowRefilled id target) target was is window
   pub left : new ≡ done (target_moves window) old

@@ -1,7 +1,7 @@
 -- What a step of a session does, with any handler. In an open session the event's row is followed, with whatever the
 -- handler does to the session that it is lent; before that the opening's step continues after what the handler did.
 -- Stated by relations between states; the code does one move after the other.
-use Rattle.std.specs.Prelude.{◌≡◌, ◌⊎◌, ℕ, Bool, true, false, ◌&&◌, not, List, [], ◌∷◌, Option, Some, None, Result, Ok, Err}
+use Rattle.std.specs.Prelude.{◌≡◌, ◌≤◌, ◌⊎◌, ℕ, Bool, true, false, ◌&&◌, not, List, [], ◌∷◌, Option, Some, None, Result, Ok, Err}
 use Rattle.sshc_wire.specs.Faults.{Rose}
 use Rattle.sshc_wire.specs.declared.record.Record.{Record}
 use Rattle.sshc_key.specs.declared.identity.PublicKeyOrCertificate.{PublicKeyOrCertificate}
@@ -31,7 +31,7 @@ use Rattle.sshc_client_rows.specs.declared.flow.Flow.{Flow}
 use Rattle.sshc_client_rows.specs.declared.flow.Flow.TheVariants as flows
 use Rattle.sshc_client.specs.declared.stop.Stop.{Stop}
 use Rattle.sshc_client.specs.declared.stop.Stop.TheVariants.{Own, Handler}
-use Rattle.sshc_client.specs.Handling.{HandlerAt, HandlerHeard, HandlerKept, Hears, handler_at}
+use Rattle.sshc_client.specs.Handling.{HandlerAt, HandlerHeard, HandlerKept, handler_at}
 use Rattle.sshc_client.specs.CausedStep.{IsCausedOpen}
 use Rattle.sshc_client.specs.HandledRow.{FollowsWith}
 
@@ -119,25 +119,31 @@ pub record RefusedBefore {E : Type 0} (defaults : Type 0) (gate : GateAnswers E)
   pub calls : is.calls ≡ was.calls
   pub refusals : is.signer_refusals ≡ was.signer_refusals
 
--- the calls of the handler that the opening asks: about the host key and then for the exchange, for an exchange, or for a
--- banner
+-- what the handler hears of the opening: of the host key and, if it accepts the key, of the exchange; of an exchange; or
+-- of a banner
 abbrev pub exchange_call : Option ExchangeResult → List Callback
 exchange_call None = []
 exchange_call (Some x) = KexDone x.secret x.names ∷ []
 
-abbrev pub calls_asked : Asks → Option ExchangeResult → List Callback
-calls_asked asking.Nothing exchange = []
-calls_asked (asking.HostKey key) exchange = HostKey key ∷ exchange_call exchange
-calls_asked asking.Exchange exchange = exchange_call exchange
-calls_asked (asking.Banner text) exchange = Banner text ∷ []
+abbrev pub HearsKey : {E : Type 0} → (PublicKeyOrCertificate → Result Bool E → Type 0) → PublicKeyOrCertificate → Option ExchangeResult → HandlerAt → HandlerAt → Type 0
+HearsKey judges key exchange was is =
+    HandlerHeard (HostKey key ∷ []) was is
+    ⊎ (judges key (Ok true) × HandlerHeard (HostKey key ∷ exchange_call exchange) was is)
 
-abbrev pub calls_before : SessionState → Event → List Callback
-calls_before s event = calls_asked (asked_of s.opening event) (exchange_in event)
+abbrev pub HearsAsked : {E : Type 0} → (PublicKeyOrCertificate → Result Bool E → Type 0) → Asks → Option ExchangeResult → HandlerAt → HandlerAt → Type 0
+HearsAsked judges asking.Nothing exchange was is = HandlerHeard [] was is
+HearsAsked judges (asking.HostKey key) exchange was is = HearsKey judges key exchange was is
+HearsAsked judges asking.Exchange exchange was is = HandlerHeard (exchange_call exchange) was is
+HearsAsked judges (asking.Banner text) exchange was is = HandlerHeard (Banner text ∷ []) was is
+
+abbrev pub HearsBefore : {E : Type 0} → GateAnswers E → Event → Lent → Lent → Type 0
+HearsBefore gate event was is =
+    HearsAsked gate.judges (asked_of was.session.opening event) (exchange_in event) (handler_of was) (handler_of is)
 
 -- a step before the session is open, and what the handler keeps and heard
 pub record Before {E : Type 0} (defaults : Type 0) (gate : GateAnswers E) (event : Event) (was is : Lent) (result : Step E) : Type 0 where
   pub steps_on : StepsBehind defaults gate event was is result ⊎ RefusedBefore defaults gate event was is result
-  pub keeps : HandlerHeard (calls_before was.session event) (handler_of was) (handler_of is)
+  pub keeps : HearsBefore gate event was is
 
 -- ---- the step
 
@@ -161,7 +167,10 @@ pub record SessionSteps {E : Type 0} (defaults : Type 0) (gate : GateAnswers E) 
   -- in an open session, the laws of a step: of replies, opens, key exchanges and authentication
   pub laws : is_live (was.session) ≡ true → OpenStepLaws accepts event was.session is.session (goes_on_open result)
   -- before the session is open the handler hears what the opening asks, and nothing else: of a host key in the first
-  -- exchange alone, and then once; in an open session what it hears is in `row`
-  pub heard : opens_later (was.session) ≡ true → Hears (calls_before was.session event) was.heard is.heard
+  -- exchange alone, and then once, and of that exchange only if it may accept the key; in an open session what it hears
+  -- is in `row`
+  pub heard : opens_later (was.session) ≡ true → HearsBefore gate event was is
   -- the handler's count of refusals never falls, and what it judges by doesn't change
   pub keeps : HandlerKept (handler_of was) (handler_of is)
+  -- the signer's count of refusals never falls
+  pub signer : was.signer_refusals ≤ is.signer_refusals

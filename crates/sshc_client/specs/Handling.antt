@@ -43,9 +43,9 @@ pub record Handles {T E : Type 0} (defaults : Type 0) (call : Callback) (default
   pub cause : OnErr result (Rose was.refusals is.refusals)
   pub default_body : defaults → (result ≡ default) × (new ≡ old)
 
--- the same of a call that isn't lent the session, can't refuse and isn't kept
-pub record Opines {T : Type 0} (defaults : Type 0) (default : T) (was is : HandlerAt) (answer : T) : Type 0 where
-  pub keeps : HandlerHeard [] was is
+-- the same of a call that isn't lent the session and can't refuse
+pub record Opines {T : Type 0} (defaults : Type 0) (call : Callback) (default : T) (was is : HandlerAt) (answer : T) : Type 0 where
+  pub keeps : HandlerHeard (call ∷ []) was is
   pub default_body : defaults → answer ≡ default
 
 -- what a handler returns by default at the end of a session: the error by which it ended, if it was one

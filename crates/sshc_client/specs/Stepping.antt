@@ -1,7 +1,7 @@
 -- What a step of a session does if the handler keeps its default bodies, with its gate's verdict on host keys: before
 -- the session is open the opening's step is done, in an open session the event's row is followed, and a session that
 -- has ended returns `Closed`. In the code the opening is a part of the session all along.
-use Rattle.std.specs.Prelude.{◌≡◌, ◌⊎◌, true, false}
+use Rattle.std.specs.Prelude.{◌≡◌, ◌≤◌, ◌⊎◌, true, false}
 use Rattle.sshc_auth_event.specs.declared.event.Event.{Event}
 use Rattle.sshc_auth.specs.declared.ended.Ended.TheVariants.{Disconnected}
 use Rattle.sshc_auth.specs.declared.error.Error.{Error}
@@ -45,3 +45,5 @@ pub record SessionStepped {E : Type 0} (gate : GateAnswers E) (accepts : Accepts
   pub row : is_live (was.session) ≡ true →
       StepsRow gate.told_as (session_row accepts (default_opinions (was.session)) (was.session) event) was.session is.session result
       × (is.calls ≡ was.calls)
+  -- the signer's count of refusals never falls
+  pub signer : was.signer_refusals ≤ is.signer_refusals

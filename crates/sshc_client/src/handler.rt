@@ -6,7 +6,7 @@ ghost use Rattle.sshc_wire.specs.declared.channel_record.ServerOpen.TheVariants 
 ghost use Rattle.sshc_wire.specs.Faults.{Rose};
 ghost use Rattle.sshc_key.specs.declared.identity.PublicKeyOrCertificate.{PublicKeyOrCertificate as ServerKey};
 ghost use Rattle.sshc_auth.specs.declared.error.Error.{Error as Refusal};
-ghost use Rattle.sshc_client_table.specs.SessionRow.{Banner, Callback, Happened, HostKey, HostKeysAnnounced, KexDone, ServerOpened};
+ghost use Rattle.sshc_client_table.specs.SessionRow.{Banner, Callback, Happened, HostKey, HostKeysAnnounced, KexDone, ServerOpened, UnknownOffered, WindowRefilled};
 ghost use Rattle.sshc_client.specs.Handling.{Handles, Hears, Opines, ended_by, handler_at};
 
 use crate::answers::DisconnectReason;
@@ -68,8 +68,9 @@ pub trait Handler: Send {
 
     /// Whether to take a channel of an unknown type, named `kind`, and so to call `server_channel_open_unknown`. With
     /// `false` the channel is refused.
+    #[tactic(auto, using(crate::proofs::HandlerLemmas::opines_default))]
     fn should_accept_unknown_server_channel(&mut self, id: ChannelId, kind: &str) -> bool
-        ensures { Opines keeps_defaults false
+        ensures { Opines keeps_defaults (UnknownOffered id.0 kind.now) false
             (handler_at (refusals self.old) (setting self.old) (heard self.old)) (handler_at (refusals self.new) (setting self.new) (heard self.new))
             result }
     {
@@ -78,8 +79,9 @@ pub trait Handler: Send {
 
     /// Our window of a channel was refilled; `window` is the window target, in bytes. A result above 0 is the target
     /// that the next call is made with; the result doesn't change the window itself.
+    #[tactic(auto, using(crate::proofs::HandlerLemmas::opines_default))]
     fn adjust_window(&mut self, id: ChannelId, window: u32) -> u32
-        ensures { Opines keeps_defaults window
+        ensures { Opines keeps_defaults (WindowRefilled id.0 window) window
             (handler_at (refusals self.old) (setting self.old) (heard self.old)) (handler_at (refusals self.new) (setting self.new) (heard self.new))
             result }
     {

@@ -27,7 +27,7 @@ use Rattle.sshc_client_table.specs.declared.life.Life.TheVariants.{Runs}
 use Rattle.sshc_client_table.specs.Messages.{KeepAlive, Ping, queued, waits_for}
 use Rattle.sshc_client_table.specs.SessionState.{SessionState}
 use Rattle.sshc_client_table.specs.Moves.{Asks, Begins, Confirms, Misses, Opens, PeerBegins, PeerCloses, Rejects, Replied, RequestsOn, Reserves, after, done}
-use Rattle.sshc_client_table.specs.SessionRow.{Opinions, behind_moves, passed_over, plain_row, refused}
+use Rattle.sshc_client_table.specs.SessionRow.{Opinions, UnknownOffered, behind_moves, opining, passed_over, plain_row, refused}
 use Rattle.sshc_client_table.specs.SessionTable.{held_row, session_row}
 use Rattle.sshc_client_table.specs.SessionTable.Exchanges.{exchange_done_row, peer_kexinit_row}
 use Rattle.sshc_client_table.specs.SessionTable.Opens.{numbered_open_row}
@@ -54,12 +54,13 @@ first_keepalive s = refl
 second_keepalive : (s : SessionState) → missed_row (with_count 1 s) ≡ behind_moves (Misses ∷ []) (refused KeepaliveTimeout)
 second_keepalive s = refl
 
--- an open of an unknown type is refused with its number
+-- an open of an unknown type is offered to the handler, and refused with its number
 abbrev stranger : Sender
 stranger = record { channel = 7; window_size = 16; max_packet_size = 16 }
 
-unknown_open : numbered_open_row (record { takes_unknown = false; window_target = 0 }) (Some 1) stranger Unknown ≡ plain_row (Reserves stranger ∷ Rejects 1 UnknownChannelType ∷ [])
-unknown_open = refl
+unknown_open : (kind : List ℕ) → numbered_open_row (record { takes_unknown = false; window_target = 0 }) (Some 1) stranger kind Unknown
+    ≡ opining (Some (UnknownOffered 1 kind)) (plain_row (Reserves stranger ∷ Rejects 1 UnknownChannelType ∷ []))
+unknown_open kind = refl
 
 -- the port of a forward; a malformed one is a denial, and the session continues
 forwarded : (accepts : Accepts) → success_for accepts [] (waits_for kinds.Forward (ticket 3) ∷ []) (0 ∷ 0 ∷ 0x1f ∷ 0x90 ∷ []) ≡ plain_row (Replied (Some (ForwardPort 8080)) ∷ [])

@@ -60,10 +60,10 @@ use Rattle.sshc_client_table.specs.declared.open_answer.OpenAnswer.TheVariants a
 use Rattle.sshc_client_table.specs.ListLaws.{onto-append}
 use Rattle.sshc_client_table.specs.Moves.{Counts, Hears, Move, Tells, onto}
 use Rattle.sshc_client_table.specs.SessionState.{SessionState, exchanging, is_open, is_running, own_window}
-use Rattle.sshc_client_table.specs.SessionRow.{Next, Opinions, SessionRow, asking, behind_moves, ends, established_row, goes, on_channel, plain_row, refuses, reports, with_kept, with_read}
+use Rattle.sshc_client_table.specs.SessionRow.{Callback, Next, Opinions, SessionRow, asking, behind_moves, ends, established_row, goes, on_channel, opining, plain_row, refuses, reports, with_kept, with_read}
 use Rattle.sshc_client_table.specs.SessionTable.{disconnect_row, heard, held_row, numbered_row, packet_row, payload_row, reason_row, session_row}
 use Rattle.sshc_client_table.specs.SessionTable.Exchanges.{exchange_done_row, peer_kexinit_row}
-use Rattle.sshc_client_table.specs.SessionTable.Opens.{channel_open_row, confirmed_row, failed_row, numbered_open_row, open_confirmation_row, open_failure_row, served_row, serving_row, settled}
+use Rattle.sshc_client_table.specs.SessionTable.Opens.{channel_open_row, confirmed_row, failed_row, numbered_open_row, offered_row, open_confirmation_row, open_failure_row, served_row, serving_row, settled}
 use Rattle.sshc_client_table.specs.SessionTable.Replies.{failure_for, request_failure_row, request_success_row, success_for, success_of}
 use Rattle.sshc_client_table.specs.SessionTable.Requests.{asked_row as global_row, channel_request_row, global_request_row, if_wanted, requested_row}
 use Rattle.sshc_client_table.specs.SessionTable.Streams.{channel_close_row, channel_data_row, channel_extended_data_row, channel_report_row, received_row, retargets, window_adjust_row}
@@ -114,6 +114,9 @@ two_fit F (m ∷ a) b one other = (one.0, two_fit F a b one.1 other)
 
 behind_holds : (P : RowLaw) (moves : List Move) (row : SessionRow) → AllByRecursion P.fits moves → RowHolds P row → RowHolds P (behind_moves moves row)
 behind_holds P moves row all holds = record { caused = holds.caused; front = two_fit P.fits moves row.front all holds.front; back = holds.back }
+
+opining_holds : (P : RowLaw) (call : Option Callback) (row : SessionRow) → RowHolds P row → RowHolds P (opining call row)
+opining_holds P call row holds = record { caused = holds.caused; front = holds.front; back = holds.back }
 
 read_holds : {A : Type 0} (P : RowLaw) (r : Result A WireError) (on : A → SessionRow) → (Fails r → P.refusal errors.SshEncoding) → ((x : A) → r ≡ Ok x → RowHolds P (on x)) → RowHolds P (with_read r on)
 read_holds P (Ok x) on broken each = each x refl
@@ -226,13 +229,17 @@ module _ (accepts : Accepts) (o : Opinions) (s : SessionState) (n : ℕ) (body :
   serving_holds : (sender : Sender) (id : ℕ) (opened : ServerOpen) → RowHolds P (serving_row sender id opened)
   serving_holds sender id opened = record { caused = tt; front = (tt, tt); back = λ answer. (tt, settled_keep id answer) }
 
-  served_holds : (takes_unknown : Bool) (sender : Sender) (id : ℕ) (opened : ServerOpen) → RowHolds P (served_row takes_unknown sender id opened)
-  served_holds false sender id Unknown = plain_holds P _ (tt, (tt, tt))
-  served_holds takes_unknown sender id opened = serving_holds sender id opened
+  offered_holds : (takes_unknown : Bool) (sender : Sender) (id : ℕ) (kind : List ℕ) → RowHolds P (offered_row takes_unknown sender id kind)
+  offered_holds true sender id kind = opining_holds P _ _ (serving_holds sender id Unknown)
+  offered_holds false sender id kind = opining_holds P _ _ (plain_holds P _ (tt, (tt, tt)))
 
-  numbered_open_holds : (id : Option ℕ) (sender : Sender) (opened : ServerOpen) → RowHolds P (numbered_open_row o id sender opened)
-  numbered_open_holds None sender opened = record { caused = tt; front = tt; back = λ answer. tt }
-  numbered_open_holds (Some id) sender opened = served_holds o.takes_unknown sender id opened
+  served_holds : (takes_unknown : Bool) (sender : Sender) (id : ℕ) (kind : List ℕ) (opened : ServerOpen) → RowHolds P (served_row takes_unknown sender id kind opened)
+  served_holds takes_unknown sender id kind Unknown = offered_holds takes_unknown sender id kind
+  served_holds takes_unknown sender id kind opened = serving_holds sender id opened
+
+  numbered_open_holds : (id : Option ℕ) (sender : Sender) (kind : List ℕ) (opened : ServerOpen) → RowHolds P (numbered_open_row o id sender kind opened)
+  numbered_open_holds None sender kind opened = record { caused = tt; front = tt; back = λ answer. tt }
+  numbered_open_holds (Some id) sender kind opened = served_holds o.takes_unknown sender id kind opened
 
   head_fails : (r : Result PeerOpen WireError) → Fails r → OpenFails r
   head_fails (Ok head) never = absurd never
@@ -243,7 +250,7 @@ module _ (accepts : Accepts) (o : Opinions) (s : SessionState) (n : ℕ) (body :
   open_holds is =
       read_holds P (peer_open_of body) _ (λ broken. opening is (head_fails (peer_open_of body) broken)) (λ head read.
       kept_holds P (server_open_of head.kind head.rest) _ (λ broken. opening is (rw read broken)) (λ opened read'.
-      numbered_open_holds (next_number s.table) head.sender opened))
+      numbered_open_holds (next_number s.table) head.sender head.kind opened))
 
   -- 91
   confirmed_holds : (waits : Option (Option Ticket)) (c : Confirmation) → awaited c.recipient s.table ≡ waits → confirmation_of body ≡ Ok c → n ≡ CHANNEL_OPEN_CONFIRMATION → RowHolds P (confirmed_row waits c)
@@ -272,7 +279,7 @@ module _ (accepts : Accepts) (o : Opinions) (s : SessionState) (n : ℕ) (body :
   retargets_keep id len = moves_by P.fits (adjusted_at id len (own_window s) s.table && nat_lt 0 o.window_target) _ _ (tt, tt) tt
 
   received_holds : (id len : ℕ) (said : ChannelRecord) → RowHolds P (received_row o s id len said)
-  received_holds id len said = established_holds P (is_established id s.table) _ (reports_holds P _ _ _ _ tt (tt, retargets_keep id len) tt)
+  received_holds id len said = established_holds P (is_established id s.table) _ (opining_holds P _ _ (reports_holds P _ _ _ _ tt (tt, retargets_keep id len) tt))
 
   data_holds : n ≡ CHANNEL_DATA → RowHolds P (channel_data_row o s body)
   unfolding channel_data_row

@@ -1,5 +1,5 @@
 -- What one row of the table of an open session is: moves, at most one call of the handler, which borrows the session,
--- and moves by what the handler returned. Plain data; what a call does that follows a row is defined in the crate that
+-- and moves by what the handler returned; and, before that, at most one call that doesn't borrow it. Plain data; what a call does that follows a row is defined in the crate that
 -- has the handler.
 use Rattle.std.specs.Prelude.{ℕ, Bool, true, false, List, [], ◌∷◌, ◌++◌, Option, Some, None, Result, Ok, Err}
 use Rattle.sshc_wire.specs.declared.channel_open_failure.ChannelOpenFailure.{ChannelOpenFailure}
@@ -18,7 +18,7 @@ use Rattle.sshc_client_packets.specs.declared.error.PacketError.{PacketError}
 use Rattle.sshc_client_table.specs.declared.open_answer.OpenAnswer.{OpenAnswer}
 use Rattle.sshc_client_table.specs.Moves.{Move, Tells}
 
--- a call of the handler, with its arguments; each but `HostKey` borrows the session
+-- a call of the handler, with its arguments; each but `HostKey`, `UnknownOffered` and `WindowRefilled` borrows the session
 pub data Callback : Type 0 where
   HostKey : (key : PublicKeyOrCertificate) → Callback
   Banner : (text : List ℕ) → Callback
@@ -26,6 +26,8 @@ pub data Callback : Type 0 where
   Happened : (id : ℕ) → (happened : ChannelRecord) → Callback  -- what the peer did on a channel, by its record
   ServerOpened : (id : ℕ) → (opened : ServerOpen) → Callback
   HostKeysAnnounced : (keys : List (Key × List ℕ)) → Callback
+  UnknownOffered : (id : ℕ) → (kind : List ℕ) → Callback  -- whether it takes an open of a type that isn't known
+  WindowRefilled : (id : ℕ) → (target : ℕ) → Callback  -- our window was refilled to this target
 
 -- what the handler returns when it doesn't borrow the session: whether it takes opens of an unknown type, and its
 -- window target
@@ -39,6 +41,7 @@ pub data Next : Type 0 where
   refuses : Error → Next
 
 pub record SessionRow : Type 0 where
+  pub opinion : Option Callback  -- a call that doesn't borrow the session
   pub front : List Move
   pub asks : Option Callback
   pub back : OpenAnswer → List Move
@@ -48,21 +51,21 @@ pub record SessionRow : Type 0 where
 
 -- moves, and no call
 abbrev pub plain_row : List Move → SessionRow
-plain_row moves = record { front = moves; asks = None; back = λ said. []; next = goes }
+plain_row moves = record { opinion = None; front = moves; asks = None; back = λ said. []; next = goes }
 
 abbrev pub passed_over : SessionRow
 passed_over = plain_row []
 
 abbrev pub refused : Error → SessionRow
-refused e = record { front = []; asks = None; back = λ said. []; next = refuses e }
+refused e = record { opinion = None; front = []; asks = None; back = λ said. []; next = refuses e }
 
 -- the session ends after these moves
 abbrev pub ending : List Move → Ended → SessionRow
-ending moves e = record { front = moves; asks = None; back = λ said. []; next = ends e }
+ending moves e = record { opinion = None; front = moves; asks = None; back = λ said. []; next = ends e }
 
 -- moves, a call, and moves after it whatever it returns
 unfoldable pub asking : List Move → Callback → List Move → SessionRow
-asking front callback back = record { front = front; asks = Some callback; back = λ said. back; next = goes }
+asking front callback back = record { opinion = None; front = front; asks = Some callback; back = λ said. back; next = goes }
 
 abbrev pub on_channel : ℕ → ChannelRecord → Record
 on_channel id happened = Channel (record { 0 = id }) happened
@@ -70,6 +73,18 @@ on_channel id happened = Channel (record { 0 = id }) happened
 -- the handler is called with what happened on a channel, and then the record is reported
 abbrev pub reports : List Move → ℕ → ChannelRecord → List Move → SessionRow
 reports front id happened back = asking front (Happened id happened) (Tells (on_channel id happened) ∷ back)
+
+-- a row that depends on what this call returns
+abbrev pub opining : Option Callback → SessionRow → SessionRow
+opining call row = record row { opinion = call }
+
+-- the calls of the handler that a row asks, in order
+abbrev pub call_in : Option Callback → List Callback
+call_in None = []
+call_in (Some call) = call ∷ []
+
+abbrev pub calls_of : SessionRow → List Callback
+calls_of row = call_in row.opinion ++ call_in row.asks
 
 -- moves before those of a row
 abbrev pub behind_moves : List Move → SessionRow → SessionRow

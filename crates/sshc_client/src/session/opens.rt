@@ -1,6 +1,6 @@
 //! Rows of opens and their answers (RFC 4254, section 5.1).
 
-ghost use Rattle.std.specs.Prelude.{◌≡◌, [], ◌∷◌, Ok, Some, true, false};
+ghost use Rattle.std.specs.Prelude.{◌≡◌, ℕ, List, [], ◌∷◌, Ok, Some, true, false};
 ghost use Rattle.sshc_mux.specs.ChannelTable.Opens.{awaited, next_number};
 ghost use Rattle.sshc_client_packets.specs.ChannelPackets.{lent_refusal};
 ghost use Rattle.sshc_client_table.specs.Moves.{Does, Tells};
@@ -143,10 +143,10 @@ impl Session {
     ) -> Result<Flow, Stop<H::Error>>
         requires live { is_live self.old ≡ true }
         requires known { is_unknown opened ≡ false }
-        ensures row { FollowsWith H.keeps_defaults
+        ensures row { (kind : List ℕ) → FollowsWith H.keeps_defaults
             (handler_at (H.refusals handler.old) (H.setting handler.old) (H.heard handler.old))
             (handler_at (H.refusals handler.new) (H.setting handler.new) (H.heard handler.new))
-            (λ o. numbered_open_row o (next_number self.old.table) sender opened) self.old self.new result }
+            (λ o. numbered_open_row o (next_number self.old.table) sender kind opened) self.old self.new result }
     {
         let id = self.connection.reserve(sender)?;
         self.serve(id, opened, handler)
@@ -164,7 +164,8 @@ impl Session {
         ensures row { FollowsWith H.keeps_defaults
             (handler_at (H.refusals handler.old) (H.setting handler.old) (H.heard handler.old))
             (handler_at (H.refusals handler.new) (H.setting handler.new) (H.heard handler.new))
-            (λ o. numbered_open_row o (next_number self.old.table) sender ServerOpen.Unknown) self.old self.new result }
+            (λ o. numbered_open_row o (next_number self.old.table) sender kind.now ServerOpen.Unknown)
+            self.old self.new result }
     {
         let id = self.connection.reserve(sender)?;
         if handler.should_accept_unknown_server_channel(id, kind) {

@@ -6,7 +6,7 @@ ghost use Rattle.sshc_mux.specs.ChannelTable.{is_established};
 ghost use Rattle.sshc_client_table.specs.Moves.{Receives, done};
 ghost use Rattle.sshc_client_table.specs.SessionRow.{reports};
 ghost use Rattle.sshc_client_table.specs.SessionState.{is_live};
-ghost use Rattle.sshc_client_table.specs.SessionTable.Streams.{channel_close_row, channel_data_row, channel_extended_data_row, channel_report_row, retargets, window_adjust_row};
+ghost use Rattle.sshc_client_table.specs.SessionTable.Streams.{bytes_row, channel_close_row, channel_data_row, channel_extended_data_row, channel_report_row, window_adjust_row};
 ghost use Rattle.sshc_client.specs.Handling.{Opines, handler_at};
 ghost use Rattle.sshc_client.specs.HandledRow.{FollowsOne, FollowsWith, Retargets, target_moves};
 
@@ -55,7 +55,7 @@ impl Session {
 
     /// Calls the handler with a window target; its result is the next one, if it is above 0.
     fn retarget<H: Handler>(&mut self, id: ChannelId, target: u32, handler: &mut H)
-        ensures { Retargets H.keeps_defaults target
+        ensures { Retargets H.keeps_defaults id.0 target
             (handler_at (H.refusals handler.old) (H.setting handler.old) (H.heard handler.old))
             (handler_at (H.refusals handler.new) (H.setting handler.new) (H.heard handler.new))
             self.old self.new }
@@ -79,7 +79,7 @@ impl Session {
         ensures row { FollowsWith H.keeps_defaults
             (handler_at (H.refusals handler.old) (H.setting handler.old) (H.heard handler.old))
             (handler_at (H.refusals handler.new) (H.setting handler.new) (H.heard handler.new))
-            (λ o. reports (Receives id.0 len ∷ retargets o self.old id.0 len) id.0 said []) self.old self.new result }
+            (λ o. bytes_row o self.old id.0 len said) self.old self.new result }
     {
         let target = self.connection.window_target();
         if !self.connection.receive(id, len)? {

@@ -16,7 +16,7 @@ use Rattle.sshc_client_table.specs.declared.open_answer.OpenAnswer.{OpenAnswer}
 use Rattle.sshc_client_table.specs.declared.open_answer.OpenAnswer.TheVariants.{Accept, Reject, Later}
 use Rattle.sshc_client_table.specs.SessionState.{SessionState}
 use Rattle.sshc_client_table.specs.Moves.{Accepts, Confirms, Fails, Grants, Move, Rejects, Reserves, Tells}
-use Rattle.sshc_client_table.specs.SessionRow.{Opinions, ServerOpened, SessionRow, goes, passed_over, plain_row, refused, reports, with_kept, with_read}
+use Rattle.sshc_client_table.specs.SessionRow.{Opinions, ServerOpened, SessionRow, UnknownOffered, goes, opining, passed_over, plain_row, refused, reports, with_kept, with_read}
 
 -- 91: an open of ours that waits is confirmed, its ticket is resolved, and then what waits on the channel is sent
 abbrev pub confirmed_row : Option (Option Ticket) → Confirmation → SessionRow
@@ -45,24 +45,30 @@ settled id Later = []
 -- the handler is asked, and its answer is carried out
 abbrev pub serving_row : Sender → ℕ → ServerOpen → SessionRow
 serving_row sender id opened = record {
+  opinion = None;
   front = Reserves sender ∷ [];
   asks = Some (ServerOpened id opened);
   back = λ answer. Tells (ServerOpenedRecord (record { 0 = id }) opened) ∷ settled id answer;
   next = goes;
 }
 
--- an open of an unknown type is refused, unless the handler takes such opens
-abbrev pub served_row : Bool → Sender → ℕ → ServerOpen → SessionRow
-served_row false sender id Unknown = plain_row (Reserves sender ∷ Rejects id UnknownChannelType ∷ [])
-served_row takes_unknown sender id opened = serving_row sender id opened
+-- an open of an unknown type, by its name: the handler is asked whether it takes it, and it is refused if it doesn't
+abbrev pub offered_row : Bool → Sender → ℕ → List ℕ → SessionRow
+offered_row true sender id kind = opining (Some (UnknownOffered id kind)) (serving_row sender id Unknown)
+offered_row false sender id kind =
+    opining (Some (UnknownOffered id kind)) (plain_row (Reserves sender ∷ Rejects id UnknownChannelType ∷ []))
+
+abbrev pub served_row : Bool → Sender → ℕ → List ℕ → ServerOpen → SessionRow
+served_row takes_unknown sender id kind Unknown = offered_row takes_unknown sender id kind
+served_row takes_unknown sender id kind opened = serving_row sender id opened
 
 -- 90: an open of the peer's takes the next number; if no number is free it counts as out of memory
-abbrev pub numbered_open_row : Opinions → Option ℕ → Sender → ServerOpen → SessionRow
-numbered_open_row o None sender opened = refused NoMemory
-numbered_open_row o (Some id) sender opened = served_row o.takes_unknown sender id opened
+abbrev pub numbered_open_row : Opinions → Option ℕ → Sender → List ℕ → ServerOpen → SessionRow
+numbered_open_row o None sender kind opened = refused NoMemory
+numbered_open_row o (Some id) sender kind opened = served_row o.takes_unknown sender id kind opened
 
 unfoldable pub channel_open_row : Opinions → SessionState → List ℕ → SessionRow
 channel_open_row o s body =
     with_read (peer_open_of body) (λ head.
     with_kept (server_open_of head.kind head.rest) (λ opened.
-    numbered_open_row o (next_number s.table) head.sender opened))
+    numbered_open_row o (next_number s.table) head.sender head.kind opened))

@@ -7,7 +7,7 @@ use Rattle.sshc_mux.specs.ChannelTable.{adjusted_at, granted_at, is_established}
 use Rattle.sshc_client_packets.specs.ChannelPackets.{channel_of, data_of, extended_data_of, window_adjust_of}
 use Rattle.sshc_client_table.specs.SessionState.{SessionState, exchanging, own_window}
 use Rattle.sshc_client_table.specs.Moves.{Grants, Move, PeerCloses, Receives, Targets}
-use Rattle.sshc_client_table.specs.SessionRow.{Opinions, SessionRow, established_row, reports, with_read}
+use Rattle.sshc_client_table.specs.SessionRow.{Callback, Opinions, SessionRow, WindowRefilled, established_row, opining, reports, with_read}
 
 -- the window after a grant
 abbrev pub left_after : Option ℕ → ℕ
@@ -28,9 +28,14 @@ abbrev pub retargets : Opinions → SessionState → ℕ → ℕ → List Move
 retargets o s id len =
     if adjusted_at id len (own_window s) s.table && nat_lt 0 o.window_target then Targets o.window_target ∷ [] else []
 
+abbrev pub refilled : SessionState → ℕ → ℕ → Option Callback
+refilled s id len = if adjusted_at id len (own_window s) s.table then Some (WindowRefilled id s.window_target) else None
+
+abbrev pub bytes_row : Opinions → SessionState → ℕ → ℕ → ChannelRecord → SessionRow
+bytes_row o s id len said = opining (refilled s id len) (reports (Receives id len ∷ retargets o s id len) id said [])
+
 abbrev pub received_row : Opinions → SessionState → ℕ → ℕ → ChannelRecord → SessionRow
-received_row o s id len said =
-    established_row (is_established id s.table) (reports (Receives id len ∷ retargets o s id len) id said [])
+received_row o s id len said = established_row (is_established id s.table) (bytes_row o s id len said)
 
 -- 94 and 95: bytes of the peer's use up our window
 unfoldable pub channel_data_row : Opinions → SessionState → List ℕ → SessionRow

@@ -11,4 +11,4 @@ use Rattle.sshc_client.proofs.HandlerLemmas.{known_open}
 use Rattle.sshc_client.proofs.session.Session.known_open.Goals as goal
 
 pub returns : goal.returns
-returns g c = record { row = rw (← c.self.view_is) (known_open _ _ _ _ c.args.sender c.in_ok-id.id.0 c.args.opened c.self.inside.connection _ _ c.in_ok-id.ensures.number c.requires.known (rw c.in_ok-id.ensures.moved at c.serve.ensures.row)) }
+returns g c = record { row = λ kind. rw (← c.self.view_is) (known_open _ _ _ _ c.args.sender c.in_ok-id.id.0 kind c.args.opened c.self.inside.connection _ _ c.in_ok-id.ensures.number c.requires.known (rw c.in_ok-id.ensures.moved at c.serve.ensures.row)) }

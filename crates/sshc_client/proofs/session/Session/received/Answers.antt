@@ -3,7 +3,7 @@ use Rattle.sshc_mux.specs.ChannelTable.{is_established}
 use Rattle.sshc_client_table.specs.Moves.{Receives, done}
 use Rattle.sshc_client_table.specs.SessionRow.{reports}
 use Rattle.sshc_client_table.specs.SessionState.{is_live}
-use Rattle.sshc_client_table.specs.SessionTable.Streams.{channel_close_row, channel_data_row, channel_extended_data_row, channel_report_row, retargets, window_adjust_row}
+use Rattle.sshc_client_table.specs.SessionTable.Streams.{channel_close_row, channel_data_row, channel_extended_data_row, channel_report_row, window_adjust_row}
 use Rattle.sshc_client.specs.Handling.{Opines, handler_at}
 use Rattle.sshc_client.specs.HandledRow.{FollowsOne, FollowsWith, Retargets, target_moves}
 use Rattle.sshc_client.proofs.HandlerLemmas.{brought_back, kept_window}

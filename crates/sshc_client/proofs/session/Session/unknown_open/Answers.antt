@@ -13,10 +13,10 @@ use Rattle.sshc_client.proofs.session.Session.unknown_open.Goals as goal
 
 pub returns-then-should_accept_unknown_server_channel :
     goal.returns-then-should_accept_unknown_server_channel
-returns-then-should_accept_unknown_server_channel g c = record { row = rw (← c.self.view_is) (taken_open _ _ _ _ _ c.args.sender c.in_ok-id.id.0 c.self.inside.connection _ _ c.in_ok-id.ensures.number c.if-should_accept_unknown_server_channel.ensures (rw c.in_ok-id.ensures.moved at c.serve.ensures.row)) }
+returns-then-should_accept_unknown_server_channel g c = record { row = rw (← c.self.view_is) (taken_open _ _ _ _ _ c.args.sender c.in_ok-id.id.0 c.args.kind.now c.self.inside.connection _ _ c.in_ok-id.ensures.number c.if-should_accept_unknown_server_channel.ensures (rw c.in_ok-id.ensures.moved at c.serve.ensures.row)) }
 
 pub returns-in_err-reject : goal.returns-in_err-reject
-returns-in_err-reject g c = record { row = rw (← c.self.view_is) (not_taken_ran_out _ _ _ _ c.args.sender c.in_ok-id.id.0 c.self.inside.connection _ _ c.from_residual-in_err-reject.ensures.1 c.in_ok-id.ensures.number c.if-should_accept_unknown_server_channel.ensures (c.in_err-reject.ensures ∙ c.in_ok-id.ensures.moved)) }
+returns-in_err-reject g c = record { row = rw (← c.self.view_is) (not_taken_ran_out _ _ _ _ c.args.sender c.in_ok-id.id.0 c.args.kind.now c.self.inside.connection _ _ c.from_residual-in_err-reject.ensures.1 c.in_ok-id.ensures.number c.if-should_accept_unknown_server_channel.ensures (c.in_err-reject.ensures ∙ c.in_ok-id.ensures.moved)) }
 
 pub returns : goal.returns
-returns g c = record { row = rw (← c.self.view_is) (not_taken_open _ _ _ _ c.args.sender c.in_ok-id.id.0 c.self.inside.connection _ c.in_ok-id.ensures.number c.if-should_accept_unknown_server_channel.ensures (rw c.in_ok-id.ensures.moved at c.in_ok-reject.ensures)) }
+returns g c = record { row = rw (← c.self.view_is) (not_taken_open _ _ _ _ c.args.sender c.in_ok-id.id.0 c.args.kind.now c.self.inside.connection _ c.in_ok-id.ensures.number c.if-should_accept_unknown_server_channel.ensures (rw c.in_ok-id.ensures.moved at c.in_ok-reject.ensures)) }
