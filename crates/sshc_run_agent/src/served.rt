@@ -1,6 +1,6 @@
 //! An agent with the bytes of its connections, and the records of each event.
 
-ghost use Rattle.std.specs.Prelude.{◌≡◌, ◌++◌, [], OnErr, OnOk, false};
+ghost use Rattle.std.specs.Prelude.{◌≡◌, ◌≤◌, ◌++◌, [], OnErr, OnOk, false};
 ghost use Rattle.sshc_key.specs.Asking.{Makes, MakesFirst};
 ghost use Rattle.sshc_key.specs.Signers.{since};
 ghost use Rattle.sshc_wire.specs.Outgoing.{listed};
@@ -64,6 +64,7 @@ fn take_one<G: LocalSigner>(
     ensures err { OnErr result
         (MakesFirst (input_turn now conn input.now core.old) (since (G.calls signer.old) (G.calls signer.new))) }
     ensures gained { G.calls signer.new ≡ G.calls signer.old ++ since (G.calls signer.old) (G.calls signer.new) }
+    ensures later { G.refusals signer.old ≤ G.refusals signer.new }
     ensures open { out.new.muted ≡ false }
 {
     let said = step_input(core, now, conn, input, signer)?;
@@ -86,6 +87,7 @@ fn take_whole<G: LocalSigner>(
     ensures err { OnErr result
         (MakesFirst (input_turn now conn input core.old) (since (G.calls signer.old) (G.calls signer.new))) }
     ensures gained { G.calls signer.new ≡ G.calls signer.old ++ since (G.calls signer.old) (G.calls signer.new) }
+    ensures later { G.refusals signer.old ≤ G.refusals signer.new }
     ensures open { out.new.muted ≡ false }
 {
     take_one(core, now, conn, &input, signer, out)
@@ -110,6 +112,7 @@ fn serve<G: LocalSigner>(
         (MakesFirst (each_turn now conn (inputs_of frames.old) core.old)
         (since (G.calls signer.old) (G.calls signer.new))) }
     ensures gained { G.calls signer.new ≡ G.calls signer.old ++ since (G.calls signer.old) (G.calls signer.new) }
+    ensures later { G.refusals signer.old ≤ G.refusals signer.new }
 {
     'inputs: loop {
         let Some(input) = frames.next()? else {
@@ -162,6 +165,7 @@ impl ServedAgent {
             (MakesFirst (agent_turn now (AgentEvent.Bytes conn piece.now) self.old)
             (since (G.calls signer.old) (G.calls signer.new))) }
         ensures gained { G.calls signer.new ≡ G.calls signer.old ++ since (G.calls signer.old) (G.calls signer.new) }
+        ensures later { G.refusals signer.old ≤ G.refusals signer.new }
     {
         let mut frames = self.take_frames(conn);
         frames.push(piece.as_slice())?;
@@ -189,6 +193,7 @@ impl ServedAgent {
             (MakesFirst (agent_turn now (AgentEvent.Input conn input.now) self.old)
             (since (G.calls signer.old) (G.calls signer.new))) }
         ensures gained { G.calls signer.new ≡ G.calls signer.old ++ since (G.calls signer.old) (G.calls signer.new) }
+        ensures later { G.refusals signer.old ≤ G.refusals signer.new }
     {
         take_one(&mut self.core, now, conn, input, signer, out)?;
         Ok(())
@@ -213,6 +218,7 @@ impl ServedAgent {
         ensures memory { OnErr result
             (MakesFirst (agent_turn now event.now self.old) (since (G.calls signer.old) (G.calls signer.new))) }
         ensures gained { G.calls signer.new ≡ G.calls signer.old ++ since (G.calls signer.old) (G.calls signer.new) }
+        ensures later { G.refusals signer.old ≤ G.refusals signer.new }
     {
         out.clear();
         match event {

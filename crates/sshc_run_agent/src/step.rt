@@ -1,6 +1,6 @@
 //! One step of the agent, with its record.
 
-ghost use Rattle.std.specs.Prelude.{◌≡◌, ◌++◌, IfOk, OnErr, OnOk};
+ghost use Rattle.std.specs.Prelude.{◌≡◌, ◌≤◌, ◌++◌, IfOk, OnErr, OnOk};
 ghost use Rattle.sshc_key.specs.Asking.{Makes, MakesFirst};
 ghost use Rattle.sshc_key.specs.Signers.{since};
 ghost use Rattle.sshc_wire.specs.Outgoing.{listed};
@@ -43,6 +43,7 @@ pub fn step_input<G: LocalSigner>(
         (record { records = listed said; list = core.new })) }
     // The signer's list only grows.
     ensures gained { G.calls signer.new ≡ G.calls signer.old ++ since (G.calls signer.old) (G.calls signer.new) }
+    ensures later { G.refusals signer.old ≤ G.refusals signer.new }
     // If memory runs out, these are a prefix of the turn's calls.
     ensures memory { OnErr result
         (MakesFirst (input_turn now conn input.now core.old) (since (G.calls signer.old) (G.calls signer.new))) }

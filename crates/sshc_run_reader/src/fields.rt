@@ -1,6 +1,7 @@
 //! Reads the fields of events (docs/FORMATS.md, "Events").
 
 mod authentication;
+mod bare;
 mod channels;
 mod exchange;
 mod lists;
@@ -14,7 +15,7 @@ ghost use Rattle.sshc_run_reader.specs.Gives.{Gives, GivesAll};
 
 use crate::error::EventError;
 use crate::event_kind::EventKind;
-use crate::parts::{at_end, octets_of, text_of, ticket_of, token_field, u32_of};
+use crate::parts::{octets_of, text_of, ticket_of, token_field, u32_of};
 use sshc_auth_event::Event;
 use sshc_wire::{Cursor, Octets, Text, Ticket};
 use std::alloc::Global;
@@ -59,20 +60,20 @@ fn read_fields(alloc: Global, kind: EventKind, fields: &[u8]) -> Result<Event, E
 {
     let c = &mut Cursor::new(fields);
     match kind {
-        EventKind::PeerKexinit => at_end(Event::PeerKexinit, c),
+        EventKind::PeerKexinit => bare::peer_kexinit(c),
         EventKind::ExchangeDone => exchange::exchange_done(alloc, c),
         EventKind::Payload => payload(alloc, fields),
-        EventKind::TransportFailed => at_end(Event::TransportFailed, c),
-        EventKind::RekeyLimit => at_end(Event::RekeyLimit, c),
-        EventKind::KeepaliveTimer => at_end(Event::KeepaliveTimer, c),
-        EventKind::InactivityTimer => at_end(Event::InactivityTimer, c),
+        EventKind::TransportFailed => bare::transport_failed(c),
+        EventKind::RekeyLimit => bare::rekey_limit(c),
+        EventKind::KeepaliveTimer => bare::keepalive_timer(c),
+        EventKind::InactivityTimer => bare::inactivity_timer(c),
         EventKind::Authenticate => authentication::authenticate(alloc, c),
         EventKind::AuthInfoResponse => authentication::info_response(alloc, c),
         EventKind::AuthGssapiToken => authentication::gssapi_token(alloc, c),
         EventKind::AuthGssapiMic => authentication::gssapi_mic(alloc, c),
         EventKind::AuthGssapiExchangeComplete => authentication::gssapi_complete(alloc, c),
         EventKind::Signed => authentication::signed(alloc, c),
-        EventKind::SignFailed => at_end(Event::SignFailed, c),
+        EventKind::SignFailed => bare::sign_failed(c),
         EventKind::ChannelOpenSession => requests::open_session(c),
         EventKind::ChannelOpenX11 => requests::open_x11(alloc, c),
         EventKind::ChannelOpenDirectTcpIp => requests::open_direct_tcpip(alloc, c),

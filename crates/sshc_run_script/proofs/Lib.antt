@@ -6,6 +6,7 @@ pub mod OpeningSteps
 pub mod OpeningCauses
 pub mod UnopenedTurns
 pub mod SessionSteps
+pub mod SignerFaults
 pub mod SettingsKept
 pub mod TurnCauses
 pub mod RunReplies

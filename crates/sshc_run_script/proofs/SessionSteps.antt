@@ -116,7 +116,7 @@ module _ (s : SessionState) (ready : IsReady s) (place : ℕ) (result : Step Han
   ready_by closed is fresh (steps.Refused e) same leaves = tt
   ready_by closed is fresh steps.Closed same leaves = tt
 
-later_opens : (s : SessionState) → IsReady s → is_open s.opening.phase ≡ false → opens_later s ≡ true
+pub later_opens : (s : SessionState) → IsReady s → is_open s.opening.phase ≡ false → opens_later s ≡ true
 later_opens s ready un = rw (ready.runs, un) refl
 
 module _ (hosts : Hosts) (accepts : Accepts) (place : ℕ) (event : Event) (was is : Lent) (result : Step HandlerError) (ready : IsReady was.session) (un : is_open was.session.opening.phase ≡ false)

@@ -1,5 +1,6 @@
--- How often the source and the sink of a run failed, and that a fault is returned if and only if a count rose.
-use Rattle.std.specs.Prelude.{◌≡◌, ℕ, ◌≤◌, Result, Err}
+-- How often the source and the sink of a run failed and the signer refused, and that a fault of theirs is returned only
+-- if its count rose.
+use Rattle.std.specs.Prelude.{◌≡◌, ℕ, ◌≤◌, Option, Some, Result, Err}
 use Rattle.sshc_wire.specs.Faults.{Rose}
 use Rattle.sshc_auth.specs.declared.ended.Ended.{Ended}
 use Rattle.sshc_run_script.specs.declared.error.RunError.{RunError}
@@ -22,3 +23,13 @@ pub record FaultsAnswered (was is : FaultCounts) (answer : Result Ended RunError
   pub read_told : (answer ≡ Err errors.ReadFault → ⊥) → is.reads ≡ was.reads
   pub write_fault : answer ≡ Err errors.WriteFault → Rose was.writes is.writes
   pub write_told : (answer ≡ Err errors.WriteFault → ⊥) → is.writes ≡ was.writes
+
+-- what taking one event does to the signer's count of refusals: `SignerFault` is returned only if it rose
+pub record SignerTaken (before now : ℕ) (answer : Option (Result Ended RunError)) : Type 0 where
+  pub later : before ≤ now
+  pub fault : answer ≡ Some (Err errors.SignerFault) → Rose before now
+
+-- the same of many events
+pub record SignerCounted (before now : ℕ) (answer : Result Ended RunError) : Type 0 where
+  pub later : before ≤ now
+  pub fault : answer ≡ Err errors.SignerFault → Rose before now

@@ -2,6 +2,7 @@
 
 ghost use Rattle.std.specs.Prelude.{◌≡◌, ◌++◌, [], Ok, false, IfOk, OnErr, Err};
 ghost use Rattle.sshc_auth.specs.declared.ended.Ended.TheVariants.{ScriptEnd};
+ghost use Rattle.sshc_wire.specs.Faults.{Rose};
 ghost use Rattle.sshc_client_packets.specs.HostKeyProof.{Accepts};
 ghost use Rattle.sshc_hosts.specs.HostText.{host_text};
 ghost use Rattle.sshc_key.specs.Signers.{since};
@@ -10,6 +11,7 @@ ghost use Rattle.sshc_run_script.specs.Outcome.{streams, Ends};
 ghost use Rattle.sshc_run_script.specs.Paused.{is_stopped, paused, spot_of, started, table_from};
 ghost use Rattle.sshc_run_script.specs.PausedRuns.{nothing_yet, step_of, text_since, HasRun, IsRun, Takes};
 ghost use Rattle.sshc_run_script.specs.Ready.{IsReady};
+ghost use Rattle.sshc_run_script.specs.RunFaults.{SignerCounted};
 ghost use Rattle.sshc_run_script.specs.RunOutside.{run_outside, sink_state, source_state, CountsMoved};
 ghost use Rattle.sshc_run_script.specs.RunPromises.{run_asked};
 ghost use Rattle.sshc_run_script.specs.TurnContracts.{hosts_of};
@@ -141,6 +143,7 @@ impl PausedRun {
             (sink_state (K.contents sink.new) (K.writes sink.new) (K.empty_writes sink.new) (K.faults sink.new))
             (G.calls signer.new))
             result }
+        ensures signer { SignerCounted (G.refusals signer.old) (G.refusals signer.new) result }
     {
         let answer = take_turns(
             self.alloc,
@@ -170,6 +173,8 @@ impl PausedRun {
         // Whatever the run was handed before: it is the run of that and of these events, by the tables.
         ensures takes { Takes (V.accepts verifier.now) self.old events.now
             (since (G.calls signer.old) (G.calls signer.new)) (text_since lines.old.items lines.new.items) self.new result }
+        // `SignerFault` is returned only if the signer's count of refusals rose.
+        ensures signer { result ≡ RunStep.Refused RunError.SignerFault → Rose (G.refusals signer.old) (G.refusals signer.new) }
         ensures lines { lines.new.items ≡ lines.old.items ++ text_since lines.old.items lines.new.items }
         ensures gained { G.calls signer.new ≡ G.calls signer.old ++ since (G.calls signer.old) (G.calls signer.new) }
     {

@@ -1,5 +1,6 @@
 //! A run of a script.
 
+ghost use Rattle.sshc_run_script.specs.RunFaults.{SignerCounted};
 ghost use Rattle.sshc_run_script.specs.RunOutside.{run_outside, sink_state, source_state};
 ghost use Rattle.sshc_run_script.specs.RunPromises.{run_asked, RunPromises};
 
@@ -36,6 +37,8 @@ pub fn run_script<S: Source, K: Sink, G: LocalSigner, V: Verifier>(
         (sink_state (K.contents sink.new) (K.writes sink.new) (K.empty_writes sink.new) (K.faults sink.new))
         (G.calls signer.new))
         result }
+    // `SignerFault` is returned only if the signer's count of refusals rose, which never falls.
+    ensures signer { SignerCounted (G.refusals signer.old) (G.refusals signer.new) result }
 {
     run_laws();
     match PausedRun::start(alloc, config, host, port, known) {

@@ -4,6 +4,7 @@ ghost use Rattle.std.specs.Prelude.{◌≡◌, ◌≢◌, ◌++◌, Some, Err};
 ghost use Rattle.sshc_key.specs.Signers.{since};
 ghost use Rattle.sshc_run_reader.specs.Script.{frame_at};
 ghost use Rattle.sshc_run_script.specs.AgentsTurn.{agents_turn, served_turn};
+ghost use Rattle.sshc_run_script.specs.RunFaults.{SignerTaken};
 ghost use Rattle.sshc_run_script.specs.RunOutside.{sink_state, SinkTaken};
 ghost use Rattle.sshc_run_script.specs.TurnContracts.{TakeGives};
 
@@ -35,6 +36,7 @@ fn serve_event<G: LocalSigner, K: Sink>(
         (sink_state (K.contents sink.old) (K.writes sink.old) (K.empty_writes sink.old) (K.faults sink.old))
         (sink_state (K.contents sink.new) (K.writes sink.new) (K.empty_writes sink.new) (K.faults sink.new)) result }
     ensures no_read { result ≢ Some (Err RunError.ReadFault) }
+    ensures signer { SignerTaken (G.refusals signer.old) (G.refusals signer.new) result }
 {
     match agents.take(moment, event, signer, &mut buffers.said) {
         Ok(()) => match write_lines(&mut buffers.lines, sink, &buffers.said) {
@@ -63,6 +65,7 @@ pub fn take_agent_event<G: LocalSigner, K: Sink>(
         (sink_state (K.contents sink.old) (K.writes sink.old) (K.empty_writes sink.old) (K.faults sink.old))
         (sink_state (K.contents sink.new) (K.writes sink.new) (K.empty_writes sink.new) (K.faults sink.new)) result }
     ensures no_read { result ≢ Some (Err RunError.ReadFault) }
+    ensures signer { SignerTaken (G.refusals signer.old) (G.refusals signer.new) result }
 {
     match read_agent_event(alloc, event.kind(), event.fields()) {
         Ok(read) => serve_event(buffers, agents, event.moment(), &read, signer, sink),

@@ -4,8 +4,9 @@ ghost use Rattle.std.specs.Prelude.{◌≡◌, ◌++◌};
 ghost use Rattle.sshc_key.specs.Signers.{since};
 ghost use Rattle.sshc_client_table.specs.SessionState.{is_open};
 ghost use Rattle.sshc_run_script.specs.Ready.{IsReady, IsReadyAfter};
+ghost use Rattle.sshc_run_script.specs.RunFaults.{SignerTaken};
 ghost use Rattle.sshc_run_script.specs.SessionTurn.{emptied, step_turn};
-ghost use Rattle.sshc_run_script.specs.TurnContracts.{hosts_of, Came};
+ghost use Rattle.sshc_run_script.specs.TurnContracts.{hosts_of, step_answer, Came};
 
 use crate::known_hosts_handler::{HandlerError, KnownHostsHandler};
 use crate::point::Point;
@@ -30,6 +31,7 @@ pub fn step_session<G: LocalSigner, V: Verifier>(
     ensures moved { (at.new.place ≡ at.old.place) × (at.new.last ≡ at.old.last) }
     ensures agents { at.new.agents ≡ at.old.agents }
     ensures same { hosts_of gate.new ≡ hosts_of gate.old }
+    ensures signer { SignerTaken (G.refusals signer.old) (G.refusals signer.new) (step_answer at.old.place result) }
     ensures gained { G.calls signer.new ≡ G.calls signer.old ++ since (G.calls signer.old) (G.calls signer.new) }
 {
     at.session.step(event, gate, signer, verifier)

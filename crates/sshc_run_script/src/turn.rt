@@ -8,6 +8,7 @@ ghost use Rattle.sshc_auth.specs.declared.ended.Ended.TheVariants.{ScriptEnd};
 ghost use Rattle.sshc_run_script.specs.LoopInvariant.{Stays};
 ghost use Rattle.sshc_run_script.specs.Outcome.{streams};
 ghost use Rattle.sshc_run_script.specs.Ready.{IsReady};
+ghost use Rattle.sshc_run_script.specs.RunFaults.{SignerTaken};
 ghost use Rattle.sshc_run_script.specs.RunOutside.{sink_state, source_state, SinkTaken, SourceTaken};
 ghost use Rattle.sshc_run_reader.specs.Script.{frame_at, size_of};
 ghost use Rattle.sshc_run_script.specs.ScriptRun.{run, spot};
@@ -144,6 +145,7 @@ fn step_event<G: LocalSigner, V: Verifier, K: Sink>(
         (sink_state (K.contents sink.old) (K.writes sink.old) (K.empty_writes sink.old) (K.faults sink.old))
         (sink_state (K.contents sink.new) (K.writes sink.new) (K.empty_writes sink.new) (K.faults sink.new)) result }
     ensures no_read { result ≢ Some (Err RunError.ReadFault) }
+    ensures signer { SignerTaken (G.refusals signer.old) (G.refusals signer.new) result }
 {
     let step = step_session(at, event, gate, signer, verifier);
     let written = write_lines(&mut at.buffers.lines, sink, at.session.records());
@@ -178,6 +180,7 @@ fn take_session_event<G: LocalSigner, V: Verifier, K: Sink>(
         (sink_state (K.contents sink.old) (K.writes sink.old) (K.empty_writes sink.old) (K.faults sink.old))
         (sink_state (K.contents sink.new) (K.writes sink.new) (K.empty_writes sink.new) (K.faults sink.new)) result }
     ensures no_read { result ≢ Some (Err RunError.ReadFault) }
+    ensures signer { SignerTaken (G.refusals signer.old) (G.refusals signer.new) result }
 {
     let place = at.place;
     match read_event(alloc, event.kind(), event.fields()) {
@@ -227,6 +230,7 @@ fn take_event<G: LocalSigner, V: Verifier, K: Sink>(
         (sink_state (K.contents sink.old) (K.writes sink.old) (K.empty_writes sink.old) (K.faults sink.old))
         (sink_state (K.contents sink.new) (K.writes sink.new) (K.empty_writes sink.new) (K.faults sink.new)) result }
     ensures no_read { result ≢ Some (Err RunError.ReadFault) }
+    ensures signer { SignerTaken (G.refusals signer.old) (G.refusals signer.new) result }
 {
     if is_session_kind(event.kind()) {
         take_session_event(alloc, at, event, gate, signer, verifier, sink)
@@ -275,6 +279,7 @@ pub fn one_turn<S: Source, G: LocalSigner, V: Verifier, K: Sink>(
     ensures sink { SinkTaken
         (sink_state (K.contents sink.old) (K.writes sink.old) (K.empty_writes sink.old) (K.faults sink.old))
         (sink_state (K.contents sink.new) (K.writes sink.new) (K.empty_writes sink.new) (K.faults sink.new)) result }
+    ensures signer { SignerTaken (G.refusals signer.old) (G.refusals signer.new) result }
 {
     let event = match next_event(buffer, source, at.last) {
         Ok(Some(event)) => event,

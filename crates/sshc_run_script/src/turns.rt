@@ -5,6 +5,7 @@ ghost use Rattle.sshc_auth.specs.declared.ended.Ended.TheVariants.{ScriptEnd};
 ghost use Rattle.sshc_run_script.specs.LoopInvariant.{Pauses};
 ghost use Rattle.sshc_run_script.specs.Outcome.{streams, Ends};
 ghost use Rattle.sshc_run_script.specs.Ready.{IsReady};
+ghost use Rattle.sshc_run_script.specs.RunFaults.{SignerCounted};
 ghost use Rattle.sshc_run_script.specs.RunOutside.{run_outside, sink_state, source_state, CountsMoved};
 ghost use Rattle.sshc_run_script.specs.RunTurn.{kept, run_turn};
 ghost use Rattle.sshc_run_script.specs.ScriptRun.{run, spot};
@@ -57,6 +58,7 @@ pub fn take_turns<S: Source, G: LocalSigner, V: Verifier, K: Sink>(
         (sink_state (K.contents sink.new) (K.writes sink.new) (K.empty_writes sink.new) (K.faults sink.new))
         (G.calls signer.new))
         result }
+    ensures signer { SignerCounted (G.refusals signer.old) (G.refusals signer.new) result }
 {
     let most = *remaining;
     for turn in 0..most {

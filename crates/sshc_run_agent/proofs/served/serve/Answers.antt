@@ -1,4 +1,4 @@
-use Rattle.std.proofs.Common.{sym, ◌∙◌}
+use Rattle.std.proofs.Common.{arith, sym, ◌∙◌}
 use Rattle.sshc_run_agent.specs.InputLaws.{next_less, rest_more, rest_none}
 use Rattle.sshc_run_agent.proofs.Steps.{on_error}
 use Rattle.sshc_run_agent.proofs.ServedSteps.{cut_between, gained_two, goes_cut, goes_more, goes_none}
@@ -28,6 +28,7 @@ inputs-preserved g c =
     record {
       unmuted = c.take_whole.ensures.open;
       gained = gained_two (g.G.LocalSigner.calls c.args.signer.now) (g.G.LocalSigner.calls c.inputs.signer) (g.G.LocalSigner.calls c.take_whole.new.signer) c.inputs.invariant.gained c.take_whole.ensures.gained;
+      later = omega (arith, c.inputs.invariant.later, c.take_whole.ensures.later);
       rest = sym (rest_more c.inputs.frames (c.in-Some.input, c.next.new.self) some) ∙ c.inputs.invariant.rest;
       on = goes_more c.args.now c.args.conn _ c.args.core.now c.inputs.frames c.next.new.self c.in-Some.input some (g.G.LocalSigner.calls c.args.signer.now) (g.G.LocalSigner.calls c.inputs.signer) (g.G.LocalSigner.calls c.take_whole.new.signer)
           c.inputs.invariant.gained c.take_whole.ensures.gained c.inputs.out.records c.inputs.core c.inputs.invariant.on c.take_whole.new.core c.take_whole.new.out.records c.in_ok-take_whole.ensures.ok;

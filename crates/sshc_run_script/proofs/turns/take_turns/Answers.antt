@@ -21,6 +21,7 @@ loop-turn-init g c =
       moving_writes = refl;
       reads = refl;
       moved = no_writes _ _;
+      signer = omega arith;
       writes = refl;
     }
 
@@ -43,6 +44,7 @@ loop-turn-preserved g c =
       moving_writes = c.in_default.ensures.sink.moving ∙ c.loop-turn.invariant.moving_writes;
       reads = c.in_default.ensures.source.told (λ e. absurd cc) ∙ c.loop-turn.invariant.reads;
       moved = writes_on _ _ _ _ _ _ c.loop-turn.invariant.moved (c.in_default.ensures.sink.moved);
+      signer = omega (arith, c.loop-turn.invariant.signer, c.in_default.ensures.signer.later);
       writes = c.in_default.ensures.sink.told (λ e. absurd cc) ∙ c.loop-turn.invariant.writes;
     }
 
@@ -124,3 +126,17 @@ returns-clause-counts g c =
         write_told = λ no. so.writes;
       };
     }
+
+pub returns-in-Some-clause-signer : goal.returns-in-Some-clause-signer
+returns-in-Some-clause-signer g c =
+    let turn = c.in-Some.ensures.signer in
+    record {
+      later = omega (arith, turn.later, c.loop-turn.invariant.signer);
+      fault = λ e. let rose = turn.fault (ap Some e) in omega (arith, rose, c.loop-turn.invariant.signer);
+    }
+
+pub returns-clause-signer : goal.returns-clause-signer
+returns-clause-signer g c = record {
+  later = c.loop-turn.invariant.signer;
+  fault = λ e. absurd (rw e at c.at_limit.ensures.gives);
+}

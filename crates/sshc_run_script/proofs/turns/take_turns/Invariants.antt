@@ -22,5 +22,6 @@ invariant-loop-turn g l =
       moving_writes : g.K.Sink.empty_writes l.sink ≡ g.K.Sink.empty_writes l.initial.sink;
       reads : g.S.Source.faults l.source ≡ g.S.Source.faults l.initial.source;
       moved : WritesMove (g.K.Sink.contents l.initial.sink) (g.K.Sink.contents l.sink) (g.K.Sink.writes l.initial.sink) (g.K.Sink.writes l.sink);
+      signer : g.G.LocalSigner.refusals l.initial.signer ≤ g.G.LocalSigner.refusals l.signer;
       writes : g.K.Sink.faults l.sink ≡ g.K.Sink.faults l.initial.sink;
     }
