@@ -1,3 +1,4 @@
 mod DealingLemmas
 mod PickingLemmas
+pub mod Replies
 mod TakingLemmas

@@ -13,6 +13,11 @@ use Rattle.sshc_handle_state.specs.declared.end.End.{End}
 use Rattle.sshc_handle_state.specs.declared.end.End.TheVariants.{Refused}
 use Rattle.sshc_handle_state.specs.declared.timers.Timers.{Timers}
 
+-- the events that no turn has taken yet, the oldest first, and how many more have room
+pub record SubmittedAt : Type 0 where
+  pub items : List Event
+  pub room : ℕ
+
 pub record HandleAt : Type 0 where
   pub session : SessionState
   pub submitted : List Event  -- the events that no turn has taken yet, the oldest first

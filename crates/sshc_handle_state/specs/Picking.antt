@@ -28,6 +28,11 @@ picked pick left = record { pick = pick; left = left }
 
 -- ---- submitted events
 
+-- the first event was taken, or there is none
+abbrev pub Pops : List Event → List Event → Option Event → Type 0
+Pops was is (Some event) = was ≡ event ∷ is
+Pops was is None = (was ≡ []) × (is ≡ [])
+
 abbrev pub is_reply : Event → Bool
 is_reply (events.ServerChannelOpenReply id result) = true
 is_reply event = false

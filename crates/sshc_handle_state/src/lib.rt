@@ -8,6 +8,7 @@ mod ending;
 mod picking;
 mod state;
 mod submission;
+mod submitted;
 mod timers;
 mod turn;
 

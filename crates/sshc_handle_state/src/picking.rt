@@ -1,15 +1,13 @@
 //! Which event a turn takes.
 
-ghost use Rattle.std.specs.Prelude.{◌≡◌, IfNone};
-ghost use Rattle.sshc_handle_tickets.specs.Tickets.{first_of, without_first};
-ghost use Rattle.sshc_handle_state.specs.Picking.{Picks, Ruled, begun_at, heard, is_reply, link_at, oldest, on_answer, on_event, picked, users_event};
+ghost use Rattle.std.specs.Prelude.{◌≡◌};
+ghost use Rattle.sshc_handle_state.specs.Picking.{Picks, Ruled, begun_at, heard, link_at, oldest, on_answer, on_event, picked, users_event};
 
 use crate::state::HandleState;
 use sshc_auth::Event;
 use sshc_client::Handler;
 use sshc_transport::{Transport, TransportEvent};
 use sshc_wire::Failed;
-use std::collections::VecDeque;
 
 /// What a turn takes.
 #[derive(Drop)]
@@ -21,34 +19,12 @@ pub(crate) enum Pick {
     NoMemory,
 }
 
-/// Whether the event answers a channel that the server opens.
-fn is_reply(event: &Event) -> bool
-    ensures { result ≡ is_reply event.now }
-{
-    matches!(event, Event::ServerChannelOpenReply { .. })
-}
-
-/// Takes the first reply to a channel that the server opens, where there is one.
-#[tactic(auto, using(sshc_handle_tickets::proofs::Firsts::first_found, sshc_handle_tickets::proofs::Firsts::first_cut, sshc_handle_tickets::proofs::Firsts::none_found, sshc_handle_tickets::proofs::Firsts::none_cut, sshc_handle_tickets::proofs::Firsts::passed_on))]
-fn take_reply(submitted: &mut VecDeque<Event>) -> Option<Event>
-    ensures taken { result ≡ first_of is_reply submitted.old.items }
-    ensures rest { submitted.new.items ≡ without_first is_reply submitted.old.items }
-    ensures none { IfNone result (submitted.new.items ≡ submitted.old.items) }
-{
-    for at in 0..submitted.len() {
-        if is_reply(&submitted[at]) {
-            return submitted.remove(at);
-        }
-    }
-    None
-}
-
 impl<H: Handler> HandleState<H> {
     /// Takes the oldest event that was submitted.
     fn oldest(&mut self) -> Pick
         ensures { picked result self.new ≡ oldest self.old }
     {
-        match self.submitted.pop_front() {
+        match self.submitted.pop() {
             Some(event) => Pick::Event(event),
             None => Pick::Idle,
         }
@@ -61,7 +37,7 @@ impl<H: Handler> HandleState<H> {
         if !self.session.wants_user_events() {
             return Pick::Idle;
         }
-        match take_reply(&mut self.submitted) {
+        match self.submitted.take_reply() {
             Some(reply) => Pick::Event(reply),
             None => self.oldest(),
         }

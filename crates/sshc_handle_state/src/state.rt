@@ -2,7 +2,6 @@
 
 ghost use Rattle.std.specs.Prelude.{◌≡◌, ◌<◌, ◌++◌, Some, IfOk, OnErr, OnOk, is_some, length, take};
 ghost use Rattle.std.specs.List.{list_any};
-ghost use Rattle.std.specs.VecDeque.{deque_capacity, deque_len};
 ghost use Rattle.sshc_wire.specs.Outgoing.{listed};
 ghost use Rattle.sshc_mux.specs.ChannelState.{channel_of};
 ghost use Rattle.sshc_mux.specs.ChannelTable.{waits_in, window_in};
@@ -16,13 +15,13 @@ ghost use Rattle.sshc_handle_state.specs.Submitting.{Submits, SubmitsEvent};
 use crate::end::End;
 use crate::ending::ended_copied;
 use crate::submission::{asks_answer, event_of};
+use crate::submitted::Submitted;
 use crate::timers::Timers;
 use sshc_auth::{Ended, Error, Event, Method, SharedMethod};
 use sshc_client::{Config, Msg, Session};
 use sshc_handle_tickets::Tickets;
 use sshc_key::AgentSessionBinding;
 use sshc_wire::{ChannelId, List, NoMemory, Octets, Record, Text, Ticket};
-use std::collections::VecDeque;
 use std::collections::btree_map::Values;
 use std::marker::{Model, PhantomData};
 
@@ -31,7 +30,7 @@ use std::marker::{Model, PhantomData};
 #[derive(Drop)]
 pub struct HandleState<H> {
     pub(crate) session: Session,
-    pub(crate) submitted: VecDeque<Event>,
+    pub(crate) submitted: Submitted,
     pub(crate) tickets: Tickets,
     pub(crate) prompts: Option<Ticket>,
     pub(crate) binding: Option<AgentSessionBinding>,
@@ -64,18 +63,18 @@ impl<H> Model for HandleState<H> {
 /// Makes room for an event, and opens a ticket if an answer is asked for.
 fn admitted(
     end: &Option<End>,
-    submitted: &mut VecDeque<Event>,
+    submitted: &mut Submitted,
     tickets: &mut Tickets,
     asks: bool,
 ) -> Result<Option<Ticket>, Error>
     ensures admits { Admits end.now asks tickets.old tickets.new result }
     ensures same { submitted.new.items ≡ submitted.old.items }
-    ensures room { OnOk result (deque_len submitted.new < deque_capacity submitted.new) }
+    ensures room { OnOk result (0 < submitted.new.room) }
 {
     if end.is_some() {
         return Err(Error::SendError);
     }
-    submitted.reserve(1)?;
+    submitted.make_room()?;
     if asks {
         Ok(Some(tickets.open_ticket()?))
     } else {
@@ -84,12 +83,12 @@ fn admitted(
 }
 
 /// Adds an event for which there is room, if there is an event.
-fn add(submitted: &mut VecDeque<Event>, event: Option<Event>)
-    requires { deque_len submitted.old < deque_capacity submitted.old }
+fn add(submitted: &mut Submitted, event: Option<Event>)
+    requires { 0 < submitted.old.room }
     ensures { submitted.new.items ≡ submitted.old.items ++ listed event }
 {
     if let Some(event) = event {
-        submitted.push_back_reserved(event);
+        submitted.push_reserved(event);
     }
 }
 
@@ -108,7 +107,7 @@ impl<H> HandleState<H> {
         let session = Session::new(config, remote_sshid)?;
         Ok(HandleState {
             session,
-            submitted: VecDeque::new(alloc),
+            submitted: Submitted::new(alloc),
             tickets: Tickets::new(alloc),
             prompts: None,
             binding: None,
@@ -124,7 +123,7 @@ impl<H> HandleState<H> {
         ensures { SubmitsEvent Event.Gone self.old self.new result }
     {
         let _ticket = admitted(&self.end, &mut self.submitted, &mut self.tickets, false)?;
-        self.submitted.push_back_reserved(Event::Gone);
+        self.submitted.push_reserved(Event::Gone);
         Ok(())
     }
 
@@ -194,7 +193,7 @@ impl<H> HandleState<H> {
         };
         let _none = admitted(&self.end, &mut self.submitted, &mut self.tickets, false)?;
         self.submitted
-            .push_back_reserved(Event::AuthInfoResponse { responses });
+            .push_reserved(Event::AuthInfoResponse { responses });
         Ok(due)
     }
 

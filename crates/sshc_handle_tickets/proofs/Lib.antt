@@ -1,3 +1,4 @@
+mod Closing
 pub mod Firsts
 mod Free
 mod Over

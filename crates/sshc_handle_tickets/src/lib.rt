@@ -2,6 +2,7 @@
 #![tactic(auto)]
 
 mod answers;
+mod marks;
 mod tickets;
 
 pub use answers::{

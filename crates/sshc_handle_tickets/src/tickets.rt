@@ -1,11 +1,13 @@
 //! The tickets that are open, and the records that are held until someone asks for them.
 
-ghost use Rattle.std.specs.Prelude.{◌≡◌, ◌+◌, ◌≤◌, ◌++◌, [], ◌∷◌, Some, false, length, map, filter, not, take, IfOk, IfSome, OnErr, OnOk};
+ghost use Rattle.std.specs.Prelude.{◌≡◌, ◌+◌, ◌≤◌, ◌++◌, [], ◌∷◌, ℕ, Some, false, true, length, map, filter, not, take, IfOk, IfSome, OnErr, OnOk};
 ghost use Rattle.std.specs.List.{list_any};
 ghost use Rattle.std.specs.Vec.{vec_capacity, vec_len};
 ghost use Rattle.sshc_wire.specs.declared.channel_id.ChannelId.{ChannelId};
+ghost use Rattle.sshc_handle_tickets.specs.Marks.{AreMarked, closed_by, has_room, is_close};
 ghost use Rattle.sshc_handle_tickets.specs.Tickets.{answered, channel_in, closed_behind, closed_with, dropped, due_behind, first_of, free_within, is_channel, is_of, is_on, is_on_some, is_taken, is_ticket, number_after, opened_by, without_first};
 
+use crate::marks::Marks;
 use sshc_handle_line::Line;
 use sshc_wire::{ChannelId, ChannelRecord, NoMemory, Record, Resolution, Ticket};
 use std::alloc::Global;
@@ -13,27 +15,29 @@ use std::collections::btree_map::Values;
 use std::marker::Model;
 
 /// The tickets whose answer is due, and the records that nobody has taken yet, the oldest first. Once the session is over
-/// the tickets that were open stand for their answers, that they were dropped. What is held is found by its number; only
-/// the closed channels are looked through.
+/// the tickets that were open stand for their answers, that they were dropped. What is held and what is closed is found by
+/// its number.
 #[derive(Drop)]
 pub struct Tickets {
     due: Line<Ticket>,
     held: Line<Record>,
     closed: Vec<ChannelId>,
+    /// The numbers of the closed channels.
+    marks: Marks,
     last: u32,
     is_over: bool,
 }
 
 impl Model for Tickets {
-    ghost use Rattle.std.specs.Prelude.{◌+◌, ◌≤◌, length};
-    ghost use Rattle.std.specs.Vec.{vec_capacity, vec_len};
+    ghost use Rattle.std.specs.Vec.{vec_capacity};
+    ghost use Rattle.sshc_handle_tickets.specs.Marks.{IsKept};
     ghost use Rattle.sshc_handle_tickets.specs.Tickets.{TicketState, held_at, left_due};
 
     ghost Value = { TicketState };
 
     ghost view = { λ t. record { due = left_due t.is_over t.due; held = held_at t.is_over t.held t.due; closed = t.closed.items; last = t.last } };
 
-    ghost invariant = { λ t. length t.held + vec_len t.closed ≤ vec_capacity t.closed };
+    ghost invariant = { λ t. IsKept t.held t.closed.items (vec_capacity t.closed) t.marks };
 }
 
 /// The number of the channel that a record opens.
@@ -46,6 +50,19 @@ fn opened_by(said: &Record) -> Option<u32>
             happened: ChannelRecord::Open { .. },
         } => Some(id.0),
         Record::ServerOpened { id, .. } => Some(id.0),
+        _ => None,
+    }
+}
+
+/// The number of the channel that a record closes.
+fn closed_by(said: &Record) -> Option<u32>
+    ensures { result ≡ closed_by said.now }
+{
+    match said {
+        Record::Channel {
+            id,
+            happened: ChannelRecord::Close,
+        } => Some(id.0),
         _ => None,
     }
 }
@@ -76,6 +93,7 @@ impl Tickets {
             due: Line::new(alloc),
             held: Line::new(alloc),
             closed: Vec::new(alloc),
+            marks: Marks::new(alloc),
             last: 0,
             is_over: false,
         }
@@ -161,6 +179,7 @@ fn take_behind(
     ensures taken { result ≡ first_of (is_of number) (held.old ++ map dropped dropped_tickets.old) }
     ensures rest { held.new ++ map dropped dropped_tickets.new ≡ without_first (is_of number) (held.old ++ map dropped dropped_tickets.old) }
     ensures fewer { length held.new ≤ length held.old }
+    ensures closing { (n : ℕ) → list_any (is_close n) held.new ≡ true → list_any (is_close n) held.old ≡ true }
 {
     match held.take_of_ticket(number) {
         Some(said) => Some(said),
@@ -169,12 +188,18 @@ fn take_behind(
 }
 
 /// The channel of this number no longer counts as closed.
-fn forget(closed: &mut Vec<ChannelId>, number: u32)
+fn forget(closed: &mut Vec<ChannelId>, marks: &mut Marks, number: u32)
+    requires marked { AreMarked marks.old closed.old.items }
     ensures rest { closed.new.items ≡ filter (λ (id : ChannelId). not (is_channel number id)) closed.old.items }
     ensures room { vec_capacity closed.new ≡ vec_capacity closed.old }
     ensures fewer { vec_len closed.new ≤ vec_len closed.old }
+    ensures marked { AreMarked marks.new closed.new.items }
+    ensures kept { (n : ℕ) → has_room marks.new n ≡ has_room marks.old n }
 {
-    closed.retain(|id| id.0 != number);
+    if marks.has(number) {
+        closed.retain(|id| id.0 != number);
+        marks.clear(number);
+    }
 }
 
 impl Tickets {
@@ -214,6 +239,7 @@ impl Tickets {
         ) = &said
         {
             self.closed.push_reserved(*id);
+            self.marks.mark(id.0);
         }
         said
     }
@@ -238,7 +264,7 @@ impl Tickets {
     pub fn is_closed(&self, id: ChannelId) -> bool
         ensures { result ≡ list_any (is_channel id.0) self.now.closed }
     {
-        self.closed.iter().any(|closed| closed.0 == id.0)
+        self.marks.has(id.0)
     }
 
     /// A channel that a record opens no longer counts as closed.
@@ -246,7 +272,7 @@ impl Tickets {
         ensures { self.new ≡ record self.old { closed = closed_behind (opened_by said.now) self.old.closed } }
     {
         if let Some(number) = opened_by(said) {
-            forget(&mut self.closed, number);
+            forget(&mut self.closed, &mut self.marks, number);
         }
     }
 
@@ -264,11 +290,17 @@ impl Tickets {
             drop(said);
             return Err(refused.into());
         }
+        if let Some(number) = closed_by(&said) {
+            if let Err(refused) = self.marks.make_room(number) {
+                drop(said);
+                return Err(refused);
+            }
+        }
         let opened = opened_by(&said);
         let answered = answered(&said);
         self.held.push(said)?;
         if let Some(number) = opened {
-            forget(&mut self.closed, number);
+            forget(&mut self.closed, &mut self.marks, number);
         }
         if let Some(number) = answered {
             let _ticket = self.due.take_of_ticket(number);
