@@ -4,10 +4,13 @@
 //! numbers to another thread and back by a plain channel; `idle MS` does nothing for so many milliseconds.
 #![tactic(auto)]
 
+mod far;
+
+use crate::far::{Far, Near, across};
 use crossbeam_channel::{Receiver, Sender, unbounded};
 use sshc_client::{Config, Error};
 use sshc_handle::{Handle, Runner, Waker, at_once, connect_stream};
-use sshc_sample_fakes::{FarServer, FarTransport, Host, Keeper, StillClock, across_threads};
+use sshc_sample_fakes::{FakeTransport, Host, Keeper, StillClock};
 use sshc_toy::{RefusingVerifier, ToySigner};
 use sshc_wire::{ChannelId, Disconnect};
 use std::alloc::Global;
@@ -17,16 +20,16 @@ use std::time::{Clock, Duration};
 use std::{env, thread};
 
 /// A runner over a server in another thread.
-type FarRunner = Runner<Keeper, FarTransport, ToySigner, RefusingVerifier, StillClock>;
+type FarRunner = Runner<Keeper, Near, ToySigner, RefusingVerifier, StillClock>;
 
 /// The server of such a runner.
-type Far = FarServer<Host>;
+type Server = Far<Host>;
 
 /// A session that its first exchange opens, and its server.
-fn session(alloc: Global) -> Result<(Handle<Keeper>, FarRunner, Far), Error> {
+fn session(alloc: Global) -> Result<(Handle<Keeper>, FarRunner, Server), Error> {
     let host = Host::granting(alloc, 1);
     let coming = host.greeting()?;
-    let (transport, server) = across_threads(alloc, host, coming)?;
+    let (transport, server) = across(alloc, FakeTransport::new(host, coming, u64::MAX))?;
     let mut config = Config::default_in(alloc)?;
     config.anonymous = true;
     let (handle, runner) = connect_stream(

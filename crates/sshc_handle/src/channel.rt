@@ -54,7 +54,7 @@ impl<H: Handler> Channel<H> {
         ensures reported { IfSome result (λ msg. IsReported self.old msg) }
         ensures same { self.new ≡ self.old }
     {
-        let mut state = self.shared.state.lock(rt);
+        let mut state = self.shared.look_on(rt, self.id);
         for _ in rt.forever() {
             if let Some(msg) = self.take(&mut state) {
                 return Some(msg);
@@ -72,7 +72,7 @@ impl<H: Handler> Channel<H> {
         ensures reported { IfSome result (λ msg. IsReported self.old msg) }
         ensures same { self.new ≡ self.old }
     {
-        let mut state = self.shared.state.lock(rt);
+        let mut state = self.shared.lock(rt);
         self.take(&mut state)
     }
 
@@ -82,7 +82,7 @@ impl<H: Handler> Channel<H> {
         ensures reported { IfSome result (λ msg. IsReported self.old msg) }
         ensures same { self.new ≡ self.old }
     {
-        let state = self.shared.state.lock(rt);
+        let state = self.shared.look_on(rt, self.id);
         let mut state = self.shared.wait_for(rt, state, self.id, limit);
         self.take(&mut state)
     }
@@ -108,7 +108,7 @@ impl<H: Handler> Channel<H> {
     /// Whether nothing more can happen on the channel: its close was returned, or the session has ended and nothing is
     /// held any more where `poll` returns `None`.
     pub fn is_at_end<R: Wait>(&self, rt: &R) -> bool {
-        let state = self.shared.state.lock(rt);
+        let state = self.shared.lock(rt);
         state.is_channel_closed(self.id) || state.is_over()
     }
 

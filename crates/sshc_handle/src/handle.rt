@@ -37,7 +37,7 @@ impl<H: Handler> Handle<H> {
     pub fn poll_ticket<R: Wait>(&self, rt: &R, ticket: Ticket) -> Option<Record>
         ensures { IfSome result (λ said. is_of ticket.0 said ≡ true) }
     {
-        self.shared.state.lock(rt).poll(ticket)
+        self.shared.lock(rt).poll(ticket)
     }
 
     /// Submits that no user is left.
@@ -45,7 +45,7 @@ impl<H: Handler> Handle<H> {
     pub fn gone<R: Wait>(self, rt: &R) -> Result<(), Error>
         ensures { IfErr result IsDeclined }
     {
-        let submitted = self.shared.state.lock(rt).gone();
+        let submitted = self.shared.lock(rt).gone();
         self.shared.wake_runner();
         submitted
     }
@@ -55,7 +55,7 @@ impl<H: Handler> Handle<H> {
     pub fn wait_closed<R: Wait>(&self, rt: &R) -> Result<Ended, Error>
         ensures { IfErr result IsEndError }
     {
-        let mut state = self.shared.state.lock(rt);
+        let mut state = self.shared.lock(rt);
         for _ in rt.forever() {
             if let Some(ended) = state.ended()? {
                 return Ok(ended);
@@ -81,7 +81,7 @@ impl<H: Handler> Handle<H> {
     /// `poll` of that channel takes it. `None` if the session has ended and nothing more is held. So one thread serves
     /// many channels, and takes what is held of those that nobody else asks for.
     pub fn wait_any<R: Wait>(&self, rt: &R) -> Option<ChannelId> {
-        let mut state = self.shared.state.lock(rt);
+        let mut state = self.shared.lock(rt);
         for _ in rt.forever() {
             let first = state.first_channel();
             if first.is_some() || state.is_over() {
@@ -94,7 +94,7 @@ impl<H: Handler> Handle<H> {
 
     /// The same, and `None` too if nothing is held after this time.
     pub fn wait_any_for<R: Wait + Clock>(&self, rt: &R, limit: Duration) -> Option<ChannelId> {
-        let state = self.shared.state.lock(rt);
+        let state = self.shared.lock(rt);
         self.shared
             .wait_for_some_within(rt, state, limit)
             .first_channel()
@@ -102,13 +102,13 @@ impl<H: Handler> Handle<H> {
 
     /// Whether bytes of ours wait on the channel for the peer's window, or for the end of a key exchange.
     pub fn has_pending_data<R: Wait>(&self, rt: &R, id: ChannelId) -> bool {
-        self.shared.state.lock(rt).has_pending_data(id)
+        self.shared.lock(rt).has_pending_data(id)
     }
 
     /// How many bytes the peer's window allows on the channel; 0 if there is no such channel, or if an open of ours
     /// waits there.
     pub fn sender_window_size<R: Wait>(&self, rt: &R, id: ChannelId) -> usize {
-        self.shared.state.lock(rt).sender_window_size(id)
+        self.shared.lock(rt).sender_window_size(id)
     }
 
     /// The first exchange's host key, session id and signature; `None` before it is done.
@@ -118,6 +118,6 @@ impl<H: Handler> Handle<H> {
     ) -> Result<Option<AgentSessionBinding>, Error>
         ensures { OnErr result (result ≡ Err Error.NoMemory) }
     {
-        Ok(self.shared.state.lock(rt).agent_session_binding()?)
+        Ok(self.shared.lock(rt).agent_session_binding()?)
     }
 }

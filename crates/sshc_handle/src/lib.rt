@@ -8,6 +8,7 @@ mod channels;
 mod connecting;
 mod handle;
 mod logins;
+mod places;
 mod requests;
 mod runner;
 mod shared;

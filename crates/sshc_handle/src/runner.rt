@@ -3,6 +3,7 @@
 ghost use Rattle.std.specs.Prelude.{◌≡◌};
 ghost use Rattle.sshc_handle.specs.Refused.{reason_of};
 
+use crate::places::Bell;
 use crate::shared::{RunnersPart, Shared};
 use sshc_auth::{Ended, Error};
 use sshc_client::{DisconnectReason, Handler};
@@ -12,7 +13,6 @@ use sshc_transport::Transport;
 use sshc_wire::{Clock, NoMemory};
 use std::alloc::Global;
 use std::sync::{Arc, Wait};
-use std::thread::Parker;
 use std::time::Duration;
 
 /// For how long a runner rests at most that asks its transport on its own, in milliseconds.
@@ -45,14 +45,14 @@ pub struct Runner<
 /// Wakes the runner of a session from the thread that fills its transport.
 #[derive(Drop)]
 pub struct Waker {
-    runner: Arc<Parker, Global>,
+    runner: Arc<Bell, Global>,
 }
 
 impl Waker {
     /// The transport has something: the runner asks it at once. What `next` is to return has to be there before. It
     /// waits for nothing.
     pub fn wake(&self) {
-        self.runner.unpark();
+        self.runner.ring();
     }
 }
 
@@ -94,18 +94,28 @@ impl<H: Handler> Shared<H> {
         clock: &mut C,
         is_woken: bool,
     ) -> Turn<H::Error> {
+        // It looks only behind a turn that took something, so that it does nothing while nothing happens.
+        let mut took = false;
         for _ in rt.forever() {
+            let seen = self.calls_of_runner();
             let now = clock.now();
-            let mut state = self.state.lock(rt);
+            let mut state = self.lock(rt);
             if state.is_over() {
                 return Turn::Ended(Ended::Closed);
             }
             let before = state.held().len();
             match state.turn(now, transport, handler, signer, verifier) {
-                Turn::Took => self.wake_behind(state, before),
+                Turn::Took => {
+                    took = true;
+                    self.wake_behind(state, before);
+                }
                 Turn::Idle => {
                     let limit = rest_of(&state, now, is_woken);
                     drop(state);
+                    if took {
+                        self.look_for_runner(seen);
+                    }
+                    took = false;
                     self.rest(rt, limit);
                 }
                 last => return last,

@@ -5,20 +5,25 @@ ghost use Rattle.sshc_handle_tickets.specs.Tickets.{is_of};
 ghost use Rattle.sshc_handle_state.specs.Submission.{asks_answer};
 ghost use Rattle.sshc_handle_calls.specs.Lines.{CannotRespond, Given};
 
+use crate::places::{Bell, Patience, Place};
 use sshc_auth::Error;
 use sshc_client::Msg;
 use sshc_handle_state::HandleState;
 use sshc_handle_tickets::{channel_of, ticket_of};
 use sshc_wire::{ChannelId, List, NoMemory, Record, Resolution, Text, Ticket};
 use std::alloc::Global;
+use std::hint::spin_loop;
 use std::sync::atomic::{AtomicBool, Ordering};
-use std::sync::{Arc, Condvar, Mutex, MutexGuard, Wait};
-use std::thread::{Parker, yield_now};
+use std::sync::{Arc, Mutex, MutexGuard, Wait};
+use std::thread::yield_now;
 use std::time::{Clock, Duration};
 
-/// Over how many conditions the calls that wait for tickets are spread, by their numbers, and over how many those that wait
+/// Over how many places the calls that wait for tickets are spread, by their numbers, and over how many those that wait
 /// for channels.
 const PLACES: u32 = 1024;
+
+/// How often a thread tries to take the lock before it rests: a turn holds it for some microseconds.
+const TRIES: u32 = 200;
 
 /// The session under its lock. A thread that submits wakes the runner, and the runner wakes those that wait for a
 /// record of a ticket or a channel that it holds.
@@ -27,16 +32,18 @@ pub(crate) struct Shared<H> {
     pub(crate) alloc: Global,
     pub(crate) state: Mutex<HandleState<H>>,
     /// Where the runner rests. It is woken when something was submitted, or the transport has something.
-    runner: Arc<Parker, Global>,
+    runner: Arc<Bell, Global>,
     /// Each notified when a record of a ticket of its numbers is held, and at the runner's end.
-    answered: Vec<Condvar>,
+    answered: Vec<Place>,
     /// Each notified when a record of a channel of its numbers is held, and at the runner's end.
-    told: Vec<Condvar>,
+    told: Vec<Place>,
     /// Notified when a record of any channel is held, and at the runner's end.
-    happened: Condvar,
+    happened: Place,
     /// Notified at the runner's end.
-    ended: Condvar,
+    ended: Place,
     closed: AtomicBool,
+    /// Of the calls that wait.
+    patience: Patience,
 }
 
 impl<H> Shared<H> {
@@ -44,19 +51,31 @@ impl<H> Shared<H> {
         let mut answered = Vec::new(alloc);
         let mut told = Vec::new(alloc);
         for _ in 0..PLACES {
-            answered.push(Condvar::new())?;
-            told.push(Condvar::new())?;
+            answered.push(Place::new())?;
+            told.push(Place::new())?;
         }
         Ok(Shared {
             alloc,
             state: Mutex::new(state),
-            runner: Arc::new(alloc, Parker::new())?,
+            runner: Arc::new(alloc, Bell::new())?,
             answered,
             told,
-            happened: Condvar::new(),
-            ended: Condvar::new(),
+            happened: Place::new(),
+            ended: Place::new(),
             closed: AtomicBool::new(false),
+            patience: Patience::new(),
         })
+    }
+
+    /// The value, under the lock, for which it looks for a moment before it rests.
+    pub(crate) fn lock<R: Wait>(&self, rt: &R) -> MutexGuard<'_, HandleState<H>> {
+        for _ in 0..TRIES {
+            if let Some(state) = self.state.try_lock() {
+                return state;
+            }
+            spin_loop();
+        }
+        self.state.lock(rt)
     }
 
     /// Whether the runner has come to its end.
@@ -68,13 +87,13 @@ impl<H> Shared<H> {
     fn close(&self) {
         self.closed.store(true, Ordering::SeqCst);
         for place in self.answered.iter() {
-            place.notify_all();
+            place.call();
         }
         for place in self.told.iter() {
-            place.notify_all();
+            place.call();
         }
-        self.happened.notify_all();
-        self.ended.notify_all();
+        self.happened.call();
+        self.ended.call();
     }
 
     /// No turn will be taken any more: a session that hasn't ended is refused. It takes the lock without the means to
@@ -91,16 +110,16 @@ impl<H> Shared<H> {
 
     /// Wakes the runner: something was submitted, or the transport has something.
     pub(crate) fn wake_runner(&self) {
-        self.runner.unpark();
+        self.runner.ring();
     }
 
     /// Where the runner rests, for one who wakes it.
-    pub(crate) fn runner(&self) -> Result<Arc<Parker, Global>, NoMemory> {
+    pub(crate) fn runner(&self) -> Result<Arc<Bell, Global>, NoMemory> {
         Ok(Arc::try_clone(&self.runner)?)
     }
 
     /// Where those wait that wait for a record of the ticket of this number.
-    fn place_of_ticket(&self, number: u32) -> &Condvar {
+    fn place_of_ticket(&self, number: u32) -> &Place {
         match self.answered.get((number % PLACES) as usize) {
             Some(place) => place,
             None => &self.ended,
@@ -108,7 +127,7 @@ impl<H> Shared<H> {
     }
 
     /// Where those wait that wait for a record of the channel of this number.
-    fn place_of_channel(&self, number: u32) -> &Condvar {
+    fn place_of_channel(&self, number: u32) -> &Place {
         match self.told.get((number % PLACES) as usize) {
             Some(place) => place,
             None => &self.ended,
@@ -116,7 +135,7 @@ impl<H> Shared<H> {
     }
 
     /// Where those wait that wait for this record; none do for one that names neither.
-    fn place_of(&self, said: &Record) -> Option<&Condvar> {
+    fn place_of(&self, said: &Record) -> Option<&Place> {
         match ticket_of(said) {
             Some(number) => Some(self.place_of_ticket(number)),
             None => match channel_of(said) {
@@ -129,27 +148,27 @@ impl<H> Shared<H> {
     /// Wakes those that wait for the records that were held since there were so many.
     pub(crate) fn wake_behind(&self, state: MutexGuard<'_, HandleState<H>>, before: usize) {
         let fresh = state.held().len().saturating_sub(before);
-        let mut last = None;
+        let mut last: Option<&Place> = None;
         let mut on_channel = false;
         for said in state.held().rev().take(fresh) {
             if let Some(place) = last {
-                Condvar::notify_all(place);
+                place.call();
             }
             last = self.place_of(said);
             on_channel = on_channel || channel_of(said).is_some();
         }
         drop(state);
         if let Some(place) = last {
-            Condvar::notify_all(place);
+            place.call();
         }
         if on_channel {
-            self.happened.notify_all();
+            self.happened.call();
         }
     }
 
     /// Wakes those that wait for what happens on this channel.
     pub(crate) fn wake_channel(&self, id: ChannelId) {
-        self.place_of_channel(id.0).notify_all();
+        self.place_of_channel(id.0).call();
     }
 
     /// Waits until a record may be held for this ticket.
@@ -180,7 +199,7 @@ impl<H> Shared<H> {
         id: ChannelId,
         limit: Duration,
     ) -> MutexGuard<'a, HandleState<H>> {
-        let (state, _is_over) = self.place_of_channel(id.0).wait_timeout_while(
+        let (state, _is_over) = self.place_of_channel(id.0).condition().wait_timeout_while(
             rt,
             state,
             limit,
@@ -205,7 +224,7 @@ impl<H> Shared<H> {
         state: MutexGuard<'a, HandleState<H>>,
         limit: Duration,
     ) -> MutexGuard<'a, HandleState<H>> {
-        let (state, _is_over) = self.happened.wait_timeout_while(
+        let (state, _is_over) = self.happened.condition().wait_timeout_while(
             rt,
             state,
             limit,
@@ -223,13 +242,33 @@ impl<H> Shared<H> {
         self.ended.wait(rt, state)
     }
 
-    /// Rests the runner until something is submitted or the transport wakes it, and at most until this limit. It doesn't
-    /// rest if it was woken since it rested last.
+    /// How often the runner was called.
+    pub(crate) fn calls_of_runner(&self) -> u64 {
+        self.runner.calls()
+    }
+
+    /// Looks for a moment whether the runner is called, since there were so many calls.
+    pub(crate) fn look_for_runner(&self, seen: u64) {
+        self.runner.look(seen);
+    }
+
+    /// Rests the runner until something is submitted or the transport wakes it, and at most until this limit. It
+    /// doesn't rest if it was woken since it rested last.
     pub(crate) fn rest<R: Wait>(&self, rt: &R, limit: Option<Duration>) {
-        match limit {
-            None => self.runner.park(rt),
-            Some(limit) => self.runner.park_timeout(rt, limit),
+        self.runner.rest(rt, limit);
+    }
+
+    /// The locked value, as soon as something may be held of this channel, or after a moment.
+    pub(crate) fn look_on<R: Wait>(&self, rt: &R, id: ChannelId) -> MutexGuard<'_, HandleState<H>> {
+        let state = self.lock(rt);
+        if state.holds_of(id) || state.is_channel_closed(id) || state.is_over() {
+            return state;
         }
+        let place = self.place_of_channel(id.0);
+        let seen = place.calls();
+        drop(state);
+        place.look(&self.patience, seen);
+        self.lock(rt)
     }
 
     /// Submits a message. It returns a ticket if and only if the message asks for an answer.
@@ -237,7 +276,7 @@ impl<H> Shared<H> {
     pub(crate) fn submit<R: Wait>(&self, rt: &R, msg: Msg) -> Result<Option<Ticket>, Error>
         ensures { Given (asks_answer msg) result }
     {
-        let submitted = self.state.lock(rt).submit(msg);
+        let submitted = self.lock(rt).submit(msg);
         self.wake_runner();
         submitted
     }
@@ -252,7 +291,7 @@ impl<H> Shared<H> {
     ) -> Result<Option<Ticket>, Error>
         ensures { Given true result }
     {
-        let begun = self.state.lock(rt).start_prompts(user, submethods);
+        let begun = self.lock(rt).start_prompts(user, submethods);
         self.wake_runner();
         begun
     }
@@ -262,7 +301,7 @@ impl<H> Shared<H> {
     pub(crate) fn respond<R: Wait>(&self, rt: &R, responses: List<Text>) -> Result<Ticket, Error>
         ensures { IfErr result CannotRespond }
     {
-        let responded = self.state.lock(rt).respond(responses);
+        let responded = self.lock(rt).respond(responses);
         self.wake_runner();
         responded
     }
@@ -273,7 +312,13 @@ impl<H> Shared<H> {
     pub(crate) fn record<R: Wait>(&self, rt: &R, ticket: Ticket) -> Record
         ensures { is_of ticket.0 result ≡ true }
     {
-        let mut state = self.state.lock(rt);
+        let place = self.place_of_ticket(ticket.0);
+        let seen = place.calls();
+        if let Some(said) = self.lock(rt).poll(ticket) {
+            return said;
+        }
+        place.look(&self.patience, seen);
+        let mut state = self.lock(rt);
         for _ in rt.forever() {
             if let Some(said) = state.poll(ticket) {
                 return said;
