@@ -1,13 +1,21 @@
 #!/usr/bin/env python3
-"""Looks for names in the documents that the repository doesn't have, and prints a line for each.
+"""Looks in the documents for what the repository doesn't have, and prints a line for each.
 
     python3 docs/check.py
 
-A path in a document has to be the end of a file's path, or of a folder's; a crate has to be in crates.txt; a name
-between backticks, and each part of `Type::call`, has to be a word of some file that is no document, or the name of a
-row or of a wrong body. Names of the Rust crate, of OpenSSH and of what was there once are left out where a document is
-about them (OTHERS). The lists and counts
-that docs/crates.py writes are compared by `docs/crates.py --check`."""
+- A path, and a file's bare name, has to be the end of a file's path, or of a folder's; a path inside a crate, in the
+  README of one, has to be that crate's or one's that the line names; a crate has to be in crates.txt.
+- A name between backticks, and each part of `Type::call`, has to be a word of some file that is no document, or the name
+  of a row or of a wrong body; so has a name with dashes, as rows and errors have. Names of the Rust crate, of OpenSSH and
+  of what was there once are left out where a document is about them (OTHERS).
+- A part of a document that is cited by its title has to be there.
+- In docs/DEFINITIONS.md each definition has to be a word of the files that its row names; in a crate's table of claims
+  the calls and clauses have to be words of that crate, or of a crate that it uses.
+- A count of the repository's crates or edits has to be right, and no other count of what is in it may stand in a
+  document, since nothing would notice when it no longer is so. What was measured on a day is no such count (DATED).
+- The documents have at most so many lines (LINES), and no line of text that is longer than anybody reads (LONGEST).
+
+The lists and counts that docs/crates.py writes are compared by `docs/crates.py --check`."""
 import pathlib
 import re
 import subprocess
@@ -15,20 +23,43 @@ import sys
 
 TOP = pathlib.Path(__file__).resolve().parent.parent
 # Documents about names that aren't this repository's, or not any more: only paths and crates are looked up there.
-OTHERS = ("CHANGELOG.md", "docs/DIFFERENCES.md", "docs/SITUATIONS.md", "docs/WRONG_BODIES.md", "docs/DECISIONS.md", "bench/")
-# Functions of the C library.
+OTHERS = ("CHANGELOG.md", "docs/DIFFERENCES.md", "docs/WRONG_BODIES.md", "docs/DECISIONS.md", "bench/")
+# Documents of what was measured or tried on a day.
+DATED = ("CHANGELOG.md", "docs/WRONG_BODIES.md", "docs/HOSTILE.md", "bench/")
+# The most lines that a document may have.
+LINES = {"README.md": 150} | {f"docs/{name}.md": 200 for name in ("ARCHITECTURE", "GUIDE", "FORMATS", "TABLES", "DEFINITIONS", "DECISIONS", "DIFFERENCES", "PROOF_GUIDE")}
+# The most characters of a line that is no row of a table.
+LONGEST = 1700
+# Functions of the C library, and words of the language.
 STANDARD = {"memcpy", "memmove", "memset"}
+# Names of files that aren't the repository's, and of the kit.
+FOREIGN = {"lib.rs", "main.rs", "mod.rs", "rattle-kit-13f"}
 ENDING = r"(?:rt|antt|md|py|sh|c|h|rs|go|txt|edit)"
 PATH = re.compile(rf"(?<![\w./-])((?:[\w.-]+/)+[\w.-]+\.{ENDING})(?![\w/])")
+FILE = re.compile(rf"(?<![\w./-])([A-Za-z_]\w*\.{ENDING})(?![\w/])")
+WITHIN = re.compile(r"(?<![\w./-])((?:src|specs|proofs|data|must-fail)/[\w./-]*\w)")
 CRATE = re.compile(r"\bsshc_[a-z_]*[a-z]\b(?!_)")
 CODE = re.compile(r"(?<!`)`([^`\n]+)`(?!`)")
 NAME = re.compile(r"[A-Za-z_][A-Za-z_0-9]*\Z")
 CALL = re.compile(r"([A-Za-z_]\w*)::(?:([A-Za-z_]\w*)|\{([^}]*)\})\Z")
+PART = re.compile(r'`(docs/[A-Z_]+\.md)`, "([^"]+)"')
+# The name of a row of data, of a kind or of an error, as it is printed.
+DASHED = re.compile(r"[a-z0-9]\w*(?:-\w+)+\Z")
+NUMBERS = "ten eleven twelve thirteen fourteen fifteen sixteen twenty thirty forty fifty sixty seventy eighty ninety hundred".split()
+THINGS = "crates edits lemmas clauses promises definitions functions files documents situations rows".split()
+COUNT = re.compile(rf"\b([0-9][0-9,]*|{'|'.join(NUMBERS)}) (?:[a-z-]+ )?({'|'.join(THINGS)})\b", re.IGNORECASE)
+SMALL = 9
 
 
 def tracked():
     said = subprocess.run(["git", "ls-files", "-co", "--exclude-standard"], cwd=TOP, capture_output=True, text=True)
     return [name for name in said.stdout.splitlines() if (TOP / name).is_file()]
+
+
+def edits():
+    """How many must-fail edits there are."""
+    said = subprocess.run(["git", "ls-files"], cwd=TOP, capture_output=True, text=True)
+    return sum("/must-fail/" in name for name in said.stdout.splitlines())
 
 
 def names_of(code):
@@ -44,38 +75,125 @@ def names_of(code):
                 yield name.strip()
 
 
+def words_in(text):
+    return set(re.findall(r"[A-Za-z_][A-Za-z_0-9]*", text))
+
+
+def dashed_in(text):
+    return set(re.findall(r"(?<![\w-])[a-z0-9]\w*(?:-\w+)+", text))
+
+
+def cells_of(line):
+    """The cells of a table's row."""
+    return [cell.strip() for cell in re.split(r"(?<!\\)\|", line)[1:-1]]
+
+
 def without_blocks(text):
     return re.sub(r"(?ms)^```.*?^```", lambda block: "\n" * block.group().count("\n"), text)
+
+
+def of_definition(line):
+    """What is wrong with a row of docs/DEFINITIONS.md: a file, or a name that its files don't have."""
+    cells = cells_of(line)
+    if len(cells) != 5 or not cells[0].startswith("`"):
+        return []
+    wrong, words = [], set()
+    for part in cells[1].split(";"):
+        crate, _, names = part.strip().partition(":")
+        for name in names.split(","):
+            at = TOP / "crates" / crate / "specs" / name.strip()
+            files = sorted(at.glob("**/*.antt")) if name.endswith("/") else [at.with_suffix(".antt")]
+            for file in files:
+                if file.is_file():
+                    words |= words_in(file.read_text())
+                else:
+                    wrong.append(f"no file {file.relative_to(TOP)}")
+    return wrong + [f"{name} isn't in {cells[1]}" for name in re.findall(r"`(\w+)`", cells[0]) if name not in words]
+
+
+class Crates:
+    """The crates of crates.txt, and the words of each and of those that it uses."""
+
+    def __init__(self):
+        self.uses = {}
+        for line in (TOP / "crates.txt").read_text().splitlines():
+            if ":" in line and not line.startswith("#"):
+                head, _, tail = line.partition(":")
+                self.uses[head.split()[0]] = tail.split()
+        self.words, self.around = {}, {}
+
+    def own(self, crate):
+        if crate not in self.words:
+            files = [file for part in ("src", "specs", "proofs") for file in (TOP / "crates" / crate / part).glob("**/*") if file.suffix in (".rt", ".antt")]
+            self.words[crate] = set().union(*(words_in(file.read_text()) for file in files)) if files else set()
+        return self.words[crate]
+
+    def seen(self, crate):
+        """Whose words a crate's table of claims may name."""
+        if crate not in self.around:
+            self.around[crate] = self.own(crate).union(*(self.own(other) for other in self.uses.get(crate, []) if other in self.uses))
+        return self.around[crate]
 
 
 def main():
     files = tracked()
     folders = {str(parent) for name in files for parent in pathlib.PurePath(name).parents}
     ends = {"/".join(parts[at:]) for name in [*files, *folders] for parts in [name.split("/")] for at in range(len(parts))}
-    crates = {line.split(":")[0].split()[0] for line in (TOP / "crates.txt").read_text().splitlines() if ":" in line and not line.startswith("#")}
-    words = set(STANDARD)
+    crates = Crates()
+    right = {"crates": len(crates.uses), "edits": edits()}
+    words, dashed = set(STANDARD), set(FOREIGN)
     for name in files:
         if not name.endswith(".md") or name == "docs/WRONG_BODIES.md":
             try:
-                words.update(re.findall(r"[A-Za-z_][A-Za-z_0-9]*", (TOP / name).read_text()))
+                words |= words_in((TOP / name).read_text())
+                dashed |= dashed_in((TOP / name).read_text())
             except UnicodeDecodeError:
                 pass
-            words.update(re.findall(r"[A-Za-z_][A-Za-z_0-9]*", name))
+            words |= words_in(name)
+            dashed |= dashed_in(name)
+    texts = {name: (TOP / name).read_text() for name in files if name.endswith(".md")}
     found = 0
-    for name in files:
-        if not name.endswith(".md"):
-            continue
-        for at, line in enumerate(without_blocks((TOP / name).read_text()).splitlines(), 1):
+
+    def report(name, at, what):
+        nonlocal found
+        print(f"{name}:{at}: {what}")
+        found += 1
+
+    for name, text in texts.items():
+        lines = without_blocks(text).splitlines()
+        if len(lines) > LINES.get(name, len(lines)):
+            report(name, len(lines), f"more than {LINES[name]} lines")
+        in_claims = False
+        for at, line in enumerate(lines, 1):
             wrong = [path for path in PATH.findall(line) if path.removeprefix("./").removeprefix("../").removeprefix("../") not in ends and "*" not in path]
             if name != "CHANGELOG.md":
-                wrong += [crate for crate in CRATE.findall(line) if crate not in crates and crate not in words]
+                wrong += [crate for crate in CRATE.findall(line) if crate not in crates.uses and crate not in words]
             if not name.startswith(OTHERS):
+                wrong += [file for file in FILE.findall(line) if file not in ends and file not in FOREIGN]
                 named = [word for code in CODE.findall(line) for word in names_of(code)]
                 wrong += [word for word in named if word not in words and f"{word}_row" not in words and "_" not in (word[0], word[-1])]
+            if not name.startswith(("CHANGELOG.md", "bench/")):
+                wrong += [word for code in CODE.findall(line) for word in code.split(", ") if DASHED.match(word) and word not in dashed]
             wrong = [word for word in wrong if "NAME" not in word and "MODULE" not in word]
+            wrong += [f'no part "{title}" of {other}' for other, title in PART.findall(line) if title not in texts.get(other, "")]
+            if name == "docs/DEFINITIONS.md":
+                wrong += of_definition(line)
+            if name.startswith("crates/"):
+                homes = [name.split("/")[1], *CRATE.findall(line)]
+                wrong += [path for path in WITHIN.findall(line) if not any((TOP / "crates" / home / path).exists() for home in homes) and "must-fail" not in path]
+                in_claims = line.startswith("|") and (in_claims or line.startswith("| Claim |"))
+                if in_claims:
+                    seen = crates.seen(name.split("/")[1])
+                    wrong += [f"{word} is in no crate that this one uses" for cell in cells_of(line)[1:] for code in CODE.findall(cell) for word in names_of(code) if word not in seen and word in words]
+            if not name.startswith(DATED):
+                for number, thing in COUNT.findall(line):
+                    count = int(number.replace(",", "")) if number[0].isdigit() else SMALL + 1
+                    if count > SMALL and count != right.get(thing.lower()):
+                        wrong.append(f"nothing checks the count of {thing.lower()}: {number}")
+            if not line.startswith("|") and len(line) > LONGEST:
+                wrong.append(f"a line of {len(line)} characters")
             for what in dict.fromkeys(wrong):
-                print(f"{name}:{at}: {what}")
-                found += 1
+                report(name, at, what)
     sys.exit(1 if found else 0)
 
 

@@ -1,6 +1,6 @@
 #!/usr/bin/env python3
-"""Writes the list of crates and a diagram of their families into README.md and docs/ARCHITECTURE.md, from crates.txt,
-and into docs/DEFINITIONS.md the files that a promise rests on, with their lines.
+"""Writes the list of crates into README.md, a table of them and a diagram of their families into docs/ARCHITECTURE.md,
+all from crates.txt, and into docs/DEFINITIONS.md the files that a promise rests on, with their lines.
 
     python3 docs/crates.py           writes them
     python3 docs/crates.py --check   fails where one of them differs
@@ -13,7 +13,7 @@ import sys
 TOP = pathlib.Path(__file__).resolve().parent.parent
 BEGIN, END = "<!-- crates: written by docs/crates.py -->", "<!-- end of crates -->"
 DIAGRAM, DIAGRAM_END = "<!-- diagram: written by docs/crates.py -->", "<!-- end of diagram -->"
-# Families that only stand on the others, and are left out of the diagram.
+# Families that only stand on the others: they are left out of the diagram and of the table of what depends on what.
 LEAVES = ("Samples", "Worked rows", "Tests", "Measurements")
 
 
@@ -46,9 +46,10 @@ def readme():
 
 
 def architecture():
+    """A row for each crate but those that only stand on the others."""
     out = ["| Crate | What it is | Depends on |", "|---|---|---|"]
-    for _, crates in groups():
-        for name, said, libraries in crates:
+    for title, crates in groups():
+        for name, said, libraries in crates if not title.startswith(LEAVES) else []:
             short = [x.removeprefix("sshc_") if x.startswith("sshc_") else f"`{x}`" for x in libraries]
             out.append(f"| `{name}` | {said.rstrip('.')} | {', '.join(short)} |")
     return "\n".join(out) + "\n"
@@ -108,12 +109,21 @@ def diagram():
             all_below(other, seen)
         return seen
 
-    number = {title: f"f{at}" for at, (title, _) in enumerate(families)}
-    out = ["```mermaid", "flowchart BT"] + [f'    {number[title]}["{title}"]' for title, _ in families]
-    for title, _ in families:
+    number = {title: f"f{at}" for at, title in enumerate(order)}
+    drawn = set()
+
+    def node(title):
+        """The family's node, with its title where it is drawn first."""
+        if title in drawn:
+            return number[title]
+        drawn.add(title)
+        return f'{number[title]}["{title}"]'
+
+    out = ["```mermaid", "flowchart BT"]
+    for title in order:
         direct = [x for x in below[title] if not any(x in all_below(y, set()) for y in below[title] - {x})]
         if direct:
-            out.append(f"    {' & '.join(sorted(number[x] for x in direct))} --> {number[title]}")
+            out.append(f"    {' & '.join(node(x) for x in sorted(direct, key=order.index))} --> {node(title)}")
     return "\n".join(out + ["```"]) + "\n"
 
 
