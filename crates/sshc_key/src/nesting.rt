@@ -16,8 +16,8 @@ fn marker_count(blob: &[u8]) -> usize
 {
     let mut count = 0;
     let mut left = blob;
-    while let [_, rest @ ..] = left {
-        if left.starts_with(MARKER) {
+    while let [first, rest @ ..] = left {
+        if *first == b'-' && left.starts_with(MARKER) {
             count += 1;
         }
         left = rest;
