@@ -152,9 +152,9 @@ pub extern "C" fn sshc_agent_asked(
     }
 }
 
-/// Takes an input of a connection at a moment in milliseconds, with the answer to what it asks to be signed: `told` is 0
-/// where nothing was asked, 1 with the signature, any other where it was refused. `number` is that of a request that the
-/// user is asked about.
+/// Takes an input of a connection at a moment in milliseconds, with the answer to what it asks to be signed: `told` is
+/// 0 where nothing was asked, 1 with the signature, any other where it was refused. `number` is that of a request that
+/// the user is asked about.
 #[unsafe(no_mangle)]
 pub extern "C" fn sshc_agent_take(
     alloc: Global,

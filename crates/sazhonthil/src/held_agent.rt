@@ -10,7 +10,8 @@ use std::alloc::Global;
 use std::marker::Model;
 use std::ptr::null_mut;
 
-/// An agent in memory of its own, or nothing. To drop it frees nothing: `AgentHandle` drops one only where it holds nothing.
+/// An agent in memory of its own, or nothing. To drop it frees nothing: `AgentHandle` drops one only where it holds
+/// nothing.
 #[repr(C)]
 #[derive(Drop)]
 pub struct HeldAgent {

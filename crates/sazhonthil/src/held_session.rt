@@ -10,7 +10,8 @@ use std::alloc::Global;
 use std::marker::Model;
 use std::ptr::null_mut;
 
-/// A session in memory of its own, or nothing. To drop it frees nothing: `SessionHandle` drops one only where it holds nothing.
+/// A session in memory of its own, or nothing. To drop it frees nothing: `SessionHandle` drops one only where it holds
+/// nothing.
 #[repr(C)]
 #[derive(Drop)]
 pub struct HeldSession {

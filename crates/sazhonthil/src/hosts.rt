@@ -40,8 +40,8 @@ pub extern "C" fn sshc_known_hosts_check(
     answer.status
 }
 
-/// Copies what is to be added to the known hosts text, so that it has the key of the blob for the host at the port, to the
-/// front of the caller's memory, if it fits, and tells how many bytes it has.
+/// Copies what is to be added to the known hosts text, so that it has the key of the blob for the host at the port, to
+/// the front of the caller's memory, if it fits, and tells how many bytes it has.
 #[unsafe(no_mangle)]
 pub extern "C" fn sshc_known_hosts_learn(
     alloc: Global,

@@ -1,5 +1,5 @@
-//! The C library: a session, an agent and known hosts for C and whatever calls C. docs/FORMATS.md has the bytes of events
-//! and records; bindings/include/sazhonthil.h declares the exports.
+//! The C library: a session, an agent and known hosts for C and whatever calls C. docs/FORMATS.md has the bytes of
+//! events and records; bindings/include/sazhonthil.h declares the exports.
 #![tactic(auto)]
 
 mod agent;

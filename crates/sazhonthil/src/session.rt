@@ -75,8 +75,8 @@ fn boxed(
     }
 }
 
-/// Makes a session, where the struct holds nothing. It accepts the plain host keys that the known hosts text accepts for
-/// the host at the port, and no other. The texts are UTF-8.
+/// Makes a session, where the struct holds nothing. It accepts the plain host keys that the known hosts text accepts
+/// for the host at the port, and no other. The texts are UTF-8.
 #[unsafe(no_mangle)]
 pub extern "C" fn sshc_session_new(
     alloc: Global,
@@ -114,8 +114,8 @@ pub extern "C" fn sshc_session_new(
     }
 }
 
-/// Hands in events, mostly one, as a script has them: a length, a moment, a kind, fields. The records of the call before
-/// are dropped. `detail` is the place or line that an error names, and otherwise 0.
+/// Hands in events, mostly one, as a script has them: a length, a moment, a kind, fields. The records of the call
+/// before are dropped. `detail` is the place or line that an error names, and otherwise 0.
 #[unsafe(no_mangle)]
 pub extern "C" fn sshc_session_take(
     alloc: Global,
@@ -144,8 +144,8 @@ pub extern "C" fn sshc_session_take(
     }
 }
 
-/// Copies the next record of the last call's to the front of the caller's memory, if it fits, and tells how many bytes it
-/// has. Nothing is taken where it doesn't fit.
+/// Copies the next record of the last call's to the front of the caller's memory, if it fits, and tells how many bytes
+/// it has. Nothing is taken where it doesn't fit.
 #[unsafe(no_mangle)]
 pub extern "C" fn sshc_session_record(
     alloc: Global,

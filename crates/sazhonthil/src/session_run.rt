@@ -14,8 +14,8 @@ use sshc_wire::NoMemory;
 use std::alloc::Global;
 use std::marker::Model;
 
-/// A run of a script whose events come one at a time, the lines of the last ones' records, and where the first line begins
-/// that wasn't read yet. Contracts see the run and the lines that are left.
+/// A run of a script whose events come one at a time, the lines of the last ones' records, and where the first line
+/// begins that wasn't read yet. Contracts see the run and the lines that are left.
 #[derive(Drop)]
 pub struct SessionRun {
     run: PausedRun,
@@ -35,9 +35,6 @@ impl Model for SessionRun {
 
     ghost invariant = { λ s. s.at ≤ length s.lines.items };
 }
-
-/// Lets a value go: its variants needn't be told apart.
-fn let_go<T: Drop>(_value: T) {}
 
 impl SessionRun {
     /// A session before its first event: host keys are judged by the known hosts text, for the host at the port.
@@ -75,7 +72,8 @@ impl SessionRun {
         answer
     }
 
-    /// Copies the bytes of the next record to the front of the caller's memory, if they fit, and tells how many there are.
+    /// Copies the bytes of the next record to the front of the caller's memory, if they fit, and tells how many there
+    /// are.
     pub fn next_record(&mut self, to: &mut [u8], size: &mut usize) -> u32
         ensures reads { ReadsRecord self.old self.new to.old to.new size.new result }
     {
@@ -96,3 +94,6 @@ impl SessionRun {
         }
     }
 }
+
+/// Lets a value go: its variants needn't be told apart.
+fn let_go<T: Drop>(_value: T) {}

@@ -4,7 +4,8 @@ use Rattle.std.specs.Prelude.{nat_lt, length}
 use Rattle.std.specs.Int.{w32}
 use Rattle.sshc_wire.specs.declared.error.NoMemory.{NoMemory}
 use Rattle.sshc_wire.specs.declared.error.WireError.{WireError}
-use Rattle.sshc_wire.specs.Contents.{IsAtEnd, prepend, prepend-nothing, prepend-prepend}
+use Rattle.sshc_wire.specs.Contents.{IsAtEnd, prepend}
+use Rattle.sshc_wire.specs.ContentsLaws.{prepend-nothing, prepend-prepend}
 use Rattle.sshc_wire.specs.Faults.{Rose}
 use Rattle.sshc_wire.specs.Reads.{number_at}
 use Rattle.sshc_agent_core.specs.declared.input.AgentInput.{AgentInput}

@@ -1,9 +1,10 @@
 -- A connection that continues by one call, and the ways in which it ends.
 use Rattle.std.proofs.Common.{◌≡◌, ◌≤◌, ◌⊎◌, ℕ, List, [], ◌∷◌, ◌++◌, Option, Some, None, Result, Ok, Err, refl, sym, ap, subst, ◌∙◌, arith, append_assoc, inl, inr}
 use Rattle.std.proofs.lemmas.List.{append-nil}
-use Rattle.sshc_wire.specs.Cases.{some_is}
+use Rattle.sshc_wire.specs.CasesLaws.{some_is}
 use Rattle.sshc_wire.specs.declared.error.NoMemory.{NoMemory}
-use Rattle.sshc_wire.specs.Contents.{IsAtEnd, append, append-append, append-nothing, prepend, prepend-nothing, prepend-prepend}
+use Rattle.sshc_wire.specs.Contents.{IsAtEnd, append, prepend}
+use Rattle.sshc_wire.specs.ContentsLaws.{append-append, append-nothing, prepend-nothing, prepend-prepend}
 use Rattle.sshc_wire.specs.Faults.{Rose}
 use Rattle.sshc_agent_core.specs.declared.input.AgentInput.{AgentInput}
 use Rattle.sshc_agent_core.specs.declared.input.AgentInput.TheVariants as inputs

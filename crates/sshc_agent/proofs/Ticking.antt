@@ -2,7 +2,8 @@
 use Rattle.std.proofs.Common.{◌≡◌, ◌⊎◌, ℕ, ◌+◌, List, [], ◌∷◌, ◌++◌, length, Option, Result, Ok, Err, IfOk, OnErr, refl, sym, ap, subst, ◌∙◌, arith, append_assoc, length-append, inl, inr}
 use Rattle.std.proofs.lemmas.List.{append-nil, append_cancel_left, map-append}
 use Rattle.sshc_wire.specs.declared.error.NoMemory.{NoMemory}
-use Rattle.sshc_wire.specs.Contents.{append, append-append, append-nothing}
+use Rattle.sshc_wire.specs.Contents.{append}
+use Rattle.sshc_wire.specs.ContentsLaws.{append-append, append-nothing}
 use Rattle.sshc_wire.specs.Faults.{Rose}
 use Rattle.sshc_key.specs.Signers.{SignCall}
 use Rattle.sshc_agent_core.specs.declared.input.AgentInput.{AgentInput}

@@ -187,10 +187,10 @@ fn serve_generations_by<
     shared.close()
 }
 
-/// Serves each stream that the listener accepts, as `serve` does, for months: an agent that asks about each request, and
-/// whose history is kept in generations. When a journal is full and no call runs, its history is closed and compared with
-/// the calls of the connections, and handed to the keeper; the next one begins with the agent as it is. Once the listener
-/// has failed and all connections have ended, returns the last generation.
+/// Serves each stream that the listener accepts, as `serve` does, for months: an agent that asks about each request,
+/// and whose history is kept in generations. When a journal is full and no call runs, its history is closed and
+/// compared with the calls of the connections, and handed to the keeper; the next one begins with the agent as it is.
+/// Once the listener has failed and all connections have ended, returns the last generation.
 ///
 /// Errors: `NoMemory`, also where the listener ran out of memory, which ends the serving; else what differs between the
 /// connections' calls and the agent's history.

@@ -57,8 +57,8 @@ fn lasting_turn<
     }
 }
 
-/// Serves a connection of an agent that lasts, as `serve_one` does: until its stream ends or fails, the agent closes it,
-/// a call is refused or memory runs out. If the stream's source ends or fails, the last call is Close.
+/// Serves a connection of an agent that lasts, as `serve_one` does: until its stream ends or fails, the agent closes
+/// it, a call is refused or memory runs out. If the stream's source ends or fails, the last call is Close.
 #[tactic(auto, using(crate::proofs::Signed::lasting_nothing, crate::proofs::Signed::lasting_on))]
 pub fn serve_lasting_one<
     L: Settings,

@@ -41,8 +41,8 @@ pub fn serve_one<
         seat result.0 result.1 }
     // Each call is made at a moment that the clock returned for it.
     ensures moments { Timed (C.told clock.old) (C.told clock.new) seat result.0 }
-    // The signer gets exactly the calls of the connection's steps, and each step leaves every other connection as it was:
-    // so a fault of this stream closes no other.
+    // The signer gets exactly the calls of the connection's steps, and each step leaves every other connection as it
+    // was: so a fault of this stream closes no other.
     ensures signs { Signs (G.calls signer.old) (G.calls signer.new) seat result.0 }
     // It is closed because the signer refused only where the signer's count of refusals rose.
     ensures caused { Caused (G.refusals signer.old) (G.refusals signer.new) seat result.0 }

@@ -4,9 +4,10 @@ use Rattle.std.specs.Prelude.{nat_lt, ◌==◌}
 use Rattle.std.specs.Int.{w32, from_be_bytes}
 use Rattle.sshc_wire.specs.declared.error.WireError.{WireError}
 use Rattle.sshc_wire.specs.declared.error.WireError.TheVariants.{Short}
-use Rattle.sshc_wire.specs.Format.{bind_ok, ok_is}
+use Rattle.sshc_wire.specs.FormatLaws.{bind_ok, ok_is}
 use Rattle.sshc_wire.specs.Reads.{◌>>=◌, byte_at, number_at}
-use Rattle.sshc_wire.specs.Whole.{Takes, all_at, all_fails, all_more, all_none}
+use Rattle.sshc_wire.specs.Whole.{Takes, all_at}
+use Rattle.sshc_wire.specs.WholeLaws.{all_fails, all_more, all_none}
 use Rattle.sshc_agent_core.specs.declared.constraints.Constraints.{Constraints}
 use Rattle.sshc_agent_core.specs.AgentTable.Add.{and_so, constraint_at, kept_in, with_one}
 

@@ -7,7 +7,8 @@ use Rattle.std.proofs.lemmas.Option.{slice_get_within, get_or_from_slice_get}
 use Rattle.sshc_agent_core.specs.declared.key_list.HeldKey.{HeldKey}
 use Rattle.sshc_agent_core.specs.KeyList.{held, is_key, without_key}
 use Rattle.sshc_agent_core.specs.Deadlines.{Adds, Agree, AreApart, Drops, IsMoved, IsSame, Lists, added, due_in, is_due, is_then, listed_at, named_in, one, times}
-use Rattle.sshc_agent_core.proofs.DueLists.{added_counts, added_full, adds_added, and_first, and_later, dropped_counts, dropped_full, no_times, not_true, same_blob, stays_by, then_same, unlike}
+use Rattle.sshc_agent_core.proofs.DueLists.{added_counts, added_full, adds_added, and_first, and_later, dropped_counts, dropped_full, no_times, same_blob, stays_by, then_same, unlike}
+use Rattle.std.proofs.lemmas.Bool.{false_from_ne_true}
 
 -- ---- no keys
 
@@ -116,7 +117,7 @@ replaced_agree keys at before key old mid new there same differ apart adds drops
       dropped_counts before.deadline key.blob mid new drops q b
       ∙ ap (λ (n : ℕ). cond (is_then before.deadline q && bytes_eq key.blob b) 0 n) (added_counts key.deadline key.blob old mid adds q b ∙ ap (λ (n : ℕ). n + one (is_due b q key)) (agree.counts q b))
       ∙ change_by (is_then before.deadline q && bytes_eq key.blob b) (is_due b q key) (due_in b q keys) (due_in b q (set keys at key)) sums
-      (λ h. not_true (is_due b q key) (λ k. differ (then_same before.deadline key.deadline q (and_first (is_then before.deadline q) (bytes_eq key.blob b) h) (and_first (is_then key.deadline q) (is_key b key) k))))
+      (λ h. false_from_ne_true (is_due b q key) (λ k. differ (then_same before.deadline key.deadline q (and_first (is_then before.deadline q) (bytes_eq key.blob b) h) (and_first (is_then key.deadline q) (is_key b key) k))))
       (due_once b q keys apart);
   full = dropped_full before.deadline key.blob mid new drops (added_full key.deadline key.blob old mid adds agree.full);
 }
@@ -137,11 +138,11 @@ without_by true k blob b q rest keys same h = by (bytes_eq blob b) refl h
     by true is h = h
     by false is h =
         let other : is_key b k ≡ false = ap (λ (a : List ℕ). bytes_eq a b) (same_blob k.blob blob same) ∙ is in
-        let never : is_due b q k ≡ false = not_true (is_due b q k) (λ t. let no : true ≡ false = sym (and_later (is_then k.deadline q) (is_key b k) t) ∙ other in absurd cc) in
+        let never : is_due b q k ≡ false = false_from_ne_true (is_due b q k) (λ t. let no : true ≡ false = sym (and_later (is_then k.deadline q) (is_key b k) t) ∙ other in absurd cc) in
         omega (arith, h, ap one never)
 without_by false k blob b q rest keys differ h =
     stays_by (bytes_eq blob b) (is_due b q k) (due_in b q rest) (due_in b q keys)
-    (λ is. not_true (is_due b q k) (λ t. let no : true ≡ false = sym (and_later (is_then k.deadline q) (is_key b k) t) ∙ unlike k.blob blob b differ is in absurd cc)) h
+    (λ is. false_from_ne_true (is_due b q k) (λ t. let no : true ≡ false = sym (and_later (is_then k.deadline q) (is_key b k) t) ∙ unlike k.blob blob b differ is in absurd cc)) h
 
 due_without : (blob b : List ℕ) (q : ℕ) (keys : List HeldKey) → due_in b q (without_key keys blob) ≡ cond (bytes_eq blob b) 0 (due_in b q keys)
 due_without blob b q [] = no_times (bytes_eq blob b)

@@ -3,7 +3,7 @@ use Rattle.std.proofs.Common.{◌≡◌, ℕ, ◌+◌, ◌<◌, Bool, true, fals
 use Rattle.std.specs.Prelude.{◌&&◌, bytes_eq}
 use Rattle.std.proofs.lemmas.List.Sums.{sum_by-cons, sum_by_push}
 use Rattle.std.proofs.lemmas.Slice.Eq.{bytes_eq-Decides}
-use Rattle.std.proofs.lemmas.Bool.{eqb-true, eq-eqb}
+use Rattle.std.proofs.lemmas.Bool.{eqb-true, eq-eqb, false_from_ne_true}
 use Rattle.sshc_agent_core.specs.Deadlines.{Adds, Drops, IsDropped, IsMoved, IsReplaced, IsReplacedAt, Leaves, Lists, added, if_there, is_then, listed_at, one, others, times, unless_empty}
 
 -- ---- lists of blobs
@@ -36,10 +36,6 @@ pub stays_by : (c d : Bool) (n m : ℕ) → (c ≡ true → d ≡ false) → n �
 stays_by true true n m not_both h = let no : true ≡ false = not_both refl in absurd cc
 stays_by true false n m not_both h = omega (arith, h)
 stays_by false d n m not_both h = ap (λ (k : ℕ). one d + k) h
-
-pub not_true : (b : Bool) → (b ≡ true → ⊥) → b ≡ false
-not_true true h = absurd (h refl)
-not_true false h = refl
 
 -- a blob that isn't x, and is b: then b isn't x
 pub unlike : (x blob b : List ℕ) → bytes_eq x blob ≡ false → bytes_eq blob b ≡ true → bytes_eq x b ≡ false
@@ -162,7 +158,7 @@ adds_added (Some moment) blob old = λ q. refl
 -- the list of the one deadline isn't the one to which the blob is added
 added_elsewhere : (before deadline : Option ℕ) (blob : List ℕ) (old : Lists) (q : ℕ) → (before ≡ deadline → ⊥) → is_then before q ≡ true → added deadline blob old q ≡ old q
 added_elsewhere before deadline blob old q differ is =
-    ap (λ (c : Bool). cond c (Some (listed_at (old q) ++ blob ∷ [])) (old q)) (not_true (is_then deadline q) (λ t. differ (then_same before deadline q is t)))
+    ap (λ (c : Bool). cond c (Some (listed_at (old q) ++ blob ∷ [])) (old q)) (false_from_ne_true (is_then deadline q) (λ t. differ (then_same before deadline q is t)))
 
 moved_at : (moment : ℕ) (deadline : Option ℕ) (blob : List ℕ) (rest : Option (List (List ℕ))) (old mid new : Lists) → (Some moment ≡ deadline → ⊥) → rest ≡ unless_empty (others blob (listed_at (old moment)))
     → Adds deadline blob old mid → IsReplaced moment rest mid new → IsDropped moment blob (added deadline blob old) new

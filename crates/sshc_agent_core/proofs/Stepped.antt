@@ -21,6 +21,7 @@ use Rattle.sshc_agent_core.specs.Connections.{is_new, standing_of, with_standing
 use Rattle.sshc_agent_core.specs.Asked.{asked_of}
 use Rattle.sshc_agent_core.specs.Turn.{FollowsTold, asked_in, told_calls}
 use Rattle.sshc_agent_core.proofs.Telling.{told_first}
+use Rattle.std.proofs.lemmas.Bool.{both_ways}
 
 -- the row's answer
 pub goes : (now conn : ℕ) (input : AgentInput) (before mid after : AgentList) (answer : Option Answer) (output : AgentOutput)
@@ -45,9 +46,6 @@ found_not : (b : Bool) (v : Standing) (o : Option Standing) → cond b (Some v) 
 found_not true v o e = absurd cc
 found_not false v o e = (refl, e)
 
-not_both : (b : Bool) → b ≡ false → b ≡ true → ⊥
-not_both b e f = cc
-
 same_number : (n : ℕ) → is_eq (nat_cmp n n) ≡ true
 same_number n = sym (ap is_eq (nat_cmp_is n n Equal refl))
 
@@ -56,7 +54,7 @@ forgotten : (conns : Conns) (conn : ℕ) (v : Standing) → standing_of conns co
 forgotten [] conn v absent = ap (λ (b : Bool). cond b [] ((conn, v) ∷ [])) (same_number conn)
 forgotten (e ∷ es) conn v absent =
     let first = found_not (is_at (nat_cmp conn) e.0) e.1 (standing_of es conn) absent in
-    removed_by (nat_cmp conn e.0) conn v e es refl (same_number conn) (not_both _ first.0) (forgotten es conn v first.1)
+    removed_by (nat_cmp conn e.0) conn v e es refl (same_number conn) (both_ways _ first.0) (forgotten es conn v first.1)
 
 absent_of : (o : Option Standing) → not (is_some o) ≡ true → o ≡ None
 absent_of None e = refl

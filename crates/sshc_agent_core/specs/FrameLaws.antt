@@ -4,10 +4,10 @@ use Rattle.std.specs.Prelude.{nat_lt}
 use Rattle.std.specs.Int.{w32, from_be_bytes}
 use Rattle.std.proofs.lemmas.Bool.{le-ltb, ltb-false}
 use Rattle.std.proofs.lemmas.List.{take-append-le, drop-append-le}
-use Rattle.sshc_wire.specs.Cases.{some_is}
+use Rattle.sshc_wire.specs.CasesLaws.{some_is}
 use Rattle.sshc_wire.specs.declared.error.WireError.{WireError}
 use Rattle.sshc_wire.specs.declared.error.WireError.TheVariants.{Short}
-use Rattle.sshc_wire.specs.Format.{ok_is}
+use Rattle.sshc_wire.specs.FormatLaws.{ok_is}
 use Rattle.sshc_wire.specs.Reads.{number_at}
 use Rattle.sshc_agent_core.specs.declared.input.AgentInput.{AgentInput}
 use Rattle.sshc_agent_core.specs.declared.input.AgentInput.TheVariants.{Frame, Oversize}

@@ -13,11 +13,12 @@ pub mod FrameLaws
 pub mod AgentHistory
 pub mod LockLaws
 pub mod LockLaw
-pub mod LocksHold
-pub mod AskerLaw
+pub mod LocksHoldLaws
+pub mod AskerLaws
 pub mod Asked
 pub mod AskedRows
 pub mod StepShape
 pub mod ShapeLaws
 pub mod StepLaws
 pub mod SignedEntries
+pub mod SignedEntriesLaws

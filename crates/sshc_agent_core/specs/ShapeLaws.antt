@@ -9,7 +9,7 @@ use Rattle.sshc_wire.specs.declared.error.WireError.{WireError}
 use Rattle.sshc_wire.specs.declared.message_type.MessageType.{MessageType}
 use Rattle.sshc_wire.specs.declared.message_type.MessageType.TheVariants as messages
 use Rattle.sshc_wire.specs.Format.{made_at}
-use Rattle.sshc_wire.specs.Lookup.{same_bytes}
+use Rattle.sshc_wire.specs.LookupLaws.{same_bytes}
 use Rattle.sshc_wire.specs.Reads.{number_at, string_at, text_at}
 use Rattle.sshc_wire.specs.Wire.{string_text}
 use Rattle.sshc_key.specs.declared.error.Error.{Error}

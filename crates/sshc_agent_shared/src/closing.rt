@@ -99,8 +99,8 @@ impl<L: Settings> Generation<L> {
         history
     }
 
-    /// The journal, if every seat is back and its calls are in the journal. Otherwise returns the generation and the seats
-    /// with the error.
+    /// The journal, if every seat is back and its calls are in the journal. Otherwise returns the generation and the
+    /// seats with the error.
     #[tactic(auto, using(crate::proofs::Seams::torn_locked))]
     pub(crate) fn close(
         self,
@@ -152,7 +152,8 @@ impl<L: Settings> AgentState<L> {
         ensures accounts { IfOk result (λ h. Accounts L.asks L.limit h.items seats.items) }
         // From each acknowledged lock to the unlock with its passphrase, nothing is signed, listed or acknowledged.
         ensures locks { IfOk result (λ h. LocksHold h.items) }
-        // Each signature is by a sign request to an unlocked agent, by a key that was held, and confirmed if it wants that.
+        // Each signature is by a sign request to an unlocked agent, by a key that was held, and confirmed if it wants
+        // that.
         ensures signed { IfOk result (λ h. SignaturesArePermitted h.items) }
         // An entry has a signature exactly with an answer of type 14, and it is the one in that frame.
         ensures told { IfOk result (λ h. All IsTold h.items) }

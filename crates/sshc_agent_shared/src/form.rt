@@ -1,7 +1,9 @@
-//! What is kept of an input and its output: no bytes where their kind says all, and no copy of what another one has too.
+//! What is kept of an input and its output: no bytes where their kind says all, and no copy of what another one has
+//! too.
 
 ghost use Rattle.std.specs.Prelude.{◌≡◌, ◌↔◌, IfOk, IfSome, IsSome, IsTrue};
-ghost use Rattle.sshc_agent_shared.specs.KeptForms.{bare_input, bare_output, form_input, form_output, input_of, output_of, seen_input, seen_output};
+ghost use Rattle.sshc_agent_shared.specs.KeptForms.{bare_input, bare_output, form_input, form_output, input_of};
+ghost use Rattle.sshc_agent_shared.specs.KeptForms.{output_of, seen_input, seen_output};
 
 use crate::bytes::KeptBytes;
 use sshc_agent_core::{AgentInput, AgentOutput, Cause};

@@ -1,6 +1,8 @@
-//! The agent, the journal of its calls, a count for each connection, and the ledger: a generation of an agent's history.
+//! The agent, the journal of its calls, a count for each connection, and the ledger: a generation of an agent's
+//! history.
 
-ghost use Rattle.std.specs.Prelude.{◌≡◌, ◌≢◌, ◌≤◌, ◌+◌, ◌++◌, ◌<◌, ◌↔◌, [], IfErr, IfOk, IsTrue, MatchOption, OnErr, OnOk};
+ghost use Rattle.std.specs.Prelude.{◌≡◌, ◌≢◌, ◌≤◌, ◌+◌, ◌++◌, ◌<◌, ◌↔◌, [], IfErr, IfOk, IsTrue, MatchOption, OnErr};
+ghost use Rattle.std.specs.Prelude.{OnOk};
 ghost use Rattle.sshc_agent_core.specs.AgentList.{empty_list};
 ghost use Rattle.sshc_key.specs.Signers.{since};
 ghost use Rattle.sshc_wire.specs.Faults.{Rose};
@@ -59,7 +61,11 @@ impl<L: Settings> Model for Generation<L> {
 
     ghost coded = { Prim.hlevel (codes, key_pair_code) };
 
-    ghost view = { λ s. record { start = s.start.value; last = s.last; of = record { asks = s.given.asks; list = s.agent; journal = s.journal.items; made = s.made; limit = s.given.limit } } };
+    ghost view = { λ s. record {
+      start = s.start.value;
+      last = s.last;
+      of = record { asks = s.given.asks; list = s.agent; journal = s.journal.items; made = s.made; limit = s.given.limit };
+    } };
 
     ghost invariant = { λ s. IsKept s.start.value s.agent s.journal.items s.counts s.book.total s.spare.amount s.spare.parts s.made s.weight s.given.limit };
 }

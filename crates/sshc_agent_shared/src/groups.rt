@@ -1,6 +1,7 @@
 //! The entries of each connection, found by one pass over the journal.
 
-ghost use Rattle.std.specs.Prelude.{◌≡◌, ◌≢◌, ◌<◌, ◌^◌, ◌==◌, ◌++◌, ℕ, IfOk, MatchOption, OnOk, [], ◌∷◌, filter, if◌then◌else◌, length, map, option_copied, slice_get};
+ghost use Rattle.std.specs.Prelude.{◌≡◌, ◌≢◌, ◌<◌, ◌^◌, ◌==◌, ◌++◌, ℕ, IfOk, MatchOption, OnOk, [], ◌∷◌, filter};
+ghost use Rattle.std.specs.Prelude.{if◌then◌else◌, length, map, option_copied, slice_get};
 ghost use Rattle.std.specs.BTreeMap.{get};
 ghost use Rattle.std.specs.Ordering.{nat_cmp};
 ghost use Rattle.sshc_agent_shared.specs.Calls.{call_in};

@@ -191,9 +191,9 @@ impl<L: Settings> LastingState<L> {
         self.ended.push_reserved(seat);
     }
 
-    /// Closes the journal, if the calls of all seats are in it, and begins the next generation: with the agent as it is, of
-    /// which only connections that ended are forgotten, and a seat without calls for each connection that goes on.
-    /// Otherwise nothing changes.
+    /// Closes the journal, if the calls of all seats are in it, and begins the next generation: with the agent as it
+    /// is, of which only connections that ended are forgotten, and a seat without calls for each connection that goes
+    /// on. Otherwise nothing changes.
     pub fn renew(&mut self) -> Result<Past, CloseError>
         // What is returned is the generation: where it began, where it ended, and its history.
         ensures past { IfOk result

@@ -1,6 +1,7 @@
 //! The seam between two generations: a journal is closed, and the next one begins with the agent as it is.
 
-ghost use Rattle.std.specs.Prelude.{◌≡◌, ◌≤◌, ◌+◌, ◌++◌, [], All, IfErr, IfOk, OnErr, OnOk, length, map, sum_by, vec_capacity};
+ghost use Rattle.std.specs.Prelude.{◌≡◌, ◌≤◌, ◌+◌, ◌++◌, [], All, IfErr, IfOk, OnErr, OnOk, length, map, sum_by};
+ghost use Rattle.std.specs.Prelude.{vec_capacity};
 ghost use Rattle.sshc_agent_shared.specs.Calls.{calls_of};
 ghost use Rattle.sshc_agent_shared.specs.Closing.{AccountsFrom, LockedCause};
 ghost use Rattle.sshc_agent_shared.specs.Generations.{CarriesOn, conns_of, forgotten_all, next_of, renewed};
@@ -157,8 +158,8 @@ impl<L: Settings> Generation<L> {
     }
 
     /// Closes the journal, if the seats' calls are in it, and begins the next generation: with the agent as it is, of
-    /// which only the connections of the ended seats are forgotten, and with a seat without calls for each connection that
-    /// goes on. Otherwise nothing changes.
+    /// which only the connections of the ended seats are forgotten, and with a seat without calls for each connection
+    /// that goes on. Otherwise nothing changes.
     #[tactic(auto, using(crate::proofs::Seams::carries_on))]
     pub(crate) fn renew(
         &mut self,

@@ -22,7 +22,13 @@ impl<L: Ledger> Model for Seat<L> {
 
     ghost Value = { SeatState };
 
-    ghost view = { λ s. record { conn = s.conn; calls = s.calls.items; refused = s.refused; parts = s.part.parts; amount = s.part.amount } };
+    ghost view = { λ s. record {
+      conn = s.conn;
+      calls = s.calls.items;
+      refused = s.refused;
+      parts = s.part.parts;
+      amount = s.part.amount;
+    } };
 
     ghost invariant = { λ s. (s.part.parts ≡ 1) × (s.part.amount ≡ vec_len s.calls) };
 }

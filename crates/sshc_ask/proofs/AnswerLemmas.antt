@@ -2,7 +2,8 @@
 use Rattle.std.proofs.Common.{◌≡◌, ℕ, ◌+◌, ◌≤◌, List, ◌++◌, length, Option, Result, Ok, Err, refl, sym, ap, subst, ◌∙◌, arith, length-append, inr}
 use Rattle.std.specs.Prelude.{Vec}
 use Rattle.std.specs.declared.alloc.Global.{Global}
-use Rattle.sshc_wire.specs.Contents.{prepend, prepend-prepend}
+use Rattle.sshc_wire.specs.Contents.{prepend}
+use Rattle.sshc_wire.specs.ContentsLaws.{prepend-prepend}
 use Rattle.sshc_wire.specs.Faults.{Rose}
 use Rattle.sshc_wire.specs.Wire.{string_text, u32_text}
 use Rattle.sshc_key.specs.declared.error.Error.{Error}

@@ -2,7 +2,8 @@
 use Rattle.std.proofs.Common.{◌≡◌, ℕ, ◌+◌, ◌≤◌, List, [], length, Option, Result, Ok, Err, refl, sym, subst, arith, inl, inr}
 use Rattle.std.specs.Prelude.{Vec}
 use Rattle.std.specs.declared.alloc.Global.{Global}
-use Rattle.sshc_wire.specs.Contents.{append, append-nothing, prepend-nothing}
+use Rattle.sshc_wire.specs.Contents.{append}
+use Rattle.sshc_wire.specs.ContentsLaws.{append-nothing, prepend-nothing}
 use Rattle.sshc_key.specs.declared.error.Error.{Error}
 use Rattle.sshc_key.specs.declared.error.Error.TheVariants.{NoMemory, ReadFault, UnexpectedEnd}
 use Rattle.sshc_ask.specs.SourceState.{SourceState, source_state, ReadsAnswer, StopsBy}

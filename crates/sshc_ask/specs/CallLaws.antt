@@ -1,11 +1,12 @@
 -- A call that finds a whole answer returns its reading, unless a fault or lack of memory ended it before.
 use Rattle.std.proofs.Common.{◌≡◌, ℕ, ◌+◌, ◌^◌, ◌<◌, ◌≤◌, ◌⊎◌, inl, inr, List, [], ◌∷◌, ◌++◌, length, Option, Some, None, Ok, Result, refl, sym, ap, subst, ◌∙◌, arith, append_assoc, length-append}
 use Rattle.std.specs.Int.{w32}
-use Rattle.sshc_wire.specs.Cases.{some_is}
+use Rattle.sshc_wire.specs.CasesLaws.{some_is}
 use Rattle.sshc_wire.specs.declared.error.WireError.{WireError}
 use Rattle.sshc_wire.specs.Contents.{IsAtEnd, prepend}
-use Rattle.sshc_wire.specs.Format.{done, ok_is}
-use Rattle.sshc_wire.specs.Parts.{number32, strings}
+use Rattle.sshc_wire.specs.Format.{done}
+use Rattle.sshc_wire.specs.FormatLaws.{ok_is}
+use Rattle.sshc_wire.specs.PartsLaws.{number32, strings}
 use Rattle.sshc_wire.specs.Reads.{number_at, string_at}
 use Rattle.sshc_wire.specs.Wire.{IsShort, string_text, u32_text}
 use Rattle.sshc_key.specs.declared.agent_msg.TheConstants.{MAX_AGENT_FRAME_LEN}

@@ -3,7 +3,8 @@
 ghost use Rattle.std.specs.Prelude.{◌≡◌, [], ◌++◌, option_map};
 ghost use Rattle.sshc_wire.specs.Counted.{times_at};
 ghost use Rattle.sshc_key.specs.Gives.{Gives, GivesAll};
-ghost use Rattle.sshc_ask.specs.AgentCalls.Readings.{extension_reading, identities_reading, identity_at, identity_of, listed, query_reading, success_reading};
+ghost use Rattle.sshc_ask.specs.AgentCalls.Readings.{extension_reading, identities_reading, identity_at, identity_of};
+ghost use Rattle.sshc_ask.specs.AgentCalls.Readings.{listed, query_reading, success_reading};
 
 use sshc_key::{AgentIdentity, Error, KeyData, PublicKey, agent_msg, parse_public_key};
 use sshc_wire::{Cursor, Text};

@@ -2,7 +2,8 @@
 
 ghost use Rattle.std.specs.Prelude.{◌≡◌, ◌+◌, ◌≤◌, length};
 ghost use Rattle.sshc_wire.specs.Wire.{u32_text};
-ghost use Rattle.sshc_ask.specs.SourceState.{sink_state, source_state, ReadsAnswer, ReadsLength, ReadsPart, WritesFrame};
+ghost use Rattle.sshc_ask.specs.SourceState.{sink_state, source_state, ReadsAnswer, ReadsLength, ReadsPart};
+ghost use Rattle.sshc_ask.specs.SourceState.{WritesFrame};
 
 use sshc_key::Error;
 use sshc_key::agent_msg::MAX_AGENT_FRAME_LEN;

@@ -3,7 +3,8 @@
 ghost use Rattle.std.specs.Prelude.{◌≡◌, ◌++◌, IfOk, OnOk, Ok, string_bytes};
 ghost use Rattle.sshc_wire.specs.Wire.{string_text};
 ghost use Rattle.sshc_key.specs.Gives.{GivesAll};
-ghost use Rattle.sshc_ask.specs.AgentCalls.Readings.{asked_signature, base64_reading, is_asked, sign_reading, signature_reading, signature_text_in};
+ghost use Rattle.sshc_ask.specs.AgentCalls.Readings.{asked_signature, base64_reading, is_asked, sign_reading};
+ghost use Rattle.sshc_ask.specs.AgentCalls.Readings.{signature_reading, signature_text_in};
 
 use base64::engine::general_purpose::STANDARD_NO_PAD;
 use sshc_key::{Error, HashAlg, Signature, agent_msg, read_signature};

@@ -7,7 +7,7 @@ use Rattle.std.proofs.lemmas.List.Concat.{flat_map-cons}
 use Rattle.sshc_wire.specs.declared.hash_alg.HashAlg.{HashAlg}
 use Rattle.sshc_wire.specs.Counted.{times_at}
 use Rattle.sshc_wire.specs.Reads.{◌>>=◌}
-use Rattle.sshc_wire.specs.Whole.{whole}
+use Rattle.sshc_wire.specs.WholeLaws.{whole}
 use Rattle.sshc_wire.specs.Wire.{IsShort, counted_text, string_text, u32_text}
 use Rattle.sshc_key.specs.declared.agent.AgentIdentity.{AgentIdentity}
 use Rattle.sshc_key.specs.declared.error.Error.{Error}

@@ -4,7 +4,7 @@ use Rattle.std.specs.List.{flat_map}
 use Rattle.std.proofs.lemmas.List.Concat.{flat_map-cons}
 use Rattle.sshc_wire.specs.declared.error.WireError.TheVariants.{Short}
 use Rattle.sshc_wire.specs.Reads.{byte_at}
-use Rattle.sshc_wire.specs.Parts.{number32}
+use Rattle.sshc_wire.specs.PartsLaws.{number32}
 use Rattle.sshc_wire.specs.Whole.{all_at}
 use Rattle.sshc_key.specs.declared.agent.Constraint.{Constraint}
 use Rattle.sshc_key.specs.declared.agent.Constraint.TheVariants.{KeyLifetime, Confirm, Extensions}

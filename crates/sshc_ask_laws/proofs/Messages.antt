@@ -9,7 +9,7 @@ use Rattle.sshc_wire.specs.declared.hash_alg.HashAlg.{HashAlg}
 use Rattle.sshc_wire.specs.declared.hash_alg.HashAlg.TheVariants.{Sha256, Sha512}
 use Rattle.sshc_wire.specs.declared.message_type.MessageType.{MessageType}
 use Rattle.sshc_wire.specs.declared.message_type.MessageType.TheVariants as messages
-use Rattle.sshc_wire.specs.Parts.{number32, strings, texts}
+use Rattle.sshc_wire.specs.PartsLaws.{number32, strings, texts}
 use Rattle.sshc_wire.specs.Reads.{number_at, ◌>>=◌}
 use Rattle.sshc_wire.specs.Wire.{IsShort, string_text, u32_text}
 use Rattle.sshc_key.specs.declared.agent.Constraint.{Constraint}

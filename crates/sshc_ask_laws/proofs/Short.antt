@@ -6,7 +6,7 @@ use Rattle.std.proofs.lemmas.Str.{IsUtf8-from_ascii, is_utf8-from_IsUtf8}
 use Rattle.std.proofs.lemmas.Str.Ascii.{IsAscii-from_all}
 use Rattle.sshc_wire.specs.Reads.{string_at}
 use Rattle.sshc_wire.specs.Wire.{IsShort, string_text, u32_text}
-use Rattle.sshc_wire.specs.Parts.{strings}
+use Rattle.sshc_wire.specs.PartsLaws.{strings}
 
 pub length-u32_text : (n : ℕ) → length (u32_text n) ≡ 4
 unfolding u32_text

@@ -9,7 +9,7 @@ use Rattle.sshc_key.specs.declared.error.Error.{Error}
 use Rattle.sshc_key.specs.declared.error.Error.TheVariants.{KeyChanged, Revoked}
 use Rattle.sshc_hosts.specs.MatchingLines.{LineKey, parts_at, matching}
 use Rattle.sshc_hosts.specs.Judgement.{KeysByMark, verdict, judged_among, is_certificate, read_lines, marked_keys, judged, IsUnreadable}
-use Rattle.sshc_hosts.specs.SaidRefusals.{read_lines-refuses}
+use Rattle.sshc_hosts.specs.RefusalLaws.{read_lines-refuses}
 use Rattle.sshc_audit.specs.Rewriting.{Change, left, rewritten, Agree, Agrees}
 use Rattle.sshc_audit.proofs.Parts.{EachLacks, parts_join}
 use Rattle.sshc_audit.proofs.Following.{numbered, parts_of, Follows, SameFound, found_same}

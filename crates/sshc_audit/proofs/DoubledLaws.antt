@@ -4,7 +4,7 @@ use Rattle.std.specs.Prelude.{◌&&◌, ◌||◌, if◌then◌else◌, bytes_eq}
 use mathlib.Core.Bool.{beq}
 use Rattle.std.specs.List.{cons_option}
 use Rattle.std.proofs.lemmas.Slice.Eq.{bytes_eq-Decides}
-use Rattle.sshc_wire.specs.Cases.{both_true}
+use Rattle.sshc_wire.specs.CasesLaws.{both_true}
 use Rattle.sshc_hosts.specs.declared.marks.Mark.{Mark}
 use Rattle.sshc_hosts.specs.declared.marks.Mark.TheVariants.{Recorded, Revoked}
 use Rattle.sshc_hosts.specs.MatchingLines.{LineKey, is_revoked, parts_at, line_key}

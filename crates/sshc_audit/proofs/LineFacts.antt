@@ -4,7 +4,7 @@ use Rattle.std.specs.Prelude.{◌==◌, ◌&&◌, ◌||◌, not, if◌then◌els
 use Rattle.std.specs.List.{list_any, join_with_byte}
 use Rattle.std.proofs.lemmas.Bool.{eqb-true}
 use Rattle.std.proofs.lemmas.Bool.Decides.{nat_tests}
-use Rattle.sshc_wire.specs.Cases.{both_true, neither, not_true}
+use Rattle.sshc_wire.specs.CasesLaws.{both_true, neither, not_true}
 use Rattle.sshc_hosts.specs.declared.marks.Mark.{Mark}
 use Rattle.sshc_hosts.specs.declared.marks.Mark.TheVariants.{Recorded, Revoked}
 use Rattle.sshc_hosts.specs.MatchingLines.{LineKey, begins_mark, parts_at, hashed_matches, is_hashed, entry_matches, field_matches, is_comment, marked, marked_as, marked_key, revoked_mark, third_field, line_key}

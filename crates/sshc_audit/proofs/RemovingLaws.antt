@@ -2,7 +2,7 @@
 use Rattle.std.proofs.Common.{◌≡◌, ℕ, ◌+◌, Bool, true, false, List, [], ◌∷◌, ◌++◌, Option, Some, None, Result, Ok, refl, ap, sym, ◌∙◌, subst}
 use Rattle.std.specs.Prelude.{◌==◌, ◌||◌, not, if◌then◌else◌, map, filter, option_map}
 use Rattle.std.specs.List.{list_any, list_all, join_with_byte, flat_map, cons_option}
-use Rattle.sshc_wire.specs.Cases.{both_false, both_true, neither, not_true}
+use Rattle.sshc_wire.specs.CasesLaws.{both_false, both_true, neither, not_true}
 use Rattle.sshc_key.specs.KeyGrammar.{Key}
 use Rattle.sshc_key.specs.declared.error.Error.{Error}
 use Rattle.sshc_hosts.specs.declared.marks.Mark.{Mark}

@@ -5,7 +5,8 @@ ghost use Rattle.sshc_hosts.specs.MatchingLines.{parts_at};
 ghost use Rattle.sshc_audit.specs.declared.error.AuditError.TheVariants.{SaltFault};
 ghost use Rattle.sshc_audit.specs.Joining.{with_piece};
 ghost use Rattle.sshc_audit.specs.Salts.{Took, TookAtMost, Wants, HasSaltCause};
-ghost use Rattle.sshc_audit.specs.Hashing.{is_name, hashed_entry, total, first_salt, entry_needs, hashed_or_same, hashed_field, part_needs, hashed_part, names_of, Hashes};
+ghost use Rattle.sshc_audit.specs.Hashing.{is_name, hashed_entry, total, first_salt, entry_needs, hashed_or_same};
+ghost use Rattle.sshc_audit.specs.Hashing.{hashed_field, part_needs, hashed_part, names_of, Hashes};
 ghost use Rattle.sshc_audit.specs.HashingSteps.{Made, MadeNext};
 
 use crate::error::AuditError;

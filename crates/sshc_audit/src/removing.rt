@@ -1,6 +1,7 @@
 //! Removes a host.
 
-ghost use Rattle.std.specs.Prelude.{◌≡◌, IfOk, OnOk, Some, Ok, List, ℕ, false, true, not, ◌&&◌, filter, option_map, if◌then◌else◌};
+ghost use Rattle.std.specs.Prelude.{◌≡◌, IfOk, OnOk, Some, Ok, List, ℕ, false, true, not, ◌&&◌, filter, option_map};
+ghost use Rattle.std.specs.Prelude.{if◌then◌else◌};
 ghost use Rattle.sshc_key.specs.KeyGrammar.{Key};
 ghost use Rattle.sshc_hosts.specs.HostText.{host_text};
 ghost use Rattle.sshc_hosts.specs.Judgement.{judged};
@@ -8,7 +9,8 @@ ghost use Rattle.sshc_hosts.specs.MatchingLines.{parts_at};
 ghost use Rattle.sshc_audit.specs.Lines.{line_seen};
 ghost use Rattle.sshc_audit.specs.Rewriting.{rewritten, Agrees};
 ghost use Rattle.sshc_audit.specs.Joining.{with_text};
-ghost use Rattle.sshc_audit.specs.Removing.{begins_apart, stays, joined_entries, with_host, line_without, part_without, removes_host, removed_entries, NoneMatches};
+ghost use Rattle.sshc_audit.specs.Removing.{begins_apart, stays, joined_entries, with_host, line_without, part_without};
+ghost use Rattle.sshc_audit.specs.Removing.{removes_host, removed_entries, NoneMatches};
 
 use crate::joining::Joining;
 use crate::line::{LineFields, add_with_host, line_of};

@@ -4,7 +4,8 @@ ghost use Rattle.std.specs.Prelude.{◌≡◌, ◌≤◌, IfOk, Ok, Err, codes};
 ghost use Rattle.sshc_hosts_words.specs.Adding.{Adds};
 ghost use Rattle.sshc_audit.specs.Hashing.{hashed_text, names_of};
 ghost use Rattle.sshc_audit.specs.SaltLines.{salts_in};
-ghost use Rattle.sshc_audit.specs.AuditWords.{Asked, hash, drop, remove, Asks, asked_by, IsReading, IsAnswer, HashesWith, written_for, status_for, outside, Audits, RefusesWords};
+ghost use Rattle.sshc_audit.specs.AuditWords.{Asked, hash, drop, remove, Asks, asked_by, IsReading, IsAnswer};
+ghost use Rattle.sshc_audit.specs.AuditWords.{HashesWith, written_for, status_for, outside, Audits, RefusesWords};
 
 use crate::asked::{AuditAsked, audit_asked};
 use crate::doubled::drop_doubled;

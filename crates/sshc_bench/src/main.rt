@@ -1,7 +1,7 @@
 //! Measurements, printed as counts.
 //!
-//! The first argument names what is measured, two numbers how much of it (README.md lists them). Without arguments there
-//! is a small run of each.
+//! The first argument names what is measured, two numbers how much of it (README.md lists them). Without arguments
+//! there is a small run of each.
 #![tactic(auto)]
 
 mod agent;

@@ -4,7 +4,8 @@ ghost use Rattle.std.specs.Prelude.{◌≡◌, [], Some};
 ghost use Rattle.sshc_agent_core.specs.AgentList.{empty_list, forgotten};
 ghost use Rattle.sshc_agent_core.specs.Asked.{asked_of, told_of};
 ghost use Rattle.sshc_c_calls.specs.AgentInputs.{input_of};
-ghost use Rattle.sshc_c_calls.specs.AgentOutputs.{answer_told, bytes_of, message_number, number_of, said_as, status_of, TakesInput, TakesNumber};
+ghost use Rattle.sshc_c_calls.specs.AgentOutputs.{answer_told, bytes_of, message_number, number_of, said_as, status_of};
+ghost use Rattle.sshc_c_calls.specs.AgentOutputs.{TakesInput, TakesNumber};
 ghost use Rattle.sshc_c_calls.specs.Questions.{AsksNumber, AsksRequest, HasNoParts};
 
 use crate::agent_input::input_of;
@@ -151,8 +152,8 @@ impl AgentRun {
         self.keep(alloc, output)
     }
 
-    /// Takes the input of this number at a moment in milliseconds, with the signer's answer to what it asks, and keeps the
-    /// bytes of the output.
+    /// Takes the input of this number at a moment in milliseconds, with the signer's answer to what it asks, and keeps
+    /// the bytes of the output.
     #[tactic(auto, using(crate::proofs::Asking::refused_take, crate::proofs::Asking::made_take))]
     pub fn take(
         &mut self,

@@ -13,8 +13,8 @@ use std::alloc::Global;
 const OVERSIZE: u32 = 262145;
 
 /// The input of this number: 0 is the frame, without its length; 1 a frame's length above 262144; 2 and 3 that the user
-/// allows the request asked about, or not; 4 and 5 that the user confirms the use of the key asked about, or not; 6 that
-/// the client went away. Otherwise the status that refuses it.
+/// allows the request asked about, or not; 4 and 5 that the user confirms the use of the key asked about, or not; 6
+/// that the client went away. Otherwise the status that refuses it.
 pub fn input_of(alloc: Global, number: u32, frame: &[u8]) -> Result<AgentInput, u32>
     ensures input { IfOk result (λ input. input_of number frame.now ≡ Some input) }
     ensures refused { IfErr result (λ status. RefusesInput (input_of number frame.now) status) }

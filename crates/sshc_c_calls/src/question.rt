@@ -10,8 +10,8 @@ use sshc_key::{HashAlg, PrivateKey, PublicKeyBase64, write_key_pair};
 use sshc_wire::{NoMemory, Octets};
 use std::alloc::Global;
 
-/// A hash (0 none, 1 SHA-256, 2 SHA-512), the bytes to sign, the public key's blob, and the key pair as ADD_IDENTITY has
-/// it.
+/// A hash (0 none, 1 SHA-256, 2 SHA-512), the bytes to sign, the public key's blob, and the key pair as ADD_IDENTITY
+/// has it.
 #[derive(Drop)]
 pub struct Question {
     pub hash: u32,

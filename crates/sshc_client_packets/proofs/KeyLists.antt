@@ -2,10 +2,11 @@
 use Rattle.std.proofs.Common.{◌≡◌, ℕ, ◌<◌, List, [], ◌∷◌, ◌++◌, length, Result, Ok, Err, refl, sym, ap, ◌∙◌, append_assoc, arith}
 use Rattle.std.proofs.lemmas.List.{append-nil}
 use Rattle.std.proofs.lemmas.List.Concat.{flat_map-cons}
-use Rattle.sshc_wire.specs.Format.{faults_ok}
-use Rattle.sshc_wire.specs.Parts.{string_takes_bytes}
+use Rattle.sshc_wire.specs.FormatLaws.{faults_ok}
+use Rattle.sshc_wire.specs.PartsLaws.{string_takes_bytes}
 use Rattle.sshc_wire.specs.Reads.{◌>>=◌, string_at}
-use Rattle.sshc_wire.specs.Whole.{Takes, all_at, all_none, all_more, all_fails}
+use Rattle.sshc_wire.specs.Whole.{Takes, all_at}
+use Rattle.sshc_wire.specs.WholeLaws.{all_none, all_more, all_fails}
 use Rattle.sshc_key.specs.KeyGrammar.{Key}
 use Rattle.sshc_key.specs.Nesting.{blob_key}
 use Rattle.sshc_client_packets.specs.declared.error.PacketError.{PacketError}

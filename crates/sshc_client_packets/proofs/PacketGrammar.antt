@@ -1,9 +1,10 @@
 -- Reading a packet agrees with its grammar.
 use Rattle.std.proofs.Common.{◌≡◌, ℕ, List, [], ◌++◌, Some, Ok, refl, sym, ap, subst, ◌∙◌, append_assoc}
 use Rattle.std.proofs.lemmas.List.{append-nil}
-use Rattle.sshc_wire.specs.Format.{bind_ok, ok_is}
-use Rattle.sshc_wire.specs.Grammar.{IsGrammar, IsWholeGrammar, IsFlag, of_format, flags, in_row, made_of, faults_seen, finishing}
-use Rattle.sshc_wire.specs.Parts.{strings, texts, number32, a_byte}
+use Rattle.sshc_wire.specs.FormatLaws.{bind_ok, ok_is}
+use Rattle.sshc_wire.specs.Grammar.{IsGrammar, IsWholeGrammar, IsFlag}
+use Rattle.sshc_wire.specs.GrammarLaws.{of_format, flags, in_row, made_of, faults_seen, finishing}
+use Rattle.sshc_wire.specs.PartsLaws.{strings, texts, number32, a_byte}
 use Rattle.sshc_wire.specs.Reads.{Reader, number_at, string_at, text_at}
 use Rattle.sshc_wire.specs.declared.channel_open_failure.ChannelOpenFailure.{ChannelOpenFailure}
 use Rattle.sshc_wire.specs.declared.channel_record.ServerOpen.TheVariants as opens

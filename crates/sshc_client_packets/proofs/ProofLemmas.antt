@@ -1,9 +1,10 @@
 -- A reply is judged to be a proof of host keys exactly if it is one.
 use Rattle.std.proofs.Common.{◌≡◌, ℕ, Bool, true, false, cond, List, [], ◌∷◌, ◌++◌, Option, Some, None, Result, Ok, Err, length, refl, ap, subst, ◌∙◌}
-use Rattle.sshc_wire.specs.Format.{behind_are_bytes}
-use Rattle.sshc_wire.specs.Parts.{strings}
+use Rattle.sshc_wire.specs.FormatLaws.{behind_are_bytes}
+use Rattle.sshc_wire.specs.PartsLaws.{strings}
 use Rattle.sshc_wire.specs.Reads.{string_at}
-use Rattle.sshc_wire.specs.Whole.{IsWhole, front_are_bytes, whole, whole_at}
+use Rattle.sshc_wire.specs.Whole.{IsWhole, whole_at}
+use Rattle.sshc_wire.specs.WholeLaws.{front_are_bytes, whole}
 use Rattle.sshc_wire.specs.Wire.{IsBytes, IsShort, string_text, u32_text}
 use Rattle.sshc_wire.specs.declared.error.WireError.{WireError}
 use Rattle.sshc_wire.specs.declared.resolution.HostKeysFault.{HostKeysFault}

@@ -1,7 +1,10 @@
 //! The peer's packets on a channel, each without its number (RFC 4254, sections 5.1 to 5.4).
 
 ghost use Rattle.std.specs.Prelude.{◌≡◌};
-ghost use Rattle.sshc_client_packets.specs.ChannelPackets.{channel_at, channel_of, confirmation_of, data_of, extended_data_of, lent_data, lent_extended_data, lent_head, lent_refusal, reason_of, refusal_of, request_head_of, sender_at, window_adjust_of};
+ghost use Rattle.sshc_client_packets.specs.ChannelPackets.{channel_at, channel_of, confirmation_of, data_of};
+ghost use Rattle.sshc_client_packets.specs.ChannelPackets.{extended_data_of, lent_data, lent_extended_data, lent_head};
+ghost use Rattle.sshc_client_packets.specs.ChannelPackets.{lent_refusal, reason_of, refusal_of, request_head_of};
+ghost use Rattle.sshc_client_packets.specs.ChannelPackets.{sender_at, window_adjust_of};
 ghost use Rattle.sshc_client_packets.specs.Parts.{ReadsAll, ReadsFront};
 
 use crate::channel_open::{Confirmation, Sender};

@@ -3,7 +3,9 @@
 ghost use Rattle.std.specs.Prelude.{◌≡◌, ◌++◌, IfOk, OnOk};
 ghost use Rattle.std.specs.List.{flat_map};
 ghost use Rattle.sshc_wire.specs.Wire.{bool_text, string_text, u32_text};
-ghost use Rattle.sshc_client_packets.specs.ChannelRequests.{channel_request, channel_request_text, entry_text, modes_text, request_fields, request_name, size_text, wants_reply};
+ghost use Rattle.sshc_client_packets.specs.ChannelRequests.{channel_request, channel_request_text, entry_text};
+ghost use Rattle.sshc_client_packets.specs.ChannelRequests.{modes_text, request_fields, request_name, size_text};
+ghost use Rattle.sshc_client_packets.specs.ChannelRequests.{wants_reply};
 ghost use Rattle.sshc_client_packets.specs.Messages.{channel_failure_text, channel_success_text};
 
 use crate::putting::{ADDRESSED, put_addressed, put_string, put_words};
@@ -196,7 +198,7 @@ fn put_each_mode(out: &mut Vec<u8>, modes: &[(Pty, u32)]) -> Result<(), NoMemory
 }
 
 /// A string of the modes and their end.
-#[tactic(auto, using(sshc_wire::specs::Nested::string_ended))]
+#[tactic(auto, using(sshc_wire::specs::NestedLaws::string_ended))]
 fn put_modes(out: &mut Vec<u8>, modes: &[(Pty, u32)]) -> Result<(), NoMemory>
     ensures { OnOk result (out.new.items ≡ out.old.items ++ string_text (modes_text modes.now)) }
 {

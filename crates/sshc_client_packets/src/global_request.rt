@@ -2,7 +2,8 @@
 
 ghost use Rattle.std.specs.Prelude.{◌≡◌, ◌++◌, IfOk, OnOk};
 ghost use Rattle.std.specs.List.{flat_map};
-ghost use Rattle.sshc_client_packets.specs.GlobalRequests.{blob_text, global_fields, global_name, global_request, global_request_text};
+ghost use Rattle.sshc_client_packets.specs.GlobalRequests.{blob_text, global_fields, global_name, global_request};
+ghost use Rattle.sshc_client_packets.specs.GlobalRequests.{global_request_text};
 ghost use Rattle.sshc_client_packets.specs.Messages.{request_failure_text, request_success_text};
 
 use crate::putting::{address_size, put_address, put_words};
@@ -77,7 +78,7 @@ fn blobs_size(keys: &[PublicKey]) -> usize {
 }
 
 /// A string of the key's blob.
-#[tactic(auto, using(sshc_wire::specs::Nested::string_ended))]
+#[tactic(auto, using(sshc_wire::specs::NestedLaws::string_ended))]
 pub(crate) fn put_blob(out: &mut Vec<u8>, key: &PublicKey) -> Result<(), NoMemory>
     ensures { OnOk result (out.new.items ≡ out.old.items ++ blob_text key.now) }
 {

@@ -4,7 +4,8 @@ ghost use Rattle.std.specs.Prelude.{◌≡◌, ◌++◌, Err, IfOk, OnErr, OnOk}
 ghost use Rattle.sshc_wire.specs.Grammar.{finished};
 ghost use Rattle.sshc_wire.specs.Outgoing.{listed};
 ghost use Rattle.sshc_client_packets.specs.Parts.{Gives, GivesAll, octets_at};
-ghost use Rattle.sshc_client_packets.specs.PeerGlobals.{blobs_of, found_key, host_keys_of, named_global_of, peer_global_of};
+ghost use Rattle.sshc_client_packets.specs.PeerGlobals.{blobs_of, found_key, host_keys_of, named_global_of};
+ghost use Rattle.sshc_client_packets.specs.PeerGlobals.{peer_global_of};
 ghost use Rattle.sshc_key.specs.Nesting.{blob_key};
 
 use crate::error::PacketError;

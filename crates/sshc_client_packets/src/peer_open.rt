@@ -3,7 +3,9 @@
 ghost use Rattle.std.specs.Prelude.{◌≡◌};
 ghost use Rattle.sshc_wire.specs.Format.{no_bytes_at};
 ghost use Rattle.sshc_client_packets.specs.Parts.{Gives, GivesAll, ReadsAll};
-ghost use Rattle.sshc_client_packets.specs.PeerOpens.{address_at, direct_streamlocal_at, direct_tcpip_at, forwarded_streamlocal_at, forwarded_tcpip_at, lent_open, peer_open_of, server_open_at, server_open_of, x11_at};
+ghost use Rattle.sshc_client_packets.specs.PeerOpens.{address_at, direct_streamlocal_at, direct_tcpip_at};
+ghost use Rattle.sshc_client_packets.specs.PeerOpens.{forwarded_streamlocal_at, forwarded_tcpip_at, lent_open};
+ghost use Rattle.sshc_client_packets.specs.PeerOpens.{peer_open_of, server_open_at, server_open_of, x11_at};
 
 use crate::channel_open::Sender;
 use crate::channel_packets::sender;

@@ -2,7 +2,8 @@
 
 ghost use Rattle.std.specs.Prelude.{◌≡◌};
 ghost use Rattle.sshc_client_packets.specs.Parts.{GivesAll};
-ghost use Rattle.sshc_client_packets.specs.PeerRequests.{exit_signal_of, exit_status_of, keepalive_of, peer_request_of, unknown_of, xon_xoff_of};
+ghost use Rattle.sshc_client_packets.specs.PeerRequests.{exit_signal_of, exit_status_of, keepalive_of, peer_request_of};
+ghost use Rattle.sshc_client_packets.specs.PeerRequests.{unknown_of, xon_xoff_of};
 
 use crate::error::PacketError;
 use crate::taking::{flag_of, text_of, u8_of, u32_of, words_of};

@@ -1,6 +1,6 @@
 -- No exchange runs after a move in which bytes may be sent.
 use Rattle.std.proofs.Common.{◌≡◌, Bool, true, false, not, List, [], ◌∷◌, Option, Some, None, refl}
-use Rattle.sshc_wire.specs.Cases.{not_true}
+use Rattle.sshc_wire.specs.CasesLaws.{not_true}
 use Rattle.sshc_wire.specs.Outgoing.{listed}
 use Rattle.sshc_transport.specs.declared.exchange.ExchangeFlag.TheVariants.{Idle}
 use Rattle.sshc_mux.specs.ChannelAccount.{Call, may_send}

@@ -23,7 +23,8 @@ use Rattle.sshc_client_packets.specs.declared.channel_open.Confirmation.{Confirm
 use Rattle.sshc_client_packets.specs.HostKeyProof.{Accepts}
 use Rattle.sshc_client_table.specs.Moves as m
 use Rattle.sshc_client_table.specs.Moves.{Deed, Fronts, Move, after, deed, deed_of, did, done, done_if, may_go, open_answer, or_none}
-use Rattle.sshc_client_table.specs.NoRequests.{IsSameRequest, moves_request}
+use Rattle.sshc_client_table.specs.NoRequests.{IsSameRequest}
+use Rattle.sshc_client_table.specs.NoRequestsLaws.{moves_request}
 use Rattle.sshc_client_table.specs.OpenCauseLaws.{RowHolds, open_why, session_holds}
 use Rattle.sshc_client_table.specs.RowMoves.{Fits, IsPacket}
 use Rattle.sshc_client_table.specs.SessionRow.{Opinions, SessionRow, asking, behind_moves, refused, with_read}

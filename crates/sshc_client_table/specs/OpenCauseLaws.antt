@@ -70,7 +70,8 @@ use Rattle.sshc_client_table.specs.SessionTable.Streams.{channel_close_row, chan
 use Rattle.sshc_client_table.specs.SessionTable.Timers.{are_too_many, inactivity_timer_row, keepalive_row, keepalive_timer_row}
 use Rattle.sshc_client_table.specs.SessionTable.Users.{asked_row, channel_moves, extension_moves, forward_moves, forwarded_moves, global_moves, open_moves, program_moves, prove_moves, reply_moves, settled_by, terminal_moves, user_moves, user_row}
 use Rattle.sshc_client_table.specs.KeptByMoves.{KeepsSession}
-use Rattle.sshc_client_table.specs.RowMoves.{Fits, fits_keeps}
+use Rattle.sshc_client_table.specs.RowMoves.{Fits}
+use Rattle.sshc_client_table.specs.RowMovesLaws.{fits_keeps}
 use Rattle.sshc_client_table.specs.OpenCauses.{Fails, FirstIsBare, IsBare, IsBroken, IsOpenCause, OpenFails, RequestFails, adjustment, bytes, confirmation, disconnection, extended_bytes, failure, global, number_alone, opening, refusal, request, success}
 
 -- ---- what the law says

@@ -9,7 +9,6 @@ use Rattle.sshc_auth_event.specs.declared.event.Event.{Event}
 use Rattle.sshc_auth_event.specs.declared.event.Event.TheVariants as events
 use Rattle.sshc_client_table.specs.Moves as m
 use Rattle.sshc_client_table.specs.Moves.{Move}
-use Rattle.sshc_client_table.specs.KeptByMoves.{KeepsSession}
 
 -- the event is a packet of the peer's with this number
 abbrev pub IsPacket : ℕ → Event → Type 0
@@ -38,13 +37,3 @@ Fits event (m.Tells record_) = IsReport record_
 Fits event m.Leaves = ⊥
 Fits event m.Stops = ⊥
 Fits event move = Unit {0}
-
-report_keeps : (record_ : Record) → IsReport record_ → KeepsSession (m.Tells record_)
-report_keeps (said.Agent conn answer) never = absurd never
-report_keeps record_ is = tt
-
-pub fits_keeps : (event : Event) (move : Move) → Fits event move → KeepsSession move
-fits_keeps event (m.Tells record_) is = report_keeps record_ is
-fits_keeps event m.Leaves never = absurd never
-fits_keeps event m.Stops never = absurd never
-fits_keeps event move is = tt

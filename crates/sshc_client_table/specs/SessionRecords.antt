@@ -1,11 +1,7 @@
 -- Records of a session: every record but an agent's (docs/FORMATS.md, kinds below 40).
-use Rattle.std.proofs.Common.{◌≡◌, ℕ, Bool, true, false, List, [], ◌∷◌, ◌++◌, refl}
-use Rattle.std.specs.Prelude.{◌==◌, if◌then◌else◌}
+use Rattle.std.proofs.Common.{◌≡◌, Bool, true, false, List, [], ◌∷◌}
 use Rattle.sshc_wire.specs.declared.record.Record.{Record}
-use Rattle.sshc_wire.specs.declared.record.Record.TheVariants.{Agent, Resolved}
-use Rattle.sshc_wire.specs.declared.resolution.Resolution.{Resolution}
-use Rattle.sshc_wire.specs.declared.ticket.Ticket.{Ticket}
-use Rattle.sshc_auth.specs.Row.{resolved}
+use Rattle.sshc_wire.specs.declared.record.Record.TheVariants.{Agent}
 
 abbrev pub is_session_record : Record → Bool
 is_session_record (Agent conn answer) = false
@@ -15,15 +11,3 @@ is_session_record said = true
 abbrev pub AreSessions : List Record → Type 0
 AreSessions [] = Unit {0}
 AreSessions (said ∷ records) = (is_session_record said ≡ true) × AreSessions records
-
-pub sessions_on : (a b : List Record) → AreSessions a → AreSessions b → AreSessions (a ++ b)
-sessions_on [] b one other = other
-sessions_on (said ∷ a) b one other = (one.0, sessions_on a b one.1 other)
-
-sessions_if : (b : Bool) (x y : List Record) → AreSessions x → AreSessions y → AreSessions (if b then x else y)
-sessions_if true x y one other = one
-sessions_if false x y one other = other
-
--- the answer to a ticket, if it has one
-pub resolved_session : (ticket : Ticket) (resolution : Resolution) → AreSessions (resolved ticket resolution)
-resolved_session ticket resolution = sessions_if (ticket.0 == 0) [] (Resolved ticket resolution ∷ []) tt (refl, tt)

@@ -3,7 +3,9 @@
 ghost use Rattle.std.specs.Prelude.{◌≡◌, ◌++◌, ◌+◌, ◌<◌, [], ◌∷◌, IfOk, length, vec_len, vec_capacity, if◌then◌else◌};
 ghost use Rattle.sshc_forward_core.specs.PairState.{new_pair, is_opened, is_read, is_written, has_failed};
 ghost use Rattle.sshc_forward_core.specs.declared.output.FwdOutput.TheVariants.{EndWriting, CloseChannel};
-ghost use Rattle.sshc_forward_core.specs.PairTurns.{Follows, turn, opened_turn, bytes_turn, passed_on, stream_end_turn, stream_failed_turn, data_turn, channel_eof_turn, sent_on, close_to, eof_to};
+ghost use Rattle.sshc_forward_core.specs.PairTurns.{Follows, turn, opened_turn, bytes_turn, passed_on, stream_end_turn};
+ghost use Rattle.sshc_forward_core.specs.PairTurns.{stream_failed_turn, data_turn, channel_eof_turn, sent_on, close_to};
+ghost use Rattle.sshc_forward_core.specs.PairTurns.{eof_to};
 
 use crate::event::FwdEvent;
 use crate::output::FwdOutput;
@@ -37,7 +39,12 @@ impl Model for Pair {
 
     ghost Value = { PairState };
 
-    ghost view = { λ p. record { channel = p.channel; held = p.held.items; reading = p.reading; channel_ended = p.channel_ended } };
+    ghost view = { λ p. record {
+      channel = p.channel;
+      held = p.held.items;
+      reading = p.reading;
+      channel_ended = p.channel_ended;
+    } };
 }
 
 impl Pair {

@@ -4,7 +4,8 @@ use Rattle.std.specs.Int.{w32, from_be_bytes}
 use Rattle.std.proofs.lemmas.List.{append-nil, take_at, drop_at}
 use Rattle.std.proofs.lemmas.Bool.Decides.{nat_tests}
 use Rattle.std.proofs.lemmas.Bool.{cases_lt}
-use Rattle.sshc_wire.specs.Contents.{prepend, IsAtEnd, prepend-prepend}
+use Rattle.sshc_wire.specs.Contents.{prepend, IsAtEnd}
+use Rattle.sshc_wire.specs.ContentsLaws.{prepend-prepend}
 use Rattle.sshc_wire.specs.declared.source.Failed.{Failed}
 use Rattle.sshc_wire.specs.declared.source.Failed.TheVariants as failures
 use Rattle.sshc_forward_core.specs.declared.event.FwdEvent.{FwdEvent}

@@ -3,7 +3,8 @@ use Rattle.std.proofs.Common.{◌≡◌, ℕ, ◌+◌, ◌<◌, List, [], ◌∷
 use Rattle.std.proofs.lemmas.List.{take-append-drop, take_more, append-nil}
 use Rattle.std.proofs.lemmas.List.Concat.{flat_map-append}
 use Rattle.sshc_forward_core.specs.declared.output.FwdOutput.{FwdOutput}
-use Rattle.sshc_wire.specs.Contents.{append, WroteFront, append-append, wrote_more}
+use Rattle.sshc_wire.specs.Contents.{append, WroteFront}
+use Rattle.sshc_wire.specs.ContentsLaws.{append-append, wrote_more}
 use Rattle.sshc_forward_run.specs.OutputLines.{line, lines}
 
 lines_split : (rs : List FwdOutput) (i : ℕ) (r : FwdOutput) → i < length rs → r ≡ get_or rs i r → lines rs ≡ lines (take i rs) ++ line r ++ lines (drop (i + 1) rs)

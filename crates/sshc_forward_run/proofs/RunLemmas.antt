@@ -3,7 +3,8 @@ use Rattle.std.proofs.Common.{◌≡◌, ℕ, ◌+◌, Bool, true, false, List, 
 use Rattle.std.specs.FinMap.{len}
 use Rattle.std.proofs.lemmas.List.{append-nil}
 use Rattle.std.proofs.lemmas.List.Concat.{flat_map-append}
-use Rattle.sshc_wire.specs.Contents.{prepend, append, WroteFront, prepend-prepend, prepend-nothing, append-append, append-nothing}
+use Rattle.sshc_wire.specs.Contents.{prepend, append, WroteFront}
+use Rattle.sshc_wire.specs.ContentsLaws.{prepend-prepend, prepend-nothing, append-append, append-nothing}
 use Rattle.sshc_forward_core.specs.declared.event.FwdEvent.{FwdEvent}
 use Rattle.sshc_forward_core.specs.declared.output.FwdOutput.{FwdOutput}
 use Rattle.sshc_forward_run.specs.declared.error.FwdError.{FwdError}

@@ -1,6 +1,6 @@
 -- The status of the program.
 use Rattle.std.proofs.Common.{◌≡◌, inl, inr, ℕ, Bool, true, false, List, [], Result, Ok, Err, refl, sym, ◌∙◌, arith}
-use Rattle.sshc_wire.specs.Contents.{append-nothing}
+use Rattle.sshc_wire.specs.ContentsLaws.{append-nothing}
 use Rattle.sshc_forward_run.specs.declared.error.FwdError.{FwdError}
 use Rattle.sshc_forward_run.specs.declared.error.FwdError.TheVariants as errors
 use Rattle.sshc_forward_run.specs.ForwardPromises.{SinkState, Outside}

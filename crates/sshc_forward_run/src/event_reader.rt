@@ -3,7 +3,8 @@
 ghost use Rattle.std.specs.Prelude.{◌≡◌, ◌≤◌, ◌<◌, ◌⊎◌, ℕ, length, Result, IfOk, IfSome, IsNone, Err};
 ghost use Rattle.std.specs.Int.{w32, from_be_bytes};
 ghost use Rattle.sshc_wire.specs.Faults.{Rose};
-ghost use Rattle.sshc_forward_run.specs.EventText.{one_number, two_numbers, number_and_bytes, accepted_at, event_at, body_at};
+ghost use Rattle.sshc_forward_run.specs.EventText.{one_number, two_numbers, number_and_bytes, accepted_at, event_at};
+ghost use Rattle.sshc_forward_run.specs.EventText.{body_at};
 ghost use Rattle.sshc_forward_run.specs.EventReading.{GivesAll, NextGives};
 
 use crate::error::{EventFault, NextFault, not_read, read_failed};

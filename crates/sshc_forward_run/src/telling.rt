@@ -2,7 +2,8 @@
 
 ghost use Rattle.std.specs.Prelude.{◌≡◌, IfOk, string_bytes};
 ghost use Rattle.sshc_forward_run.specs.ForwardPromises.{sink_state};
-ghost use Rattle.sshc_forward_run.specs.ForwardWords.{error_name, answer_line, error_status, status_of, is_write_fault, Adds, Tells};
+ghost use Rattle.sshc_forward_run.specs.ForwardWords.{error_name, answer_line, error_status, status_of, is_write_fault};
+ghost use Rattle.sshc_forward_run.specs.ForwardWords.{Adds, Tells};
 
 use crate::error::FwdError;
 use sshc_wire::{Failed, NoMemory, Sink, write_whole};

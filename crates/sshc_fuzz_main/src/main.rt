@@ -1,5 +1,5 @@
-//! Many cases in one process: scripts, known hosts texts, policies with the streams of a proxy, events of forwards. Each
-//! is run over memory by the call that its program makes, and its outcome is written before the next case is read.
+//! Many cases in one process: scripts, known hosts texts, policies with the streams of a proxy, events of forwards.
+//! Each is run over memory by the call that its program makes, and its outcome is written before the next case is read.
 //! README.md has the bytes of cases and outcomes.
 #![tactic(auto)]
 

@@ -2,7 +2,7 @@
 use Rattle.std.proofs.Common.{◌≡◌, ℕ, zero, suc, Bool, true, false, List, [], ◌∷◌, length, get_or, replicate, refl, ap, ◌∙◌, inl, inr}
 use Rattle.std.specs.List.{list_all}
 use Rattle.std.specs.Prelude.{◌==◌, not, slice_index}
-use Rattle.std.proofs.lemmas.Bool.{cases_lt}
+use Rattle.std.proofs.lemmas.Bool.{cases_lt, not-true}
 use Rattle.std.proofs.lemmas.List.{get_or_past}
 use Rattle.std.proofs.lemmas.List.Sums.{AllPass-from_list_all}
 use Rattle.base64.specs.Rfc4648.{encode_symbols, padding_len}
@@ -15,13 +15,9 @@ use Rattle.sshc_hosts.proofs.LearningLemmas.{Lacks-nothing, Lacks-append, Lacks-
 abbrev pub lacks : ℕ → List ℕ → Bool
 lacks byte xs = list_all (λ b. not (b == byte)) xs
 
-by_not : (b : Bool) → not b ≡ true → b ≡ false
-by_not true e = cc
-by_not false e = refl
-
 -- a text lacks a byte if no byte passes the test
 pub Lacks-from_test : (byte : ℕ) (xs : List ℕ) → lacks byte xs ≡ true → Lacks xs byte
-Lacks-from_test byte xs all k d within = by_not (get_or xs k d == byte) (AllPass-from_list_all (λ b. not (b == byte)) xs all k d within)
+Lacks-from_test byte xs all k d within = not-true (get_or xs k d == byte) (AllPass-from_list_all (λ b. not (b == byte)) xs all k d within)
 
 apart : (b byte : ℕ) → (b == byte) ≡ false → not (b == byte) ≡ true
 apart b byte e = ap not e

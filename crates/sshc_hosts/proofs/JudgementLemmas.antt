@@ -5,7 +5,8 @@ use Rattle.std.specs.Option.{option_or}
 use Rattle.std.proofs.lemmas.List.Folds.{find-append}
 use Rattle.sshc_wire.specs.Reads.{◌>>=◌}
 use Rattle.sshc_key.specs.KeyGrammar.{Key}
-use Rattle.sshc_key.specs.KeyEq.{key_eq, key_eq-Decides}
+use Rattle.sshc_key.specs.KeyEq.{key_eq}
+use Rattle.sshc_key.specs.KeyEq.{key_eq-Decides}
 use Rattle.sshc_key.specs.KeyText.{decoded_key}
 use Rattle.sshc_key.specs.Gives.{Fails}
 use Rattle.sshc_key.specs.declared.error.Error.{Error}

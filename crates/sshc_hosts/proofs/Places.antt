@@ -3,14 +3,9 @@ use Rattle.std.proofs.Common.{◌≡◌, ℕ, ◌<◌, Bool, true, false, cond, 
 use Rattle.std.specs.Prelude.{position, ◌==◌, filter, not, ◌&&◌, ◌||◌, is_some}
 use Rattle.std.specs.List.{position_or_len}
 use Rattle.std.proofs.lemmas.List.Sums.{position_or_len_is}
-use Rattle.std.proofs.lemmas.Bool.{lt-ltb, le-ltb}
+use Rattle.std.proofs.lemmas.Bool.{lt-ltb, le-ltb, false_from_ne_true}
 use Rattle.memchr.specs.Find.{IsFirstByte, is_byte, is_byte2}
 use Rattle.sshc_key.specs.KeyText.{is_no_line_end}
-
--- what isn't true is false
-not_true : (b : Bool) → (b ≡ true → ⊥) → b ≡ false
-not_true true h = absurd (h refl)
-not_true false h = refl
 
 -- the index of the first one
 place_is : (p : ℕ → Bool) (text : List ℕ) (i : ℕ) → i < length text → position_or_len p text ≡ i → Some i ≡ position p text
@@ -19,11 +14,11 @@ place_is p text i within is =
 
 pub first_place : (at : ℕ) (text : List ℕ) (r : Option ℕ) → IsFirstByte (is_byte at) text r → r ≡ position (λ b. b == at) text
 first_place at text None nowhere =
-    let is = position_or_len_is (is_byte at) text (length text) 0 (omega arith) (λ k lt. not_true _ (nowhere k (omega arith) lt)) (λ lt. absurd (omega arith)) in
+    let is = position_or_len_is (is_byte at) text (length text) 0 (omega arith) (λ k lt. false_from_ne_true _ (nowhere k (omega arith) lt)) (λ lt. absurd (omega arith)) in
     sym (ap (λ (n : ℕ). cond (nat_lt n (length text)) (Some n) None) is ∙ ap (λ (b : Bool). cond b (Some (length text)) None) (le-ltb (length text) (length text) (omega arith)))
 first_place at text (Some k) (before, here) =
     let within = before.high in
-    place_is (is_byte at) text k within (position_or_len_is (is_byte at) text k 0 (omega arith) (λ j lt. not_true _ (before.before j (omega arith) lt)) (λ lt. here))
+    place_is (is_byte at) text k within (position_or_len_is (is_byte at) text k 0 (omega arith) (λ j lt. false_from_ne_true _ (before.before j (omega arith) lt)) (λ lt. here))
 
 -- ---- a text without line ends
 

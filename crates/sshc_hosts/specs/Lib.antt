@@ -5,5 +5,6 @@ pub mod MatchingLines
 pub mod Judgement
 pub mod HostsFile
 pub mod Learning
-pub mod SaidRefusals
+pub mod RefusalLaws
 pub mod Acceptance
+pub mod AcceptanceLaws

@@ -2,7 +2,9 @@
 
 ghost use Rattle.std.specs.Prelude.{◌≡◌, IfErr, OnOk, OnErr, IsErrOf, option_map};
 ghost use Rattle.sshc_hosts.specs.HostText.{host_text};
-ghost use Rattle.sshc_hosts.specs.HostsFile.{text_at, known_keys_at, judged_at, IsReadingRefusal, IsFileRefusal, LearnedIn, LearnsIn, HoldsNoText, HasWriteCause, IsAddingRefusal, IsLearningRefusal};
+ghost use Rattle.sshc_hosts.specs.HostsFile.{text_at, known_keys_at, judged_at, IsReadingRefusal, IsFileRefusal};
+ghost use Rattle.sshc_hosts.specs.HostsFile.{LearnedIn, LearnsIn, HoldsNoText, HasWriteCause, IsAddingRefusal};
+ghost use Rattle.sshc_hosts.specs.HostsFile.{IsLearningRefusal};
 ghost use Rattle.sshc_hosts.specs.Learning.{IsLearnable, IsLearnableKey};
 ghost use Rattle.sshc_wire.specs.Contents.{with_text};
 ghost use Rattle.sshc_key.specs.KeyFiles.{AnswersBy, HasReadCause};

@@ -2,7 +2,9 @@
 
 ghost use Rattle.std.specs.Prelude.{◌≡◌, IfErr, IfOk, OnOk, OnErr, IsErrOf, option_copied, string_bytes};
 ghost use Rattle.sshc_hosts.specs.HostText.{host_text};
-ghost use Rattle.sshc_hosts.specs.HostsFile.{home_path, known_keys_at, judged_at, at_home, IsHomeRefusal, NeedsHome, HasWriteCause, LearnedAtHome, LearnsAtHome, HomeHoldsNoText, IsHomeLearningRefusal};
+ghost use Rattle.sshc_hosts.specs.HostsFile.{home_path, known_keys_at, judged_at, at_home, IsHomeRefusal, NeedsHome};
+ghost use Rattle.sshc_hosts.specs.HostsFile.{HasWriteCause, LearnedAtHome, LearnsAtHome, HomeHoldsNoText};
+ghost use Rattle.sshc_hosts.specs.HostsFile.{IsHomeLearningRefusal};
 ghost use Rattle.sshc_hosts.specs.Learning.{IsLearnable, IsLearnableKey};
 ghost use Rattle.sshc_key.specs.KeyFiles.{AnswersBy, HasReadCause};
 ghost use Rattle.sshc_key.specs.declared.error.Error.TheVariants.{Utf8};

@@ -1,7 +1,8 @@
 //! The text that is added to a known hosts text to learn a key.
 
 ghost use Rattle.std.specs.Prelude.{◌≡◌, ◌++◌, ◌∷◌, IfOk};
-ghost use Rattle.sshc_hosts.specs.Learning.{ends_line, line_feed_after, added_line, learned, IsLearnable, IsLearnableKey, Learns};
+ghost use Rattle.sshc_hosts.specs.Learning.{ends_line, line_feed_after, added_line, learned, IsLearnable};
+ghost use Rattle.sshc_hosts.specs.Learning.{IsLearnableKey, Learns};
 ghost use Rattle.sshc_hosts.specs.HostText.{host_text};
 
 use crate::host::host_text;

@@ -1,9 +1,11 @@
 //! The lines of a known hosts text that match a host.
 
-ghost use Rattle.std.specs.Prelude.{◌≡◌, ◌<◌, ◌==◌, All, IfNone, IfOk, IfSome, false, length, map, option_copied, option_map};
+ghost use Rattle.std.specs.Prelude.{◌≡◌, ◌<◌, ◌==◌, All, IfNone, IfOk, IfSome, false, length, map, option_copied};
+ghost use Rattle.std.specs.Prelude.{option_map};
 ghost use Rattle.memchr.specs.Find.{IsFirstByte, is_byte2};
 ghost use Rattle.sshc_hosts.specs.Entries.{CutsEntry, key_behind, second};
-ghost use Rattle.sshc_hosts.specs.MatchingLines.{field_matches, field_seen, is_comment, line_key, line_seen, marked_as, matching, parts_at, third_field};
+ghost use Rattle.sshc_hosts.specs.MatchingLines.{field_matches, field_seen, is_comment, line_key, line_seen, marked_as};
+ghost use Rattle.sshc_hosts.specs.MatchingLines.{matching, parts_at, third_field};
 
 use crate::cutting::cut;
 use crate::entry::is_host;

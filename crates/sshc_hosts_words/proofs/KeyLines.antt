@@ -3,7 +3,8 @@ use Rattle.std.proofs.Common.{◌≡◌, ℕ, ◌+◌, ◌<◌, List, [], ◌∷
 use Rattle.std.proofs.lemmas.List.{take-append-drop, take_more, append-nil}
 use Rattle.std.proofs.lemmas.List.Concat.{flat_map-append}
 use Rattle.sshc_hosts.specs.Judgement.{KnownKey}
-use Rattle.sshc_wire.specs.Contents.{append, WroteFront, wrote_more}
+use Rattle.sshc_wire.specs.Contents.{append, WroteFront}
+use Rattle.sshc_wire.specs.ContentsLaws.{wrote_more}
 use Rattle.sshc_hosts_words.specs.Told.{key_line, key_lines}
 
 lines_split : (ks : List KnownKey) (i : ℕ) (k : KnownKey) → i < length ks → k ≡ get_or ks i k → key_lines ks ≡ key_lines (take i ks) ++ key_line k ++ key_lines (drop (i + 1) ks)

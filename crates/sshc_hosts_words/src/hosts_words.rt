@@ -2,7 +2,8 @@
 
 ghost use Rattle.std.specs.Prelude.{◌≡◌, IfOk, None};
 ghost use Rattle.sshc_hosts_words.specs.Asked.{Asked, Asks, place, asked_by};
-ghost use Rattle.sshc_hosts_words.specs.HostsWords.{outside, IsKeyFound, VerdictGives, LearningGives, CheckGives, KeysGives, LearnGives, AskedGives, HostsGives};
+ghost use Rattle.sshc_hosts_words.specs.HostsWords.{outside, IsKeyFound, VerdictGives, LearningGives, CheckGives};
+ghost use Rattle.sshc_hosts_words.specs.HostsWords.{KeysGives, LearnGives, AskedGives, HostsGives};
 
 use crate::adding::{NO_MEMORY_STATUS, add_line};
 use crate::asked::{HostsWords, KnownAt, hosts_words};

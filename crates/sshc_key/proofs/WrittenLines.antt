@@ -5,7 +5,7 @@ use Rattle.std.specs.Char.{is_whitespace}
 use Rattle.std.specs.List.{list_all}
 use Rattle.std.specs.Str.{chars, encode_utf8_all, IsAscii, IsUtf8, NonePass, skip_leading_whitespace, drop_trailing_whitespace, trim, trim_start, trim_end}
 use Rattle.std.specs.Str.Lines.{lines, lines_of_parts}
-use Rattle.std.proofs.lemmas.Bool.{eqb-true, ltb-true}
+use Rattle.std.proofs.lemmas.Bool.{eqb-true, ltb-true, not-true}
 use Rattle.std.proofs.lemmas.Bool.Decides.{nat_tests}
 use Rattle.std.proofs.lemmas.List.Folds.{list_all-append}
 use Rattle.std.proofs.lemmas.List.Splits.{slice_split_none}
@@ -18,7 +18,7 @@ use Rattle.sshc_key.specs.KeyFiles.{at_white_space, commented_key, is_key_line, 
 use Rattle.sshc_key.specs.KeyGrammar.{Key, key_name, key_text}
 use Rattle.sshc_key.specs.KeyLines.{IsLineKey, IsLoadedFrom}
 use Rattle.sshc_key.specs.KeyText.{decoded_key}
-use Rattle.sshc_wire.specs.Cases.{both_true}
+use Rattle.sshc_wire.specs.CasesLaws.{both_true}
 use Rattle.sshc_key.specs.KeyLaws.Words.{is_word_byte, is_word, name_word, base64_word, base64_some}
 use Rattle.sshc_key.proofs.LineLemmas.{no_parts, parts_of_chars}
 
@@ -28,17 +28,13 @@ both : (a b : Bool) → a ≡ true → b ≡ true → (a && b) ≡ true
 both true b e f = f
 both false b e f = cc
 
-is_false : (b : Bool) → not b ≡ true → b ≡ false
-is_false true e = cc
-is_false false e = refl
-
 word_ascii : (w : List ℕ) → is_word w ≡ true → IsAscii w
 word_ascii [] h i = omega arith
 word_ascii (b ∷ w) h zero = ltb-true _ _ (both_true (ltb b 128) (not (is_whitespace b)) (both_true (is_word_byte b) (is_word w) h).0).0
 word_ascii (b ∷ w) h (suc i) = word_ascii w (both_true (is_word_byte b) (is_word w) h).1 i
 
 no_white : (b : ℕ) → is_word_byte b ≡ true → is_whitespace b ≡ false
-no_white b h = is_false (is_whitespace b) (both_true (ltb b 128) (not (is_whitespace b)) h).1
+no_white b h = not-true (is_whitespace b) (both_true (ltb b 128) (not (is_whitespace b)) h).1
 
 none_white : (w : List ℕ) → is_word w ≡ true → NonePass is_whitespace w
 none_white [] h = tt
@@ -71,7 +67,7 @@ some_is_not_none n = grind (arith, nat_tests)
 
 one_line : (b : ℕ) (rest : List ℕ) → list_all is_no_feed (b ∷ rest) ≡ true → lines (b ∷ rest) ≡ (b ∷ rest) ∷ []
 one_line b rest h =
-    ap lines_of_parts (slice_split_none (λ c. c == 10) (b ∷ rest) (λ k d within. is_false _ (AllPass-from_list_all is_no_feed (b ∷ rest) h k d within)))
+    ap lines_of_parts (slice_split_none (λ c. c == 10) (b ∷ rest) (λ k d within. not-true _ (AllPass-from_list_all is_no_feed (b ∷ rest) h k d within)))
     ∙ rw (some_is_not_none (length rest)) refl
 
 -- ---- what stays when a text is trimmed

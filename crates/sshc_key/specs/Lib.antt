@@ -10,7 +10,7 @@ pub mod View
 pub mod PublicView
 pub mod PairCode
 pub mod PairView
-pub mod Falls
+pub mod FallsLaws
 pub mod Signers
 pub mod Asking
 pub mod AskingLaws

@@ -1,5 +1,5 @@
-//! What an agent's client speaks of: keys that an agent holds, the constraints under which it holds them, and session bindings
-//! (draft-miller-ssh-agent; OpenSSH's PROTOCOL.agent).
+//! What an agent's client speaks of: keys that an agent holds, the constraints under which it holds them, and session
+//! bindings (draft-miller-ssh-agent; OpenSSH's PROTOCOL.agent).
 
 ghost use Rattle.std.specs.Prelude.{◌≡◌, [], IfOk};
 ghost use Rattle.sshc_key.specs.AgentKeys.{certified_key, comment_of, identity_key, referred};
@@ -154,8 +154,8 @@ impl From<Certificate> for AgentIdentity {
     }
 }
 
-/// A session with a server, bound to a connection of an agent (OpenSSH's PROTOCOL.agent, section 1): the blob of the server's host
-/// key, the session's identifier, and the signature of that key over it.
+/// A session with a server, bound to a connection of an agent (OpenSSH's PROTOCOL.agent, section 1): the blob of the
+/// server's host key, the session's identifier, and the signature of that key over it.
 #[derive(Drop, PartialEq, Eq)]
 pub struct AgentSessionBinding {
     host_key: Octets,

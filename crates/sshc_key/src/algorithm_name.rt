@@ -83,7 +83,7 @@ impl<'a> AlgorithmName<'a> {
     }
 
     /// Writes the name as a string.
-    #[tactic(auto, using(sshc_wire::specs::Nested::string_ended))]
+    #[tactic(auto, using(sshc_wire::specs::NestedLaws::string_ended))]
     pub fn put(&self, out: &mut Vec<u8>) -> Result<(), NoMemory>
         ensures { OnOk result (out.new.items ≡ out.old.items ++ string_text (spelled self.now)) }
     {

@@ -4,7 +4,8 @@ ghost use Rattle.std.specs.Prelude.{◌≡◌, ◌↔◌, IsTrue};
 ghost use Rattle.std.specs.Cmp.{partial_equiv_from_equiv, on_equiv};
 ghost use Rattle.sshc_key.specs.View.{view};
 ghost use Rattle.sshc_key.specs.KeyGrammar.{said, dsa, ecdsa, ed25519, rsa, sk_ecdsa, sk_ed25519, opaque, plain};
-ghost use Rattle.sshc_key.specs.KeyEq.{key_eq, key_eq_equiv, public_eq, public_eq_equiv, key_pair_eq, key_pair_eq_equiv, hashed_pair_eq, hashed_pair_eq_equiv};
+ghost use Rattle.sshc_key.specs.KeyEq.{key_eq, public_eq, key_pair_eq, hashed_pair_eq};
+ghost use Rattle.sshc_key.specs.KeyEq.{key_eq_equiv, public_eq_equiv, key_pair_eq_equiv, hashed_pair_eq_equiv};
 
 use crate::algorithm::EcdsaCurve;
 use crate::identity::PrivateKeyWithHashAlg;

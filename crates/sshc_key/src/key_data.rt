@@ -99,7 +99,7 @@ impl Model for Certificate {
 
     ghost size = { key_size };
 
-    ghost use Rattle.sshc_key.specs.Falls.{certificate_falls};
+    ghost use Rattle.sshc_key.specs.FallsLaws.{certificate_falls};
 
     ghost size_decreases = { λ a h. certificate_falls a };
 }

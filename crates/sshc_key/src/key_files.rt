@@ -3,7 +3,9 @@
 ghost use Rattle.std.specs.Prelude.{◌≡◌, ◌++◌, Some, None, MatchOption, option_copied};
 ghost use Rattle.std.specs.List.{before_first};
 ghost use Rattle.sshc_key.specs.Gives.{GivesAll};
-ghost use Rattle.sshc_key.specs.KeyFiles.{AnswersBy, HasReadCause, is_space, at_space, named_certificate, certificate_in, certificate_at_path, is_key_line, key_line, at_white_space, key_fields, public_key_in, public_key_at_path};
+ghost use Rattle.sshc_key.specs.KeyFiles.{AnswersBy, HasReadCause, is_space, at_space, named_certificate};
+ghost use Rattle.sshc_key.specs.KeyFiles.{certificate_in, certificate_at_path, is_key_line, key_line, at_white_space};
+ghost use Rattle.sshc_key.specs.KeyFiles.{key_fields, public_key_in, public_key_at_path};
 
 use crate::error::Error;
 use crate::key_data::{Certificate, KeyData};
@@ -143,8 +145,9 @@ fn public_key_text(alloc: Global, text: &str) -> Result<PublicKey, Error>
     })
 }
 
-/// Reads the public key of a file: of its lines the first that is neither blank nor begins with `#`. That line is the base64 of
-/// the key, or a name, the base64 and a comment, with white space between them. The name isn't compared with the key's.
+/// Reads the public key of a file: of its lines the first that is neither blank nor begins with `#`. That line is the
+/// base64 of the key, or a name, the base64 and a comment, with white space between them. The name isn't compared with
+/// the key's.
 pub fn load_public_key<F: Files>(
     alloc: Global,
     files: &mut F,

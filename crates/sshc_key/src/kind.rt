@@ -1,7 +1,8 @@
 //! The kinds of blobs, by their names.
 
 ghost use Rattle.std.specs.Prelude.{◌≡◌};
-ghost use Rattle.sshc_key.specs.AlgorithmNames.{known_name, known_stem, known_certificate_name, known_stemmed, known_named, known_certified};
+ghost use Rattle.sshc_key.specs.AlgorithmNames.{known_name, known_stem, known_certificate_name, known_stemmed};
+ghost use Rattle.sshc_key.specs.AlgorithmNames.{known_named, known_certified};
 
 use crate::algorithm::EcdsaCurve;
 use sshc_wire::Text;

@@ -3,7 +3,8 @@
 ghost use Rattle.std.specs.Prelude.{◌≡◌, ◌↔◌, ◌⊎◌, [], Some, IfErr};
 ghost use Rattle.sshc_key.specs.Gives.{Gives};
 ghost use Rattle.sshc_key.specs.KeyGrammar.{Key};
-ghost use Rattle.sshc_key.specs.Nesting.{IsReadable, IsBlobOf, outside, front_at, blob_key, whole_blob_key, key_or_fault, Parses};
+ghost use Rattle.sshc_key.specs.Nesting.{IsReadable, IsBlobOf, outside, front_at, blob_key, whole_blob_key};
+ghost use Rattle.sshc_key.specs.Nesting.{key_or_fault, Parses};
 ghost use Rattle.sshc_key.specs.View.{view};
 
 use crate::error::Error;

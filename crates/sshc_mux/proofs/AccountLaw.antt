@@ -14,11 +14,12 @@ use Rattle.sshc_mux.specs.ChannelAccount.{Call, OpenUser, ReserveServer, SettleS
 use Rattle.sshc_mux.proofs.AccountLemmas.{bytes-append, orderly_then}
 use Rattle.sshc_mux.specs.Places.{numbers, has, Apart}
 use Rattle.sshc_mux.proofs.NumbersLemmas.{has_none, apart_append}
-use Rattle.sshc_wire.specs.Cases.{neither}
-use Rattle.sshc_mux.proofs.TestLemmas.{no_length, not_false}
+use Rattle.sshc_wire.specs.CasesLaws.{neither}
+use Rattle.sshc_mux.proofs.TestLemmas.{no_length}
 use Rattle.sshc_mux.proofs.CallLemmas.{packets-append}
 use Rattle.sshc_mux.proofs.LifeLemmas.{step_moves}
 use Rattle.sshc_mux.proofs.LegalLemmas.{Fresh, fresh, next_none, step_apart, ran_apart, ended_bytes}
+use Rattle.std.proofs.lemmas.Bool.{not-false}
 
 -- what one more call adds to what is taken, and what it grants
 
@@ -71,7 +72,7 @@ taken_step n (Confirm id recipient window packet) calls c =
     granting (eqb id n) (takes c.flow) (confirm_part recipient window packet c) (taken n calls) (if_more b (record no_part { gain = window; answer = Some (confirmed_head recipient packet c.head) }) refl) (if_last b (record no_part { gain = window; answer = Some (confirmed_head recipient packet c.head) }) refl)
 taken_step n (Fail id) calls c = nothing (takes c.flow) (taken n calls)
 taken_step n (Bytes id stream bytes exchanging) calls c =
-    taken_by (eqb id n) (takes c.flow) (not (eqb (length bytes) 0)) stream bytes (not exchanging) (taken n calls) (λ h. no_length bytes (not_false (eqb (length bytes) 0) h))
+    taken_by (eqb id n) (takes c.flow) (not (eqb (length bytes) 0)) stream bytes (not exchanging) (taken n calls) (λ h. no_length bytes (not-false (eqb (length bytes) 0) h))
 taken_step n (AskEof id) calls c = ended_by (eqb id n) (takes c.flow) (eof_part c) (taken n calls) refl refl
 taken_step n (AskClose id) calls c = ended_by (eqb id n) (takes c.flow) close_part (taken n calls) refl refl
 taken_step n (PeerClose id) calls c = nothing (takes c.flow) (taken n calls)

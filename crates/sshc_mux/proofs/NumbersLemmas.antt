@@ -2,7 +2,7 @@
 use Rattle.std.proofs.Common.{◌≡◌, ℕ, Bool, true, false, ◌||◌, List, [], ◌∷◌, ◌++◌, eqb, if◌then◌else◌, Option, Some, None, refl, ap, sym, subst, ◌∙◌, inl, inr, eq-eqb}
 use Rattle.std.proofs.lemmas.Bool.{ne_eqb}
 use Rattle.std.proofs.lemmas.Bool.Decides.{eqb_tells}
-use Rattle.sshc_wire.specs.Cases.{neither}
+use Rattle.sshc_wire.specs.CasesLaws.{neither}
 use Rattle.sshc_mux.specs.ChannelState.{ChannelState, channel_of, with_channel, without}
 use Rattle.sshc_mux.specs.Places.{numbers, has, Apart}
 use Rattle.sshc_mux.specs.ChannelTable.{flush_turn, all_flushed}

@@ -25,7 +25,3 @@ no_length (x ∷ l) h = let no : eqb (suc (length l)) 0 ≡ false = eqb-suc-zero
 pub room_facts : (b : Bool) (window size : ℕ) → (b ≡ true → 0 < size) → (0 < (if b then window else 0) → 0 < size) × ((if b then window else 0) ≤ window)
 room_facts true window size h = (λ _. h refl, omega arith)
 room_facts false window size h = (λ no. absurd (omega (arith, no)), omega arith)
-
-pub not_false : (b : Bool) → not b ≡ false → b ≡ true
-not_false true h = refl
-not_false false h = absurd (cc)

@@ -15,7 +15,7 @@ use Rattle.sshc_mux.specs.ChannelTable.Windows.{held, raised, is_low, refilled, 
 use Rattle.sshc_mux.specs.ChannelTable.Ends.{is_sent, is_unasked, asked, takes, with_pending, flush_with, with_eof, with_close}
 use Rattle.sshc_mux.specs.ChannelAccount.{amounts_in, pending, IsOrdered, IsSound, Part, no_part, bytes_part, eof_part, close_part, grant_part, flush_part, confirm_part, accept_part, received_part, AreLongest, Orderly, NoneDue, FlowMoves, answered, Moves}
 use Rattle.sshc_mux.proofs.TestLemmas.{and_left, and_right, and-false, and-true, no_length, room_facts}
-use Rattle.sshc_wire.specs.Cases.{not_true}
+use Rattle.sshc_wire.specs.CasesLaws.{not_true}
 use Rattle.sshc_mux.proofs.PromptLemmas.{flush_empties, flush_longest}
 use Rattle.sshc_mux.proofs.AccountLemmas.{Kept, kept_then, emptied_kept, ended_kept, filled_append, pending-append, done_due}
 

@@ -6,7 +6,8 @@ mod windows;
 
 ghost use Rattle.std.specs.Prelude.{◌≡◌, Some, option_copied, slice_get};
 ghost use Rattle.sshc_mux.specs.WaitingPieces.{pieces_of_flow};
-ghost use Rattle.sshc_mux.specs.ChannelTable.Opens.{opened_by_user, reserved_by_server, accepted, confirmed, awaited_by, reserved_by};
+ghost use Rattle.sshc_mux.specs.ChannelTable.Opens.{opened_by_user, reserved_by_server, accepted, confirmed};
+ghost use Rattle.sshc_mux.specs.ChannelTable.Opens.{awaited_by, reserved_by};
 ghost use Rattle.sshc_mux.specs.ChannelTable.{waits};
 ghost use Rattle.sshc_mux.specs.ChannelTable.Sending.{done, is_due};
 ghost use Rattle.sshc_mux.specs.ChannelTable.Ends.{asked, is_sent, is_unasked};

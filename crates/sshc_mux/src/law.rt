@@ -1,6 +1,7 @@
 //! The account of each channel, over every list of calls.
 
-ghost use Rattle.sshc_mux.specs.ChannelAccount.{EachLifeHasItsAccount, EachEndLeavesAFront, EachCloseEndsALife, EachCallDoesItsPart, EachCallKeepsTheRules, LegalStays};
+ghost use Rattle.sshc_mux.specs.ChannelAccount.{EachLifeHasItsAccount, EachEndLeavesAFront, EachCloseEndsALife};
+ghost use Rattle.sshc_mux.specs.ChannelAccount.{EachCallDoesItsPart, EachCallKeepsTheRules, LegalStays};
 
 /// What was sent on a channel, followed by what waits, is what was taken (`account`). The window falls by what is sent
 /// and rises by what each grant adds. Bytes come before EOF and our close, which are sent once, after all that was

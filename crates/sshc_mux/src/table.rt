@@ -5,12 +5,14 @@ mod opens;
 mod sending;
 mod windows;
 
-ghost use Rattle.std.specs.Prelude.{◌≡◌, ◌≤◌, ◌<◌, ◌+◌, ◌-◌, [], true, false, MatchOption, None, option_copied, slice_get, if◌then◌else◌};
+ghost use Rattle.std.specs.Prelude.{◌≡◌, ◌≤◌, ◌<◌, ◌+◌, ◌-◌, [], true, false, MatchOption, None, option_copied};
+ghost use Rattle.std.specs.Prelude.{slice_get, if◌then◌else◌};
 ghost use Rattle.std.specs.List.{concat};
 ghost use Rattle.sshc_mux.specs.WaitingPieces.{AreFull, bytes_waiting, pieces_in};
 ghost use Rattle.sshc_mux.specs.ChannelState.{channel_of, without};
 ghost use Rattle.sshc_mux.specs.ChannelAccount.{no_channels};
-ghost use Rattle.sshc_mux.specs.ChannelTable.{is_established, waits_in, any_waits, window_in, recipient_in, close_sent_in};
+ghost use Rattle.sshc_mux.specs.ChannelTable.{is_established, waits_in, any_waits, window_in, recipient_in};
+ghost use Rattle.sshc_mux.specs.ChannelTable.{close_sent_in};
 ghost use Rattle.sshc_mux.specs.ChannelTable.Opens.{awaited, unsettled_at};
 ghost use Rattle.sshc_mux.specs.Places.{IsPlace, IsIndexed, HasNumbers, Apart, numbers, present};
 
@@ -93,9 +95,9 @@ impl ChannelTable {
         }
     }
 
-    /// The piece at this place, from 0, of the bytes that wait on the channel: one piece for each call whose bytes wait.
-    /// `None` beyond the last piece, and for a number that no channel has. Takes no memory; a `clone` of the piece shares
-    /// its bytes.
+    /// The piece at this place, from 0, of the bytes that wait on the channel: one piece for each call whose bytes
+    /// wait. `None` beyond the last piece, and for a number that no channel has. Takes no memory; a `clone` of the
+    /// piece shares its bytes.
     #[tactic(auto, using(crate::proofs::PiecesLemmas::filled_in, crate::proofs::PiecesLemmas::joined_in))]
     pub fn waiting(&self, id: ChannelId, at: usize) -> Option<&Bytes>
         ensures piece { option_copied result ≡ slice_get (pieces_in (channel_of id.0 self.now.channels)) at }
@@ -148,8 +150,8 @@ impl ChannelTable {
         }
     }
 
-    /// The ticket of an open of ours that waits for the peer's answer, if it has one. `None` if no open of ours with this
-    /// number waits.
+    /// The ticket of an open of ours that waits for the peer's answer, if it has one. `None` if no open of ours with
+    /// this number waits.
     pub fn awaited(&self, id: ChannelId) -> Option<Option<Ticket>>
         ensures { result ≡ awaited id.0 self.now }
     {

@@ -6,7 +6,7 @@ use Rattle.std.specs.List.{AllByRecursion, list_all, list_any}
 use Rattle.std.proofs.lemmas.Bool.{and_parts, eq-eqb, or_cases}
 use Rattle.std.proofs.lemmas.List.Elements.{All-from_recursion, recursion_from_All}
 use Rattle.std.proofs.lemmas.List.Folds.{list_any_at}
-use Rattle.sshc_wire.specs.Lookup.{same_bytes}
+use Rattle.sshc_wire.specs.LookupLaws.{same_bytes}
 use Rattle.sshc_proxy.specs.Policy.{Rule, allowed, is_rule, names}
 use Rattle.sshc_proxy.specs.ProxyHistory.{IsAllowed}
 

@@ -2,7 +2,8 @@
 use Rattle.std.proofs.Common.{◌≡◌, ◌≢◌, ℕ, ◌<◌, ◌≤◌, List, [], ◌++◌, length, Option, Some, None, Result, Ok, Err, true, refl, sym, ap, subst, ◌∙◌, arith, length-append, inl, inr}
 use Rattle.std.specs.Int.{w32, from_be_bytes}
 use Rattle.std.proofs.lemmas.Nat.{be_bytes_4}
-use Rattle.sshc_wire.specs.Contents.{prepend, prepend-nothing, prepend-prepend}
+use Rattle.sshc_wire.specs.Contents.{prepend}
+use Rattle.sshc_wire.specs.ContentsLaws.{prepend-nothing, prepend-prepend}
 use Rattle.sshc_wire.specs.Faults.{Rose}
 use Rattle.sshc_wire.specs.Wire.{IsBytes, string_text, u32_text}
 use Rattle.sshc_key.specs.declared.agent_msg.TheConstants.{MAX_AGENT_FRAME_LEN}

@@ -3,7 +3,8 @@ use Rattle.std.proofs.Common.{◌≡◌, ℕ, List, [], ◌∷◌, ◌++◌, Err
 use Rattle.std.specs.Prelude.{Result}
 use Rattle.std.specs.List.{flat_map}
 use Rattle.std.proofs.lemmas.List.{append-nil, flat_map_more}
-use Rattle.sshc_wire.specs.Contents.{append, append-append, append-nothing, prepend, prepend-nothing, prepend-prepend}
+use Rattle.sshc_wire.specs.Contents.{append, prepend}
+use Rattle.sshc_wire.specs.ContentsLaws.{append-append, append-nothing, prepend-nothing, prepend-prepend}
 use Rattle.sshc_wire.specs.Faults.{Rose}
 use Rattle.sshc_proxy.specs.declared.error.ProxyError.{ProxyError}
 use Rattle.sshc_proxy.specs.Frames.{IsRead, IsReadFault, IsWriteFault, IsWritten, Stream}

@@ -3,7 +3,8 @@
 ghost use Rattle.std.specs.Prelude.{◌≡◌, ◌⊎◌, ◌++◌, ◌∷◌, List, Ok, [], IfOk};
 ghost use Rattle.sshc_proxy.specs.Binding.{Accepts};
 ghost use Rattle.sshc_proxy.specs.ProxyHistory.{Remembers, Step};
-ghost use Rattle.sshc_proxy.specs.ProxyTable.{Follows, Starves, Takes, answer_in, awaited_at, bound_at, fails, frame_in, row_in};
+ghost use Rattle.sshc_proxy.specs.ProxyTable.{Follows, Starves, Takes, answer_in, awaited_at, bound_at, fails};
+ghost use Rattle.sshc_proxy.specs.ProxyTable.{frame_in, row_in};
 ghost use Rattle.sshc_proxy.specs.declared.input.ProxyInput.TheVariants as inputs;
 ghost use Rattle.sshc_proxy.specs.declared.input.ProxyOutput.TheVariants as outputs;
 

@@ -7,7 +7,8 @@ ghost use Rattle.sshc_proxy.specs.Policy.{Rule};
 ghost use Rattle.sshc_proxy.specs.ProxyHistory.{Remembers};
 ghost use Rattle.sshc_proxy.specs.ProxyRun.{Relays, Streams, Terms, streams, terms};
 ghost use Rattle.sshc_proxy.specs.ProxyTable.{Proxy};
-ghost use Rattle.sshc_proxy.specs.Relaying.{Relaying, Turned, asking, awaiting, framed, heard, idle, reading_error, replying, writing_error};
+ghost use Rattle.sshc_proxy.specs.Relaying.{Relaying, Turned, asking, awaiting, framed, heard, idle, reading_error};
+ghost use Rattle.sshc_proxy.specs.Relaying.{replying, writing_error};
 
 use crate::broken::Broken;
 use crate::error::ProxyError;
@@ -188,8 +189,8 @@ impl Relay {
 /// each frame that is forwarded. One frame and one answer are kept in memory.
 ///
 /// Errors: `ClientFault` and `AgentFault` where a read or a write of that stream failed; `TooLong` at a length above
-/// 262144; `UnexpectedEnd` where a stream ended inside a frame, or the agent's before its answer; `NoMemory`, which also
-/// ends a run of 2^64 - 1 frames. After an error neither stream is of use.
+/// 262144; `UnexpectedEnd` where a stream ended inside a frame, or the agent's before its answer; `NoMemory`, which
+/// also ends a run of 2^64 - 1 frames. After an error neither stream is of use.
 pub fn proxy_run<S: AgentStream, U: AgentStream, V: Verifier>(
     policy: Policy,
     client: &mut S,

@@ -4,7 +4,8 @@ ghost use Rattle.std.specs.Prelude.{◌≡◌, ◌≢◌, ◌∷◌, [], IfOk, I
 ghost use Rattle.sshc_proxy.specs.Frames.{stream};
 ghost use Rattle.sshc_proxy.specs.Policy.{Rule};
 ghost use Rattle.sshc_proxy.specs.ProxyRun.{terms};
-ghost use Rattle.sshc_proxy.specs.ProxyWords.{AreTwo, IsPolicyAt, Proxying, ProxyEnds, Says, Serving, opened, outside, policy_line, run_status};
+ghost use Rattle.sshc_proxy.specs.ProxyWords.{AreTwo, IsPolicyAt, Proxying, ProxyEnds, Says, Serving, opened, outside};
+ghost use Rattle.sshc_proxy.specs.ProxyWords.{policy_line, run_status};
 
 use crate::error::{PolicyError, ProxyError};
 use crate::policy::Policy;
@@ -197,9 +198,9 @@ where
 
 /// Serves the client with the agent at UPSTREAM, by the policy in the file POLICY, where these are the arguments.
 /// Returns an exit status: 0 at the end of the client's bytes; 2 for other arguments, with the line `error words`; 3
-/// where the policy can't be read; 5 for a bad line of it, with the line `error policy LINE`; 20 out of memory; 21 where
-/// the client's stream failed; 22 where the agent's failed or couldn't be opened; 24 at a length above 262144; 25 where a
-/// stream ended too early. The lines go to the client.
+/// where the policy can't be read; 5 for a bad line of it, with the line `error policy LINE`; 20 out of memory; 21
+/// where the client's stream failed; 22 where the agent's failed or couldn't be opened; 24 at a length above 262144; 25
+/// where a stream ended too early. The lines go to the client.
 pub fn proxy_words<F: Files, S: AgentStream, O: Opener, V: Verifier>(
     alloc: Global,
     words: &[Text],

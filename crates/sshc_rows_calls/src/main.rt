@@ -1,5 +1,5 @@
-//! Worked calls, in two tables: calls to an agent by its client, and words of the auditor of known hosts files. Each row
-//! is printed with whether it holds. The first argument names the file of the asks, the second that of the audits.
+//! Worked calls, in two tables: calls to an agent by its client, and words of the auditor of known hosts files. Each
+//! row is printed with whether it holds. The first argument names the file of the asks, the second that of the audits.
 #![tactic(auto)]
 
 mod asking;

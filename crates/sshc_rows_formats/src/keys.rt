@@ -1,5 +1,5 @@
-//! Keys, signatures and key pairs that other tools made: they are read and written back, and what is outside the grammar
-//! is refused. Then the readers are compared with a plain one, on random bytes and on damaged keys.
+//! Keys, signatures and key pairs that other tools made: they are read and written back, and what is outside the
+//! grammar is refused. Then the readers are compared with a plain one, on random bytes and on damaged keys.
 
 mod blobs;
 mod damage;

@@ -1,5 +1,5 @@
-//! Worked rows of forwards, and pairs served by threads. Each is printed with whether it holds. The first argument names
-//! the file of the rows.
+//! Worked rows of forwards, and pairs served by threads. Each is printed with whether it holds. The first argument
+//! names the file of the rows.
 #![tactic(auto)]
 
 mod echo;

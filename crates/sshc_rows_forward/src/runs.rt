@@ -7,8 +7,8 @@ use sshc_wire::{MemSink, MemSource, NoMemory, Text};
 use std::alloc::Global;
 
 /// The fields of a line, separated by `|`: a name, the arguments, the numbers of the reads and of the writes that fail,
-/// the status, the events, and the lines that are written, separated by `;`. Events are in hexadecimal, in words that are
-/// put together.
+/// the status, the events, and the lines that are written, separated by `;`. Events are in hexadecimal, in words that
+/// are put together.
 #[derive(Clone, Copy)]
 struct Row<'a> {
     name: &'a str,

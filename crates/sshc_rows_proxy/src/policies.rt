@@ -1,5 +1,5 @@
-//! Policies as texts. A row is: name | the text, in hexadecimal | `rules` and their number, or `bad` and the number of the
-//! first bad line.
+//! Policies as texts. A row is: name | the text, in hexadecimal | `rules` and their number, or `bad` and the number of
+//! the first bad line.
 
 use crate::row::{bytes_of, field_of, is_row, verdict};
 use sshc_proxy::{PolicyError, parse_policy};

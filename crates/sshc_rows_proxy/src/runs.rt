@@ -1,6 +1,6 @@
 //! Runs over two streams. A row is: name | the policy's file | the client's bytes, the numbers of its reads and of its
-//! writes that fail | the same of the agent | the bytes written to the client | those written to the agent | the result.
-//! Bytes are in hexadecimal; `ok`, or the name of the error, is the result.
+//! writes that fail | the same of the agent | the bytes written to the client | those written to the agent | the
+//! result. Bytes are in hexadecimal; `ok`, or the name of the error, is the result.
 
 ghost use Rattle.std.specs.Prelude.{◌≡◌, IfOk};
 

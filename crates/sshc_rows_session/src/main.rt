@@ -1,6 +1,6 @@
 //! Worked sessions: steps of a session with a handler that keeps the list of its calls, calls of the session's methods,
-//! and whole runs of scripts. The arguments name files of rows: `runs` has runs, each other file steps. It prints whether
-//! each row has the expected lines.
+//! and whole runs of scripts. The arguments name files of rows: `runs` has runs, each other file steps. It prints
+//! whether each row has the expected lines.
 #![tactic(auto)]
 
 mod files;

@@ -5,11 +5,7 @@ use Rattle.std.specs.Prelude.{◌==◌}
 use Rattle.std.specs.List.{slice_split, onto_first}
 use Rattle.memchr.specs.Find.{IsFirstByte, is_byte}
 use Rattle.sshc_run.specs.Summary.{but_last, whole_lines}
-
--- a value that isn't true is false
-not_true : (b : Bool) → (b ≡ true → ⊥) → b ≡ false
-not_true true h = absurd (h refl)
-not_true false h = refl
+use Rattle.std.proofs.lemmas.Bool.{false_from_ne_true}
 
 onto_some : (x : ℕ) (parts : List (List ℕ)) → 0 < length (onto_first x parts)
 onto_some x [] = omega arith
@@ -45,13 +41,13 @@ first_part (x ∷ text) (suc i) lt before here =
     ∙ ap (onto_first x) (first_part text i (omega (arith, lt)) (λ k less. before (suc k) (omega (arith, less))) here)
 
 pub no_line : (text : List ℕ) → IsFirstByte (is_byte 10) text None → whole_lines text ≡ []
-no_line text nowhere = ap but_last (one_part text (λ k lt. not_true _ (nowhere k (omega arith) lt)))
+no_line text nowhere = ap but_last (one_part text (λ k lt. false_from_ne_true _ (nowhere k (omega arith) lt)))
 
 pub next_line : (text : List ℕ) (i : ℕ) → IsFirstByte (is_byte 10) text (Some i) →
     whole_lines text ≡ take i text ∷ whole_lines (take (length text - (i + 1)) (drop (i + 1) text))
 next_line text i (before, here) =
     let parts : slice_split (λ b. b == 10) text ≡ take i text ∷ slice_split (λ b. b == 10) (drop (suc i) text)
-    = first_part text i before.high (λ k lt. not_true _ (before.before k (omega arith) lt)) here in
+    = first_part text i before.high (λ k lt. false_from_ne_true _ (before.before k (omega arith) lt)) here in
     let next : i + 1 ≡ suc i = omega arith in
     let all : take (length text - (i + 1)) (drop (i + 1) text) ≡ drop (suc i) text
     = take_all (length text - (i + 1)) (drop (i + 1) text) (omega (arith, length-drop (i + 1) text)) ∙ ap (λ (n : ℕ). drop n text) next in

@@ -3,7 +3,8 @@
 ghost use Rattle.std.specs.Prelude.{◌≡◌, ◌≤◌, length, IfOk, OnOk};
 ghost use Rattle.sshc_wire.specs.Wire.{u32_text};
 ghost use Rattle.sshc_run.specs.Events.{with_events};
-ghost use Rattle.sshc_run.specs.Login.{accepted, beginning, by_password, confirmed, exchange_fields, channel_opened, exchanged, logged_in};
+ghost use Rattle.sshc_run.specs.Login.{accepted, beginning, by_password, confirmed, exchange_fields, channel_opened};
+ghost use Rattle.sshc_run.specs.Login.{exchanged, logged_in};
 
 use crate::generated::Generated;
 use crate::kinds;

@@ -1,7 +1,8 @@
 //! The line that reports the result of a run, and the program's status.
 
 ghost use Rattle.std.specs.Prelude.{◌≡◌, ◌≤◌, IfOk, string_bytes};
-ghost use Rattle.sshc_run_script.specs.Words.{end_name, error_name, answer_line, error_status, status_of, is_write_fault, Tells};
+ghost use Rattle.sshc_run_script.specs.Words.{end_name, error_name, answer_line, error_status, status_of};
+ghost use Rattle.sshc_run_script.specs.Words.{is_write_fault, Tells};
 
 use sshc_auth::Ended;
 use sshc_hosts_words::{NO_MEMORY_STATUS, WRITE_FAULT_STATUS, add_line};

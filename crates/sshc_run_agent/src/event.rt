@@ -2,7 +2,8 @@
 
 ghost use Rattle.std.specs.Prelude.{◌≡◌};
 ghost use Rattle.sshc_run_reader.specs.Gives.{GivesAll};
-ghost use Rattle.sshc_run_agent.specs.AgentEvents.{agent_event_of, bytes_event_of, close_event_of, key_answer_of, request_answer_of};
+ghost use Rattle.sshc_run_agent.specs.AgentEvents.{agent_event_of, bytes_event_of, close_event_of, key_answer_of};
+ghost use Rattle.sshc_run_agent.specs.AgentEvents.{request_answer_of};
 
 use sshc_agent_core::AgentInput;
 use sshc_run_reader::{EventError, EventKind};

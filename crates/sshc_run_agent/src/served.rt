@@ -4,7 +4,8 @@ ghost use Rattle.std.specs.Prelude.{◌≡◌, ◌≤◌, ◌++◌, [], OnErr, O
 ghost use Rattle.sshc_key.specs.Asking.{Makes, MakesFirst};
 ghost use Rattle.sshc_key.specs.Signers.{since};
 ghost use Rattle.sshc_wire.specs.Outgoing.{listed};
-ghost use Rattle.sshc_run_agent.specs.AgentTurns.{SaysInput, agent_turn, bytes_at, each_turn, idle, input_turn, inputs_of, rest_of, without};
+ghost use Rattle.sshc_run_agent.specs.AgentTurns.{SaysInput, agent_turn, bytes_at, each_turn, idle, input_turn};
+ghost use Rattle.sshc_run_agent.specs.AgentTurns.{inputs_of, rest_of, without};
 
 use crate::event::AgentEvent;
 use crate::step::step_input;

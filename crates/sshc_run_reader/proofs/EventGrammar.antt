@@ -1,8 +1,10 @@
 -- Reading an event's fields agrees with their grammar: single parts, lists, and parts that follow one another.
 use Rattle.std.proofs.Common.{◌≡◌, ℕ, ◌+◌, ◌<◌, ◌≤◌, ◌^◌, Bool, true, false, List, [], ◌∷◌, length, Option, Some, None, Result, Ok, Err, refl, sym, ap, subst, ◌∙◌, arith, length-append}
-use Rattle.sshc_wire.specs.Format.{IsFormat, part}
-use Rattle.sshc_wire.specs.Grammar.{IsGrammar, IsFlag, InRow, Converted, IsCounted, TakesAtLeast, of_format, flags, in_row, made_of, converted, faults_seen, counted_parts, spelled_so}
-use Rattle.sshc_wire.specs.Parts.{strings, texts, number32, a_byte}
+use Rattle.sshc_wire.specs.Format.{IsFormat}
+use Rattle.sshc_wire.specs.FormatLaws.{part}
+use Rattle.sshc_wire.specs.Grammar.{IsGrammar, IsFlag, InRow, Converted, IsCounted, TakesAtLeast}
+use Rattle.sshc_wire.specs.GrammarLaws.{of_format, flags, in_row, made_of, converted, faults_seen, counted_parts, spelled_so}
+use Rattle.sshc_wire.specs.PartsLaws.{strings, texts, number32, a_byte}
 use Rattle.sshc_wire.specs.Wire.{u32_text, string_text}
 use Rattle.sshc_wire.specs.declared.channel_open_failure.ChannelOpenFailure.{ChannelOpenFailure}
 use Rattle.sshc_run_reader.specs.declared.error.EventError.TheVariants.{Bad}

@@ -6,15 +6,17 @@ use Rattle.std.proofs.lemmas.Bool.{ltb-false, le-ltb}
 use Rattle.std.proofs.lemmas.List.{take_at, drop_at, take-append-drop, length-take}
 use Rattle.sshc_wire.specs.Wire.{IsBytes, u32_text, u64_text}
 use Rattle.sshc_wire.specs.Reads.{◌>>=◌, byte_at, number_at}
-use Rattle.sshc_wire.specs.Format.{behind_are_bytes, bind_ok, ok_is, part_at, faults_ok}
-use Rattle.sshc_wire.specs.Whole.{front_are_bytes}
-use Rattle.sshc_wire.specs.Parts.{a_byte, number32, number64}
+use Rattle.sshc_wire.specs.Format.{part_at}
+use Rattle.sshc_wire.specs.FormatLaws.{behind_are_bytes, bind_ok, ok_is, faults_ok}
+use Rattle.sshc_wire.specs.WholeLaws.{front_are_bytes}
+use Rattle.sshc_wire.specs.PartsLaws.{a_byte, number32, number64}
 use Rattle.sshc_wire.specs.declared.error.WireError.{WireError}
 use Rattle.sshc_run_reader.specs.declared.error.EventError.{EventError}
 use Rattle.sshc_run_reader.specs.declared.error.EventError.TheVariants as reads
 use Rattle.sshc_run_reader.specs.declared.event_kind.EventKind.{EventKind}
 use Rattle.sshc_run_reader.specs.declared.event_kind.EventKind.TheVariants.{PeerKexinit}
-use Rattle.sshc_run_reader.specs.EventKinds.{kind_number, kind_numbered, number_again, numbered_is}
+use Rattle.sshc_run_reader.specs.EventKinds.{kind_number, kind_numbered}
+use Rattle.sshc_run_reader.specs.EventKindsLaws.{number_again, numbered_is}
 use Rattle.sshc_run_reader.specs.EventParts.{as_bad}
 use Rattle.sshc_run_reader.specs.Script.{Front, Head, Bad, Whole, front, head_at, head_of, sized_front, whole_front}
 use Rattle.sshc_run_reader.specs.ScriptGrammar.{event_text}

@@ -5,7 +5,8 @@ use Rattle.std.specs.Int.{w32, w64, from_be_bytes}
 use Rattle.std.proofs.lemmas.List.{append-nil, take_at, drop_at}
 use Rattle.std.proofs.lemmas.Bool.Decides.{nat_tests}
 use Rattle.std.proofs.lemmas.Bool.{cases_lt}
-use Rattle.sshc_wire.specs.Contents.{prepend, IsAtEnd, prepend-prepend}
+use Rattle.sshc_wire.specs.Contents.{prepend, IsAtEnd}
+use Rattle.sshc_wire.specs.ContentsLaws.{prepend-prepend}
 use Rattle.sshc_wire.specs.Reads.{number_at, byte_at}
 use Rattle.sshc_wire.specs.declared.source.Failed.{Failed}
 use Rattle.sshc_wire.specs.declared.source.Failed.TheVariants as failures

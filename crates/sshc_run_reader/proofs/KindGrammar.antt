@@ -4,7 +4,8 @@ use Rattle.std.proofs.lemmas.Bool.{eqb-true}
 use Rattle.std.specs.Prelude.{is_some}
 use Rattle.std.proofs.lemmas.Bool.Decides.{nat_tests}
 use Rattle.sshc_wire.specs.Format.{no_bytes_at}
-use Rattle.sshc_wire.specs.Grammar.{IsGrammar, IsWholeGrammar, IsFlag, InRow, Converted, IsCounted, in_row, made_of, converted, tagged, no_bytes, finished_at, finishing, spelled_so}
+use Rattle.sshc_wire.specs.Grammar.{IsGrammar, IsWholeGrammar, IsFlag, InRow, Converted, IsCounted, finished_at}
+use Rattle.sshc_wire.specs.GrammarLaws.{in_row, made_of, converted, tagged, no_bytes, finishing, spelled_so}
 use Rattle.sshc_wire.specs.Wire.{IsBytes}
 use Rattle.sshc_wire.specs.declared.channel_id.ChannelId.{ChannelId}
 use Rattle.sshc_wire.specs.declared.channel_open_failure.ChannelOpenFailure.{ChannelOpenFailure}
@@ -28,7 +29,8 @@ use Rattle.sshc_run_reader.specs.declared.event_kind.EventKind.{EventKind}
 use Rattle.sshc_run_reader.specs.declared.event_kind.EventKind.TheVariants as kinds
 use Rattle.sshc_run_reader.specs.declared.method_sort.MethodSort.{MethodSort}
 use Rattle.sshc_run_reader.specs.declared.method_sort.MethodSort.TheVariants as method_sorts
-use Rattle.sshc_run_reader.specs.MethodSorts.{method_sort_number, method_sort_numbered, method_sort_again, method_sort_is}
+use Rattle.sshc_run_reader.specs.MethodSorts.{method_sort_number, method_sort_numbered}
+use Rattle.sshc_run_reader.specs.MethodSortsLaws.{method_sort_again, method_sort_is}
 use Rattle.sshc_run_reader.specs.EventParts.{or_bad, reason_numbered, plain_key, whole_certificate, whole_pair, method_sorted, method_sort_at, IsU8, IsU32, IsString, IsText, IsTicket, IsChannel}
 use Rattle.sshc_run_reader.specs.EventFields.{IsHash, IsToken, IsExchangeKey, IsExchange, IsMethodFields, IsMethodSort, IsMethod, method_sort, IsChannelMsg, IsOpenReply, IsFields, kind_of}
 use Rattle.sshc_run_reader.specs.EventReading.{readable, missing, key_of_sort, exchange_key_at, exchange_at, is_exchange_number, as_payload, hashed_pair_at, method_fields_at, method_at, authenticate_at, gssapi_mic_at, direct_tcpip_at, disconnect_at, channel_event_at, server_open_reply_at, prove_at, global_request_at, exchange_done_of, payload_of, authenticate_of, info_response_of, gssapi_token_of, gssapi_mic_of, gssapi_complete_of, signed_of, open_session_of, open_x11_of, open_direct_tcpip_of, open_direct_streamlocal_of, tcpip_forward_of, cancel_tcpip_forward_of, streamlocal_forward_of, cancel_streamlocal_forward_of, close_of, disconnect_of, channel_of, server_open_reply_of, await_extension_info_of, get_server_sig_algs_of, keepalive_of, ping_of, no_more_sessions_of, host_keys_prove_of, global_request_of, request_of, event_of}

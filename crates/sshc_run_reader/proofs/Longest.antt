@@ -2,7 +2,7 @@
 -- is read.
 use Rattle.std.proofs.Common.{◌≡◌, Bool, true, false, cond, ℕ, zero, suc, ◌+◌, ◌<◌, ◌≤◌, List, [], ◌∷◌, ◌++◌, length, Result, Ok, Err, refl, sym, ap, subst, ◌∙◌, arith, append_assoc, length-append}
 use Rattle.sshc_wire.specs.Wire.{IsBytes}
-use Rattle.sshc_wire.specs.Format.{behind_are_bytes}
+use Rattle.sshc_wire.specs.FormatLaws.{behind_are_bytes}
 use Rattle.sshc_run_reader.specs.declared.error.EventError.{EventError}
 use Rattle.sshc_run_reader.specs.EventFields.{kind_of}
 use Rattle.sshc_run_reader.specs.Script.{Frame, Front, Head, ScriptStop, whole, bad, more, End, Bad, Whole, events, frame_at, front, size_of, sized_front, stop, stop_of, taken, whole_front}

@@ -1,7 +1,8 @@
 -- Reading what is asked of a channel agrees with its grammar.
 use Rattle.std.proofs.Common.{◌≡◌, ℕ, ◌<◌, Bool, List, [], ◌∷◌, ◌++◌, Option, Some, None, Ok, refl, sym, ap, subst, ◌∙◌, arith, append_assoc}
-use Rattle.sshc_wire.specs.Format.{bind_ok, behind_are_bytes}
-use Rattle.sshc_wire.specs.Grammar.{IsGrammar, IsFlag, InRow, Converted, IsCounted, in_row, made_of, converted, no_bytes, spelled_so}
+use Rattle.sshc_wire.specs.FormatLaws.{bind_ok, behind_are_bytes}
+use Rattle.sshc_wire.specs.Grammar.{IsGrammar, IsFlag, InRow, Converted, IsCounted}
+use Rattle.sshc_wire.specs.GrammarLaws.{in_row, made_of, converted, no_bytes, spelled_so}
 use Rattle.sshc_wire.specs.Signals.{signal_of}
 use Rattle.sshc_wire.specs.Wire.{IsBytes}
 use Rattle.sshc_auth_event.specs.declared.channel_msg.ChannelMsg.{ChannelMsg}
@@ -9,7 +10,8 @@ use Rattle.sshc_auth_event.specs.declared.channel_msg.ChannelMsg.TheVariants as 
 use Rattle.sshc_wire.specs.declared.pty.Pty.{Pty}
 use Rattle.sshc_run_reader.specs.declared.channel_sort.ChannelSort.{ChannelSort}
 use Rattle.sshc_run_reader.specs.declared.channel_sort.ChannelSort.TheVariants as channel_sorts
-use Rattle.sshc_run_reader.specs.ChannelSorts.{channel_sort_number, channel_sort_numbered, channel_sort_again, channel_sort_is}
+use Rattle.sshc_run_reader.specs.ChannelSorts.{channel_sort_number, channel_sort_numbered}
+use Rattle.sshc_run_reader.specs.ChannelSortsLaws.{channel_sort_again, channel_sort_is}
 use Rattle.sshc_run_reader.specs.EventParts.{or_bad, channel_sorted, channel_sort_at, IsU8, IsU32, IsString, IsText, IsMode}
 use Rattle.sshc_run_reader.specs.EventFields.{channel_sort, IsSort, IsSize, IsMsgFields, IsChannelMsg}
 use Rattle.sshc_run_reader.specs.EventReading.{pty_at, window_change_at, x11_at, env_at, msg_fields_at, msg_at}

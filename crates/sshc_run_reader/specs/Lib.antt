@@ -1,6 +1,9 @@
 pub mod EventKinds
+pub mod EventKindsLaws
 pub mod MethodSorts
+pub mod MethodSortsLaws
 pub mod ChannelSorts
+pub mod ChannelSortsLaws
 pub mod EventParts
 pub mod EventFields
 pub mod EventReading
@@ -8,5 +11,5 @@ pub mod Gives
 pub mod Script
 pub mod Reading
 pub mod FrontLaws
-pub mod KindLaw
+pub mod KindLaws
 pub mod ScriptGrammar

@@ -1,7 +1,6 @@
 -- How a user is to be authenticated, by its number in an event.
 -- A number for each sort, and the sort of a number as its inverse, which a law says.
-use Rattle.std.proofs.Common.{◌≡◌, ℕ, Option, Some, None, ◌==◌, if◌then◌else◌, refl, arith}
-use Rattle.std.proofs.lemmas.Bool.Decides.{nat_tests}
+use Rattle.std.proofs.Common.{ℕ, Option, Some, None, ◌==◌, if◌then◌else◌}
 use Rattle.sshc_run_reader.specs.declared.method_sort.MethodSort.{MethodSort}
 use Rattle.sshc_run_reader.specs.declared.method_sort.MethodSort.TheVariants.{Nothing, Password, PublicKey, OpenSshCertificate, FuturePublicKey, FutureCertificate, KeyboardInteractive, GssapiWithMic}
 
@@ -25,10 +24,3 @@ method_sort_numbered n =
     else (if n == 5 then Some FutureCertificate
     else (if n == 6 then Some KeyboardInteractive
     else (if n == 7 then Some GssapiWithMic else None)))))))
-
-pub method_sort_again : (s : MethodSort) → method_sort_numbered (method_sort_number s) ≡ Some s
-method_sort_again Nothing = refl
-method_sort_again s = refl
-
-pub method_sort_is : (n : ℕ) (s : MethodSort) → method_sort_numbered n ≡ Some s → method_sort_number s ≡ n
-method_sort_is n s h = grind (arith, nat_tests)

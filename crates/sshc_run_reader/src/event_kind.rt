@@ -1,7 +1,8 @@
 //! The kinds of events in a script.
 
 ghost use Rattle.std.specs.Prelude.{◌≡◌};
-ghost use Rattle.sshc_run_reader.specs.EventKinds.{kind_numbered, transport_kind, timer_kind, authentication_kind, open_kind, forward_kind, channel_kind, request_kind, agent_kind};
+ghost use Rattle.sshc_run_reader.specs.EventKinds.{kind_numbered, transport_kind, timer_kind, authentication_kind};
+ghost use Rattle.sshc_run_reader.specs.EventKinds.{open_kind, forward_kind, channel_kind, request_kind, agent_kind};
 
 /// The kind of an event, by its number.
 #[derive(Clone, Copy, PartialEq, Eq)]

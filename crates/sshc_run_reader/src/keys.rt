@@ -3,7 +3,8 @@
 ghost use Rattle.std.specs.Prelude.{◌≡◌};
 ghost use Rattle.sshc_auth_event.specs.HostKey.{is_plain};
 ghost use Rattle.sshc_key.specs.View.{view};
-ghost use Rattle.sshc_run_reader.specs.EventParts.{plain_of, plain_key, key_at, certificate_of, whole_certificate, certificate_at, whole_pair, pair_field_at};
+ghost use Rattle.sshc_run_reader.specs.EventParts.{plain_of, plain_key, key_at, certificate_of, whole_certificate};
+ghost use Rattle.sshc_run_reader.specs.EventParts.{certificate_at, whole_pair, pair_field_at};
 ghost use Rattle.sshc_run_reader.specs.Gives.{Gives, GivesAll};
 
 use crate::error::EventError;

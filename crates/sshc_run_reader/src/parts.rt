@@ -1,7 +1,10 @@
 //! Parts of events: numbers, strings, texts and what they represent.
 
 ghost use Rattle.std.specs.Prelude.{◌≡◌, ◌↔◌, [], Err, IsOk, IfOk, OnErr};
-ghost use Rattle.sshc_run_reader.specs.EventParts.{u8_at, u32_at, flag_at, octets_at, words_at, ticket_at, channel_at, hash_numbered, hash_at, reason_numbered, reason_at, failure_numbered, failure_at, method_sort_at, channel_sort_at, token_of, token_at, mode_at};
+ghost use Rattle.sshc_run_reader.specs.EventParts.{u8_at, u32_at, flag_at, octets_at, words_at, ticket_at, channel_at};
+ghost use Rattle.sshc_run_reader.specs.EventParts.{hash_numbered, hash_at, reason_numbered, reason_at};
+ghost use Rattle.sshc_run_reader.specs.EventParts.{failure_numbered, failure_at, method_sort_at, channel_sort_at};
+ghost use Rattle.sshc_run_reader.specs.EventParts.{token_of, token_at, mode_at};
 ghost use Rattle.sshc_run_reader.specs.Gives.{Gives, GivesAll};
 
 use crate::channel_sort::ChannelSort;

@@ -1,6 +1,7 @@
 //! Takes the events of a script from a source, one at a time.
 
-ghost use Rattle.std.specs.Prelude.{◌≡◌, ◌≤◌, ◌<◌, ◌+◌, ◌⊎◌, ℕ, List, length, drop, option_map, Result, IfOk, IfSome, IsNone, Err};
+ghost use Rattle.std.specs.Prelude.{◌≡◌, ◌≤◌, ◌<◌, ◌+◌, ◌⊎◌, ℕ, List, length, drop, option_map, Result, IfOk, IfSome};
+ghost use Rattle.std.specs.Prelude.{IsNone, Err};
 ghost use Rattle.std.specs.Int.{w32, from_be_bytes};
 ghost use Rattle.sshc_wire.specs.Faults.{Rose};
 ghost use Rattle.sshc_run_reader.specs.Gives.{GivesAll};
@@ -113,8 +114,8 @@ fn raw_event(last: u64, body: &[u8]) -> Result<RawEvent<'_>, EventError>
     Ok(RawEvent { moment, kind, body })
 }
 
-/// Returns the next event, or `None` at the script's end. The event's moment must not be below `last`. The event is read
-/// to the front of this memory, which is only ever made longer; no clause says so.
+/// Returns the next event, or `None` at the script's end. The event's moment must not be below `last`. The event is
+/// read to the front of this memory, which is only ever made longer; no clause says so.
 pub fn next_event<'a, S: Source>(
     memory: &'a mut Vec<u8>,
     source: &mut S,

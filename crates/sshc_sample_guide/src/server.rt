@@ -8,7 +8,8 @@ use sshc_wire::{Cursor, NoMemory, WireError};
 #[derive(Clone, Copy, PartialEq, Eq)]
 pub struct Forwarding;
 
-/// The connection of RFC 4254, section 7.2: to port 8080 of `localhost`, from port 50000 of `203.0.113.7`. Its number is 7.
+/// The connection of RFC 4254, section 7.2: to port 8080 of `localhost`, from port 50000 of `203.0.113.7`. Its number
+/// is 7.
 const CONNECTION: &[u8] =
     b"\x5a\0\0\0\x0fforwarded-tcpip\0\0\0\x07\0\0\x80\0\0\0\x80\0\0\0\0\x09localhost\0\0\x1f\x90\0\0\0\x0b203.0.113.7\0\0\xc3\x50";
 

@@ -5,8 +5,8 @@ use sshc_key::{Error, PublicKey};
 use sshc_wire::Files;
 use std::alloc::Global;
 
-/// Whether the file has this key for the host already; if it has no key for the host, the key is added. A changed key, a
-/// revoked one, and a line for the host that can't be read, are errors.
+/// Whether the file has this key for the host already; if it has no key for the host, the key is added. A changed key,
+/// a revoked one, and a line for the host that can't be read, are errors.
 pub fn trust_on_first_use<F: Files>(
     alloc: Global,
     files: &mut F,

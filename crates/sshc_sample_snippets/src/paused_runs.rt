@@ -35,8 +35,8 @@ fn hand_over<G: LocalSigner, V: Verifier>(
     Ok(Ended::ScriptEnd)
 }
 
-/// Hands events to a run one by one, as a program does that gets them from a transport of its own, and adds the lines of
-/// their records to `lines`. It stops with the first event that ends the run or is refused.
+/// Hands events to a run one by one, as a program does that gets them from a transport of its own, and adds the lines
+/// of their records to `lines`. It stops with the first event that ends the run or is refused.
 pub fn run_one_by_one<G: LocalSigner, V: Verifier>(
     alloc: Global,
     config: &Config,

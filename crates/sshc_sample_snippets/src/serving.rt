@@ -7,8 +7,8 @@ use sshc_wire::AgentStream;
 use std::alloc::Global;
 use std::sync::Wait;
 
-/// Serves a connection until its stream ends or fails, and returns its seat. Each question of the agent is answered with
-/// yes, and nothing is called before each call.
+/// Serves a connection until its stream ends or fails, and returns its seat. Each question of the agent is answered
+/// with yes, and nothing is called before each call.
 pub fn serve_stream<L: Settings, S: AgentStream, G: LocalSigner, C: Clock, R: Wait>(
     rt: &R,
     alloc: Global,

@@ -5,8 +5,8 @@ use sshc_handle_state::{HandleState, Turn};
 use sshc_key::{LocalSigner, Verifier};
 use sshc_transport::Transport;
 
-/// Takes at most 100 turns at a moment in milliseconds, and returns the first that took no event; `Idle` for a session that
-/// has ended.
+/// Takes at most 100 turns at a moment in milliseconds, and returns the first that took no event; `Idle` for a session
+/// that has ended.
 pub fn settle<H: Handler, T: Transport, S: LocalSigner, V: Verifier>(
     state: &mut HandleState<H>,
     now: u64,

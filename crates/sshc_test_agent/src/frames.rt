@@ -3,8 +3,8 @@
 use sshc_wire::{NoMemory, Octets};
 use std::alloc::Global;
 
-/// The pair as a frame that adds it holds it, with an empty comment: the public part is 32 bytes of 8, the seed 32 bytes
-/// of 7.
+/// The pair as a frame that adds it holds it, with an empty comment: the public part is 32 bytes of 8, the seed 32
+/// bytes of 7.
 pub(crate) const PAIR: &[u8] = b"\0\0\0\x0bssh-ed25519\0\0\0\x20\
 \x08\x08\x08\x08\x08\x08\x08\x08\x08\x08\x08\x08\x08\x08\x08\x08\
 \x08\x08\x08\x08\x08\x08\x08\x08\x08\x08\x08\x08\x08\x08\x08\x08\

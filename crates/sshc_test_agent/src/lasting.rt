@@ -47,12 +47,12 @@ fn seen(output: &AgentOutput) -> Look {
     }
 }
 
-/// A step: whether a new generation begins before it, the moment in milliseconds, the connection, the input, and what is
-/// seen of its output.
+/// A step: whether a new generation begins before it, the moment in milliseconds, the connection, the input, and what
+/// is seen of its output.
 type Row = (bool, u64, u32, Input, Look);
 
-/// A key with a lifetime and a confirmation; a question about it that stays open across a seam; a lock, and its unlock two
-/// generations later; and the key's end at its moment.
+/// A key with a lifetime and a confirmation; a question about it that stays open across a seam; a lock, and its unlock
+/// two generations later; and the key's end at its moment.
 const ROWS: &[Row] = &[
     (false, 0, 1, Input::Adds, Look::Answer(6, 5)),
     (false, 5, 2, Input::Frame(SIGNS), Look::AskKey),

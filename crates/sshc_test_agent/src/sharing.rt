@@ -131,8 +131,8 @@ fn calls_by_turns<L: Settings, R: Wait>(
     }
 }
 
-/// What the four calls come to: the connection, the answer's size in bytes, and its first bytes. The listing has one key;
-/// the signature is refused.
+/// What the four calls come to: the connection, the answer's size in bytes, and its first bytes. The listing has one
+/// key; the signature is refused.
 const CALLS: &[(u32, usize, &[u8])] = &[
     (1, 5, b"\0\0\0\x01\x06"),
     (2, 68, b"\0\0\0\x40\x0c"),

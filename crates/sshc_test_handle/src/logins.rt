@@ -299,8 +299,8 @@ fn comes_in<R: Threads + Wait + Sync + Clock>(
     Ok(came)
 }
 
-/// Logins that are refused, by the server or by the caller's signer or authenticator: how each comes out, and how a login
-/// by a password comes out that follows it, where that is looked at.
+/// Logins that are refused, by the server or by the caller's signer or authenticator: how each comes out, and how a
+/// login by a password comes out that follows it, where that is looked at.
 const REFUSED: &[(&str, Way, Came, Option<Came>)] = &[
     (
         "password",

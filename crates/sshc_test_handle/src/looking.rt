@@ -68,7 +68,8 @@ fn serve_and_leave<R: Wait + Clock>(rt: &R, handle: &Handle<Keeper>) -> Result<b
     served
 }
 
-/// One thread takes what happens on every channel, also of an open that was refused, and waits no longer than its limit.
+/// One thread takes what happens on every channel, also of an open that was refused, and waits no longer than its
+/// limit.
 #[test]
 fn serves_all_channels(rt: HostRuntime) -> Result<(), Fail> {
     let (handle, runner) = scripted(rt.alloc(), true, OPEN_LINES)?;

@@ -363,8 +363,8 @@ fn played(bench: Bench, lines: &[Done]) -> Option<usize> {
     at
 }
 
-/// Does all of this in a new session, and returns the number of the first line that is answered otherwise, from 0; `None`
-/// if each is answered as its line says.
+/// Does all of this in a new session, and returns the number of the first line that is answered otherwise, from 0;
+/// `None` if each is answered as its line says.
 pub(crate) fn differs(
     alloc: Global,
     scene: Scene,

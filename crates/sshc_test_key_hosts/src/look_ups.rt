@@ -1,5 +1,5 @@
-//! The keys that are found for a host: in files made with OpenSSH 9.2's ssh-keygen, as `ssh-keygen -F` finds them, and in
-//! files and home directories.
+//! The keys that are found for a host: in files made with OpenSSH 9.2's ssh-keygen, as `ssh-keygen -F` finds them, and
+//! in files and home directories.
 
 use crate::judgement::REVOKED;
 use crate::keys::{K1, K2, K3, has_base64};

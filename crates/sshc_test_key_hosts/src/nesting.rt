@@ -8,8 +8,8 @@ use sshc_key::{
 use sshc_wire::{NoMemory, put_u32};
 use std::alloc::Global;
 
-/// What precedes the length of a certificate's signer: its name, an empty nonce and an empty key, the serial 0, the type
-/// of a user, an empty id and no principals, times from 0 to the last, and three empty strings.
+/// What precedes the length of a certificate's signer: its name, an empty nonce and an empty key, the serial 0, the
+/// type of a user, an empty id and no principals, times from 0 to the last, and three empty strings.
 const FRONT: &[u8] =
     b"\x00\x00\x00\x0ca-cert-v01@x\x00\x00\x00\x00\x00\x00\x00\x00\x00\x00\x00\x00\x00\x00\x00\x00\x00\x00\x00\x01\x00\x00\x00\x00\x00\x00\x00\x00\x00\x00\x00\x00\x00\x00\x00\x00\xff\xff\xff\xff\xff\xff\xff\xff\x00\x00\x00\x00\x00\x00\x00\x00\x00\x00\x00\x00";
 

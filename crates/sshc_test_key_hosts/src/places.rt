@@ -33,8 +33,8 @@ fn add_some(contents: &mut Vec<(Text, Octets)>) -> Result<(), NoMemory> {
     add_file(contents, "/home/a/.ssh/known_hosts", HOME)
 }
 
-/// Files with the four lines at `known`, bytes that aren't UTF-8 at `bytes`, and one line in a home directory. The calls
-/// with these numbers fail.
+/// Files with the four lines at `known`, bytes that aren't UTF-8 at `bytes`, and one line in a home directory. The
+/// calls with these numbers fail.
 pub fn some_files(alloc: Global, failing: &[u64]) -> Result<MemFiles, NoMemory> {
     let mut contents = Vec::new(alloc);
     add_some(&mut contents)?;

@@ -80,8 +80,8 @@ fn is_done(alloc: Global, run: &Run<'_>) -> bool {
     }
 }
 
-/// A run over a file `known` of this text: its arguments, of which the last is a key where one is given, its status, and
-/// the lines that are written.
+/// A run over a file `known` of this text: its arguments, of which the last is a key where one is given, its status,
+/// and the lines that are written.
 struct Row {
     name: &'static str,
     known: &'static str,

@@ -174,7 +174,8 @@ fn has_gone<E>(step: &Step<E>) -> bool {
     matches!(step, Step::Went)
 }
 
-/// What the exchange asks of the gate before the peer has begun it and after, and whether the peer's beginning is taken.
+/// What the exchange asks of the gate before the peer has begun it and after, and whether the peer's beginning is
+/// taken.
 #[tactic(auto, unfolding(sshc_auth::specs::OpeningTable::asked_of))]
 fn asked_around(alloc: Global, exchange: &Event) -> (Asked, bool, Asked) {
     let mut opening = Opening::new(alloc, 2_097_152, false, false);
@@ -233,8 +234,8 @@ fn has_key_of(opening: &Opening, event: &Event) -> bool {
     }
 }
 
-/// Whether an opening whose exchange is accepted asks for the user, in the session of that exchange and with its host key,
-/// which was missing before.
+/// Whether an opening whose exchange is accepted asks for the user, in the session of that exchange and with its host
+/// key, which was missing before.
 fn asks_for_user(alloc: Global, exchange: &Event) -> bool {
     let mut out = Outbox::new(alloc);
     let mut opening = Opening::new(alloc, 2_097_152, false, false);

@@ -137,8 +137,8 @@ pub(crate) fn are_lines(bytes: &[u8], written: usize) -> bool {
     Some(bytes) == LINES.as_bytes().get(..written)
 }
 
-/// Whether a run of this script, with so many events at most, ends so, and writes the first so many bytes of the login's
-/// lines.
+/// Whether a run of this script, with so many events at most, ends so, and writes the first so many bytes of the
+/// login's lines.
 pub(crate) fn gives(
     alloc: Global,
     known: &str,

@@ -34,7 +34,8 @@ enum Known {
     NoText(&'static [u8]),
 }
 
-/// What the arguments are run over: themselves, the known hosts file, the events that are read, and the calls that fail.
+/// What the arguments are run over: themselves, the known hosts file, the events that are read, and the calls that
+/// fail.
 #[derive(Clone, Copy)]
 struct Given {
     words: &'static [&'static str],

@@ -1,4 +1,5 @@
-//! Calls on numbers that no channel has, bytes that wait, and an outbox that drops packets. Worked channels are rows of `sshc_rows_formats`.
+//! Calls on numbers that no channel has, bytes that wait, and an outbox that drops packets. Worked channels are rows of
+//! `sshc_rows_formats`.
 
 use crate::let_go;
 use sshc_mux::{ChannelId, ChannelTable};

@@ -36,7 +36,10 @@ impl Model for Calls {
 
     ghost coded = { Prim.hlevel (codes, key_pair_code) };
 
-    ghost view = { λ s. record { calls = map (λ c. record { by = c.by; key = c.key; hash = c.hash; bytes = c.bytes; answer = c.answer }) s.calls.items; refusals = s.refusals } };
+    ghost view = { λ s. record {
+      calls = map (λ c. record { by = c.by; key = c.key; hash = c.hash; bytes = c.bytes; answer = c.answer }) s.calls.items;
+      refusals = s.refusals;
+    } };
 }
 
 impl Calls {

@@ -2,7 +2,8 @@
 
 ghost use Rattle.std.specs.Prelude.{◌≡◌, ℕ, List, Option, IfOk, IfSome};
 ghost use Rattle.sshc_wire.specs.Faults.{HasCause};
-ghost use Rattle.sshc_transport.specs.Transports.{Answer, Handing, payload, exchange_begun, AnswersNext, Hands, IsShortEvent};
+ghost use Rattle.sshc_transport.specs.Transports.{Answer, Handing, payload, exchange_begun, AnswersNext, Hands};
+ghost use Rattle.sshc_transport.specs.Transports.{IsShortEvent};
 
 use crate::exchange::ExchangeResult;
 use sshc_wire::{Failed, Octets};

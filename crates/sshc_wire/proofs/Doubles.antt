@@ -1,7 +1,7 @@
 -- Methods without doubles: a method that isn't there is added at the end.
 use Rattle.std.proofs.Common.{◌≡◌, ◌++◌, Bool, true, false, List, [], ◌∷◌, refl, sym}
 use Rattle.std.proofs.lemmas.Slice.Eq.{bytes_eq-Decides}
-use Rattle.sshc_wire.specs.Cases.{both_false, neither}
+use Rattle.sshc_wire.specs.CasesLaws.{both_false, neither}
 use Rattle.sshc_wire.specs.declared.methods.MethodKind.{MethodKind}
 use Rattle.sshc_wire.specs.Methods.{HasNoDoubles, has_method, is_method, method_name}
 

@@ -7,11 +7,12 @@ use Rattle.std.proofs.lemmas.List.{take_at}
 use Rattle.std.proofs.lemmas.Option.{slice_get-map}
 use Rattle.sshc_wire.specs.declared.error.WireError.{WireError}
 use Rattle.sshc_wire.specs.Reads.{string_at}
-use Rattle.sshc_wire.specs.Cases.{by_cases}
+use Rattle.sshc_wire.specs.CasesLaws.{by_cases}
 use Rattle.std.specs.Prelude.{nat_lt}
 use Rattle.sshc_wire.specs.declared.record.Record.{Record}
 use Rattle.sshc_wire.specs.declared.record.Record.TheVariants.{Payload, Resolved, Auth, KexDone, AuthBanner, Channel, ServerOpened, HostKeysAnnounced, Agent}
-use Rattle.sshc_wire.specs.Outgoing.{kept, packet_in, shown, shown-append, text_in, texts}
+use Rattle.sshc_wire.specs.Outgoing.{kept, packet_in, shown, text_in, texts}
+use Rattle.sshc_wire.specs.OutgoingLaws.{shown-append}
 use Rattle.sshc_wire.specs.Packing.{joined}
 use Rattle.sshc_wire.specs.Records.{record_text}
 use Rattle.sshc_wire.specs.RecordReads.{answer_at, asked_at, happened_at, opened_at, resolved_at, strings_at}

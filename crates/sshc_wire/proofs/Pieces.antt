@@ -3,7 +3,8 @@ use Rattle.std.proofs.Common.{◌≡◌, ℕ, ◌+◌, ◌-◌, ◌≤◌, List,
 use Rattle.std.proofs.lemmas.List.{take-append-drop, take-append-le, take-take, take_all}
 use Rattle.std.proofs.Math.Seq.{take-append-add}
 use borrow.Rule.Slice.PartMut.{put_mid, post_of}
-use Rattle.sshc_wire.specs.Contents.{prepend, append, prepend-prepend, append-append}
+use Rattle.sshc_wire.specs.Contents.{prepend, append}
+use Rattle.sshc_wire.specs.ContentsLaws.{prepend-prepend, append-append}
 
 pub take_two : (xs : List ℕ) (f n : ℕ) → f ≤ length xs → take (f + n) xs ≡ take f xs ++ take n (drop f xs)
 take_two xs f n h =

@@ -9,7 +9,8 @@ use Rattle.sshc_wire.specs.Signals.{signal_of}
 use Rattle.sshc_wire.specs.declared.signal.Sig.{Sig}
 use Rattle.sshc_wire.specs.RecordReads.{signal_at}
 use Rattle.sshc_wire.specs.declared.methods.MethodKind.{MethodKind}
-use Rattle.sshc_wire.specs.Format.{bind_ok, done}
+use Rattle.sshc_wire.specs.Format.{done}
+use Rattle.sshc_wire.specs.FormatLaws.{bind_ok}
 use Rattle.sshc_wire.specs.Reads.{Reader, ◌>>=◌, string_at, text_at}
 use Rattle.sshc_wire.specs.declared.error.WireError.{WireError}
 use Rattle.sshc_wire.specs.declared.error.WireError.TheVariants.{NotText}

@@ -4,8 +4,9 @@ use Rattle.std.proofs.lemmas.List.{append-nil}
 use Rattle.std.proofs.lemmas.List.Concat.{flat_map-cons}
 use Rattle.std.specs.Int.{w32}
 use Rattle.std.specs.List.{flat_map, All}
-use Rattle.sshc_wire.specs.Counted.{boolean-again, times_at}
-use Rattle.sshc_wire.specs.Parts.{number32, strings}
+use Rattle.sshc_wire.specs.Counted.{times_at}
+use Rattle.sshc_wire.specs.CountedLaws.{boolean-again}
+use Rattle.sshc_wire.specs.PartsLaws.{number32, strings}
 use Rattle.sshc_wire.specs.Reads.{Reader, boolean_at, number_at, string_at}
 use Rattle.sshc_wire.specs.Reasons.{open_failure_code}
 use Rattle.sshc_wire.specs.Records.{prompt_text}

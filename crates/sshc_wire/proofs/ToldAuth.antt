@@ -1,6 +1,6 @@
 -- What the user is asked for is told by its record's text.
 use Rattle.std.proofs.Common.{◌≡◌, ℕ, ◌<◌, ◌^◌, List, [], ◌∷◌, ◌++◌, Option, Some, None, Ok, refl, ap, ◌∙◌, append_assoc}
-use Rattle.sshc_wire.specs.Parts.{number32, strings}
+use Rattle.sshc_wire.specs.PartsLaws.{number32, strings}
 use Rattle.sshc_wire.specs.Reads.{byte_at}
 use Rattle.sshc_wire.specs.Records.{auth_text, gssapi_text, hash_number, prompt_text}
 use Rattle.sshc_wire.specs.Wire.{counted_text, string_text, u32_text}

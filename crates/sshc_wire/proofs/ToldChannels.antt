@@ -1,7 +1,7 @@
 -- What happens on a channel is told by its record's text.
 use Rattle.std.proofs.Common.{◌≡◌, ℕ, ◌<◌, ◌^◌, Bool, List, [], ◌++◌, Ok, refl, ap, ◌∙◌, append_assoc}
-use Rattle.sshc_wire.specs.Counted.{boolean-again}
-use Rattle.sshc_wire.specs.Parts.{number32, strings}
+use Rattle.sshc_wire.specs.CountedLaws.{boolean-again}
+use Rattle.sshc_wire.specs.PartsLaws.{number32, strings}
 use Rattle.sshc_wire.specs.Reasons.{open_failure_code}
 use Rattle.sshc_wire.specs.Records.{channel_text}
 use Rattle.sshc_wire.specs.Signals.{signal_name, signal_of}

@@ -5,10 +5,10 @@ use Rattle.std.specs.List.{cons_option, filter_map, flat_map, join_with_byte, li
 use Rattle.std.proofs.lemmas.List.{append-nil}
 use Rattle.std.proofs.lemmas.List.Splits.{slice_split-cons_no}
 use Rattle.std.proofs.lemmas.List.Concat.{flat_map-cons}
-use Rattle.sshc_wire.specs.Cases.{both_true, neither}
+use Rattle.sshc_wire.specs.CasesLaws.{both_true, neither}
 use Rattle.sshc_wire.specs.Methods.{method_name, method_of}
 use Rattle.sshc_wire.specs.Names.{behind_comma, is_comma, is_name, names_in}
-use Rattle.sshc_wire.specs.Parts.{strings}
+use Rattle.sshc_wire.specs.PartsLaws.{strings}
 use Rattle.sshc_wire.specs.Wire.{IsShort, names_text}
 use Rattle.sshc_wire.specs.declared.methods.MethodKind.{MethodKind}
 use Rattle.sshc_wire.specs.declared.methods.MethodKind.TheVariants as methods

@@ -1,6 +1,6 @@
 -- A channel that the server opens, and what an agent reports, are told by their records' texts.
 use Rattle.std.proofs.Common.{◌≡◌, ℕ, ◌<◌, ◌^◌, List, [], ◌∷◌, ◌++◌, Ok, refl, ap, ◌∙◌, append_assoc}
-use Rattle.sshc_wire.specs.Parts.{number32, strings}
+use Rattle.sshc_wire.specs.PartsLaws.{number32, strings}
 use Rattle.sshc_wire.specs.Reads.{byte_at}
 use Rattle.sshc_wire.specs.Records.{agent_text, open_text}
 use Rattle.sshc_wire.specs.Wire.{IsShort, string_text, u32_text}

@@ -1,7 +1,7 @@
 -- How a ticket is resolved is told by its record's text.
 use Rattle.std.proofs.Common.{◌≡◌, ◌<◌, ◌^◌, [], Ok, refl}
-use Rattle.sshc_wire.specs.Counted.{boolean-again}
-use Rattle.sshc_wire.specs.Parts.{number32}
+use Rattle.sshc_wire.specs.CountedLaws.{boolean-again}
+use Rattle.sshc_wire.specs.PartsLaws.{number32}
 use Rattle.sshc_wire.specs.Reads.{byte_at}
 use Rattle.sshc_wire.specs.Records.{resolution_text}
 use Rattle.sshc_wire.specs.Wire.{bool_text, names_text}

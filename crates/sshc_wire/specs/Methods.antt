@@ -2,8 +2,6 @@
 -- A table of names; the code searches it.
 use Rattle.std.specs.Prelude.{◌≡◌, ℕ, Bool, false, List, [], ◌∷◌, ◌++◌, Option, find, bytes_eq, codes, if◌then◌else◌}
 use Rattle.std.specs.List.{list_any}
-use Rattle.std.specs.Cmp.{IsEquivalence}
-use Rattle.std.specs.Cmp.Lexicographic.{on_texts_equal}
 use Rattle.sshc_wire.specs.declared.methods.MethodKind.{MethodKind}
 use Rattle.sshc_wire.specs.declared.methods.MethodKind.TheVariants as methods
 
@@ -24,9 +22,6 @@ method_of name = find (λ m. bytes_eq (method_name m) name) all_methods
 
 abbrev pub is_method : MethodKind → MethodKind → Bool
 is_method a b = bytes_eq (method_name a) (method_name b)
-
-pub method_equiv : IsEquivalence is_method
-method_equiv = on_texts_equal method_name
 
 -- whether the method is in the list
 unfoldable pub has_method : List MethodKind → MethodKind → Bool

@@ -1,6 +1,6 @@
 -- What contracts see of an outbox: the records in order, and whether packets are dropped. Plain data; how the records are kept is the
 -- code's.
-use Rattle.std.proofs.Common.{◌≡◌, ℕ, Bool, true, false, List, [], ◌∷◌, ◌++◌, Option, Some, None, refl, ap, ◌∙◌, sym, append_assoc}
+use Rattle.std.proofs.Common.{◌≡◌, ℕ, Bool, true, false, List, [], ◌∷◌, ◌++◌, Option, Some, None}
 use Rattle.std.specs.List.{flat_map}
 use Rattle.sshc_wire.specs.Records.{record_text}
 use Rattle.sshc_wire.specs.declared.record.Record.{Record}
@@ -44,13 +44,3 @@ kept true said = said ∷ []
 abbrev pub shown : Bool → List Record → List Record
 shown muted [] = []
 shown muted (said ∷ records) = kept muted said ++ shown muted records
-
--- nothing is dropped where packets aren't
-pub shown-open : (records : List Record) → shown false records ≡ records
-shown-open [] = refl
-shown-open (said ∷ records) = ap (λ (rs : List Record). said ∷ rs) (shown-open records)
-
-pub shown-append : (muted : Bool) (a b : List Record) → shown muted (a ++ b) ≡ shown muted a ++ shown muted b
-shown-append muted [] b = refl
-shown-append muted (said ∷ a) b =
-    ap (λ (rs : List Record). kept muted said ++ rs) (shown-append muted a b) ∙ sym (append_assoc (kept muted said) (shown muted a) (shown muted b))

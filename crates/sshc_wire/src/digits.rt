@@ -38,8 +38,8 @@ fn write_digit_line(line: &mut [u8], bytes: &[u8])
     line[digits] = b'\n';
 }
 
-/// Makes the bytes a line, lower-case hexadecimal digits followed by a line feed, at the front of this memory. The memory
-/// is only ever made longer, so that what a line before wrote isn't cleared; no clause says so.
+/// Makes the bytes a line, lower-case hexadecimal digits followed by a line feed, at the front of this memory. The
+/// memory is only ever made longer, so that what a line before wrote isn't cleared; no clause says so.
 pub fn digit_line<'a>(memory: &'a mut Vec<u8>, bytes: &[u8]) -> Result<&'a [u8], NoMemory>
     ensures { IfOk result (λ line. line.now ≡ text_line bytes.now) }
 {

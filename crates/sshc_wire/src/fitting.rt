@@ -6,7 +6,8 @@ ghost use Rattle.sshc_wire.specs.Methods.{method_name};
 ghost use Rattle.sshc_wire.specs.Names.{behind_comma, is_comma};
 ghost use Rattle.sshc_wire.specs.Signals.{signal_name, signal_of};
 ghost use Rattle.sshc_wire.specs.Wire.{IsShort};
-ghost use Rattle.sshc_wire.specs.Fitting.{AreNames, Fits, FitsAgent, FitsAuth, FitsChannel, FitsGssapi, FitsOpen, FitsPrompt, FitsResolution, is_listable};
+ghost use Rattle.sshc_wire.specs.Fitting.{AreNames, Fits, FitsAgent, FitsAuth, FitsChannel, FitsGssapi, FitsOpen};
+ghost use Rattle.sshc_wire.specs.Fitting.{FitsPrompt, FitsResolution, is_listable};
 
 use crate::agent_record::AgentRecord;
 use crate::auth_record::{AuthRecord, GssapiRecord, Prompt};
@@ -188,6 +189,53 @@ fn fit_auth(asked: &AuthRecord)
     }
 }
 
+/// Whether it is one of what has bytes or texts; then their own types say that it fits.
+fn fits_with_texts(happened: &ChannelRecord) -> bool
+    ensures { IsTrue result → FitsChannel happened.now }
+{
+    match happened {
+        ChannelRecord::Data { body } => {
+            let _body = body.as_slice();
+            true
+        }
+        ChannelRecord::ExtendedData { ext, body } => {
+            let _ext = *ext;
+            let _body = body.as_slice();
+            true
+        }
+        ChannelRecord::OpenFailure {
+            description,
+            language,
+            ..
+        } => {
+            let _description = description.as_str();
+            let _language = language.as_str();
+            true
+        }
+        _ => false,
+    }
+}
+
+/// Whether it is a signal that its name tells.
+fn fits_as_signal(happened: &ChannelRecord) -> bool
+    ensures { IsTrue result → FitsChannel happened.now }
+{
+    match happened {
+        ChannelRecord::ExitSignal {
+            signal_name,
+            error_message,
+            lang_tag,
+            ..
+        } => {
+            let _name = signal_name.name();
+            let _message = error_message.as_str();
+            let _language = lang_tag.as_str();
+            names_itself(signal_name)
+        }
+        _ => false,
+    }
+}
+
 fn fits_channel(happened: &ChannelRecord) -> bool
     ensures { IsTrue result → FitsChannel happened.now }
 {
@@ -200,44 +248,20 @@ fn fits_channel(happened: &ChannelRecord) -> bool
             let _window = *window_size;
             true
         }
-        ChannelRecord::OpenFailure {
-            description,
-            language,
-            ..
-        } => {
-            let _description = description.as_str();
-            let _language = language.as_str();
-            true
-        }
-        ChannelRecord::Data { body } => {
-            let _body = body.as_slice();
-            true
-        }
-        ChannelRecord::ExtendedData { ext, body } => {
-            let _ext = *ext;
-            let _body = body.as_slice();
-            true
-        }
         ChannelRecord::ExitStatus { exit_status } => {
             let _status = *exit_status;
             true
-        }
-        ChannelRecord::ExitSignal {
-            signal_name,
-            error_message,
-            lang_tag,
-            ..
-        } => {
-            let _name = signal_name.name();
-            let _message = error_message.as_str();
-            let _language = lang_tag.as_str();
-            names_itself(signal_name)
         }
         ChannelRecord::WindowAdjusted { new_size } => {
             let _size = *new_size;
             true
         }
-        _ => true,
+        ChannelRecord::Success
+        | ChannelRecord::Failure
+        | ChannelRecord::Close
+        | ChannelRecord::Eof
+        | ChannelRecord::XonXoff { .. } => true,
+        _ => fits_with_texts(happened) || fits_as_signal(happened),
     }
 }
 
@@ -298,8 +322,8 @@ fn fit_agent(answer: &AgentRecord)
     }
 }
 
-/// Whether the record's text tells it. It does, but for names that no list of names can have, and for a signal of its own
-/// under a standard name. No session reports either.
+/// Whether the record's text tells it. It does, but for names that no list of names can have, and for a signal of its
+/// own under a standard name. No session reports either.
 pub(crate) fn fits(said: &Record) -> bool
     ensures { IsTrue result → Fits said.now }
 {

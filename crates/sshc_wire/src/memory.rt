@@ -1,6 +1,7 @@
 //! A source, a sink and files over memory, which fail at the calls that a test names.
 
-ghost use Rattle.std.specs.Prelude.{◌≡◌, ◌≤◌, ℕ, List, [], Option, Some, Err, IfOk, OnOk, OnErr, drop, length, option_copied, min};
+ghost use Rattle.std.specs.Prelude.{◌≡◌, ◌≤◌, ℕ, List, [], Option, Some, Err, IfOk, OnOk, OnErr, drop, length};
+ghost use Rattle.std.specs.Prelude.{option_copied, min};
 ghost use Rattle.std.specs.Prelude.{◌++◌, IsErrOf, take, true, ◌<◌};
 ghost use Rattle.sshc_wire.specs.Beside.{no_side};
 ghost use Rattle.sshc_wire.specs.Contents.{bytes_of, found_in, with_text};

@@ -7,7 +7,8 @@ ghost use Rattle.std.specs.List.{flat_map, join_with_byte};
 ghost use Rattle.sshc_wire.specs.Names.{behind_comma};
 ghost use Rattle.sshc_wire.specs.Extending.{Extends};
 ghost use Rattle.sshc_wire.specs.Wire.{names_text};
-ghost use Rattle.sshc_wire.specs.Methods.{HasNoDoubles, has_method, is_method, method_equiv, method_name, method_of, with_method};
+ghost use Rattle.sshc_wire.specs.Methods.{HasNoDoubles, has_method, is_method, method_name, method_of, with_method};
+ghost use Rattle.sshc_wire.specs.MethodsLaws.{method_equiv};
 
 use crate::error::NoMemory;
 use crate::names::put_behind_comma;
@@ -131,8 +132,8 @@ impl MethodSet {
     }
 }
 
-/// Adds the names of the methods, each behind a comma. Out of memory, a part of them may be added, as with the functions
-/// below.
+/// Adds the names of the methods, each behind a comma. Out of memory, a part of them may be added, as with the
+/// functions below.
 #[tactic(auto, using(crate::proofs::Extended::extended, crate::proofs::Extended::extended_on, crate::proofs::Extended::unextended))]
 fn put_rest(out: &mut Vec<u8>, methods: &[MethodKind]) -> Result<(), NoMemory>
     ensures ok { OnOk result (out.new.items ≡ out.old.items ++ flat_map behind_comma (map method_name methods.now)) }
@@ -159,7 +160,7 @@ fn put_joined(out: &mut Vec<u8>, methods: &[MethodKind]) -> Result<(), NoMemory>
     }
 }
 
-#[tactic(auto, unfolding(crate::specs::Wire::names_text), using(crate::specs::Nested::string_ended, crate::proofs::Extended::extended, crate::proofs::Extended::extended_on, crate::proofs::Extended::unextended))]
+#[tactic(auto, unfolding(crate::specs::Wire::names_text), using(crate::specs::NestedLaws::string_ended, crate::proofs::Extended::extended, crate::proofs::Extended::extended_on, crate::proofs::Extended::unextended))]
 fn put_parts(out: &mut Vec<u8>, methods: &[MethodKind]) -> Result<(), NoMemory>
     ensures ok { OnOk result (out.new.items ≡ out.old.items ++ names_text (map method_name methods.now)) }
     ensures err { OnErr result (Extends out.old.items out.new.items) }

@@ -115,7 +115,7 @@ fn put_joined(out: &mut Vec<u8>, names: &[Text]) -> Result<(), NoMemory>
     }
 }
 
-#[tactic(auto, unfolding(crate::specs::Wire::names_text), using(crate::specs::Nested::string_ended, crate::proofs::Extended::extended, crate::proofs::Extended::extended_on, crate::proofs::Extended::unextended))]
+#[tactic(auto, unfolding(crate::specs::Wire::names_text), using(crate::specs::NestedLaws::string_ended, crate::proofs::Extended::extended, crate::proofs::Extended::extended_on, crate::proofs::Extended::unextended))]
 fn put_parts(out: &mut Vec<u8>, names: &[Text]) -> Result<(), NoMemory>
     ensures ok { OnOk result (out.new.items ≡ out.old.items ++ names_text names.now) }
     ensures err { OnErr result (Extends out.old.items out.new.items) }

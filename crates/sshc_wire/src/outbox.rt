@@ -1,6 +1,7 @@
 //! The records that a step says, in order, as one list of bytes.
 
-ghost use Rattle.std.specs.Prelude.{◌≡◌, ◌<◌, ◌^◌, [], ◌∷◌, ◌++◌, length, map, drop, slice_get, OnOk, OnErr, IfOk, IfSome, IsOk, option_copied, Some, true, false};
+ghost use Rattle.std.specs.Prelude.{◌≡◌, ◌<◌, ◌^◌, [], ◌∷◌, ◌++◌, length, map, drop, slice_get, OnOk, OnErr, IfOk};
+ghost use Rattle.std.specs.Prelude.{IfSome, IsOk, option_copied, Some, true, false};
 ghost use Rattle.std.specs.Option.{option_map};
 ghost use Rattle.sshc_wire.specs.Wire.{IsBytes};
 ghost use Rattle.sshc_wire.specs.Records.{record_text};
@@ -19,9 +20,9 @@ use std::marker::Model;
 /// Records in order, which contracts see as that list. They are kept as their texts, in one buffer: a record that is
 /// added is written there, and one that is taken is read again. A muted outbox drops packets.
 ///
-/// Two records count as out of memory where they are added, since other records have their texts too: a list of signature
-/// algorithms in which a name is empty or has a comma, and a signal of its own under a standard name. No session reports
-/// either.
+/// Two records count as out of memory where they are added, since other records have their texts too: a list of
+/// signature algorithms in which a name is empty or has a comma, and a signal of its own under a standard name. No
+/// session reports either.
 #[derive(Drop)]
 pub struct Outbox {
     texts: Texts,

@@ -3,7 +3,9 @@
 ghost use Rattle.std.specs.Prelude.{◌≡◌, IfOk};
 ghost use Rattle.sshc_wire.specs.Reads.{string_at};
 ghost use Rattle.sshc_wire.specs.RecordReads.{answer_at, asked_at, happened_at, opened_at, resolved_at, strings_at};
-ghost use Rattle.sshc_wire.specs.declared.record.Record.TheVariants.{Agent, Auth, AuthBanner, Channel, HostKeysAnnounced, KexDone, Resolved, ServerOpened};
+ghost use Rattle.sshc_wire.specs.declared.record.Record.TheVariants.{Agent, Auth, AuthBanner, Channel};
+ghost use Rattle.sshc_wire.specs.declared.record.Record.TheVariants.{HostKeysAnnounced, KexDone, Resolved};
+ghost use Rattle.sshc_wire.specs.declared.record.Record.TheVariants.{ServerOpened};
 ghost use Rattle.sshc_wire.specs.Telling.{made_of, record_by, record_of};
 
 mod agent;

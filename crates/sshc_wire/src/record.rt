@@ -3,7 +3,8 @@
 ghost use Rattle.std.specs.Prelude.{◌≡◌, ◌<◌, ◌^◌, ◌∷◌, ◌++◌, length, OnErr, OnOk};
 ghost use Rattle.std.specs.List.{flat_map};
 ghost use Rattle.sshc_wire.specs.Extending.{Extends};
-ghost use Rattle.sshc_wire.specs.Records.{agent_text, auth_text, channel_text, gssapi_text, hash_number, open_text, prompt_text, record_text};
+ghost use Rattle.sshc_wire.specs.Records.{agent_text, auth_text, channel_text, gssapi_text, hash_number, open_text};
+ghost use Rattle.sshc_wire.specs.Records.{prompt_text, record_text};
 ghost use Rattle.sshc_wire.specs.Signals.{signal_name};
 ghost use Rattle.sshc_wire.specs.Wire.{bool_text, counted_text, string_text, u32_text};
 
@@ -417,6 +418,16 @@ fn put_channel(out: &mut Vec<u8>, id: ChannelId, happened: &ChannelRecord) -> Re
     }
 }
 
+/// The number of a type whose one field is a path, and the path.
+#[tactic(auto, using(crate::proofs::Extended::extended, crate::proofs::Extended::extended_on, crate::proofs::Extended::unextended))]
+fn put_path(out: &mut Vec<u8>, number: u8, path: &Text) -> Result<(), NoMemory>
+    ensures ok { OnOk result (out.new.items ≡ out.old.items ++ number ∷ string_text path.now) }
+    ensures err { OnErr result (Extends out.old.items out.new.items) }
+{
+    out.push(number)?;
+    put_text(out, path.as_str())
+}
+
 /// A channel that the server opens: the number of its type, the fields.
 #[tactic(auto, unfolding(crate::specs::Records::open_text), using(crate::proofs::Extended::extended, crate::proofs::Extended::extended_on, crate::proofs::Extended::unextended))]
 fn put_open(out: &mut Vec<u8>, opened: &ServerOpen) -> Result<(), NoMemory>
@@ -435,10 +446,7 @@ fn put_open(out: &mut Vec<u8>, opened: &ServerOpen) -> Result<(), NoMemory>
             put_address(out, host_to_connect, *port_to_connect)?;
             put_address(out, originator_address, *originator_port)
         }
-        ServerOpen::DirectStreamLocal { socket_path } => {
-            out.push(2)?;
-            put_text(out, socket_path.as_str())
-        }
+        ServerOpen::DirectStreamLocal { socket_path } => put_path(out, 2, socket_path),
         ServerOpen::X11 {
             originator_address,
             originator_port,
@@ -456,10 +464,7 @@ fn put_open(out: &mut Vec<u8>, opened: &ServerOpen) -> Result<(), NoMemory>
             put_address(out, connected_address, *connected_port)?;
             put_address(out, originator_address, *originator_port)
         }
-        ServerOpen::ForwardedStreamLocal { socket_path } => {
-            out.push(5)?;
-            put_text(out, socket_path.as_str())
-        }
+        ServerOpen::ForwardedStreamLocal { socket_path } => put_path(out, 5, socket_path),
         ServerOpen::AgentForward => Ok(out.push(6)?),
         ServerOpen::Unknown => Ok(out.push(7)?),
     }

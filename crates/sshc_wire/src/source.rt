@@ -121,8 +121,8 @@ pub(crate) fn lengthen(memory: &mut Vec<u8>, least: usize) -> Result<(), NoMemor
     Ok(())
 }
 
-/// The next bytes of the source, as many as are asked for or all before its end, at the front of this memory. The memory
-/// is only ever made longer, so that what was read before isn't cleared; no clause says so.
+/// The next bytes of the source, as many as are asked for or all before its end, at the front of this memory. The
+/// memory is only ever made longer, so that what was read before isn't cleared; no clause says so.
 pub fn read_front<'a, S: Source>(
     memory: &'a mut Vec<u8>,
     source: &mut S,

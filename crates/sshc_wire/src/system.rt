@@ -107,8 +107,8 @@ impl<R: Read> Source for StdSource<R> {
     }
 }
 
-/// Any writer of std, with no buffer of its own. A write that a signal interrupted is made again. A writer that takes no
-/// byte of a piece counts as failed.
+/// Any writer of std, with no buffer of its own. A write that a signal interrupted is made again. A writer that takes
+/// no byte of a piece counts as failed.
 #[derive(Drop)]
 pub struct StdSink<W> {
     inner: W,

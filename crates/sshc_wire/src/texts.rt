@@ -1,6 +1,7 @@
 //! Texts of records in one buffer.
 
-ghost use Rattle.std.specs.Prelude.{◌≡◌, ◌+◌, ◌-◌, ◌<◌, ◌≤◌, [], ◌∷◌, ◌++◌, OnErr, OnOk, drop, length, option_copied, slice_get, slice_range, take, Some};
+ghost use Rattle.std.specs.Prelude.{◌≡◌, ◌+◌, ◌-◌, ◌<◌, ◌≤◌, [], ◌∷◌, ◌++◌, OnErr, OnOk, drop, length, option_copied};
+ghost use Rattle.std.specs.Prelude.{slice_get, slice_range, take, Some};
 ghost use Rattle.sshc_wire.specs.Extending.{Extends};
 ghost use Rattle.sshc_wire.specs.Records.{record_text};
 ghost use Rattle.sshc_wire.specs.declared.place.Place.{Place as Where};

@@ -3,7 +3,8 @@
 ghost use Rattle.std.specs.Prelude.{◌≡◌, ◌<◌, Err, IfOk, MatchOption, MatchResult, None, Ok, length};
 ghost use Rattle.sshc_wire.specs.Reads.{text_at};
 ghost use Rattle.sshc_wire.specs.Whole.{all_at};
-ghost use Rattle.sshc_agent_core.specs.AgentTable.Add.{add_turn, added_turn, commented_turn, constraint_at, constraints_in, kept_in, keyed_turn, with_one};
+ghost use Rattle.sshc_agent_core.specs.AgentTable.Add.{add_turn, added_turn, commented_turn, constraint_at};
+ghost use Rattle.sshc_agent_core.specs.AgentTable.Add.{constraints_in, kept_in, keyed_turn, with_one};
 ghost use Rattle.sshc_key.specs.KeyGrammar.{key_text};
 ghost use Rattle.sshc_agent_core.specs.KeyList.{deadline_of};
 ghost use Rattle.sshc_agent_core.specs.Turn.{Follows};

@@ -6,7 +6,8 @@ ghost use Rattle.sshc_key.specs.View.{view};
 ghost use Rattle.sshc_agent_core.specs.AgentList.{aged};
 ghost use Rattle.sshc_agent_core.specs.AgentTable.Sign.{flagged_hash, hash_of};
 ghost use Rattle.sshc_agent_core.specs.Asked.{asked_of, request_by};
-ghost use Rattle.sshc_agent_core.specs.AskedRows.{body_asks, frame_asks, key_asks, may_ask, rest_asks, taken_by, taken_now};
+ghost use Rattle.sshc_agent_core.specs.AskedRows.{body_asks, frame_asks, key_asks, may_ask, rest_asks, taken_by};
+ghost use Rattle.sshc_agent_core.specs.AskedRows.{taken_now};
 ghost use Rattle.sshc_agent_core.specs.Connections.{standing_of};
 
 use super::AgentCore;

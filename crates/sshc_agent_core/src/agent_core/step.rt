@@ -1,11 +1,13 @@
 //! One step of the agent: what it asks to be signed, and what it does with the answer.
 
-ghost use Rattle.std.specs.Prelude.{◌≡◌, ◌≤◌, ◌+◌, ◌∷◌, ◌++◌, List, ℕ, Err, IfOk, IsSome, None, OnErr, OnOk, Some, false, if◌then◌else◌};
+ghost use Rattle.std.specs.Prelude.{◌≡◌, ◌≤◌, ◌+◌, ◌∷◌, ◌++◌, List, ℕ, Err, IfOk, IsSome, None, OnErr, OnOk, Some};
+ghost use Rattle.std.specs.Prelude.{false, if◌then◌else◌};
 ghost use Rattle.sshc_wire.specs.Faults.{Rose};
 ghost use Rattle.sshc_key.specs.Signers.{SignCall, since};
 ghost use Rattle.sshc_agent_core.specs.AgentHistory.{IsPermitted, KeepsLock, KeepsOthers, KeepsRefused};
 ghost use Rattle.sshc_agent_core.specs.AgentList.{aged, seen, standing};
-ghost use Rattle.sshc_agent_core.specs.AgentTable.{Finishes, Steps, is_shut, key_answer_turn, request_answer_turn, seen_row, standing_row, turned};
+ghost use Rattle.sshc_agent_core.specs.AgentTable.{Finishes, Steps, is_shut, key_answer_turn, request_answer_turn};
+ghost use Rattle.sshc_agent_core.specs.AgentTable.{seen_row, standing_row, turned};
 ghost use Rattle.sshc_agent_core.specs.AnswerBytes.{answer_bytes};
 ghost use Rattle.sshc_agent_core.specs.Asked.{IsShortTold, answer_of, asked_of, told_of};
 ghost use Rattle.sshc_agent_core.specs.Connections.{is_new, standing_of, without};

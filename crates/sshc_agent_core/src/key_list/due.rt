@@ -1,9 +1,11 @@
 //! The lists of blobs at their deadlines.
 
-ghost use Rattle.std.specs.Prelude.{◌≡◌, ℕ, ◌<◌, ◌≤◌, [], false, not, true, bytes_eq, IfOk, OnErr, OnOk, None, Some, length, slice_get};
+ghost use Rattle.std.specs.Prelude.{◌≡◌, ℕ, ◌<◌, ◌≤◌, [], false, not, true, bytes_eq, IfOk, OnErr, OnOk, None, Some};
+ghost use Rattle.std.specs.Prelude.{length, slice_get};
 ghost use Rattle.std.specs.BTreeMap.{get};
 ghost use Rattle.std.specs.Ordering.{nat_cmp};
-ghost use Rattle.sshc_agent_core.specs.Deadlines.{Adds, Drops, IsAdded, IsCut, IsMoved, IsReplaced, IsReplacedAt, IsSame, Leaves, if_there, listed_at, others, unless_empty};
+ghost use Rattle.sshc_agent_core.specs.Deadlines.{Adds, Drops, IsAdded, IsCut, IsMoved, IsReplaced, IsReplacedAt};
+ghost use Rattle.sshc_agent_core.specs.Deadlines.{IsSame, Leaves, if_there, listed_at, others, unless_empty};
 
 use sshc_wire::{List, NoMemory, Octets};
 use std::alloc::Global;

@@ -1,13 +1,15 @@
 //! The map of keys, and what is done to it and to the deadlines together.
 
-ghost use Rattle.std.specs.Prelude.{◌≡◌, ◌+◌, ◌<◌, ◌≤◌, IfOk, MatchOption, nat_le, None, option_copied, OnOk, OnErr, Some, length, position, sum_by, slice_get, slice_set, ◌++◌, ◌∷◌, []};
+ghost use Rattle.std.specs.Prelude.{◌≡◌, ◌+◌, ◌<◌, ◌≤◌, IfOk, MatchOption, nat_le, None, option_copied, OnOk, OnErr};
+ghost use Rattle.std.specs.Prelude.{Some, length, position, sum_by, slice_get, slice_set, ◌++◌, ◌∷◌, []};
 ghost use Rattle.std.specs.BTreeMap.{get};
 ghost use Rattle.std.specs.List.{flat_map};
 ghost use Rattle.sshc_wire.specs.Wire.{string_text};
 ghost use Rattle.std.specs.Ordering.{nat_cmp};
 ghost use Rattle.indexmap.specs.IndexMap.{values, spare, index_map_len};
 ghost use Rattle.sshc_agent_core.specs.Deadlines.{Adds, Agree, AreApart, IsMoved, IsSame};
-ghost use Rattle.sshc_agent_core.specs.KeyList.{held, identity_text, is_key, is_past, listed, listing, unexpired, with_key, without_key};
+ghost use Rattle.sshc_agent_core.specs.KeyList.{held, identity_text, is_key, is_past, listed, listing, unexpired};
+ghost use Rattle.sshc_agent_core.specs.KeyList.{with_key, without_key};
 ghost use Rattle.sshc_agent_core.specs.Stored.{AreKeyed};
 ghost use Rattle.sshc_agent_core.specs.declared.key_list.HeldKey.{HeldKey as Held};
 
@@ -108,7 +110,8 @@ fn put_identities(out: &mut Vec<u8>, keys: &IndexMap<Vec<u8>, HeldKey>) -> Resul
     Ok(())
 }
 
-/// The answer that lists the keys, as a whole frame. It is written where it stays, with room for keys of the usual size.
+/// The answer that lists the keys, as a whole frame. It is written where it stays, with room for keys of the usual
+/// size.
 pub(super) fn framed_listing(
     alloc: Global,
     keys: &IndexMap<Vec<u8>, HeldKey>,
@@ -280,7 +283,8 @@ pub(super) fn drop_key(
     }
 }
 
-/// Drops the key at this index, whose blob this is, and its deadline; or changes nothing. The list of its deadline first.
+/// Drops the key at this index, whose blob this is, and its deadline; or changes nothing. The list of its deadline
+/// first.
 #[tactic(auto, using(crate::proofs::DueLemmas::removed_agree, crate::proofs::DueLemmas::kept_apart, crate::proofs::DueLemmas::same_agree))]
 fn drop_found(
     alloc: Global,

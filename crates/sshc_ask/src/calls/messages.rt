@@ -3,7 +3,9 @@
 
 ghost use Rattle.std.specs.Prelude.{◌≡◌, ◌∷◌, ◌++◌, IfOk};
 ghost use Rattle.sshc_wire.specs.Wire.{string_text};
-ghost use Rattle.sshc_ask.specs.AgentCalls.Frames.{message, add_identity, add_smartcard_key, bind_session, extension, lock, query_extension, remove_identity, remove_smartcard_key, unlock};
+ghost use Rattle.sshc_ask.specs.AgentCalls.Frames.{message, add_identity, add_smartcard_key, bind_session, extension};
+ghost use Rattle.sshc_ask.specs.AgentCalls.Frames.{lock, query_extension, remove_identity, remove_smartcard_key};
+ghost use Rattle.sshc_ask.specs.AgentCalls.Frames.{unlock};
 
 use crate::message::Message;
 use sshc_key::{

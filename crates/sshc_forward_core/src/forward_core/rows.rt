@@ -2,7 +2,8 @@
 
 ghost use Rattle.std.specs.Prelude.{◌≡◌, false};
 ghost use Rattle.std.specs.FinMap.{contains_key};
-ghost use Rattle.sshc_forward_core.specs.Forwards.{Does, row, is_taken, accepted_row, incoming_row, turn_on, opened_row, open_failed_row, channel_close_row};
+ghost use Rattle.sshc_forward_core.specs.Forwards.{Does, row, is_taken, accepted_row, incoming_row, turn_on};
+ghost use Rattle.sshc_forward_core.specs.Forwards.{opened_row, open_failed_row, channel_close_row};
 
 use super::ForwardCore;
 use crate::event::FwdEvent;

@@ -2,7 +2,8 @@
 use Rattle.std.proofs.Common.{◌≡◌, ◌↔◌, ℕ, ◌<◌, ◌≤◌, Bool, true, false, cond, leb, List, [], ◌∷◌, ◌++◌, Option, Some, None, Result, Ok, Err, refl, sym, ap, subst, length, ◌∙◌, append-nil, arith, ◌⊎◌, inl, inr}
 use Rattle.std.proofs.lemmas.Bool.{leb-true, le-leb}
 use Rattle.sshc_wire.specs.Wire.{IsBytes}
-use Rattle.sshc_wire.specs.Format.{faults_as, faults_ok}
+use Rattle.sshc_wire.specs.Format.{faults_as}
+use Rattle.sshc_wire.specs.FormatLaws.{faults_ok}
 use Rattle.sshc_key.specs.declared.error.Error.{Error}
 use Rattle.sshc_key.specs.declared.error.Error.TheVariants.{SshKey}
 use Rattle.sshc_key.specs.declared.error.Error.TheVariants as errors

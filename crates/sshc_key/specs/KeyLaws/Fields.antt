@@ -3,9 +3,10 @@ use Rattle.std.proofs.Common.{◌≡◌, ℕ, ◌<◌, ◌^◌, true, eqb, List,
 use Rattle.std.specs.Prelude.{bytes_eq}
 use Rattle.sshc_wire.specs.Wire.{string_text, u32_text, u64_text, IsShort}
 use Rattle.sshc_wire.specs.Reads.{Reader}
-use Rattle.sshc_wire.specs.Format.{IsFormat, part, both, tested, partly, made_at}
-use Rattle.sshc_wire.specs.Parts.{strings, texts, number32, number64, a_byte}
-use Rattle.sshc_wire.specs.Lookup.{same_bytes}
+use Rattle.sshc_wire.specs.Format.{IsFormat, made_at}
+use Rattle.sshc_wire.specs.FormatLaws.{part, both, tested, partly}
+use Rattle.sshc_wire.specs.PartsLaws.{strings, texts, number32, number64, a_byte}
+use Rattle.sshc_wire.specs.LookupLaws.{same_bytes}
 use Rattle.sshc_key.specs.declared.algorithm.EcdsaCurve.{EcdsaCurve}
 use Rattle.sshc_key.specs.declared.algorithm.EcdsaCurve.TheVariants.{NistP256, NistP384, NistP521}
 use Rattle.sshc_key.specs.declared.error.Error.{Error}

@@ -4,9 +4,10 @@ use Rattle.std.specs.List.{flat_map, AllByRecursion}
 use Rattle.std.proofs.lemmas.Bool.{eqb-true}
 use Rattle.sshc_wire.specs.Wire.{string_text, u32_text, IsShort}
 use Rattle.sshc_wire.specs.Reads.{Reader}
-use Rattle.sshc_wire.specs.Format.{IsFormat, both, partly, chosen, named, followed, told_as, nothing, made_at, both_at}
-use Rattle.sshc_wire.specs.Whole.{whole, framed, every}
-use Rattle.sshc_wire.specs.Lookup.{found_passes}
+use Rattle.sshc_wire.specs.Format.{IsFormat, made_at, both_at}
+use Rattle.sshc_wire.specs.FormatLaws.{both, partly, chosen, named, followed, told_as, nothing}
+use Rattle.sshc_wire.specs.WholeLaws.{whole, framed, every}
+use Rattle.sshc_wire.specs.LookupLaws.{found_passes}
 use Rattle.sshc_key.specs.declared.error.Error.{Error}
 use Rattle.sshc_key.specs.declared.error.Error.TheVariants.{SshKey}
 use Rattle.sshc_key.specs.declared.key_data.CertType.{CertType}

@@ -4,9 +4,10 @@ use Rattle.std.specs.Str.{is_utf8}
 use Rattle.std.proofs.lemmas.List.{append-nil}
 use Rattle.sshc_wire.specs.declared.error.WireError.TheVariants.{NotText}
 use Rattle.sshc_wire.specs.Reads.{Reader, ◌>>=◌, string_at, text_at}
-use Rattle.sshc_wire.specs.Format.{bind_ok, ok_is, faults_ok}
-use Rattle.sshc_wire.specs.Parts.{string_takes_bytes}
-use Rattle.sshc_wire.specs.Whole.{Takes, all_at, all_none, all_more, all_fails}
+use Rattle.sshc_wire.specs.FormatLaws.{bind_ok, ok_is, faults_ok}
+use Rattle.sshc_wire.specs.PartsLaws.{string_takes_bytes}
+use Rattle.sshc_wire.specs.Whole.{Takes, all_at}
+use Rattle.sshc_wire.specs.WholeLaws.{all_none, all_more, all_fails}
 use Rattle.sshc_key.specs.declared.error.Error.{Error}
 use Rattle.sshc_key.specs.declared.error.Error.TheVariants as errors
 use Rattle.sshc_key.specs.Gives.{Fails}

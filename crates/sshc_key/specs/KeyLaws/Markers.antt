@@ -4,7 +4,7 @@ use Rattle.std.specs.Prelude.{nat_eq, bytes_eq, codes}
 use Rattle.std.specs.List.{starts_with}
 use Rattle.std.proofs.lemmas.List.{take-append-le, length-take}
 use Rattle.sshc_wire.specs.Wire.{string_text, u32_text}
-use Rattle.sshc_wire.specs.Lookup.{same_bytes}
+use Rattle.sshc_wire.specs.LookupLaws.{same_bytes}
 use Rattle.sshc_key.specs.declared.kind.Kind.{Kind}
 use Rattle.sshc_key.specs.declared.kind.Kind.TheVariants as kinds
 use Rattle.sshc_key.specs.declared.kind.Tag.TheVariants as tags

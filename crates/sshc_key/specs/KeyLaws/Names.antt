@@ -6,8 +6,8 @@ use Rattle.std.specs.List.{list_all, position_or_len, before_first, after_first}
 use Rattle.std.proofs.lemmas.Bool.{cases_Bool, eqb-true, ltb-true, lt-ltb, leb-true, le-leb}
 use Rattle.std.proofs.lemmas.List.{take_at, drop_at, take-append-drop, length-append}
 use Rattle.std.proofs.lemmas.List.Sums.{split_at_first, passes_at_first}
-use Rattle.sshc_wire.specs.Cases.{both_true}
-use Rattle.sshc_wire.specs.Lookup.{same_bytes}
+use Rattle.sshc_wire.specs.CasesLaws.{both_true}
+use Rattle.sshc_wire.specs.LookupLaws.{same_bytes}
 use Rattle.sshc_key.specs.declared.kind.Kind.TheVariants as kinds
 use Rattle.sshc_key.specs.declared.kind.Tag.TheVariants as tags
 use Rattle.sshc_key.specs.AlgorithmNames.{Parted, is_sign, parted, at_domain, mark, is_name_byte, is_side, is_marked, is_taken, is_opaque, opaque_parts, is_opaque_name, with_mark, marked_parts, marked_name, unmarked, opaque_tag}

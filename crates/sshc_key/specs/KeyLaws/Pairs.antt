@@ -3,7 +3,8 @@ use Rattle.std.proofs.Common.{◌≡◌, ℕ, true, List, ◌++◌, length, drop
 use Rattle.std.proofs.Math.Seq.{drop-append_seam}
 use Rattle.sshc_wire.specs.Wire.{string_text, IsShort}
 use Rattle.sshc_wire.specs.Reads.{Reader}
-use Rattle.sshc_wire.specs.Format.{IsFormat, both, tested, partly, chosen, named, told_as}
+use Rattle.sshc_wire.specs.Format.{IsFormat}
+use Rattle.sshc_wire.specs.FormatLaws.{both, tested, partly, chosen, named, told_as}
 use Rattle.sshc_key.specs.declared.algorithm.EcdsaCurve.{EcdsaCurve}
 use Rattle.sshc_key.specs.declared.error.Error.{Error}
 use Rattle.sshc_key.specs.declared.error.Error.TheVariants.{SshKey}

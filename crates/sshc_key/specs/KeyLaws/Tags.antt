@@ -5,7 +5,7 @@ use Rattle.std.proofs.lemmas.Str.{IsUtf8-from_ascii, is_utf8-from_IsUtf8}
 use Rattle.std.specs.Prelude.{◌&&◌, not, nat_le, bytes_eq}
 use Rattle.std.specs.List.{list_all}
 use Rattle.std.proofs.lemmas.Bool.{ltb-true, leb-true}
-use Rattle.sshc_wire.specs.Lookup.{same_bytes, found_passes}
+use Rattle.sshc_wire.specs.LookupLaws.{same_bytes, found_passes}
 use Rattle.sshc_key.specs.KeyGrammar.{IsText}
 use Rattle.sshc_key.specs.declared.algorithm.EcdsaCurve.TheVariants.{NistP256, NistP384, NistP521}
 use Rattle.sshc_key.specs.declared.kind.Known.{Known}
@@ -15,7 +15,7 @@ use Rattle.sshc_key.specs.declared.kind.Tag.{Tag}
 use Rattle.sshc_key.specs.declared.kind.Tag.TheVariants as tags
 use Rattle.sshc_key.specs.AlgorithmNames.{Parted, parted, at_domain, is_name_byte, is_side, is_marked, is_taken, is_opaque, known_stemmed, known_name, known_certificate_name, known_named, known_certified, all_known, with_mark, marked_name, tag_name, IsTag, unmarked, certified_tag, opaque_tag, certified_or, plain_or, tag_named}
 use Rattle.sshc_key.specs.KeyLaws.Names.{chosen, some, some_is, cases_option, parted_back, parted_there, unmarked_there, name_bytes, opaque_short, all_append, sides, opaque_here, marked_is, opaque_again, certified_again}
-use Rattle.sshc_wire.specs.Cases.{both_true}
+use Rattle.sshc_wire.specs.CasesLaws.{both_true}
 
 -- ---- the table
 

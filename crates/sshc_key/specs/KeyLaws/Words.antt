@@ -20,7 +20,7 @@ use Rattle.sshc_key.specs.declared.kind.Tag.TheVariants as tags
 use Rattle.sshc_key.specs.AlgorithmNames.{is_name_byte, is_opaque_name, known_name, known_certificate_name, tag_name, IsTag, with_mark, at_domain, marked_name, mark}
 use Rattle.sshc_key.specs.KeyGrammar.{Key, key_name, key_text, tag_of}
 use Rattle.sshc_key.specs.KeyLaws.Names.{sides, name_bytes, parted_there, marked_is, all_append}
-use Rattle.sshc_wire.specs.Cases.{both_true}
+use Rattle.sshc_wire.specs.CasesLaws.{both_true}
 
 -- ASCII that is no white space
 abbrev pub is_word_byte : ℕ → Bool

@@ -2,7 +2,8 @@
 
 ghost use Rattle.std.specs.Prelude.{◌≡◌};
 ghost use Rattle.sshc_key.specs.Gives.{Gives};
-ghost use Rattle.sshc_key.specs.KeyReading.{dsa_at, ecdsa_at, ed25519_at, rsa_at, sk_ecdsa_at, sk_ed25519_at, opaque_at, fields_at};
+ghost use Rattle.sshc_key.specs.KeyReading.{dsa_at, ecdsa_at, ed25519_at, rsa_at, sk_ecdsa_at, sk_ed25519_at};
+ghost use Rattle.sshc_key.specs.KeyReading.{opaque_at, fields_at};
 ghost use Rattle.sshc_key.specs.View.{view};
 
 use crate::algorithm::EcdsaCurve;

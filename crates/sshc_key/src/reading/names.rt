@@ -2,7 +2,8 @@
 
 ghost use Rattle.std.specs.Prelude.{◌≡◌, ◌++◌, ◌∷◌, MatchOption, IfOk, Some, None};
 ghost use Rattle.std.specs.List.{list_all};
-ghost use Rattle.sshc_key.specs.AlgorithmNames.{Parted, parted, is_name_byte, is_taken, is_side, is_marked, is_opaque, unmarked, opaque_tag, tag_named};
+ghost use Rattle.sshc_key.specs.AlgorithmNames.{Parted, parted, is_name_byte, is_taken, is_side, is_marked, is_opaque};
+ghost use Rattle.sshc_key.specs.AlgorithmNames.{unmarked, opaque_tag, tag_named};
 ghost use Rattle.sshc_key.specs.Gives.{Gives, GivesAll};
 ghost use Rattle.sshc_key.specs.KeyReading.{tag_at, tag_or_fault};
 

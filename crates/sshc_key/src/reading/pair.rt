@@ -4,7 +4,9 @@ ghost use Rattle.std.specs.Prelude.{◌≡◌, ◌↔◌, ◌++◌, ℕ, List, [
 ghost use Rattle.sshc_wire.specs.Format.{made_at};
 ghost use Rattle.sshc_key.specs.Gives.{Gives};
 ghost use Rattle.sshc_key.specs.View.{view};
-ghost use Rattle.sshc_key.specs.PairGrammar.{Pair, PairFits, pair_text, key_pair, ends_public, dsa_pair_at, ecdsa_pair_at, ed25519_pair_at, rsa_pair_at, with_pair, pair_named, pair_name_at, pair_fields_at, pair_at};
+ghost use Rattle.sshc_key.specs.PairGrammar.{Pair, PairFits, pair_text, key_pair, ends_public, dsa_pair_at};
+ghost use Rattle.sshc_key.specs.PairGrammar.{ecdsa_pair_at, ed25519_pair_at, rsa_pair_at, with_pair, pair_named};
+ghost use Rattle.sshc_key.specs.PairGrammar.{pair_name_at, pair_fields_at, pair_at};
 
 use crate::algorithm::EcdsaCurve;
 use crate::error::Error;

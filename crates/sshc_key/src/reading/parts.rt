@@ -3,7 +3,8 @@
 ghost use Rattle.std.specs.Prelude.{◌≡◌};
 ghost use Rattle.sshc_key.specs.Gives.{Gives};
 ghost use Rattle.sshc_key.specs.KeyGrammar.{is_mpint, is_point};
-ghost use Rattle.sshc_key.specs.KeyReading.{octets_at, utf8_at, u64_at, u32_at, u8_at, mpint_at, point_at, curve_at, sized_at};
+ghost use Rattle.sshc_key.specs.KeyReading.{octets_at, utf8_at, u64_at, u32_at, u8_at, mpint_at, point_at, curve_at};
+ghost use Rattle.sshc_key.specs.KeyReading.{sized_at};
 
 use crate::algorithm::EcdsaCurve;
 use crate::error::Error;

@@ -26,7 +26,7 @@ fn put_each_text(out: &mut Vec<u8>, texts: &[Text]) -> Result<(), NoMemory>
 }
 
 /// A string of the texts.
-#[tactic(auto, using(sshc_wire::specs::Nested::string_ended))]
+#[tactic(auto, using(sshc_wire::specs::NestedLaws::string_ended))]
 fn put_texts(out: &mut Vec<u8>, texts: &[Text]) -> Result<(), NoMemory>
     ensures { OnOk result (out.new.items ≡ out.old.items ++ string_text (flat_map string_text texts.now)) }
 {
@@ -46,7 +46,7 @@ fn put_each_option(out: &mut Vec<u8>, options: &[(Text, Octets)]) -> Result<(), 
 }
 
 /// A string of the options.
-#[tactic(auto, using(sshc_wire::specs::Nested::string_ended))]
+#[tactic(auto, using(sshc_wire::specs::NestedLaws::string_ended))]
 fn put_options(out: &mut Vec<u8>, options: &[(Text, Octets)]) -> Result<(), NoMemory>
     ensures { OnOk result (out.new.items ≡ out.old.items ++ string_text (flat_map option_text options.now)) }
 {
@@ -56,7 +56,7 @@ fn put_options(out: &mut Vec<u8>, options: &[(Text, Octets)]) -> Result<(), NoMe
 }
 
 /// A string of the signature.
-#[tactic(auto, using(sshc_wire::specs::Nested::string_ended))]
+#[tactic(auto, using(sshc_wire::specs::NestedLaws::string_ended))]
 fn put_signature_string(out: &mut Vec<u8>, signature: &Signature) -> Result<(), NoMemory>
     ensures { OnOk result (out.new.items ≡ out.old.items ++ string_text (signature_text signature.now)) }
 {
@@ -115,7 +115,7 @@ fn put_certificate_body(out: &mut Vec<u8>, certificate: &Certificate) -> Result<
 
 /// A string of the key's blob.
 #[cycle(put_keys)]
-#[tactic(auto, using(sshc_wire::specs::Nested::string_ended))]
+#[tactic(auto, using(sshc_wire::specs::NestedLaws::string_ended))]
 fn put_key_string(out: &mut Vec<u8>, key: &KeyData) -> Result<(), NoMemory>
     ensures { OnOk result (out.new.items ≡ out.old.items ++ string_text (key_text (view key.now))) }
 {

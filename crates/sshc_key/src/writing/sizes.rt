@@ -1,5 +1,5 @@
-//! How many bytes keys, certificates and signatures take. No clause says so: a size that is too small costs memory, and no
-//! byte.
+//! How many bytes keys, certificates and signatures take. No clause says so: a size that is too small costs memory, and
+//! no byte.
 
 use crate::algorithm::EcdsaCurve;
 use crate::key_data::{Certificate, KeyData};

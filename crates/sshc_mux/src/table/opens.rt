@@ -1,12 +1,15 @@
 //! Numbers, opens, confirmations and failures (RFC 4254, section 5.1).
 
-ghost use Rattle.std.specs.Prelude.{◌≡◌, Some, None, IfOk, OnErr, Err, MatchResult, MatchOption, OnOk, IsErr, is_some, true, ◌<◌, ◌^◌, ◌++◌, ◌∷◌, [], ℕ};
+ghost use Rattle.std.specs.Prelude.{◌≡◌, Some, None, IfOk, OnErr, Err, MatchResult, MatchOption, OnOk, IsErr, is_some};
+ghost use Rattle.std.specs.Prelude.{true, ◌<◌, ◌^◌, ◌++◌, ◌∷◌, [], ℕ};
 ghost use Rattle.sshc_wire.specs.declared.record.Record.TheVariants.{Payload};
 ghost use Rattle.sshc_wire.specs.Outgoing.{shown};
 ghost use Rattle.sshc_mux.specs.ChannelState.{channel_of};
-ghost use Rattle.sshc_mux.specs.ChannelAccount.{called, DidItsPart, OpenUser, ReserveServer, SettleServer, Confirm, Fail};
+ghost use Rattle.sshc_mux.specs.ChannelAccount.{called, DidItsPart, OpenUser, ReserveServer, SettleServer, Confirm};
+ghost use Rattle.sshc_mux.specs.ChannelAccount.{Fail};
 ghost use Rattle.sshc_mux.specs.Places.{IsIndexed, present};
-ghost use Rattle.sshc_mux.specs.ChannelTable.Opens.{next_number, IsNew, made_in, opened_by_user, reserved_by_server, awaited, reserved_by};
+ghost use Rattle.sshc_mux.specs.ChannelTable.Opens.{next_number, IsNew, made_in, opened_by_user, reserved_by_server};
+ghost use Rattle.sshc_mux.specs.ChannelTable.Opens.{awaited, reserved_by};
 
 use crate::channel::Channel;
 use crate::error::MuxError;

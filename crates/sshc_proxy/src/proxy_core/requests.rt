@@ -2,7 +2,8 @@
 
 ghost use Rattle.std.specs.Prelude.{◌≡◌, ◌∷◌, Some};
 ghost use Rattle.sshc_proxy.specs.Binding.{binding_of, binding_seen, is_signed};
-ghost use Rattle.sshc_proxy.specs.ProxyTable.{Follows, asked_by, awaited_at, bound_at, extension_row, forwards, frame_row, sign_request_row, succeeds};
+ghost use Rattle.sshc_proxy.specs.ProxyTable.{Follows, asked_by, awaited_at, bound_at, extension_row, forwards};
+ghost use Rattle.sshc_proxy.specs.ProxyTable.{frame_row, sign_request_row, succeeds};
 ghost use Rattle.sshc_key.specs.declared.agent_msg.TheConstants.{EXTENSION};
 ghost use Rattle.sshc_proxy.specs.declared.input.ProxyInput.TheVariants.{Frame};
 ghost use Rattle.sshc_proxy.specs.declared.waiting.Awaited.TheVariants.{Signature};
@@ -100,8 +101,8 @@ impl ProxyCore {
         }
     }
 
-    /// Binds the host and answers SUCCESS. More than 256 hosts on one connection count as out of memory, so that no client
-    /// makes the proxy grow.
+    /// Binds the host and answers SUCCESS. More than 256 hosts on one connection count as out of memory, so that no
+    /// client makes the proxy grow.
     #[tactic(auto, using(crate::proofs::Moved::succeeds_moves))]
     fn bind(
         &mut self,

@@ -86,7 +86,7 @@ impl Row {
     }
 }
 
-/// The program's words.
+/// The program's command-line arguments.
 fn words(alloc: Global) -> Result<Vec<Text>, NoMemory> {
     let mut words = Vec::new(alloc);
     for word in ["script", "localhost", "13265", "known"] {
@@ -111,8 +111,8 @@ struct Outcome {
     sink: PieceSink,
 }
 
-/// Runs the words `script localhost 13265 known` over the row's script and known hosts text; a slow run reads and writes
-/// one byte at a time.
+/// Runs the words `script localhost 13265 known` over the row's script and known hosts text; a slow run reads and
+/// writes one byte at a time.
 fn run(alloc: Global, row: &Row, is_slow: bool) -> Result<Outcome, NoMemory> {
     let words = words(alloc)?;
     let script = Vec::from_slice(alloc, &row.script)?;

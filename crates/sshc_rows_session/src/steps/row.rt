@@ -54,8 +54,8 @@ impl Row {
         })
     }
 
-    /// Takes the events of a front, and keeps none of their records and calls. A line of a front is `front`, its name and
-    /// an event.
+    /// Takes the events of a front, and keeps none of their records and calls. A line of a front is `front`, its name
+    /// and an event.
     fn begin(&mut self, alloc: Global, fronts: &str, front: &str) -> Result<(), NoMemory> {
         for line in fronts.lines() {
             let (word, rest) = first_word(line);

@@ -4,7 +4,9 @@ ghost use Rattle.std.specs.Prelude.{◌≡◌, Ok};
 ghost use Rattle.sshc_wire.specs.Format.{made_at, no_bytes_at};
 ghost use Rattle.sshc_wire.specs.Grammar.{finished_at};
 ghost use Rattle.sshc_run_reader.specs.EventParts.{texts_at, strings_at};
-ghost use Rattle.sshc_run_reader.specs.EventReading.{hashed_pair_at, method_fields_at, method_at, authenticate_at, gssapi_mic_at, authenticate_of, gssapi_complete_of, gssapi_mic_of, gssapi_token_of, info_response_of, signed_of};
+ghost use Rattle.sshc_run_reader.specs.EventReading.{hashed_pair_at, method_fields_at, method_at, authenticate_at};
+ghost use Rattle.sshc_run_reader.specs.EventReading.{gssapi_mic_at, authenticate_of, gssapi_complete_of, gssapi_mic_of};
+ghost use Rattle.sshc_run_reader.specs.EventReading.{gssapi_token_of, info_response_of, signed_of};
 ghost use Rattle.sshc_run_reader.specs.Gives.{Gives, GivesAll};
 
 use crate::error::EventError;

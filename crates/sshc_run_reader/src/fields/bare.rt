@@ -1,4 +1,5 @@
-//! Events without fields. Each is made in a function of its own, so that an event of another kind clears no memory for it.
+//! Events without fields. Each is made in a function of its own, so that an event of another kind clears no memory for
+//! it.
 
 ghost use Rattle.sshc_wire.specs.Grammar.{finished};
 ghost use Rattle.sshc_auth_event.specs.declared.event.Event.TheVariants as events;

@@ -3,7 +3,8 @@
 ghost use Rattle.std.specs.Prelude.{◌≡◌};
 ghost use Rattle.sshc_wire.specs.Format.{made_at, no_bytes_at};
 ghost use Rattle.sshc_run_reader.specs.EventParts.{modes_at};
-ghost use Rattle.sshc_run_reader.specs.EventReading.{size_at, pty_at, window_change_at, x11_at, env_at, msg_fields_at, msg_at};
+ghost use Rattle.sshc_run_reader.specs.EventReading.{size_at, pty_at, window_change_at, x11_at, env_at, msg_fields_at};
+ghost use Rattle.sshc_run_reader.specs.EventReading.{msg_at};
 ghost use Rattle.sshc_run_reader.specs.Gives.{Gives};
 
 use crate::channel_sort::ChannelSort;

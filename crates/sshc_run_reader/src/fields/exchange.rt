@@ -3,7 +3,8 @@
 ghost use Rattle.std.specs.Prelude.{◌≡◌};
 ghost use Rattle.sshc_wire.specs.Format.{made_at};
 ghost use Rattle.sshc_wire.specs.Grammar.{finished_at};
-ghost use Rattle.sshc_run_reader.specs.EventReading.{readable, missing, key_of_sort, exchange_key_at, no_secret, secret_of, secret_at, names_at, exchange_at, exchange_done_of};
+ghost use Rattle.sshc_run_reader.specs.EventReading.{readable, missing, key_of_sort, exchange_key_at, no_secret};
+ghost use Rattle.sshc_run_reader.specs.EventReading.{secret_of, secret_at, names_at, exchange_at, exchange_done_of};
 ghost use Rattle.sshc_run_reader.specs.Gives.{Gives, GivesAll};
 
 use crate::error::EventError;

@@ -4,7 +4,16 @@ ghost use Rattle.std.specs.Prelude.{◌≡◌};
 ghost use Rattle.sshc_wire.specs.Format.{made_at, no_bytes_at};
 ghost use Rattle.sshc_wire.specs.Grammar.{finished_at};
 ghost use Rattle.sshc_run_reader.specs.EventParts.{keys_at};
-ghost use Rattle.sshc_run_reader.specs.EventReading.{reply_of, open_reply_at, direct_tcpip_at, disconnect_at, channel_event_at, server_open_reply_at, prove_at, global_request_at, await_extension_info_of, cancel_streamlocal_forward_of, cancel_tcpip_forward_of, channel_of, close_of, disconnect_of, get_server_sig_algs_of, global_request_of, host_keys_prove_of, keepalive_of, no_more_sessions_of, open_direct_streamlocal_of, open_direct_tcpip_of, open_session_of, open_x11_of, ping_of, server_open_reply_of, streamlocal_forward_of, tcpip_forward_of, request_of};
+ghost use Rattle.sshc_run_reader.specs.EventReading.{reply_of, open_reply_at, direct_tcpip_at, disconnect_at};
+ghost use Rattle.sshc_run_reader.specs.EventReading.{channel_event_at, server_open_reply_at, prove_at};
+ghost use Rattle.sshc_run_reader.specs.EventReading.{global_request_at, await_extension_info_of};
+ghost use Rattle.sshc_run_reader.specs.EventReading.{cancel_streamlocal_forward_of, cancel_tcpip_forward_of};
+ghost use Rattle.sshc_run_reader.specs.EventReading.{channel_of, close_of, disconnect_of, get_server_sig_algs_of};
+ghost use Rattle.sshc_run_reader.specs.EventReading.{global_request_of, host_keys_prove_of, keepalive_of};
+ghost use Rattle.sshc_run_reader.specs.EventReading.{no_more_sessions_of, open_direct_streamlocal_of};
+ghost use Rattle.sshc_run_reader.specs.EventReading.{open_direct_tcpip_of, open_session_of, open_x11_of, ping_of};
+ghost use Rattle.sshc_run_reader.specs.EventReading.{server_open_reply_of, streamlocal_forward_of, tcpip_forward_of};
+ghost use Rattle.sshc_run_reader.specs.EventReading.{request_of};
 ghost use Rattle.sshc_run_reader.specs.Gives.{Gives, GivesAll};
 
 use crate::error::EventError;

@@ -57,8 +57,8 @@ impl Flags {
     }
 }
 
-/// Connection 1 waits before its call 4 until connection 2 has an answer, and connection 3 where there is one; connection
-/// 2 begins once connection 1 waits, and connection 3 once connection 2 has its answer.
+/// Connection 1 waits before its call 4 until connection 2 has an answer, and connection 3 where there is one;
+/// connection 2 begins once connection 1 waits, and connection 3 once connection 2 has its answer.
 impl Pause for Flags {
     fn before(&self, conn: u32, number: u32) {
         if conn == 1 && number == 4 {

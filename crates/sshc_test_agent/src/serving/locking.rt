@@ -55,7 +55,8 @@ pub(crate) fn served<R: Threads + Wait + Sync, P: Pause>(
     )
 }
 
-/// Adds connection 2, which locks, and connection 1, which adds a key that must be confirmed and asks it for a signature.
+/// Adds connection 2, which locks, and connection 1, which adds a key that must be confirmed and asks it for a
+/// signature.
 fn push_two<'a>(
     streams: &mut Vec<FlagStream<'a>>,
     alloc: Global,

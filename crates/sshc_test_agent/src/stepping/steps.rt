@@ -72,7 +72,8 @@ fn input_of(alloc: Global, gets: Gets) -> Result<AgentInput, NoMemory> {
     })
 }
 
-/// Whether the output is the one that the line has. An agent awaits an answer after a question, and none after an answer.
+/// Whether the output is the one that the line has. An agent awaits an answer after a question, and none after an
+/// answer.
 fn is_put_out(output: &AgentOutput, awaits: bool, out: PutsOut) -> bool {
     match (output, out) {
         (AgentOutput::Answer(frame), PutsOut::Answer(bytes)) => {

@@ -1,7 +1,9 @@
 //! Reads what a user is asked for.
 
 ghost use Rattle.std.specs.Prelude.{◌≡◌, Ok, IfOk};
-ghost use Rattle.sshc_wire.specs.RecordReads.{asked_by, gssapi_by, gssapi_error_at, gssapi_response_at, gssapi_token_at, hash_of, info_request_at, sign_request_at, sign_request_cert_at};
+ghost use Rattle.sshc_wire.specs.RecordReads.{asked_by, gssapi_by, gssapi_error_at, gssapi_response_at};
+ghost use Rattle.sshc_wire.specs.RecordReads.{gssapi_token_at, hash_of, info_request_at, sign_request_at};
+ghost use Rattle.sshc_wire.specs.RecordReads.{sign_request_cert_at};
 
 use crate::auth_record::{AuthRecord, GssapiRecord};
 use crate::cursor::Cursor;

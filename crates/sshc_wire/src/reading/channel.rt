@@ -1,7 +1,8 @@
 //! Reads what happened on a channel.
 
 ghost use Rattle.std.specs.Prelude.{◌≡◌, Ok, IfOk};
-ghost use Rattle.sshc_wire.specs.RecordReads.{confirmed_at, exit_signal_at, extended_data_at, happened_by, open_failure_at, signal_at};
+ghost use Rattle.sshc_wire.specs.RecordReads.{confirmed_at, exit_signal_at, extended_data_at, happened_by};
+ghost use Rattle.sshc_wire.specs.RecordReads.{open_failure_at, signal_at};
 
 use crate::channel_record::ChannelRecord;
 use crate::cursor::Cursor;

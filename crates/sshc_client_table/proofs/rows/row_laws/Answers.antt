@@ -1,7 +1,7 @@
-use Rattle.sshc_client_table.specs.OpeningStays.{open_stays}
+use Rattle.sshc_client_table.specs.OpeningStaysLaws.{open_stays}
 use Rattle.sshc_client_table.specs.OpenCauseLaws.{session_holds}
 use Rattle.sshc_client_table.proofs.StepLawLemmas.{rows_keep}
-use Rattle.sshc_client_table.specs.OneKeyLaw.{session_has}
+use Rattle.sshc_client_table.specs.OneKeyLaws.{session_has}
 use Rattle.sshc_client_table.proofs.rows.row_laws.Goals as goal
 
 pub returns-clause-unopened : goal.returns-clause-unopened

@@ -1,5 +1,5 @@
 use Rattle.std.proofs.Common.{sym, ◌∙◌}
-use Rattle.sshc_hosts.specs.Acceptance.{accepted_among}
+use Rattle.sshc_hosts.specs.AcceptanceLaws.{accepted_among}
 use Rattle.sshc_hosts.specs.HostText.{host_text}
 use Rattle.sshc_hosts.specs.Judgement.{keys_seen}
 use Rattle.sshc_hosts.proofs.judgement.judge_text.Goals as goal

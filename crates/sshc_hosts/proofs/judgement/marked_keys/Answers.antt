@@ -1,5 +1,5 @@
 use Rattle.sshc_hosts.specs.Judgement.{IsUnreadable}
-use Rattle.sshc_hosts.specs.SaidRefusals.{read_lines-refuses}
+use Rattle.sshc_hosts.specs.RefusalLaws.{read_lines-refuses}
 use Rattle.sshc_hosts.proofs.Refusals.{errors_by}
 use Rattle.sshc_hosts.proofs.judgement.marked_keys.Goals as goal
 

@@ -1,6 +1,6 @@
 use Rattle.std.proofs.Common.{ap, ◌∙◌}
-use Rattle.sshc_agent_core.specs.LocksHold.{locks_hold}
-use Rattle.sshc_agent_core.specs.SignedEntries.{signatures_permitted}
+use Rattle.sshc_agent_core.specs.LocksHoldLaws.{locks_hold}
+use Rattle.sshc_agent_core.specs.SignedEntriesLaws.{signatures_permitted}
 use Rattle.sshc_agent_core.specs.StepLaws.{entries_told}
 use Rattle.sshc_agent_shared.specs.Kept.{SharedState}
 use Rattle.sshc_agent_shared.proofs.Seams.{accounts_first}

@@ -1,5 +1,5 @@
 use Rattle.sshc_wire.specs.Wire.{IsBytes}
-use Rattle.sshc_wire.specs.Format.{reads_just}
+use Rattle.sshc_wire.specs.FormatLaws.{reads_just}
 use Rattle.sshc_key.specs.KeyLaws.Pairs.{pairs}
 use Rattle.sshc_key.proofs.reading.pair.read_key_pair.Goals as goal
 

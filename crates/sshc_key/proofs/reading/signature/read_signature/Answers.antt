@@ -1,4 +1,4 @@
-use Rattle.sshc_wire.specs.Format.{reads_just}
+use Rattle.sshc_wire.specs.FormatLaws.{reads_just}
 use Rattle.sshc_key.specs.KeyLaws.Keys.{signatures}
 use Rattle.sshc_key.proofs.reading.signature.read_signature.Goals as goal
 

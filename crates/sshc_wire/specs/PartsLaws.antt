@@ -9,7 +9,8 @@ use Rattle.sshc_wire.specs.declared.error.WireError.{WireError}
 use Rattle.sshc_wire.specs.declared.error.WireError.TheVariants.{Short, NotText}
 use Rattle.sshc_wire.specs.Wire.{IsBytes, IsShort, string_text, u32_text, u64_text}
 use Rattle.sshc_wire.specs.Reads.{byte_at, number_at, string_at, text_at}
-use Rattle.sshc_wire.specs.Format.{IsFormat, bind_ok, ok_is, tested}
+use Rattle.sshc_wire.specs.Format.{IsFormat}
+use Rattle.sshc_wire.specs.FormatLaws.{bind_ok, ok_is, tested}
 
 take_are_bytes : (n : ℕ) (bytes : List ℕ) → IsBytes bytes → IsBytes (take n bytes)
 take_are_bytes n bytes h i =

@@ -5,7 +5,7 @@ use Rattle.sshc_transport.specs.declared.exchange.ExchangeFlag.{ExchangeFlag}
 use Rattle.sshc_transport.specs.declared.exchange.ExchangeFlag.TheVariants as flags
 use Rattle.sshc_transport.specs.declared.exchange.ExchangeResult.{ExchangeResult}
 use Rattle.sshc_auth.specs.Causes.{IsKeptKey}
-use Rattle.sshc_auth.specs.OneKeyLaw.{is_kept}
+use Rattle.sshc_auth.specs.OneKeyLaws.{is_kept}
 use Rattle.sshc_auth.specs.OpeningTable.Exchange.{has_kept_key}
 use Rattle.sshc_client_packets.specs.HostKeyProof.{Accepts}
 use Rattle.sshc_client_table.specs.SessionRow.{Opinions, goes}
