@@ -25,15 +25,15 @@ use Rattle.sshc_auth.specs.declared.step.Step.TheVariants as steps
 use Rattle.sshc_auth.specs.declared.step.Told.{Told}
 use Rattle.sshc_auth.specs.declared.step.Told.TheVariants as telling
 use Rattle.sshc_auth.specs.AskedLaws.{AsksFor, IsKeyAtMost, asks_for, first_at_most}
-use Rattle.sshc_auth.specs.GateLaw.{FirstRow, FirstOrTaken, TakesFirst, first_row}
+use Rattle.sshc_auth.specs.GateLaws.{FirstRow, FirstOrTaken, TakesFirst, first_row}
 use Rattle.sshc_auth.specs.Causes.{IsKeptKey}
-use Rattle.sshc_auth.specs.OneKeyLaw.{HasKeyNext, HasKeyRow, later_row}
+use Rattle.sshc_auth.specs.OneKeyLaws.{HasKeyNext, HasKeyRow, later_row}
 use Rattle.sshc_auth.specs.KeepLaws.{HandsAll, HandsBytes, Keeps, KeepsNext, KeepsState, KeepsAsked, KeepsAsking, SettledNext, open_keeps}
 use Rattle.sshc_auth.specs.OpeningState.{OpeningState, shut}
 use Rattle.sshc_auth.specs.OpeningTable.{open_row, asked_of}
 use Rattle.sshc_auth.specs.Row.{Row, Next, Span, Steps, stays, opens}
 use Rattle.sshc_auth.specs.SessionWords.{Kept, kept_of, IsReported, reported, AddsHandedOnce, AddsOnly, HandsLast, HandsNothing, HandsOnce, IsNoPacket, IsFirst, GoesOnFirst, AcceptsFirst, KeepsKey, KeepsSession, HasKeptKey, Continues, KeepsRequest, SignsStored, HandsStored, IsSettled, AsksOnce, Stores, KeepsTo}
-use Rattle.sshc_auth.specs.ToldLaw.{Reports, ReportsNext, ReportsRow, row_reports}
+use Rattle.sshc_auth.specs.ToldLaws.{Reports, ReportsNext, ReportsRow, row_reports}
 use Rattle.sshc_auth.specs.Stepping.{Lent, GateAnswers, Answered, Judged, Tells, GateRefused, StepsBy, StaysClosed, exchange_in, gained, map_step, span_of, told_of}
 
 -- ---- what was added

@@ -17,7 +17,7 @@ use Rattle.sshc_auth.specs.declared.step.Step.TheVariants as steps
 use Rattle.sshc_auth.specs.declared.step.Told.{Told}
 use Rattle.sshc_auth.specs.OpeningState.{OpeningState}
 use Rattle.sshc_auth.specs.OpeningTable.{open_row, asked_of}
-use Rattle.sshc_auth.specs.PasswordLaw.{FitsNext, Sound, waits_next, written_two, open_sound}
+use Rattle.sshc_auth.specs.PasswordLaws.{FitsNext, Sound, waits_next, written_two, open_sound}
 use Rattle.sshc_auth.specs.Passwords.{FitsRequest, HasShortUser, KeepsPasswords, WritesAsAsked, password_packet, times_asked, times_waiting, times_written}
 use Rattle.sshc_auth.specs.Row.{Row, Span, Steps}
 use Rattle.sshc_auth.specs.Stepping.{Lent, GateAnswers, Answered, GateRefused, StepsBy, StaysClosed, exchange_in, gained, span_of}

@@ -9,6 +9,7 @@ use Rattle.sshc_auth_event.specs.HostKey.{host_key}
 use Rattle.sshc_key.specs.declared.identity.PublicKeyOrCertificate.{PublicKeyOrCertificate}
 use Rattle.sshc_wire.specs.Outgoing.{Outgoing}
 use Rattle.sshc_auth_event.specs.declared.event.Event.{Event}
+use Rattle.sshc_transport.specs.declared.exchange.ExchangeNames.{ExchangeNames}
 use Rattle.sshc_transport.specs.declared.exchange.ExchangeResult.{ExchangeResult}
 use Rattle.sshc_auth.specs.declared.ended.Ended.{Ended}
 use Rattle.sshc_auth.specs.declared.step.Flow.TheVariants as flows
@@ -23,7 +24,8 @@ use Rattle.sshc_auth.specs.declared.step.Told.TheVariants as telling
 use Rattle.sshc_auth.specs.Causes.{IsCause, WasToldNo, HasCause, IsEndCause, Why, why, Caused, AllCaused, SaysNoTo, GateSaysNo, HasGateCause}
 use Rattle.sshc_auth.specs.OpeningState.{OpeningState}
 use Rattle.sshc_auth.specs.OpeningTable.{open_row, asked_of, key_asked, FitsAsked}
-use Rattle.sshc_auth.specs.Stepping.{GateAnswers, LentGate, Answered, Judged, Tells, exchange_in, SignerGrows, told_of, map_step}
+use Rattle.sshc_auth.specs.Promises.{Applied, ByTable}
+use Rattle.sshc_auth.specs.Stepping.{GateAnswers, LentGate, Answered, Judged, Tells, exchange_in, SignerGrows, told_of, map_step, gate_answers, lent, with_gate}
 use Rattle.sshc_auth.specs.Row.{Row, Next, Span, SignerAt, FollowsAsking}
 use Rattle.sshc_auth.specs.AskedLaws.{first_asks}
 use Rattle.sshc_auth.specs.CauseLaws.{SaysAlso, cause_also, open_cause}
@@ -97,3 +99,24 @@ unasked calls refusals = record {
   gained = sym (append-nil calls) ∙ ap (λ (more : List SignCall). calls ++ more) (sym (drop-length calls));
   later = omega arith;
 }
+
+true_not_false : true ≡ false → ⊥
+true_not_false same = absurd cc
+
+-- a step whose row doesn't ask the gate
+pub by_table_unasked : {E : Type 0} (told_as : Error → E) (judges : PublicKeyOrCertificate → Result Bool E → Type 0) (tells : Option (List ℕ) → ExchangeNames → Result (Unit {0}) E → List Record → Type 0) (tells_banner : List ℕ → Result (Unit {0}) E → List Record → Type 0)
+    (event : Event) (s t : OpeningState) (old new : Outgoing) (calls calls2 : List SignCall) (x x2 r : ℕ) (setting : List (List ℕ)) (answer : Step Error) (result : Step E) →
+    s.closed ≡ false → asked_of s event ≡ asking.Nothing → result ≡ map_step told_as answer →
+    Applied telling.NotAsked event (lent s old calls x) (lent t new calls2 x2) answer →
+    ByTable (gate_answers told_as judges tells tells_banner) event (with_gate (lent s old calls x) r setting) (with_gate (lent t new calls2 x2) r setting) result
+by_table_unasked told_as judges tells tells_banner event s t old new calls calls2 x x2 r setting answer result fresh nothing told applied =
+    let gate = gate_answers told_as judges tells tells_banner in
+    let answered : Answered gate (exchange_in event) old old (Ok telling.NotAsked) (asked_of s event)
+    = subst (λ (wanted : Asks). Answered gate (exchange_in event) old old (Ok telling.NotAsked) wanted) (sym nothing) (refl, refl) in
+    record {
+      closed = λ closed. absurd (true_not_false (sym closed ∙ fresh));
+      row = λ still. inr (Ok telling.NotAsked, old, answered, (answer, told, applied.row still));
+      cause = told_cause gate event (with_gate (lent s old calls x) r setting) (with_gate (lent t new calls2 x2) r setting) old old telling.NotAsked answer result told fresh answered applied.cause;
+      signer = applied.signer;
+      keeps = record { later = omega arith; kept = refl };
+    }

@@ -1,3 +1,4 @@
+pub mod Endings
 pub mod OpeningState
 pub mod StateCode
 pub mod Row
@@ -11,12 +12,13 @@ pub mod Causes
 pub mod CauseLaws
 pub mod AskedLaws
 pub mod SessionWords
-pub mod GateLaw
-pub mod OneKeyLaw
+pub mod GateLaws
+pub mod OneKeyLaws
 pub mod KeepLaws
 pub mod Passwords
-pub mod PasswordLaw
+pub mod PasswordLaws
 pub mod SignedRuns
-pub mod AskerLaw
-pub mod ToldLaw
+pub mod SignedRunLaws
+pub mod AskerLaws
+pub mod ToldLaws
 pub mod Promises

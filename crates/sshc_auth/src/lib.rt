@@ -3,6 +3,7 @@
 
 mod auth_result;
 mod ended;
+mod ending;
 mod error;
 mod extension;
 mod gate;
@@ -17,6 +18,7 @@ mod stepping;
 
 pub use auth_result::AuthResult;
 pub use ended::{Ended, RemoteDisconnectInfo};
+pub use ending::Ending;
 pub use error::Error;
 pub use gate::Gate;
 pub use gssapi::{GssapiAuthenticator, GssapiError, GssapiStep};

@@ -302,7 +302,7 @@ impl Opening {
             }
             Ok(Flow::Ended(e)) => {
                 self.shut();
-                Step::Ended(e)
+                Step::Ended(e.into_ended())
             }
             Err(e) => {
                 self.shut();

@@ -3,6 +3,7 @@
 ghost use Rattle.std.specs.Prelude.{◌≡◌};
 
 use crate::ended::Ended;
+use crate::ending::Ending;
 use sshc_key::PublicKeyOrCertificate;
 use sshc_wire::Text;
 
@@ -50,5 +51,5 @@ pub enum Step<E> {
 pub enum Flow {
     Went,
     Opened,
-    Ended(Ended),
+    Ended(Ending),
 }

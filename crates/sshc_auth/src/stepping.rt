@@ -167,8 +167,49 @@ impl Opening {
             return Step::Closed;
         }
         if !self.may_ask(event) {
-            return self.step_asked(&Asks::Nothing, event, gate, signer, out);
+            return self.step_unasked(event, gate, signer, out);
         }
+        self.step_gated(event, gate, signer, out)
+    }
+
+    /// The same, of an event whose row doesn't ask the gate.
+    fn step_unasked<G: Gate, S: LocalSigner>(
+        &mut self,
+        event: &Event,
+        gate: &G,
+        signer: &mut S,
+        out: &mut Outbox,
+    ) -> Step<G::Error>
+        requires fresh { self.old.closed ≡ false }
+        requires unasked { asked_of self.old event.now ≡ Asks.Nothing }
+        ensures { ByTable (gate_answers G.told_as (G.judges gate.now) G.tells G.tells_banner) event.now
+            (with_gate (lent self.old out.old (S.calls signer.old) (S.refusals signer.old)) (G.refusals gate.now)
+            (G.setting gate.now))
+            (with_gate (lent self.new out.new (S.calls signer.new) (S.refusals signer.new)) (G.refusals gate.now)
+            (G.setting gate.now))
+            result }
+    {
+        let _ = gate;
+        as_told::<G>(self.apply(event, Told::NotAsked, signer, out))
+    }
+
+    /// The same, of an event whose row may ask the gate. What it asks may be a host key, which has room only here.
+    fn step_gated<G: Gate, S: LocalSigner>(
+        &mut self,
+        event: &Event,
+        gate: &mut G,
+        signer: &mut S,
+        out: &mut Outbox,
+    ) -> Step<G::Error>
+        requires { self.old.closed ≡ false }
+        ensures stepped { ByTable (gate_answers G.told_as (G.judges gate.old) G.tells G.tells_banner) event.now
+            (with_gate (lent self.old out.old (S.calls signer.old) (S.refusals signer.old)) (G.refusals gate.old)
+            (G.setting gate.old))
+            (with_gate (lent self.new out.new (S.calls signer.new) (S.refusals signer.new)) (G.refusals gate.new)
+            (G.setting gate.new))
+            result }
+        ensures counted { G.asked gate.new ≤ G.asked gate.old + keys_asked (asked_of self.old event.now) }
+    {
         match self.asks(event) {
             Ok(asks) => {
                 let step = self.step_asked(&asks, event, gate, signer, out);

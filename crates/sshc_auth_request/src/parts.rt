@@ -128,7 +128,7 @@ impl<'a> KeyPart<'a> {
     }
 
     /// Writes the blob as a string.
-    #[tactic(auto, using(sshc_wire::specs::Nested::string_ended))]
+    #[tactic(auto, using(sshc_wire::specs::NestedLaws::string_ended))]
     fn put_blob(&self, out: &mut Vec<u8>) -> Result<(), NoMemory>
         ensures { OnOk result (out.new.items ≡ out.old.items ++ string_text (key_text (key_lent self.now.key))) }
     {

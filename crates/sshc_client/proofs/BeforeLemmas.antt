@@ -51,11 +51,11 @@ unasked judges (asking.HostKey key) exchange h = inl (unheard _ h h (same_handle
 unasked judges asking.Exchange exchange h = unheard _ h h (same_handler h)
 unasked judges (asking.Banner text) exchange h = unheard _ h h (same_handler h)
 
--- the opening is closed, and nothing is called
-pub steps_closed : {E : Type 0} (defaults : Type 0) (told_as : Error → E) (judges : PublicKeyOrCertificate → Result Bool E → Type 0) (event : Event) (s t : SessionState) (calls calls2 : List SignCall) (x x2 r : ℕ) (setting : List (List ℕ)) (result : Step E) {heard : List Callback} →
-    s.opening.closed ≡ true → StepsBefore (verdict_gate told_as false) event (lent_session s calls x 0 [] []) (lent_session t calls2 x2 0 [] []) result →
+-- the row calls nobody
+pub steps_unasked : {E : Type 0} (defaults : Type 0) (told_as : Error → E) (judges : PublicKeyOrCertificate → Result Bool E → Type 0) (event : Event) (s t : SessionState) (calls calls2 : List SignCall) (x x2 r : ℕ) (setting : List (List ℕ)) (result : Step E) {heard : List Callback} →
+    asked_of s.opening event ≡ asking.Nothing → StepsBefore (verdict_gate told_as false) event (lent_session s calls x 0 [] []) (lent_session t calls2 x2 0 [] []) result →
     Before defaults (handler_gate told_as judges) event (lent_session s calls x r setting heard) (lent_session t calls2 x2 r setting heard) result
-steps_closed {E = E} defaults told_as judges event s t calls calls2 x x2 r setting result {heard = heard} closed b =
+steps_unasked {E = E} defaults told_as judges event s t calls calls2 x x2 r setting result {heard = heard} nothing b =
     let keeps = same_handler (handler_at r setting heard) in
     record {
       steps_on = inl (record {
@@ -66,11 +66,18 @@ steps_closed {E = E} defaults told_as judges event s t calls calls2 x x2 r setti
         last = b.last;
         step = b.step;
         stepped = lent_with told_as judges false event s b.last calls calls2 x x2 r r setting setting b.step
-            (subst (λ (asks : Asks). IsVerdict judges asks false) (sym (closed_asks s.opening event closed)) refl) (gate_keeps r r setting setting keeps) b.stepped;
+            (subst (λ (asks : Asks). IsVerdict judges asks false) (sym nothing) refl) (gate_keeps r r setting setting keeps) b.stepped;
         ends = b.ends;
       });
       keeps = unasked judges (asked_of s.opening event) (exchange_in event) (handler_at r setting heard);
     }
+
+-- the opening is closed, and nothing is called
+pub steps_closed : {E : Type 0} (defaults : Type 0) (told_as : Error → E) (judges : PublicKeyOrCertificate → Result Bool E → Type 0) (event : Event) (s t : SessionState) (calls calls2 : List SignCall) (x x2 r : ℕ) (setting : List (List ℕ)) (result : Step E) {heard : List Callback} →
+    s.opening.closed ≡ true → StepsBefore (verdict_gate told_as false) event (lent_session s calls x 0 [] []) (lent_session t calls2 x2 0 [] []) result →
+    Before defaults (handler_gate told_as judges) event (lent_session s calls x r setting heard) (lent_session t calls2 x2 r setting heard) result
+steps_closed defaults told_as judges event s t calls calls2 x x2 r setting result closed b =
+    steps_unasked defaults told_as judges event s t calls calls2 x x2 r setting result (closed_asks s.opening event closed) b
 
 -- the handler let the opening continue
 pub steps_behind : {E : Type 0} (defaults : Type 0) (told_as : Error → E) (judges : PublicKeyOrCertificate → Result Bool E → Type 0) (event : Event) (asks : Asks) (accepts : Bool) (s mid t : SessionState) (calls calls2 : List SignCall) (x x2 r r2 : ℕ) (setting setting2 : List (List ℕ)) (result : Step E) {heard heard2 : List Callback} →

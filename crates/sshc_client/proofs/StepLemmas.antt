@@ -30,7 +30,7 @@ use Rattle.sshc_client_table.specs.Moves.{Fronts, Move, Stops, after, done, onto
 use Rattle.sshc_client_table.specs.SessionRow.{Callback, Next, Opinions, SessionRow, ends, goes, refuses}
 use Rattle.sshc_client_table.specs.SessionTable.{session_row}
 use Rattle.sshc_client_state.specs.OpeningStep.{Lent, StepsLent, StepsOpening, goes_on, lent_session, life_behind, life_if, outbox_of, outgoing}
-use Rattle.sshc_client_table.specs.KeptByMoves.{moves_keep}
+use Rattle.sshc_client_table.specs.KeptByMovesLaws.{moves_keep}
 use Rattle.sshc_client_table.specs.OpenCauses.{IsOpenCause}
 use Rattle.sshc_client_table.specs.OpenCauseLaws.{NextCaused, all_keep, open_why, session_holds}
 use Rattle.sshc_client_rows.specs.declared.flow.Flow.{Flow}

@@ -6,7 +6,8 @@ ghost use Rattle.sshc_wire.specs.declared.channel_record.ServerOpen.TheVariants 
 ghost use Rattle.sshc_wire.specs.Faults.{Rose};
 ghost use Rattle.sshc_key.specs.declared.identity.PublicKeyOrCertificate.{PublicKeyOrCertificate as ServerKey};
 ghost use Rattle.sshc_auth.specs.declared.error.Error.{Error as Refusal};
-ghost use Rattle.sshc_client_table.specs.SessionRow.{Banner, Callback, Happened, HostKey, HostKeysAnnounced, KexDone, ServerOpened, UnknownOffered, WindowRefilled};
+ghost use Rattle.sshc_client_table.specs.SessionRow.{Banner, Callback, Happened, HostKey, HostKeysAnnounced, KexDone};
+ghost use Rattle.sshc_client_table.specs.SessionRow.{ServerOpened, UnknownOffered, WindowRefilled};
 ghost use Rattle.sshc_client.specs.Handling.{Handles, Hears, Opines, ended_by, handler_at};
 
 use crate::answers::DisconnectReason;
@@ -71,7 +72,8 @@ pub trait Handler: Send {
     #[tactic(auto, using(crate::proofs::HandlerLemmas::opines_default))]
     fn should_accept_unknown_server_channel(&mut self, id: ChannelId, kind: &str) -> bool
         ensures { Opines keeps_defaults (UnknownOffered id.0 kind.now) false
-            (handler_at (refusals self.old) (setting self.old) (heard self.old)) (handler_at (refusals self.new) (setting self.new) (heard self.new))
+            (handler_at (refusals self.old) (setting self.old) (heard self.old))
+            (handler_at (refusals self.new) (setting self.new) (heard self.new))
             result }
     {
         false
@@ -82,7 +84,8 @@ pub trait Handler: Send {
     #[tactic(auto, using(crate::proofs::HandlerLemmas::opines_default))]
     fn adjust_window(&mut self, id: ChannelId, window: u32) -> u32
         ensures { Opines keeps_defaults (WindowRefilled id.0 window) window
-            (handler_at (refusals self.old) (setting self.old) (heard self.old)) (handler_at (refusals self.new) (setting self.new) (heard self.new))
+            (handler_at (refusals self.old) (setting self.old) (heard self.old))
+            (handler_at (refusals self.new) (setting self.new) (heard self.new))
             result }
     {
         window
@@ -92,7 +95,8 @@ pub trait Handler: Send {
     #[tactic(auto, using(crate::proofs::HandlerLemmas::does_nothing))]
     fn auth_banner(&mut self, banner: &str, session: &mut Session) -> Result<(), Self::Error>
         ensures { Handles keeps_defaults (Banner banner.now) (Ok tt)
-            (handler_at (refusals self.old) (setting self.old) (heard self.old)) (handler_at (refusals self.new) (setting self.new) (heard self.new))
+            (handler_at (refusals self.old) (setting self.old) (heard self.old))
+            (handler_at (refusals self.new) (setting self.new) (heard self.new))
             session.old session.new result }
     {
         Ok(())
@@ -108,7 +112,8 @@ pub trait Handler: Send {
         session: &mut Session,
     ) -> Result<(), Self::Error>
         ensures { Handles keeps_defaults (KexDone (option_copied shared_secret.entry) names.now) (Ok tt)
-            (handler_at (refusals self.old) (setting self.old) (heard self.old)) (handler_at (refusals self.new) (setting self.new) (heard self.new))
+            (handler_at (refusals self.old) (setting self.old) (heard self.old))
+            (handler_at (refusals self.new) (setting self.new) (heard self.new))
             session.old session.new result }
     {
         Ok(())
@@ -124,7 +129,8 @@ pub trait Handler: Send {
         session: &mut Session,
     ) -> Result<(), Self::Error>
         ensures { Handles keeps_defaults (Happened id.0 (happened.Open max_packet_size window_size)) (Ok tt)
-            (handler_at (refusals self.old) (setting self.old) (heard self.old)) (handler_at (refusals self.new) (setting self.new) (heard self.new))
+            (handler_at (refusals self.old) (setting self.old) (heard self.old))
+            (handler_at (refusals self.new) (setting self.new) (heard self.new))
             session.old session.new result }
     {
         Ok(())
@@ -138,7 +144,8 @@ pub trait Handler: Send {
         session: &mut Session,
     ) -> Result<(), Self::Error>
         ensures { Handles keeps_defaults (Happened channel.0 happened.Success) (Ok tt)
-            (handler_at (refusals self.old) (setting self.old) (heard self.old)) (handler_at (refusals self.new) (setting self.new) (heard self.new))
+            (handler_at (refusals self.old) (setting self.old) (heard self.old))
+            (handler_at (refusals self.new) (setting self.new) (heard self.new))
             session.old session.new result }
     {
         Ok(())
@@ -152,7 +159,8 @@ pub trait Handler: Send {
         session: &mut Session,
     ) -> Result<(), Self::Error>
         ensures { Handles keeps_defaults (Happened channel.0 happened.Failure) (Ok tt)
-            (handler_at (refusals self.old) (setting self.old) (heard self.old)) (handler_at (refusals self.new) (setting self.new) (heard self.new))
+            (handler_at (refusals self.old) (setting self.old) (heard self.old))
+            (handler_at (refusals self.new) (setting self.new) (heard self.new))
             session.old session.new result }
     {
         Ok(())
@@ -166,7 +174,8 @@ pub trait Handler: Send {
         session: &mut Session,
     ) -> Result<(), Self::Error>
         ensures { Handles keeps_defaults (Happened channel.0 happened.Close) (Ok tt)
-            (handler_at (refusals self.old) (setting self.old) (heard self.old)) (handler_at (refusals self.new) (setting self.new) (heard self.new))
+            (handler_at (refusals self.old) (setting self.old) (heard self.old))
+            (handler_at (refusals self.new) (setting self.new) (heard self.new))
             session.old session.new result }
     {
         Ok(())
@@ -176,7 +185,8 @@ pub trait Handler: Send {
     #[tactic(auto, using(crate::proofs::HandlerLemmas::does_nothing))]
     fn channel_eof(&mut self, channel: ChannelId, session: &mut Session) -> Result<(), Self::Error>
         ensures { Handles keeps_defaults (Happened channel.0 happened.Eof) (Ok tt)
-            (handler_at (refusals self.old) (setting self.old) (heard self.old)) (handler_at (refusals self.new) (setting self.new) (heard self.new))
+            (handler_at (refusals self.old) (setting self.old) (heard self.old))
+            (handler_at (refusals self.new) (setting self.new) (heard self.new))
             session.old session.new result }
     {
         Ok(())
@@ -193,7 +203,8 @@ pub trait Handler: Send {
         session: &mut Session,
     ) -> Result<(), Self::Error>
         ensures { Handles keeps_defaults (Happened channel.0 (happened.OpenFailure reason description.now language.now)) (Ok tt)
-            (handler_at (refusals self.old) (setting self.old) (heard self.old)) (handler_at (refusals self.new) (setting self.new) (heard self.new))
+            (handler_at (refusals self.old) (setting self.old) (heard self.old))
+            (handler_at (refusals self.new) (setting self.new) (heard self.new))
             session.old session.new result }
     {
         Ok(())
@@ -207,7 +218,8 @@ pub trait Handler: Send {
         session: &mut Session,
     ) -> Result<OpenAnswer, Self::Error>
         ensures { Handles keeps_defaults (ServerOpened id.0 opens.Session) (Ok OpenAnswer.Accept)
-            (handler_at (refusals self.old) (setting self.old) (heard self.old)) (handler_at (refusals self.new) (setting self.new) (heard self.new))
+            (handler_at (refusals self.old) (setting self.old) (heard self.old))
+            (handler_at (refusals self.new) (setting self.new) (heard self.new))
             session.old session.new result }
     {
         Ok(OpenAnswer::Accept)
@@ -225,7 +237,8 @@ pub trait Handler: Send {
         session: &mut Session,
     ) -> Result<OpenAnswer, Self::Error>
         ensures { Handles keeps_defaults (ServerOpened id.0 (opens.DirectTcpIp host.now port originator_address.now originator_port)) (Ok OpenAnswer.Accept)
-            (handler_at (refusals self.old) (setting self.old) (heard self.old)) (handler_at (refusals self.new) (setting self.new) (heard self.new))
+            (handler_at (refusals self.old) (setting self.old) (heard self.old))
+            (handler_at (refusals self.new) (setting self.new) (heard self.new))
             session.old session.new result }
     {
         Ok(OpenAnswer::Accept)
@@ -240,7 +253,8 @@ pub trait Handler: Send {
         session: &mut Session,
     ) -> Result<OpenAnswer, Self::Error>
         ensures { Handles keeps_defaults (ServerOpened id.0 (opens.DirectStreamLocal socket_path.now)) (Ok OpenAnswer.Accept)
-            (handler_at (refusals self.old) (setting self.old) (heard self.old)) (handler_at (refusals self.new) (setting self.new) (heard self.new))
+            (handler_at (refusals self.old) (setting self.old) (heard self.old))
+            (handler_at (refusals self.new) (setting self.new) (heard self.new))
             session.old session.new result }
     {
         Ok(OpenAnswer::Accept)
@@ -256,7 +270,8 @@ pub trait Handler: Send {
         session: &mut Session,
     ) -> Result<OpenAnswer, Self::Error>
         ensures { Handles keeps_defaults (ServerOpened id.0 (opens.X11 originator_address.now originator_port)) (Ok OpenAnswer.Accept)
-            (handler_at (refusals self.old) (setting self.old) (heard self.old)) (handler_at (refusals self.new) (setting self.new) (heard self.new))
+            (handler_at (refusals self.old) (setting self.old) (heard self.old))
+            (handler_at (refusals self.new) (setting self.new) (heard self.new))
             session.old session.new result }
     {
         Ok(OpenAnswer::Accept)
@@ -274,7 +289,8 @@ pub trait Handler: Send {
         session: &mut Session,
     ) -> Result<OpenAnswer, Self::Error>
         ensures { Handles keeps_defaults (ServerOpened id.0 (opens.ForwardedTcpIp host.now port originator_address.now originator_port)) (Ok OpenAnswer.Accept)
-            (handler_at (refusals self.old) (setting self.old) (heard self.old)) (handler_at (refusals self.new) (setting self.new) (heard self.new))
+            (handler_at (refusals self.old) (setting self.old) (heard self.old))
+            (handler_at (refusals self.new) (setting self.new) (heard self.new))
             session.old session.new result }
     {
         Ok(OpenAnswer::Accept)
@@ -289,7 +305,8 @@ pub trait Handler: Send {
         session: &mut Session,
     ) -> Result<OpenAnswer, Self::Error>
         ensures { Handles keeps_defaults (ServerOpened id.0 (opens.ForwardedStreamLocal socket_path.now)) (Ok OpenAnswer.Accept)
-            (handler_at (refusals self.old) (setting self.old) (heard self.old)) (handler_at (refusals self.new) (setting self.new) (heard self.new))
+            (handler_at (refusals self.old) (setting self.old) (heard self.old))
+            (handler_at (refusals self.new) (setting self.new) (heard self.new))
             session.old session.new result }
     {
         Ok(OpenAnswer::Accept)
@@ -303,7 +320,8 @@ pub trait Handler: Send {
         session: &mut Session,
     ) -> Result<OpenAnswer, Self::Error>
         ensures { Handles keeps_defaults (ServerOpened id.0 opens.AgentForward) (Ok OpenAnswer.Accept)
-            (handler_at (refusals self.old) (setting self.old) (heard self.old)) (handler_at (refusals self.new) (setting self.new) (heard self.new))
+            (handler_at (refusals self.old) (setting self.old) (heard self.old))
+            (handler_at (refusals self.new) (setting self.new) (heard self.new))
             session.old session.new result }
     {
         Ok(OpenAnswer::Accept)
@@ -317,7 +335,8 @@ pub trait Handler: Send {
         session: &mut Session,
     ) -> Result<OpenAnswer, Self::Error>
         ensures { Handles keeps_defaults (ServerOpened id.0 opens.Unknown) (Ok (OpenAnswer.Reject ChannelOpenFailure.AdministrativelyProhibited))
-            (handler_at (refusals self.old) (setting self.old) (heard self.old)) (handler_at (refusals self.new) (setting self.new) (heard self.new))
+            (handler_at (refusals self.old) (setting self.old) (heard self.old))
+            (handler_at (refusals self.new) (setting self.new) (heard self.new))
             session.old session.new result }
     {
         Ok(OpenAnswer::Reject(ChannelOpenFailure::AdministrativelyProhibited))
@@ -332,7 +351,8 @@ pub trait Handler: Send {
         session: &mut Session,
     ) -> Result<(), Self::Error>
         ensures { Handles keeps_defaults (Happened channel.0 (happened.Data body.now)) (Ok tt)
-            (handler_at (refusals self.old) (setting self.old) (heard self.old)) (handler_at (refusals self.new) (setting self.new) (heard self.new))
+            (handler_at (refusals self.old) (setting self.old) (heard self.old))
+            (handler_at (refusals self.new) (setting self.new) (heard self.new))
             session.old session.new result }
     {
         Ok(())
@@ -348,7 +368,8 @@ pub trait Handler: Send {
         session: &mut Session,
     ) -> Result<(), Self::Error>
         ensures { Handles keeps_defaults (Happened channel.0 (happened.ExtendedData ext body.now)) (Ok tt)
-            (handler_at (refusals self.old) (setting self.old) (heard self.old)) (handler_at (refusals self.new) (setting self.new) (heard self.new))
+            (handler_at (refusals self.old) (setting self.old) (heard self.old))
+            (handler_at (refusals self.new) (setting self.new) (heard self.new))
             session.old session.new result }
     {
         Ok(())
@@ -363,7 +384,8 @@ pub trait Handler: Send {
         session: &mut Session,
     ) -> Result<(), Self::Error>
         ensures { Handles keeps_defaults (Happened channel.0 (happened.XonXoff client_can_do)) (Ok tt)
-            (handler_at (refusals self.old) (setting self.old) (heard self.old)) (handler_at (refusals self.new) (setting self.new) (heard self.new))
+            (handler_at (refusals self.old) (setting self.old) (heard self.old))
+            (handler_at (refusals self.new) (setting self.new) (heard self.new))
             session.old session.new result }
     {
         Ok(())
@@ -378,7 +400,8 @@ pub trait Handler: Send {
         session: &mut Session,
     ) -> Result<(), Self::Error>
         ensures { Handles keeps_defaults (Happened channel.0 (happened.ExitStatus exit_status)) (Ok tt)
-            (handler_at (refusals self.old) (setting self.old) (heard self.old)) (handler_at (refusals self.new) (setting self.new) (heard self.new))
+            (handler_at (refusals self.old) (setting self.old) (heard self.old))
+            (handler_at (refusals self.new) (setting self.new) (heard self.new))
             session.old session.new result }
     {
         Ok(())
@@ -396,7 +419,8 @@ pub trait Handler: Send {
         session: &mut Session,
     ) -> Result<(), Self::Error>
         ensures { Handles keeps_defaults (Happened channel.0 (happened.ExitSignal signal_name core_dumped error_message.now lang_tag.now)) (Ok tt)
-            (handler_at (refusals self.old) (setting self.old) (heard self.old)) (handler_at (refusals self.new) (setting self.new) (heard self.new))
+            (handler_at (refusals self.old) (setting self.old) (heard self.old))
+            (handler_at (refusals self.new) (setting self.new) (heard self.new))
             session.old session.new result }
     {
         Ok(())
@@ -412,7 +436,8 @@ pub trait Handler: Send {
         session: &mut Session,
     ) -> Result<(), Self::Error>
         ensures { Handles keeps_defaults (Happened channel.0 (happened.WindowAdjusted new_size)) (Ok tt)
-            (handler_at (refusals self.old) (setting self.old) (heard self.old)) (handler_at (refusals self.new) (setting self.new) (heard self.new))
+            (handler_at (refusals self.old) (setting self.old) (heard self.old))
+            (handler_at (refusals self.new) (setting self.new) (heard self.new))
             session.old session.new result }
     {
         Ok(())
@@ -426,7 +451,8 @@ pub trait Handler: Send {
         session: &mut Session,
     ) -> Result<(), Self::Error>
         ensures { Handles keeps_defaults (HostKeysAnnounced keys.items) (Ok tt)
-            (handler_at (refusals self.old) (setting self.old) (heard self.old)) (handler_at (refusals self.new) (setting self.new) (heard self.new))
+            (handler_at (refusals self.old) (setting self.old) (heard self.old))
+            (handler_at (refusals self.new) (setting self.new) (heard self.new))
             session.old session.new result }
     {
         Ok(())

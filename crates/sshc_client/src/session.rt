@@ -94,8 +94,8 @@ impl Session {
         self.connection.reply_queue()
     }
 
-    /// Lets the records go: with `records` the way to pass them on without taking memory for each event. Their memory is
-    /// used again for the next records, which no clause says.
+    /// Lets the records go: with `records` the way to pass them on without taking memory for each event. Their memory
+    /// is used again for the next records, which no clause says.
     pub fn clear_records(&mut self)
         ensures { self.new ≡ record self.old { records = [] } }
     {

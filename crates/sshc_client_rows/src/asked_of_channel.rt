@@ -3,7 +3,8 @@
 ghost use Rattle.std.specs.Prelude.{◌≡◌, [], ◌∷◌};
 ghost use Rattle.sshc_client_packets.specs.ChannelRequests.{Env, PtyReq, channel_request};
 ghost use Rattle.sshc_client_table.specs.Moves.{Does, RequestsOn};
-ghost use Rattle.sshc_client_table.specs.SessionTable.Users.{channel_moves, forwarded_moves, program_moves, size_of, terminal_moves};
+ghost use Rattle.sshc_client_table.specs.SessionTable.Users.{channel_moves, forwarded_moves, program_moves, size_of};
+ghost use Rattle.sshc_client_table.specs.SessionTable.Users.{terminal_moves};
 
 use sshc_auth::ChannelMsg;
 use sshc_client_packets::{ChannelRequest, TerminalSize};

@@ -5,7 +5,7 @@ ghost use Rattle.sshc_client_table.specs.SessionTable.{disconnect_row, reason_ro
 ghost use Rattle.sshc_client_rows.specs.Follows.{Follows};
 
 use crate::flow::Flow;
-use sshc_auth::{Ended, Error, RemoteDisconnectInfo};
+use sshc_auth::{Ending, Error, RemoteDisconnectInfo};
 use sshc_client_state::Connection;
 use sshc_wire::{Cursor, Disconnect, Text};
 
@@ -34,9 +34,10 @@ fn disconnect_for(
     let lang_tag = packet.text()?;
     let message = Text::from_str(session.alloc(), message)?;
     let lang_tag = Text::from_str(session.alloc(), lang_tag)?;
-    Ok(Flow::Ended(Ended::RemoteDisconnect(RemoteDisconnectInfo {
+    let info = RemoteDisconnectInfo {
         reason_code,
         message,
         lang_tag,
-    })))
+    };
+    Ok(Flow::Ended(Ending::remote(session.alloc(), info)?))
 }

@@ -3,14 +3,14 @@
 ghost use Rattle.std.specs.Prelude.{◌≡◌};
 ghost use Rattle.sshc_client_rows.specs.Follows.{refusal_of};
 
-use sshc_auth::{Ended, Error};
+use sshc_auth::{Ending, Error};
 use sshc_client_packets::PacketError;
 
 /// The result of a row that isn't refused.
 #[derive(Drop)]
 pub enum Flow {
     Went,
-    Ended(Ended),
+    Ended(Ending),
 }
 
 /// The session's error for a packet that can't be read.

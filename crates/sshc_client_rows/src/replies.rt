@@ -2,7 +2,9 @@
 
 ghost use Rattle.std.specs.Prelude.{◌≡◌, IfOk, option_copied};
 ghost use Rattle.sshc_client_packets.specs.HostKeyProof.{proof_judged};
-ghost use Rattle.sshc_client_table.specs.SessionTable.Replies.{bare_row, failure_for, failure_of, port_answer, proof_answer, replied_row, request_failure_row, request_success_row, success_of};
+ghost use Rattle.sshc_client_table.specs.SessionTable.Replies.{bare_row, failure_for, failure_of, port_answer};
+ghost use Rattle.sshc_client_table.specs.SessionTable.Replies.{proof_answer, replied_row, request_failure_row};
+ghost use Rattle.sshc_client_table.specs.SessionTable.Replies.{request_success_row, success_of};
 ghost use Rattle.sshc_client_rows.specs.Follows.{Follows, Succeeds};
 
 use crate::flow::Flow;

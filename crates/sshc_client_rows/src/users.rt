@@ -4,7 +4,9 @@ ghost use Rattle.std.specs.Prelude.{◌≡◌, [], ◌∷◌, true};
 ghost use Rattle.sshc_client_table.specs.Moves.{Asks, Does, Opens, Resolves};
 ghost use Rattle.sshc_client_table.specs.Messages.{CancelForward, Forward};
 ghost use Rattle.sshc_client_table.specs.SessionState.{is_live};
-ghost use Rattle.sshc_client_table.specs.SessionTable.Users.{asked_row, extension_moves, forward_moves, global_moves, open_moves, opens, prove_moves, reply_moves, user_moves, user_row};
+ghost use Rattle.sshc_client_table.specs.SessionTable.Users.{asked_row, extension_moves, forward_moves, global_moves};
+ghost use Rattle.sshc_client_table.specs.SessionTable.Users.{open_moves, opens, prove_moves, reply_moves, user_moves};
+ghost use Rattle.sshc_client_table.specs.SessionTable.Users.{user_row};
 ghost use Rattle.sshc_auth.specs.OpeningTable.User.{is_seen, sig_algs_answer};
 ghost use Rattle.sshc_client_packets.specs.ChannelOpens.{DirectStreamLocal, channel_open};
 ghost use Rattle.sshc_client_state.specs.Asks.{ask_of};
@@ -12,7 +14,7 @@ ghost use Rattle.sshc_client_rows.specs.Follows.{Follows};
 
 use crate::asked_of_channel::channel_moves;
 use crate::flow::Flow;
-use sshc_auth::{Ended, Error, Event};
+use sshc_auth::{Ending, Error, Event};
 use sshc_client_packets::ChannelOpen;
 use sshc_client_state::{Ask, Connection, asked_ticket};
 use sshc_key::PublicKey;
@@ -42,9 +44,9 @@ fn asked(session: &mut Connection, event: &Event) -> Result<Flow, Error>
             language_tag,
         } => {
             session.write_disconnect(*reason, description, language_tag)?;
-            Ok(Flow::Ended(Ended::Disconnected))
+            Ok(Flow::Ended(Ending::disconnected()))
         }
-        Event::Gone => Ok(Flow::Ended(Ended::Closed)),
+        Event::Gone => Ok(Flow::Ended(Ending::closed())),
         _ => {
             user_moves(session, event)?;
             Ok(Flow::Went)

@@ -5,7 +5,8 @@ use Rattle.sshc_wire.specs.declared.record.Record.{Record}
 use Rattle.sshc_wire.specs.declared.record.Record.TheVariants.{Payload, BeginExchange, Opened, Resolved, Auth, KexDone, AuthBanner, Channel, ServerOpened, HostKeysAnnounced, Agent}
 use Rattle.sshc_wire.specs.declared.resolution.Resolution.{Resolution}
 use Rattle.sshc_wire.specs.declared.ticket.Ticket.{Ticket}
-use Rattle.sshc_wire.specs.Outgoing.{shown, shown-open}
+use Rattle.sshc_wire.specs.Outgoing.{shown}
+use Rattle.sshc_wire.specs.OutgoingLaws.{shown-open}
 use Rattle.sshc_client_table.specs.Moves.{told}
 use Rattle.sshc_client_table.specs.SessionState.{SessionState, is_live, opens_later, runs}
 

@@ -7,7 +7,7 @@ ghost use Rattle.sshc_auth.specs.OpeningTable.Transport.{inactivity_timer_row};
 ghost use Rattle.sshc_auth.specs.Row.{Follows, FollowsAsking, signer_at, span};
 
 use super::{Opening, Phase};
-use crate::ended::Ended;
+use crate::ending::Ending;
 use crate::error::Error;
 use crate::order::{EventSort, packet_of, sort_of};
 use crate::step::{Flow, Told};
@@ -107,7 +107,7 @@ impl Opening {
                 extension_name,
             } => self.await_extension_info(*ticket, extension_name, out),
             Event::GetServerSigAlgs { ticket } => self.get_server_sig_algs(*ticket, out),
-            Event::Gone => Ok(Flow::Ended(Ended::Closed)),
+            Event::Gone => Ok(Flow::Ended(Ending::closed())),
             _ => self.unopened(event, out),
         }
     }

@@ -6,7 +6,8 @@ ghost use Rattle.sshc_auth.specs.OpeningTable.Packets.{disconnect_row, disconnec
 ghost use Rattle.sshc_auth.specs.Row.{Follows, FollowsAsking, signer_at, span};
 
 use super::{Class, Opening, Phase};
-use crate::ended::{Ended, RemoteDisconnectInfo};
+use crate::ended::RemoteDisconnectInfo;
+use crate::ending::Ending;
 use crate::error::Error;
 use crate::step::Flow;
 use sshc_key::LocalSigner;
@@ -92,11 +93,12 @@ impl Opening {
         let lang_tag = packet.text()?;
         let message = Text::from_str(self.alloc, message)?;
         let lang_tag = Text::from_str(self.alloc, lang_tag)?;
-        Ok(Flow::Ended(Ended::RemoteDisconnect(RemoteDisconnectInfo {
+        let info = RemoteDisconnectInfo {
             reason_code,
             message,
             lang_tag,
-        })))
+        };
+        Ok(Flow::Ended(Ending::remote(self.alloc, info)?))
     }
 
     /// Whether more than twice our window came while an exchange of ours runs, with these bytes.

@@ -5,7 +5,7 @@ ghost use Rattle.sshc_auth.specs.OpeningTable.User.{answered_row, rekey_row, awa
 ghost use Rattle.sshc_auth.specs.Row.{Follows, span};
 
 use super::{Opening, Waiter, resolved};
-use crate::ended::Ended;
+use crate::ending::Ending;
 use crate::error::Error;
 use crate::step::Flow;
 use sshc_auth_request::disconnect_packet;
@@ -131,6 +131,6 @@ impl Opening {
     {
         let packet = disconnect_packet(self.alloc, reason, description, language)?;
         out.push(Record::Payload(packet))?;
-        Ok(Flow::Ended(Ended::Disconnected))
+        Ok(Flow::Ended(Ending::disconnected()))
     }
 }

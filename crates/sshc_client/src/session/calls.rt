@@ -11,7 +11,7 @@ use crate::handler::Handler;
 use crate::signal::signal_copied;
 use crate::stop::{Stop, lent, went};
 use sshc_client_rows::Flow;
-use sshc_wire::{ChannelId, ChannelRecord, NoMemory, Record};
+use sshc_wire::{ChannelId, ChannelOpenFailure, ChannelRecord, NoMemory, Record, Sig, Text};
 
 impl Session {
     /// Calls the handler for what happened on a channel.
@@ -40,13 +40,7 @@ impl Session {
                 reason,
                 description,
                 language,
-            } => lent(handler.channel_open_failure(
-                id,
-                *reason,
-                description.as_str(),
-                language.as_str(),
-                self,
-            )),
+            } => self.call_open_failure(id, *reason, description, language, handler),
             ChannelRecord::Data { body } => lent(handler.data(id, body.as_slice(), self)),
             ChannelRecord::ExtendedData { ext, body } => {
                 lent(handler.extended_data(id, *ext, body.as_slice(), self))
@@ -58,25 +52,64 @@ impl Session {
                 lent(handler.exit_status(id, *exit_status, self))
             }
             ChannelRecord::ExitSignal {
-                signal_name,
+                signal_name: signal,
                 core_dumped,
-                error_message,
-                lang_tag,
-            } => {
-                let signal = signal_copied(signal_name)?;
-                lent(handler.exit_signal(
-                    id,
-                    signal,
-                    *core_dumped,
-                    error_message.as_str(),
-                    lang_tag.as_str(),
-                    self,
-                ))
-            }
+                error_message: message,
+                lang_tag: language,
+            } => self.call_signal(id, signal, *core_dumped, message, language, handler),
             ChannelRecord::WindowAdjusted { new_size } => {
                 lent(handler.window_adjusted(id, *new_size, self))
             }
         }
+    }
+
+    /// Calls the handler for an open of ours that the peer refused (RFC 4254, section 5.1).
+    #[tactic(auto, using(crate::proofs::HandlerLemmas::called))]
+    fn call_open_failure<H: Handler>(
+        &mut self,
+        id: ChannelId,
+        reason: ChannelOpenFailure,
+        description: &Text,
+        language: &Text,
+        handler: &mut H,
+    ) -> Result<(), Stop<H::Error>>
+        ensures { Calls H.keeps_defaults
+            (Happened id.0 (ChannelRecord.OpenFailure reason description.now language.now)) (Ok tt)
+            (handler_at (H.refusals handler.old) (H.setting handler.old) (H.heard handler.old))
+            (handler_at (H.refusals handler.new) (H.setting handler.new) (H.heard handler.new))
+            self.old self.new result }
+    {
+        let (description, language) = (description.as_str(), language.as_str());
+        lent(handler.channel_open_failure(id, reason, description, language, self))
+    }
+
+    /// Calls the handler for a signal that ended the program on a channel (RFC 4254, section 6.10).
+    #[tactic(auto, using(crate::proofs::HandlerLemmas::called))]
+    fn call_signal<H: Handler>(
+        &mut self,
+        id: ChannelId,
+        signal_name: &Sig,
+        core_dumped: bool,
+        error_message: &Text,
+        lang_tag: &Text,
+        handler: &mut H,
+    ) -> Result<(), Stop<H::Error>>
+        ensures { Calls H.keeps_defaults
+            (Happened id.0
+            (ChannelRecord.ExitSignal signal_name.now core_dumped error_message.now lang_tag.now)) (Ok tt)
+            (handler_at (H.refusals handler.old) (H.setting handler.old) (H.heard handler.old))
+            (handler_at (H.refusals handler.new) (H.setting handler.new) (H.heard handler.new))
+            self.old self.new result }
+    {
+        let signal = signal_copied(signal_name)?;
+        lent(handler.exit_signal(
+            id,
+            signal,
+            core_dumped,
+            error_message.as_str(),
+            lang_tag.as_str(),
+            self,
+        ))
     }
 
     /// Adds the record of what happened on a channel.

@@ -1,7 +1,8 @@
 //! Channels of ours (RFC 4254, section 5.1), for code that the session is lent to.
 
 ghost use Rattle.std.specs.Prelude.{◌≡◌};
-ghost use Rattle.sshc_client_packets.specs.ChannelOpens.{DirectStreamLocal, DirectTcpIp, Session as SessionOpen, X11, channel_open};
+ghost use Rattle.sshc_client_packets.specs.ChannelOpens.{DirectStreamLocal, DirectTcpIp, Session as SessionOpen, X11};
+ghost use Rattle.sshc_client_packets.specs.ChannelOpens.{channel_open};
 ghost use Rattle.sshc_client_table.specs.Grown.{Grown};
 ghost use Rattle.sshc_client.specs.Methods.{OpensChannel};
 

@@ -2,7 +2,8 @@
 //! established, or after our close was sent, nothing is written.
 
 ghost use Rattle.std.specs.Prelude.{◌≡◌, ◌∷◌, []};
-ghost use Rattle.sshc_client_packets.specs.ChannelRequests.{AgentForward, Env, Exec, PtyReq, Shell, Signal, Subsystem, WindowChange, X11, channel_request};
+ghost use Rattle.sshc_client_packets.specs.ChannelRequests.{AgentForward, Env, Exec, PtyReq, Shell, Signal, Subsystem};
+ghost use Rattle.sshc_client_packets.specs.ChannelRequests.{WindowChange, X11, channel_request};
 ghost use Rattle.sshc_client_table.specs.Grown.{Grown};
 ghost use Rattle.sshc_client_table.specs.Moves.{RequestsOn};
 ghost use Rattle.sshc_client_table.specs.SessionTable.Users.{size_of};

@@ -3,7 +3,8 @@
 
 ghost use Rattle.std.specs.Prelude.{◌≡◌, ◌∷◌, []};
 ghost use Rattle.sshc_client_table.specs.Grown.{Grown};
-ghost use Rattle.sshc_client_table.specs.Messages.{CancelForward, CancelForwardSocket, Forward, ForwardSocket, KeepAlive, NoMore, OwnRequest, Ping};
+ghost use Rattle.sshc_client_table.specs.Messages.{CancelForward, CancelForwardSocket, Forward, ForwardSocket};
+ghost use Rattle.sshc_client_table.specs.Messages.{KeepAlive, NoMore, OwnRequest, Ping};
 ghost use Rattle.sshc_client_table.specs.Moves.{Asks, or_none};
 ghost use Rattle.sshc_client_state.specs.Asks.{ask_of};
 ghost use Rattle.sshc_client.specs.Methods.{Acts, asks_or_denies};

@@ -102,39 +102,40 @@ impl Session {
             accepts,
             of: PhantomData,
         };
-        let step = self.connection.step_opening(event, &mut verdict, signer);
+        let mut step = self.connection.step_opening(event, &mut verdict, signer);
         verdict.let_go();
-        self.end_left(step)
+        self.end_left(&mut step);
+        step
     }
 
-    /// A step that would continue ends a session that the user left.
+    /// A step that would continue ends a session that the user left. The step's result stays where it is.
     #[tactic(auto, using(crate::proofs::StepLemmas::nobody_left_ends))]
-    pub(super) fn end_left<E: Drop>(&mut self, step: Step<E>) -> Step<E>
-        ensures { EndsBy (goes_on step && has_left self.old.life) self.old self.new step result }
+    pub(super) fn end_left<E: Drop>(&mut self, step: &mut Step<E>)
+        ensures { EndsBy (goes_on step.old && has_left self.old.life) self.old self.new step.old step.new }
     {
         match self.connection.life() {
             Life::Left => self.end_step(step),
-            Life::Runs => step,
-            Life::Over => step,
+            Life::Runs => {}
+            Life::Over => {}
         }
     }
 
-    fn end_step<E: Drop>(&mut self, step: Step<E>) -> Step<E>
-        ensures { EndsBy (goes_on step) self.old self.new step result }
+    fn end_step<E: Drop>(&mut self, step: &mut Step<E>)
+        ensures { EndsBy (goes_on step.old) self.old self.new step.old step.new }
     {
         match step {
             Step::Went | Step::Opened => {
                 self.connection.stop();
-                Step::Ended(Ended::Disconnected)
+                *step = Step::Ended(Ended::Disconnected);
             }
-            Step::Ended(e) => Step::Ended(e),
-            Step::Refused(e) => Step::Refused(e),
-            Step::Closed => Step::Closed,
+            Step::Ended(_) => {}
+            Step::Refused(_) => {}
+            Step::Closed => {}
         }
     }
 
     /// What an event does before the session is open.
-    #[tactic(auto, using(crate::proofs::BeforeLemmas::exchange_there, crate::proofs::BeforeLemmas::steps_closed, crate::proofs::BeforeLemmas::steps_behind, crate::proofs::BeforeLemmas::refused_before, crate::proofs::BeforeLemmas::ran_out))]
+    #[tactic(auto, using(crate::proofs::BeforeLemmas::steps_closed, crate::proofs::BeforeLemmas::steps_unasked))]
     pub(super) fn step_before<H: Handler, S: LocalSigner>(
         &mut self,
         event: &Event,
@@ -153,8 +154,28 @@ impl Session {
             return self.step_asked::<H, S>(event, false, signer);
         }
         if !self.connection.opening().may_ask(event) {
-            return self.step_asking(&Asks::Nothing, event, handler, signer);
+            return self.step_asked::<H, S>(event, false, signer);
         }
+        self.step_gated(event, handler, signer)
+    }
+
+    /// The same, of an event whose row may ask the handler. What it asks may be a host key, which has room only here.
+    #[tactic(auto, using(crate::proofs::BeforeLemmas::ran_out))]
+    fn step_gated<H: Handler, S: LocalSigner>(
+        &mut self,
+        event: &Event,
+        handler: &mut H,
+        signer: &mut S,
+    ) -> Step<H::Error>
+        requires early { is_open self.old.opening.phase ≡ false }
+        requires fresh { self.old.opening.closed ≡ false }
+        ensures { Before H.keeps_defaults (handler_gate H.told_as (H.judges handler.old)) event.now
+            (lent_session self.old (S.calls signer.old) (S.refusals signer.old) (H.refusals handler.old)
+            (H.setting handler.old) (H.heard handler.old))
+            (lent_session self.new (S.calls signer.new) (S.refusals signer.new) (H.refusals handler.new)
+            (H.setting handler.new) (H.heard handler.new))
+            result }
+    {
         match self.connection.opening().asks(event) {
             Ok(asks) => self.step_asking(&asks, event, handler, signer),
             Err(NoMemory) => {

@@ -6,10 +6,13 @@ ghost use Rattle.sshc_client_packets.specs.ChannelPackets.{lent_refusal};
 ghost use Rattle.sshc_client_table.specs.Moves.{Does, Tells};
 ghost use Rattle.sshc_client_table.specs.SessionState.{is_live};
 ghost use Rattle.sshc_client_table.specs.SessionRow.{ServerOpened};
-ghost use Rattle.sshc_client_table.specs.SessionTable.Opens.{channel_open_row, confirmed_row, failed_row, numbered_open_row, open_confirmation_row, open_failure_row, settled};
+ghost use Rattle.sshc_client_table.specs.SessionTable.Opens.{channel_open_row, confirmed_row, failed_row};
+ghost use Rattle.sshc_client_table.specs.SessionTable.Opens.{numbered_open_row, open_confirmation_row};
+ghost use Rattle.sshc_client_table.specs.SessionTable.Opens.{open_failure_row, settled};
 ghost use Rattle.sshc_wire.specs.declared.record.Record.TheVariants.{ServerOpened as ServerOpenedRecord};
 ghost use Rattle.sshc_client.specs.Handling.{handler_at};
-ghost use Rattle.sshc_client.specs.HandledRow.{Accepts, Calls, FollowsOne, FollowsWith, default_answer, is_unknown, served};
+ghost use Rattle.sshc_client.specs.HandledRow.{Accepts, Calls, FollowsOne, FollowsWith, default_answer, is_unknown};
+ghost use Rattle.sshc_client.specs.HandledRow.{served};
 
 use super::Session;
 use crate::handler::Handler;
@@ -233,18 +236,11 @@ impl Session {
         match opened {
             ServerOpen::Session => lent(handler.server_channel_open_session(id, self)),
             ServerOpen::DirectTcpIp {
-                host_to_connect,
-                port_to_connect,
-                originator_address,
+                host_to_connect: host,
+                port_to_connect: port,
+                originator_address: originator,
                 originator_port,
-            } => lent(handler.server_channel_open_direct_tcpip(
-                id,
-                host_to_connect.as_str(),
-                *port_to_connect,
-                originator_address.as_str(),
-                *originator_port,
-                self,
-            )),
+            } => self.call_direct_tcpip(id, host, *port, originator, *originator_port, handler),
             ServerOpen::DirectStreamLocal { socket_path } => lent(
                 handler.server_channel_open_direct_streamlocal(id, socket_path.as_str(), self),
             ),
@@ -258,18 +254,11 @@ impl Session {
                 self,
             )),
             ServerOpen::ForwardedTcpIp {
-                connected_address,
-                connected_port,
-                originator_address,
+                connected_address: host,
+                connected_port: port,
+                originator_address: originator,
                 originator_port,
-            } => lent(handler.server_channel_open_forwarded_tcpip(
-                id,
-                connected_address.as_str(),
-                *connected_port,
-                originator_address.as_str(),
-                *originator_port,
-                self,
-            )),
+            } => self.call_forwarded_tcpip(id, host, *port, originator, *originator_port, handler),
             ServerOpen::ForwardedStreamLocal { socket_path } => lent(
                 handler.server_channel_open_forwarded_streamlocal(id, socket_path.as_str(), self),
             ),
@@ -278,5 +267,63 @@ impl Session {
             }
             ServerOpen::Unknown => lent(handler.server_channel_open_unknown(id, self)),
         }
+    }
+
+    /// Calls the handler for a connection that the server opens to a host (RFC 4254, section 7.2).
+    #[tactic(auto, using(crate::proofs::HandlerLemmas::called))]
+    fn call_direct_tcpip<H: Handler>(
+        &mut self,
+        id: ChannelId,
+        host_to_connect: &Text,
+        port_to_connect: u32,
+        originator_address: &Text,
+        originator_port: u32,
+        handler: &mut H,
+    ) -> Result<OpenAnswer, Stop<H::Error>>
+        ensures { Calls H.keeps_defaults
+            (ServerOpened id.0
+            (ServerOpen.DirectTcpIp host_to_connect.now port_to_connect originator_address.now originator_port))
+            (Ok OpenAnswer.Accept)
+            (handler_at (H.refusals handler.old) (H.setting handler.old) (H.heard handler.old))
+            (handler_at (H.refusals handler.new) (H.setting handler.new) (H.heard handler.new))
+            self.old self.new result }
+    {
+        lent(handler.server_channel_open_direct_tcpip(
+            id,
+            host_to_connect.as_str(),
+            port_to_connect,
+            originator_address.as_str(),
+            originator_port,
+            self,
+        ))
+    }
+
+    /// Calls the handler for a connection to an address that the server was asked to forward (RFC 4254, section 7.2).
+    #[tactic(auto, using(crate::proofs::HandlerLemmas::called))]
+    fn call_forwarded_tcpip<H: Handler>(
+        &mut self,
+        id: ChannelId,
+        connected_address: &Text,
+        connected_port: u32,
+        originator_address: &Text,
+        originator_port: u32,
+        handler: &mut H,
+    ) -> Result<OpenAnswer, Stop<H::Error>>
+        ensures { Calls H.keeps_defaults
+            (ServerOpened id.0
+            (ServerOpen.ForwardedTcpIp connected_address.now connected_port originator_address.now originator_port))
+            (Ok OpenAnswer.Accept)
+            (handler_at (H.refusals handler.old) (H.setting handler.old) (H.heard handler.old))
+            (handler_at (H.refusals handler.new) (H.setting handler.new) (H.heard handler.new))
+            self.old self.new result }
+    {
+        lent(handler.server_channel_open_forwarded_tcpip(
+            id,
+            connected_address.as_str(),
+            connected_port,
+            originator_address.as_str(),
+            originator_port,
+            self,
+        ))
     }
 }

@@ -5,7 +5,8 @@ ghost use Rattle.sshc_wire.specs.declared.record.Record.TheVariants.{HostKeysAnn
 ghost use Rattle.sshc_client_packets.specs.PeerGlobals.{blobs_of};
 ghost use Rattle.sshc_client_table.specs.Moves.{Does, Tells};
 ghost use Rattle.sshc_client_table.specs.SessionRow.{HostKeysAnnounced, asking};
-ghost use Rattle.sshc_client_table.specs.SessionTable.Requests.{asked_row, channel_request_row, global_request_row, requested_row};
+ghost use Rattle.sshc_client_table.specs.SessionTable.Requests.{asked_row, channel_request_row, global_request_row};
+ghost use Rattle.sshc_client_table.specs.SessionTable.Requests.{requested_row};
 ghost use Rattle.sshc_client.specs.Handling.{handler_at};
 ghost use Rattle.sshc_client.specs.HandledRow.{Calls, FollowsOne};
 

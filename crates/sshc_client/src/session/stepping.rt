@@ -102,10 +102,14 @@ impl Session {
         ensures { EndsRow H.told_as self.old self.new answer result }
     {
         match answer {
-            Ok(Flow::Went) => self.end_left(Step::Went),
+            Ok(Flow::Went) => {
+                let mut step = Step::Went;
+                self.end_left(&mut step);
+                step
+            }
             Ok(Flow::Ended(e)) => {
                 self.connection.stop();
-                Step::Ended(e)
+                Step::Ended(e.into_ended())
             }
             Err(Stop::Own(e)) => {
                 self.connection.stop();

@@ -6,7 +6,9 @@ ghost use Rattle.sshc_mux.specs.ChannelTable.{is_established};
 ghost use Rattle.sshc_client_table.specs.Moves.{Receives, done};
 ghost use Rattle.sshc_client_table.specs.SessionRow.{reports};
 ghost use Rattle.sshc_client_table.specs.SessionState.{is_live};
-ghost use Rattle.sshc_client_table.specs.SessionTable.Streams.{bytes_row, channel_close_row, channel_data_row, channel_extended_data_row, channel_report_row, window_adjust_row};
+ghost use Rattle.sshc_client_table.specs.SessionTable.Streams.{bytes_row, channel_close_row, channel_data_row};
+ghost use Rattle.sshc_client_table.specs.SessionTable.Streams.{channel_extended_data_row, channel_report_row};
+ghost use Rattle.sshc_client_table.specs.SessionTable.Streams.{window_adjust_row};
 ghost use Rattle.sshc_client.specs.Handling.{Opines, handler_at};
 ghost use Rattle.sshc_client.specs.HandledRow.{FollowsOne, FollowsWith, Retargets, target_moves};
 

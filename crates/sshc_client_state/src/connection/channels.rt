@@ -3,7 +3,8 @@
 ghost use Rattle.std.specs.Prelude.{◌≡◌, IfOk, Some, true};
 ghost use Rattle.sshc_mux.specs.ChannelTable.{adjusted_at, granted_at};
 ghost use Rattle.sshc_mux.specs.ChannelTable.Opens.{next_number};
-ghost use Rattle.sshc_client_table.specs.Moves.{Closes, EndsBytes, Grants, Moved, PeerCloses, Receives, Reserves, Sends};
+ghost use Rattle.sshc_client_table.specs.Moves.{Closes, EndsBytes, Grants, Moved, PeerCloses, Receives, Reserves};
+ghost use Rattle.sshc_client_table.specs.Moves.{Sends};
 ghost use Rattle.sshc_client_table.specs.SessionState.{exchanging, is_live, own_window};
 
 use super::Connection;

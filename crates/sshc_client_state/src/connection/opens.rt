@@ -4,7 +4,8 @@
 ghost use Rattle.std.specs.Prelude.{◌≡◌, ◌++◌, IfOk, OnErr, OnOk, Some, is_some, false, true};
 ghost use Rattle.sshc_mux.specs.ChannelTable.Opens.{awaited, next_number, unsettled_at};
 ghost use Rattle.sshc_client_packets.specs.ChannelOpens.{channel_open};
-ghost use Rattle.sshc_client_table.specs.Moves.{Accepts, Confirms, Fails, Moved, Opens, Rejects, accept_packet, our_side, reject_packet};
+ghost use Rattle.sshc_client_table.specs.Moves.{Accepts, Confirms, Fails, Moved, Opens, Rejects, accept_packet};
+ghost use Rattle.sshc_client_table.specs.Moves.{our_side, reject_packet};
 ghost use Rattle.sshc_client_table.specs.SessionState.{is_live};
 
 use super::Connection;

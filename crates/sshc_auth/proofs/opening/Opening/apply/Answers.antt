@@ -41,8 +41,8 @@ returns-in-Ok-Ended g c =
     let follows = rw c.in-Ok-Ended.field-0-is at c.in-Ok-Ended.ensures.row in
     record {
       closed = search rules;
-      row = λ fresh. rw c.shut-in-Ok-Ended.ensures (step_ended asking was is c.args.self.now c.row.new.self c.args.out.now c.row.new.out c.in-Ok-Ended.e follows);
-      cause = ended_cause c.args.self.now c.args.event.now c.args.told was is (span c.args.self.now c.row.new.self c.args.out.now c.row.new.out) c.in-Ok-Ended.e follows;
+      row = λ fresh. rw (c.shut-in-Ok-Ended.ensures, c.into_ended.ensures) (step_ended asking was is c.args.self.now c.row.new.self c.args.out.now c.row.new.out c.in-Ok-Ended.e follows);
+      cause = rw c.into_ended.ensures (ended_cause c.args.self.now c.args.event.now c.args.told was is (span c.args.self.now c.row.new.self c.args.out.now c.row.new.out) c.in-Ok-Ended.e follows);
       signer = signer_grows asking (g.S.LocalSigner.calls c.args.signer.now) (g.S.LocalSigner.calls c.row.new.signer) (g.S.LocalSigner.refusals c.args.signer.now) (g.S.LocalSigner.refusals c.row.new.signer) (span c.args.self.now c.row.new.self c.args.out.now c.row.new.out) _ follows;
     }
 

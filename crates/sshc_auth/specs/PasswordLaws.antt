@@ -7,11 +7,11 @@ use Rattle.std.specs.List.{starts_with}
 use Rattle.std.proofs.lemmas.Bool.Decides.{Decides-eqb}
 use Rattle.std.proofs.lemmas.List.{drop_at, length-append}
 use Rattle.std.proofs.lemmas.Slice.Eq.{starts_is}
-use Rattle.sshc_wire.specs.Cases.{by_cases}
-use Rattle.sshc_wire.specs.Format.{ok_is}
-use Rattle.sshc_wire.specs.Lookup.{same_bytes}
+use Rattle.sshc_wire.specs.CasesLaws.{by_cases}
+use Rattle.sshc_wire.specs.FormatLaws.{ok_is}
+use Rattle.sshc_wire.specs.LookupLaws.{same_bytes}
 use Rattle.sshc_wire.specs.Names.{names_in}
-use Rattle.sshc_wire.specs.Parts.{strings}
+use Rattle.sshc_wire.specs.PartsLaws.{strings}
 use Rattle.sshc_wire.specs.Reads.{boolean_at, number_at, string_at, text_at}
 use Rattle.sshc_wire.specs.Reasons.{disconnect_of}
 use Rattle.sshc_wire.specs.Wire.{IsShort, string_text, u32_text}
