@@ -1,28 +1,23 @@
 -- An agent's turn has only records of an agent, asks the signer only as the agent, and stops the run only if its fields
 -- can't be read.
 use Rattle.std.proofs.Common.{◌≡◌, ℕ, Bool, false, List, [], ◌∷◌, ◌++◌, Result, Ok, Err, refl, ap}
-use Rattle.sshc_wire.specs.declared.record.Record.{Record}
 use Rattle.sshc_key.specs.declared.signer.Asker.{Asker}
-use Rattle.sshc_key.specs.Asking.{Asking, done, asks, asked_on, then_asks, Always}
-use Rattle.sshc_key.specs.AskingLaws.{always_any, always_on}
+use Rattle.sshc_key.specs.Asking.{then_asks}
+use Rattle.sshc_key.specs.AskingLaws.{always_any}
 use Rattle.sshc_agent_core.specs.declared.input.AgentInput.{AgentInput}
 use Rattle.sshc_agent_core.specs.declared.input.AgentOutput.{AgentOutput}
 use Rattle.sshc_agent_core.specs.declared.input.AgentOutput.TheVariants as outputs
 use Rattle.sshc_agent_core.specs.declared.input.Cause.TheVariants as causes
 use Rattle.sshc_agent_core.specs.AgentList.{AgentList}
 use Rattle.sshc_agent_core.specs.AgentTable.{agent_row}
-use Rattle.sshc_agent_core.specs.AskerLaw.{AsksAs, row_asks}
+use Rattle.sshc_agent_core.specs.AskerLaws.{AsksAs, row_asks}
 use Rattle.sshc_run_agent.specs.declared.event.AgentEvent.{AgentEvent}
 use Rattle.sshc_run_agent.specs.AgentEvents.{agent_event_of}
 use Rattle.sshc_run_agent.specs.AgentTurns.{AgentTurn, Said, Served, agent_turn, behind, conn_of, each_turn, event_bytes, event_inputs, input_turn, kept_with, records_of, said_on}
 use Rattle.sshc_client_table.specs.SessionRecords.{is_session_record}
-use Rattle.sshc_run_reader.specs.declared.error.EventError.{EventError}
-use Rattle.sshc_run_reader.specs.Script.{Frame}
-use Rattle.sshc_run_script.specs.AgentsTurn.{agent_read_turn, agents_turn, going_on, served_turn}
 use Rattle.sshc_run_script.specs.ReachedStates.{StopsFor}
-use Rattle.sshc_run_script.specs.Machine.{IsNoEnd, NeverAtEnd, TurnOf}
-use Rattle.sshc_run_script.specs.Part.{AsksBy, SaysBy}
-use Rattle.sshc_run_script.specs.SessionPart.{IsAgentCause, is_session_asker}
+use Rattle.sshc_run_script.specs.declared.error.RunError.TheVariants as errors
+use Rattle.sshc_run_script.proofs.RunNames.{Record, Asking, done, asks, asked_on, Always, always_on, EventError, Frame, agent_read_turn, agents_turn, going_on, served_turn, IsNoEnd, NeverAtEnd, TurnOf, AsksBy, SaysBy, IsAgentCause, is_session_asker, stops}
 use Rattle.sshc_run_script.proofs.Products.{asks_on}
 
 -- ---- two in a row
@@ -43,14 +38,9 @@ says_two test is (said ∷ a) b one other = (one.0, says_two test is a b one.1 o
 
 -- an answer is reported as an agent's record
 output_says : (conn : ℕ) (output : AgentOutput) → SaysBy is_session_record false (records_of conn output)
-output_says conn (outputs.Answer whole) = (refl, tt)
-output_says conn (outputs.AskRequest message) = (refl, tt)
-output_says conn (outputs.AskKey blob) = (refl, tt)
 output_says conn outputs.Nothing = tt
-output_says conn (outputs.Closed causes.TooLong) = (refl, tt)
-output_says conn (outputs.Closed causes.Unreadable) = (refl, tt)
-output_says conn (outputs.Closed causes.SignerRefused) = (refl, tt)
 output_says conn (outputs.Closed causes.NoMemory) = tt
+output_says conn output = (refl, tt)
 
 abbrev SaysAgents : Said → Type 0
 SaysAgents t = SaysBy is_session_record false t.records
@@ -82,6 +72,16 @@ module _ (now conn : ℕ) where
 
 -- ---- an event
 
+-- what holds of an event that is read, and of fields that can't be, holds of the turn
+pub agents_case : (s : Served) (frame : Frame) (P : Result AgentEvent EventError → Asking (TurnOf Served) → Type 0) → ((event : AgentEvent) → P (Ok event) (served_turn frame.moment event s)) →
+    ((e : EventError) → P (Err e) (done (stops s (errors.BadEvent frame.place)))) → P (agent_event_of frame.kind frame.fields) (agents_turn s frame)
+unfolding agents_turn
+agents_case s frame P event_turns bad = by (agent_event_of frame.kind frame.fields)
+  where
+    by : (read : Result AgentEvent EventError) → P read (agent_read_turn frame.place frame.moment s read)
+    by (Ok event) = event_turns event
+    by (Err e) = bad e
+
 event_says : (moment : ℕ) (event : AgentEvent) (s : Served) → Always (λ (t : TurnOf Served). SaysBy is_session_record false t.records) (served_turn moment event s)
 unfolding agent_turn
 event_says moment event s =
@@ -96,36 +96,18 @@ event_asks moment event s =
     (asks_on is_session_asker false (kept_with (event_bytes event s.bytes)) (each_turn moment (conn_of event) (event_inputs event s.bytes) s.list)
     (each_asks moment (conn_of event) (event_inputs event s.bytes) s.list))
 
-read_says : (place moment : ℕ) (s : Served) (read : Result AgentEvent EventError) → Always (λ (t : TurnOf Served). SaysBy is_session_record false t.records) (agent_read_turn place moment s read)
-read_says place moment s (Ok event) = event_says moment event s
-read_says place moment s (Err e) = tt
-
-read_asks : (place moment : ℕ) (s : Served) (read : Result AgentEvent EventError) → AsksBy is_session_asker false (agent_read_turn place moment s read)
-read_asks place moment s (Ok event) = event_asks moment event s
-read_asks place moment s (Err e) = tt
-
-read_stops : (s : Served) (frame : Frame) (read : Result AgentEvent EventError) → agent_event_of frame.kind frame.fields ≡ read → Always (λ (t : TurnOf Served). StopsFor (IsAgentCause frame) t.next) (agent_read_turn frame.place frame.moment s read)
-read_stops s frame (Ok event) is = always_any (λ (t : TurnOf Served). StopsFor (IsAgentCause frame) t.next) going_on (agent_turn frame.moment event s) (λ t. tt)
-read_stops s frame (Err e) is = (e, is, refl)
-
-read_never : (s : Served) (frame : Frame) (read : Result AgentEvent EventError) → Always IsNoEnd (agent_read_turn frame.place frame.moment s read)
-read_never s frame (Ok event) = always_any IsNoEnd going_on (agent_turn frame.moment event s) (λ t. λ is. cc)
-read_never s frame (Err e) = λ is. cc
-
 -- ---- every turn of an agent
 
 pub agents_say : (s : Served) (frame : Frame) → Always (λ (t : TurnOf Served). SaysBy is_session_record false t.records) (agents_turn s frame)
-unfolding agents_turn
-agents_say s frame = read_says frame.place frame.moment s (agent_event_of frame.kind frame.fields)
+agents_say s frame = agents_case s frame (λ read. Always (λ (t : TurnOf Served). SaysBy is_session_record false t.records)) (λ event. event_says frame.moment event s) (λ e. tt)
 
 pub agents_ask : (s : Served) (frame : Frame) → AsksBy is_session_asker false (agents_turn s frame)
-unfolding agents_turn
-agents_ask s frame = read_asks frame.place frame.moment s (agent_event_of frame.kind frame.fields)
+agents_ask s frame = agents_case s frame (λ read asking. AsksBy is_session_asker false asking) (λ event. event_asks frame.moment event s) (λ e. tt)
 
 pub agents_stop : (s : Served) (frame : Frame) → Always (λ (t : TurnOf Served). StopsFor (IsAgentCause frame) t.next) (agents_turn s frame)
-unfolding agents_turn
-agents_stop s frame = read_stops s frame (agent_event_of frame.kind frame.fields) refl
+agents_stop s frame =
+    agents_case s frame (λ read asking. agent_event_of frame.kind frame.fields ≡ read → Always (λ (t : TurnOf Served). StopsFor (IsAgentCause frame) t.next) asking)
+    (λ event is. always_any (λ (t : TurnOf Served). StopsFor (IsAgentCause frame) t.next) going_on (agent_turn frame.moment event s) (λ t. tt)) (λ e is. (e, is, refl)) refl
 
 pub agents_never : NeverAtEnd agents_turn
-unfolding agents_turn
-agents_never = λ s frame. read_never s frame (agent_event_of frame.kind frame.fields)
+agents_never = λ s frame. agents_case s frame (λ read. Always IsNoEnd) (λ event. always_any IsNoEnd going_on (agent_turn frame.moment event s) (λ t. λ is. cc)) (λ e is. cc)

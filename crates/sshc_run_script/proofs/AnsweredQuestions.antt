@@ -1,10 +1,7 @@
 -- Calls of the signer, with the answers that they get: whatever answers follow, the run after them is the same.
-use Rattle.std.proofs.Common.{◌≡◌, List, [], ◌∷◌, ◌++◌, refl, ap, sym, ◌∙◌}
-use Rattle.sshc_key.specs.Signers.{SignCall}
-use Rattle.sshc_key.specs.Asking.{Answer, Asking, done, asks, call_of, Makes, MakesFirst}
-use Rattle.sshc_wire.specs.declared.record.Record.{Record}
-use Rattle.sshc_run_script.specs.Machine.{unanswered_stop}
-use Rattle.sshc_run_script.specs.ScriptRun.{Run, RunOf, after, asked_run, answers_of}
+use Rattle.std.proofs.Common.{◌≡◌, List, [], ◌∷◌, ◌++◌, refl, ap, sym, ◌∙◌, append_assoc}
+use Rattle.sshc_run_script.specs.Prefixes.{IsFront}
+use Rattle.sshc_run_script.proofs.RunNames.{SignCall, Answer, Asking, done, asks, call_of, Makes, MakesFirst, RunOf, after, asked_run, answers_of, asked_on}
 
 pub answers_two : (a b : List SignCall) → answers_of (a ++ b) ≡ answers_of a ++ answers_of b
 answers_two [] b = refl
@@ -29,18 +26,12 @@ asked_first wanting (asks asked on) [] later nothing first = refl
 asked_first wanting (asks asked on) (call ∷ gained) later nothing (is, first) =
     ap (λ (calls : List SignCall). call_of asked call.answer ∷ calls) (asked_first wanting (on call.answer) gained later nothing first) ∙ ap (λ (c : SignCall). c ∷ gained) (sym is)
 
--- with the same run after each, the runs are the same
-pub asked_same : {A : Type 0} {E : Type 0} (wanting : E) (asking : Asking A) (answers : List Answer) (later later' : A → List Answer → RunOf E) → ((x : A) (left : List Answer) → later x left ≡ later' x left) →
-    asked_run wanting asking answers later ≡ asked_run wanting asking answers later'
-asked_same wanting (done x) answers later later' same = same x answers
-asked_same wanting (asks asked on) [] later later' same = refl
-asked_same {E = E} wanting (asks asked on) (answer ∷ answers) later later' same =
-    ap (λ (r : RunOf E). after [] (call_of asked answer ∷ []) r) (asked_same wanting (on answer) answers later later' same)
+-- calls of the signer whose result is mapped
+pub asked_mapped : {A : Type 0} {B : Type 0} {E : Type 0} (wanting : E) (f : A → B) (asking : Asking A) (answers : List Answer) (later : B → List Answer → RunOf E) →
+    asked_run wanting (asked_on f asking) answers later ≡ asked_run wanting asking answers (λ x left. later (f x) left)
+asked_mapped wanting f (done x) answers later = refl
+asked_mapped wanting f (asks asked on) [] later = refl
+asked_mapped {E = E} wanting f (asks asked on) (answer ∷ answers) later = ap (λ (r : RunOf E). after [] (call_of asked answer ∷ []) r) (asked_mapped wanting f (on answer) answers later)
 
--- what holds without records, and of the run after each result, holds of the records of the run
-pub by_records : {A : Type 0} (P : List Record → Type 0) (asking : Asking A) (answers : List Answer) (later : A → List Answer → Run) → P [] →
-    ((gained : List SignCall) (x : A) (left : List Answer) → Makes asking gained x → P (later x left).records) → P (asked_run unanswered_stop asking answers later).records
-by_records P (done x) answers later none each = each [] x answers refl
-by_records P (asks asked on) [] later none each = none
-by_records P (asks asked on) (answer ∷ answers) later none each =
-    by_records P (on answer) answers later none (λ gained x left makes. each (call_of asked answer ∷ gained) x left (refl, makes))
+pub front_before : {X : Type 0} (a b c : List X) → IsFront b c → IsFront (a ++ b) (a ++ c)
+front_before {X = X} a b c (rest, is) = (rest, ap (λ (list : List X). a ++ list) is ∙ sym (append_assoc a b rest))

@@ -1,17 +1,10 @@
 -- The answers in order are those by asker, if they are the answers of the run's own calls.
 use Rattle.std.proofs.Common.{◌≡◌, ℕ, Result, true, List, [], ◌∷◌, Some, refl, ap, sym, ◌∙◌, arith}
 use Rattle.std.proofs.lemmas.Bool.Decides.{nat_tests}
-use Rattle.sshc_key.specs.Signers.{SignCall, since}
 use Rattle.sshc_key.specs.declared.signer.Asker.{Asker}
 use Rattle.sshc_key.specs.declared.signer.Asker.TheVariants.{Session, Agent}
-use Rattle.sshc_key.specs.Asking.{SignRequest, Answer, Asking, done, asks, call_of}
 use Rattle.sshc_run_script.specs.Askers.{AreCallsByAsker, same_asker, next_by, with_next, asked_by, events_by}
-use Rattle.sshc_run_script.specs.Machine.{unanswered_stop, Onward, goes_on, opened, stopped, Machine, TurnOf, Turns}
-use Rattle.sshc_run_reader.specs.Script.{Frame, ScriptStop, taken, stop_of}
-use Rattle.sshc_run_script.specs.ScriptRun.{Run, after, run_on, asked_run, answers_of, events_run, script_run}
-use Rattle.sshc_run_script.specs.Outcome.{Streams, Ends}
-use Rattle.sshc_run_script.specs.declared.error.RunError.{RunError}
-use Rattle.sshc_auth.specs.declared.ended.Ended.{Ended}
+use Rattle.sshc_run_script.proofs.RunNames.{SignCall, since, SignRequest, Answer, Asking, done, asks, call_of, unanswered_stop, Onward, goes_on, opened, stopped, Machine, TurnOf, Turns, Frame, ScriptStop, taken, stop_of, Run, after, run_on, asked_run, answers_of, events_run, script_run, Streams, Ends, RunError, Ended}
 use Rattle.sshc_run_script.proofs.OpeningFirsts.{made_of}
 
 same_self : (a : Asker) → same_asker a a ≡ true

@@ -1,38 +1,24 @@
 -- What taking an event does, for the session and for the agent: an event that can be read, and one whose fields can't
 -- be.
-use Rattle.std.proofs.Common.{◌≡◌, ℕ, List, Option, Some, None, Result, Ok, Err, inl, inr, refl, ap}
-use Rattle.sshc_wire.specs.Contents.{append, WroteFront}
-use Rattle.sshc_wire.specs.declared.record.Record.{Record}
+use Rattle.std.proofs.Common.{◌≡◌, ℕ, List, Option, Some, None, Ok, Err, inl, inr, refl, ap}
 use Rattle.sshc_wire.specs.declared.source.Failed.{Failed}
 use Rattle.sshc_wire.specs.declared.source.Failed.TheVariants as failures
-use Rattle.sshc_key.specs.Asking.{Makes, MakesFirst}
-use Rattle.sshc_key.specs.Signers.{SignCall, since}
-use Rattle.sshc_key.specs.AskingLaws.{first_on, makes_on, none_first}
 use Rattle.sshc_run_agent.specs.declared.event.AgentEvent.{AgentEvent}
 use Rattle.sshc_run_agent.specs.AgentEvents.{agent_event_of}
 use Rattle.sshc_run_agent.specs.AgentTurns.{Served, agent_turn}
-use Rattle.sshc_auth_event.specs.declared.event.Event.{Event}
-use Rattle.sshc_client_packets.specs.HostKeyProof.{Accepts}
-use Rattle.sshc_client_table.specs.SessionState.{SessionState, is_open}
 use Rattle.sshc_auth.specs.declared.step.Step.TheVariants as steps
-use Rattle.sshc_run_reader.specs.declared.error.EventError.{EventError}
 use Rattle.sshc_run_reader.specs.declared.error.EventError.TheVariants as reads
-use Rattle.sshc_run_reader.specs.EventReading.{event_of}
 use Rattle.sshc_run_reader.specs.Gives.{Fails}
-use Rattle.sshc_run_reader.specs.Script.{Frame}
-use Rattle.sshc_run_script.specs.declared.error.RunError.{RunError}
 use Rattle.sshc_run_script.specs.declared.error.RunError.TheVariants as errors
-use Rattle.sshc_run_script.specs.AgentsTurn.{agent_read_turn, agents_turn, going_on, served_turn}
-use Rattle.sshc_run_script.specs.KnownHosts.{Hosts}
-use Rattle.sshc_run_script.specs.RecordLines.{lines}
-use Rattle.sshc_run_script.specs.SessionTurn.{read_turn, session_turn, step_turn}
-use Rattle.sshc_run_script.specs.Turn.{stops}
-use Rattle.sshc_run_script.specs.TurnContracts.{Came, TakeGives}
+use Rattle.sshc_run_script.proofs.RunNames.{append, WroteFront, Record, Makes, MakesFirst, SignCall, since, first_on, makes_on, none_first, Event, Accepts, SessionState, is_open, EventError, event_of, Frame, RunError, agent_read_turn, agents_turn, going_on, served_turn, Hosts, lines, read_turn, session_turn, step_turn, stops, Came, TakeGives, Asking, TurnOf, done}
 use Rattle.sshc_run_script.proofs.TakenEvents.{unasked as none_taken, stops_turn, written_turn, cut_turn}
+use Rattle.sshc_run_script.proofs.OpeningTurns.{error_by}
 
--- how the reader of fields failed, as an error of the run
-abbrev pub error_by : ℕ → EventError → RunError
-error_by place x = elim x [ reads.NoMemory ↦ errors.NoMemory | reads.Bad ↦ errors.BadEvent place ]
+-- the fields of an event can't be read, or memory ran out
+unread : {S : Type 0} (asking : Asking (TurnOf S)) (place : ℕ) (s : S) (calls : List SignCall) (held : Option (List ℕ)) (x : EventError) (e : RunError) → (x ≡ reads.Bad → asking ≡ done (stops s (errors.BadEvent place))) → e ≡ error_by place x →
+    TakeGives asking (since calls calls) s held held (Some (Err e))
+unread asking place s calls held reads.NoMemory e bad is = rw is (none_taken asking calls s held held (Some (Err errors.NoMemory)) (inl (none_first asking, refl)))
+unread asking place s calls held reads.Bad e bad is = rw (is, bad refl) (stops_turn (stops s (errors.BadEvent place)) s calls held (errors.BadEvent place) refl refl)
 
 -- ---- the session
 
@@ -43,15 +29,10 @@ module _ (hosts : Hosts) (accepts : Accepts) where
   unfolding session_turn
   event_taken s frame event read = ap (read_turn hosts accepts frame.place s) read
 
-  read_failed : (place : ℕ) (s : SessionState) (read : Result Event EventError) (calls : List SignCall) (held : Option (List ℕ)) (x : EventError) (e : RunError) → Fails x read →
-      e ≡ error_by place x → TakeGives (read_turn hosts accepts place s read) (since calls calls) s held held (Some (Err e))
-  read_failed place s read calls held reads.NoMemory e fails is = rw is (none_taken (read_turn hosts accepts place s read) calls s held held (Some (Err errors.NoMemory)) (inl (none_first (read_turn hosts accepts place s read), refl)))
-  read_failed place s read calls held reads.Bad e fails is = rw (is, fails) (stops_turn (stops s (errors.BadEvent place)) s calls held (errors.BadEvent place) refl refl)
-
   pub unread_turn : (s : SessionState) (frame : Frame) (calls : List SignCall) (held : Option (List ℕ)) (x : EventError) (e : RunError) →
       Fails x (event_of frame.kind frame.fields) → e ≡ error_by frame.place x → TakeGives (session_turn hosts accepts s frame) (since calls calls) s held held (Some (Err e))
   unfolding session_turn
-  unread_turn s frame calls held x e fails is = read_failed frame.place s (event_of frame.kind frame.fields) calls held x e fails is
+  unread_turn s frame calls held x e fails is = unread (session_turn hosts accepts s frame) frame.place s calls held x e (λ bad. ap (read_turn hosts accepts frame.place s) (rw bad at fails)) is
 
 -- ---- the agent
 
@@ -60,16 +41,10 @@ pub served_taken : (s : Served) (frame : Frame) (event : AgentEvent) → agent_e
 unfolding agents_turn
 served_taken s frame event read = ap (agent_read_turn frame.place frame.moment s) read
 
-agent_read_failed : (place moment : ℕ) (s : Served) (read : Result AgentEvent EventError) (calls : List SignCall) (held : Option (List ℕ)) (x : EventError) (e : RunError) → Fails x read →
-    e ≡ error_by place x → TakeGives (agent_read_turn place moment s read) (since calls calls) s held held (Some (Err e))
-agent_read_failed place moment s read calls held reads.NoMemory e fails is =
-    rw is (none_taken (agent_read_turn place moment s read) calls s held held (Some (Err errors.NoMemory)) (inl (none_first (agent_read_turn place moment s read), refl)))
-agent_read_failed place moment s read calls held reads.Bad e fails is = rw (is, fails) (stops_turn (stops s (errors.BadEvent place)) s calls held (errors.BadEvent place) refl refl)
-
 pub agent_unread : (s : Served) (frame : Frame) (calls : List SignCall) (held : Option (List ℕ)) (x : EventError) (e : RunError) →
     Fails x (agent_event_of frame.kind frame.fields) → e ≡ error_by frame.place x → TakeGives (agents_turn s frame) (since calls calls) s held held (Some (Err e))
 unfolding agents_turn
-agent_unread s frame calls held x e fails is = agent_read_failed frame.place frame.moment s (agent_event_of frame.kind frame.fields) calls held x e fails is
+agent_unread s frame calls held x e fails is = unread (agents_turn s frame) frame.place s calls held x e (λ bad. ap (agent_read_turn frame.place frame.moment s) (rw bad at fails)) is
 
 module _ (moment : ℕ) (event : AgentEvent) (s after : Served) (gained : List SignCall) (held now : Option (List ℕ)) where
   served_came : (records : List Record) → Makes (agent_turn moment event s) gained (record { records = records; state = after }) → Came (served_turn moment event s) gained 0 steps.Went after records

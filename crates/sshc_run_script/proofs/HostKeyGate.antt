@@ -1,75 +1,49 @@
 -- No payload before an accepted exchange.
-use Rattle.std.proofs.Common.{◌≡◌, Bool, true, false, List, [], ◌∷◌, ◌++◌, Option, Some, Result, Ok, Err, refl, ap, sym, ◌∙◌, subst}
+use Rattle.std.proofs.Common.{◌≡◌, Bool, true, false, List, [], ◌∷◌, ◌++◌, Option, Some, Result, Ok, refl, ap, sym, ◌∙◌, subst, None, true≢false, inl, inr}
 use Rattle.sshc_wire.specs.Records.{IsPayload}
-use Rattle.sshc_wire.specs.declared.record.Record.{Record}
 use Rattle.sshc_wire.specs.declared.record.Record.TheVariants.{Payload}
 use Rattle.sshc_client_table.specs.SessionRecords.{is_session_record}
 use Rattle.sshc_key.specs.declared.identity.PublicKeyOrCertificate.{PublicKeyOrCertificate}
-use Rattle.sshc_key.specs.Asking.{Answer, Asking, asked_on, Always, asks, done}
-use Rattle.sshc_key.specs.AskingLaws.{always_on}
 use Rattle.sshc_auth_event.specs.HostKey.{host_key}
-use Rattle.sshc_auth_event.specs.declared.event.Event.{Event}
 use Rattle.sshc_auth_event.specs.declared.event.Event.TheVariants as events
 use Rattle.sshc_transport.specs.declared.exchange.ExchangeResult.{ExchangeResult}
-use Rattle.sshc_auth.specs.AskedLaws.{AsksFor, asks_for, IsKeyAtMost, first_at_most}
+use Rattle.sshc_auth.specs.AskedLaws.{asks_for, first_at_most}
 use Rattle.sshc_auth.specs.SessionWords.{IsFirst}
-use Rattle.sshc_auth.specs.GateLaw.{NonePayload, IsAccepted, IsNoExchange, FirstNext, StaysFirst, first_law}
-use Rattle.sshc_auth.specs.declared.step.Asks.{Asks}
-use Rattle.sshc_auth.specs.declared.step.Asks.TheVariants as wants
+use Rattle.sshc_auth.specs.GateLaws.{NonePayload, IsAccepted, IsNoExchange, FirstNext, StaysFirst, first_law}
 use Rattle.sshc_auth.specs.declared.step.Told.{Told}
 use Rattle.sshc_auth.specs.declared.step.Told.TheVariants as telling
-use Rattle.sshc_auth.specs.OpeningState.{OpeningState}
-use Rattle.sshc_auth.specs.OpeningTable.{open_row, asked_of}
-use Rattle.sshc_auth.specs.Row.{Row, Next, stays, opens, ends as ends_with, refuses}
-use Rattle.sshc_client_packets.specs.HostKeyProof.{Accepts}
-use Rattle.sshc_client_table.specs.SessionState.{SessionState, is_open}
-use Rattle.sshc_run_reader.specs.declared.error.EventError.{EventError}
-use Rattle.sshc_run_reader.specs.declared.error.EventError.TheVariants as reads
 use Rattle.sshc_run_reader.specs.declared.event_kind.EventKind.{EventKind}
 use Rattle.sshc_run_reader.specs.declared.event_kind.EventKind.TheVariants as kinds
 use Rattle.sshc_run_reader.specs.EventFields.{kind_of}
-use Rattle.sshc_run_reader.specs.EventReading.{event_of}
-use Rattle.sshc_run_reader.specs.KindLaw.{ReadAs, read_as}
-use Rattle.sshc_run_reader.specs.Script.{Frame, ScriptStop}
-use Rattle.sshc_run_script.specs.declared.known_hosts_handler.HandlerError.{HandlerError}
+use Rattle.sshc_run_reader.specs.KindLaws.{ReadAs, read_as}
+use Rattle.sshc_run_agent.specs.AgentTurns.{Served}
 use Rattle.sshc_run_script.specs.Headline.{said_of_key, said_by, said_at, said_of_first, is_yes, is_accepted}
-use Rattle.sshc_run_script.specs.KnownHosts.{Hosts, verdict}
-use Rattle.sshc_run_script.specs.ReachedStates.{GoesOnIn}
-use Rattle.sshc_run_script.specs.Machine.{Onward, goes_on, opened, stopped, unanswered_stop}
 use Rattle.sshc_run_script.specs.OpenedKey.{OpensIt}
 use Rattle.sshc_run_script.specs.OpeningRun.{OpeningRun, OpeningStop, by_turn, opening, stops_with}
-use Rattle.sshc_run_script.specs.ScriptRun.{asked_run, events_run}
-use Rattle.sshc_run_script.specs.Part.{own_events}
-use Rattle.sshc_run_script.specs.RunTurn.{RunState, run_turn}
-use Rattle.sshc_run_script.specs.SessionPart.{IsAgentCause, session_own}
-use Rattle.sshc_run_script.specs.SessionTurn.{SessionTurn, in_session, step_turn, read_turn, session_turn}
-use Rattle.sshc_run_script.specs.Turn.{Turn, next_turn, row_turn, judged_turn, asked_turn, event_turn, opening_turn}
-use Rattle.sshc_run_script.proofs.RunLaws.{records_hold}
-use Rattle.sshc_run_script.proofs.ProductGate.{gated_whole}
-use Rattle.sshc_run_script.proofs.SessionPart.{agent_stops, session_part}
+use Rattle.sshc_run_script.proofs.RunNames.{Record, Answer, Asking, asked_on, Always, done, Makes, always_on, always_makes, Event, OpeningState, open_row, asked_of, Row, Next, stays, opens, Accepts, SessionState, is_open, EventError, event_of, Frame, ScriptStop, SignCall, HandlerError, Hosts, Onward, goes_on, opened, stopped, unanswered_stop, stop_next, TurnOf, events_run, own_events, SaysBy, RunState, run_turn, session_own, SessionTurn, session_turn, Turn, next_turn, row_turn, asked_turn, opening_turn, agents_turn}
+use Rattle.sshc_run_script.proofs.OpeningTurns.{event_case, WasTold, opening_case}
+use Rattle.sshc_run_script.proofs.RunLaws.{run_law, asked_law}
+use Rattle.sshc_run_script.proofs.SessionTurns.{turn_by}
+use Rattle.sshc_run_script.proofs.PartRuns.{own_first, other_first}
+use Rattle.sshc_run_script.proofs.SessionPart.{run_by}
+use Rattle.sshc_run_script.proofs.AgentsTurns.{agents_say}
 
 none_append : (a b : List Record) → NonePayload a → NonePayload b → NonePayload (a ++ b)
 none_append [] b p q = q
 none_append (said ∷ a) b p q = (p.0, none_append a b p.1 q)
 
--- the run stops, or continues in such a state, and the session isn't opened
-abbrev StaysIn : (OpeningState → Type 0) → OpeningState → Onward → Type 0
-StaysIn Holds s goes_on = Holds s
-StaysIn Holds s opened = ⊥
-StaysIn Holds s (stopped stop) = Unit {0}
+-- before the first exchange, if none of the events after this one holds one whose host key is accepted first
+abbrev IsEarly : Hosts → List Frame → OpeningState → Type 0
+IsEarly hosts frames to = IsFirst to × (is_accepted hosts frames ≡ false)
 
--- no payload is written, and the run stops or continues before the first exchange
+-- no payload is written, and if the run continues, the session isn't opened, and this is true of its state
 abbrev StaysOut : (OpeningState → Type 0) → Asking Turn → Type 0
-StaysOut Holds asking = Always (λ (t : Turn). NonePayload t.records × StaysIn Holds t.state t.next) asking
+StaysOut Holds asking = Always (λ (t : Turn). NonePayload t.records × (stop_next t.next ≡ None → (t.next ≡ goes_on) × Holds t.state)) asking
 
 -- ---- one event
 
 module _ (hosts : Hosts) (s : OpeningState) (frame : Frame) (frames : List Frame) (first : IsFirst s) (event : Event) (read : event_of frame.kind frame.fields ≡ Ok event)
     (none : is_accepted hosts (frame ∷ frames) ≡ false) where
-  -- before the first exchange, if none of the events after this one holds one whose host key is accepted first
-  abbrev Behind : OpeningState → Type 0
-  Behind to = IsFirst to × (is_accepted hosts frames ≡ false)
-
   -- the event has the frame's kind
   kind_is : kind_of event ≡ frame.kind
   kind_is = subst (λ (r : Result Event EventError). ReadAs frame.kind r) read (read_as frame.kind frame.fields)
@@ -98,35 +72,34 @@ module _ (hosts : Hosts) (s : OpeningState) (frame : Frame) (frames : List Frame
   -- ---- rows
 
   next_out : (row : Row) (next : Next) → NonePayload row.records → FirstNext event next →
-      NonePayload (next_turn frame.place s row next).records × StaysIn Behind (next_turn frame.place s row next).state (next_turn frame.place s row next).next
-  next_out row (stays to) payloads goes = (payloads, (goes.0, none_later goes.1))
+      StaysOut (IsEarly hosts frames) (done (next_turn frame.place s row next))
+  next_out row (stays to) payloads goes = (payloads, λ on. (refl, (goes.0, none_later goes.1)))
   next_out row (opens to) payloads goes = absurd goes
-  next_out row (ends_with e) payloads goes = (payloads, tt)
-  next_out row (refuses e) payloads goes = (payloads, tt)
+  next_out row next payloads goes = (payloads, λ on. absurd cc)
 
   -- the rest of a row that isn't an accepted exchange's
-  told_out : (told : Told) → (IsAccepted event told → ⊥) → StaysOut Behind (asked_on (row_turn frame.place s) (open_row s event told))
+  told_out : (told : Told) → (IsAccepted event told → ⊥) → StaysOut (IsEarly hosts frames) (asked_on (row_turn frame.place s) (open_row s event told))
   told_out told denied =
-      always_on (StaysFirst event) (λ (t : Turn). NonePayload t.records × StaysIn Behind t.state t.next) (row_turn frame.place s) (open_row s event told)
+      always_on (StaysFirst event) (λ (t : Turn). StaysOut (IsEarly hosts frames) (done t)) (row_turn frame.place s) (open_row s event told)
       (λ row stays. next_out row row.next stays.0 stays.1) (first_law s event told first denied)
 
   no_yes : (e : Event) (told : Told) → (told ≡ telling.Went → ⊥) → IsAccepted e told → ⊥
   no_yes (events.ExchangeDone x) told denied is = denied is
   no_yes e told denied is = is
 
-  judged_out : (key : PublicKeyOrCertificate) (said : Result Bool HandlerError) → AsksFor s event key → verdict hosts key ≡ said → StaysOut Behind (judged_turn frame.place s event said)
-  judged_out key (Ok true) for is =
-      let denied : is_yes (Some (said_of_key hosts (host_key for.exchange.key))) ≡ false = said_of_exchange for.exchange for.is in
-      let yes_said : is_yes (Some (said_of_key hosts (host_key for.exchange.key))) ≡ true = ap (λ (o : Option PublicKeyOrCertificate). is_yes (Some (said_of_key hosts o))) for.has ∙ ap (λ (r : Result Bool HandlerError). is_yes (Some r)) is in
-      let clash : true ≡ false = sym yes_said ∙ denied in absurd cc
-  judged_out key (Ok false) for is = told_out telling.No (no_yes event telling.No (λ same. absurd cc))
-  judged_out key (Err e) for is = (tt, tt)
+  -- the gate accepts no exchange
+  denied : (told : Told) → WasTold hosts s event told → IsAccepted event told → ⊥
+  denied telling.NotAsked was = no_yes event telling.NotAsked (λ same. absurd cc)
+  denied telling.No was = no_yes event telling.No (λ same. absurd cc)
+  denied telling.Went (inl (key, asked, is)) = λ accepted.
+      let for = asks_for s event key asked in
+      let no : is_yes (Some (said_of_key hosts (host_key for.exchange.key))) ≡ false = said_of_exchange for.exchange for.is in
+      let yes : is_yes (Some (said_of_key hosts (host_key for.exchange.key))) ≡ true = ap (λ (o : Option PublicKeyOrCertificate). is_yes (Some (said_of_key hosts o))) for.has ∙ ap (λ (r : Result Bool HandlerError). is_yes (Some r)) is in
+      true≢false (sym yes ∙ no)
+  denied telling.Went (inr more) = λ accepted. more (first_at_most s event first.exchanging)
 
-  pub asked_out : (asks : Asks) → asked_of s event ≡ asks → IsKeyAtMost asks → StaysOut Behind (asked_turn hosts frame.place s event asks)
-  asked_out wants.Nothing asked most = told_out telling.NotAsked (no_yes event telling.NotAsked (λ same. absurd cc))
-  asked_out (wants.HostKey key) asked most = judged_out key (verdict hosts key) (asks_for s event key asked) refl
-  asked_out wants.Exchange asked most = absurd most
-  asked_out (wants.Banner text) asked most = absurd most
+  pub asked_out : StaysOut (IsEarly hosts frames) (asked_turn hosts frame.place s event (asked_of s event))
+  asked_out = event_case hosts frame.place s event (StaysOut (IsEarly hosts frames)) (λ told was. told_out told (denied told was)) (λ key e asked is. (tt, λ on. absurd cc))
 
 -- ---- every turn
 
@@ -134,93 +107,98 @@ module _ (hosts : Hosts) (s : OpeningState) (frame : Frame) (frames : List Frame
 abbrev pub IsBefore : Hosts → SessionState → List Frame → Type 0
 IsBefore hosts w frames = IsFirst w.opening × (is_accepted hosts frames ≡ false)
 
--- the same of a turn of the session
-abbrev StaysOutSo : Hosts → List Frame → Asking SessionTurn → Type 0
-StaysOutSo hosts frames asking = Always (λ (t : SessionTurn). NonePayload t.records × GoesOnIn (λ (to : SessionState). IsBefore hosts to frames) t.state t.next) asking
-
-in_session_out : (hosts : Hosts) (frames : List Frame) (w : SessionState) (t : Turn) (next : Onward) → StaysIn (λ (to : OpeningState). IsFirst to × (is_accepted hosts frames ≡ false)) t.state next →
-    GoesOnIn (λ (to : SessionState). IsBefore hosts to frames) (in_session w t).state next
-in_session_out hosts frames w t goes_on on = on
-in_session_out hosts frames w t opened on = absurd on
-in_session_out hosts frames w t (stopped stop) on = tt
-
 -- while the first exchange runs the session isn't open
 first_unopened : (w : SessionState) → IsFirst w.opening → is_open w.opening.phase ≡ false
 first_unopened w first = rw (first.exchanging) refl
 
-step_out : (hosts : Hosts) (accepts : Accepts) (w : SessionState) (frame : Frame) (frames : List Frame) (event : Event) (b : Bool) → is_open w.opening.phase ≡ b → event_of frame.kind frame.fields ≡ Ok event → IsBefore hosts w (frame ∷ frames) →
-    StaysOutSo hosts frames (step_turn b hosts accepts frame.place w event)
-step_out hosts accepts w frame frames event true is read (first, none) = let clash : true ≡ false = sym is ∙ first_unopened w first in absurd cc
-step_out hosts accepts w frame frames event false is read (first, none) =
-    always_on (λ (t : Turn). NonePayload t.records × StaysIn (λ (to : OpeningState). IsFirst to × (is_accepted hosts frames ≡ false)) t.state t.next)
-    (λ (t : SessionTurn). NonePayload t.records × GoesOnIn (λ (to : SessionState). IsBefore hosts to frames) t.state t.next) (in_session w)
-    (asked_turn hosts frame.place w.opening event (asked_of w.opening event)) (λ t out. (out.0, in_session_out hosts frames w t t.next out.1))
-    (asked_out hosts w.opening frame frames first event read none (asked_of w.opening event) refl (first_at_most w.opening event first.exchanging))
-
-read_out : (hosts : Hosts) (accepts : Accepts) (w : SessionState) (frame : Frame) (frames : List Frame) (read : Result Event EventError) → event_of frame.kind frame.fields ≡ read → IsBefore hosts w (frame ∷ frames) →
-    StaysOutSo hosts frames (read_turn hosts accepts frame.place w read)
-read_out hosts accepts w frame frames (Ok event) is before = step_out hosts accepts w frame frames event (is_open w.opening.phase) refl is before
-read_out hosts accepts w frame frames (Err reads.Bad) is before = (tt, tt)
-read_out hosts accepts w frame frames (Err reads.NoMemory) is before = (tt, tt)
-
-turn_out : (hosts : Hosts) (accepts : Accepts) (w : SessionState) (frame : Frame) (frames : List Frame) → IsBefore hosts w (frame ∷ frames) → StaysOutSo hosts frames (session_turn hosts accepts w frame)
-unfolding session_turn
-turn_out hosts accepts w frame frames before = read_out hosts accepts w frame frames (event_of frame.kind frame.fields) refl before
-
--- if the session's events hold no exchange whose host key is accepted first, the session writes no payload
-session_gated : (hosts : Hosts) (accepts : Accepts) (frames : List Frame) (w : SessionState) (st : ScriptStop) (answers : List Answer) → IsFirst w.opening → is_accepted hosts frames ≡ false →
-    NonePayload (events_run (session_turn hosts accepts) w frames st answers).records
-session_gated hosts accepts frames w st answers first none =
-    records_hold (session_turn hosts accepts) (IsBefore hosts) NonePayload tt none_append (λ x frame rest is. turn_out hosts accepts x frame rest is) frames w st answers (first, none)
+-- a turn of the session writes none either, and if the run continues, it is before the first exchange afterwards too
+turn_out : (hosts : Hosts) (accepts : Accepts) (w : SessionState) (frame : Frame) (frames : List Frame) (gained : List SignCall) (t : SessionTurn) → Makes (session_turn hosts accepts w frame) gained t → IsBefore hosts w (frame ∷ frames) →
+    NonePayload t.records × (stop_next t.next ≡ None → IsBefore hosts t.state frames)
+turn_out hosts accepts w frame frames gained t makes (first, none) =
+    turn_by hosts accepts w frame (λ read gained t. event_of frame.kind frame.fields ≡ read → NonePayload t.records × (stop_next t.next ≡ None → IsBefore hosts t.state frames))
+    (λ event on read. let clash : true ≡ false = sym on ∙ first_unopened w first in absurd cc)
+    (λ event gained t un makes read.
+    let out = always_makes (λ (t : Turn). StaysOut (IsEarly hosts frames) (done t)) (asked_turn hosts frame.place w.opening event (asked_of w.opening event)) gained t
+    (asked_out hosts w.opening frame frames first event read none) makes in
+    (out.0, λ on. (out.1 on).1))
+    (λ e read. (tt, λ on. absurd cc)) gained t makes refl
 
 -- an exchange is the session's, and so is a payload
-pub exchange_own : (frame : Frame) → frame.kind ≡ kinds.ExchangeDone → session_own.event frame ≡ true
+exchange_own : (frame : Frame) → frame.kind ≡ kinds.ExchangeDone → session_own.event frame ≡ true
 exchange_own frame is = rw is refl
 
 payload_own : (said : Record) → IsPayload said → is_session_record said ≡ true
 payload_own (Payload packet) is = refl
 payload_own said is = absurd is
 
+none_of_agents : (records : List Record) → SaysBy is_session_record false records → NonePayload records
+none_of_agents [] says = tt
+none_of_agents (said ∷ records) (here, says) = ((λ payload. absurd (true≢false (sym (payload_own said payload) ∙ here))), none_of_agents records says)
+
+-- an event that isn't the session's is no exchange
+other_said : (hosts : Hosts) (frame : Frame) (said : Option (Result Bool HandlerError)) → session_own.event frame ≡ false → said_at frame.kind hosts frame.fields said ≡ said
+other_said hosts frame said is = by frame.kind refl
+  where
+    by : (kind : EventKind) → frame.kind ≡ kind → said_at kind hosts frame.fields said ≡ said
+    by kinds.ExchangeDone exchange = absurd (true≢false (sym (exchange_own frame exchange) ∙ is))
+    by kind other = refl
+
+-- the verdict on the first exchange is that on the first among the session's events
+pub said_of_own : (hosts : Hosts) (frames : List Frame) → said_of_first hosts (own_events session_own frames) ≡ said_of_first hosts frames
+unfolding said_of_first
+said_of_own hosts [] = refl
+said_of_own hosts (frame ∷ frames) = by (session_own.event frame) refl (said_of_own hosts frames)
+  where
+    by : (mine : Bool) → session_own.event frame ≡ mine → said_of_first hosts (own_events session_own frames) ≡ said_of_first hosts frames → said_of_first hosts (own_events session_own (frame ∷ frames)) ≡ said_of_first hosts (frame ∷ frames)
+    by true is later = ap (said_of_first hosts) (own_first session_own frame frames is) ∙ ap (said_at frame.kind hosts frame.fields) later
+    by false is later = ap (said_of_first hosts) (other_first session_own frame frames is) ∙ later ∙ sym (other_said hosts frame (said_of_first hosts frames) is)
+
+-- a turn of a run writes none either
+run_out : (hosts : Hosts) (accepts : Accepts) (s : RunState) (frame : Frame) (frames : List Frame) (gained : List SignCall) (t : TurnOf RunState) → Makes (run_turn hosts accepts s frame) gained t → IsBefore hosts s.one (frame ∷ frames) →
+    NonePayload t.records × (stop_next t.next ≡ None → IsBefore hosts t.state.one frames)
+unfolding said_of_first
+run_out hosts accepts s frame frames =
+    run_by hosts accepts s frame (λ gained t. IsBefore hosts s.one (frame ∷ frames) → NonePayload t.records × (stop_next t.next ≡ None → IsBefore hosts t.state.one frames))
+    (λ is gained t makes. turn_out hosts accepts s.one frame frames gained t makes)
+    (λ is gained t makes before.
+    let says = always_makes (λ (t : TurnOf Served). SaysBy is_session_record false t.records) (agents_turn s.other frame) gained t (agents_say s.other frame) makes in
+    (none_of_agents t.records says, λ on. (before.0, sym (ap is_yes (other_said hosts frame (said_of_first hosts frames) is)) ∙ before.1)))
+
 -- if the events hold no exchange whose host key is accepted first, no payload is written
-pub gated : (hosts : Hosts) (accepts : Accepts) (frames : List Frame) (s : RunState) (st : ScriptStop) (answers : List Answer) → IsFirst s.one.opening → is_accepted hosts frames ≡ false →
-    NonePayload (events_run (run_turn hosts accepts) s frames st answers).records
-gated hosts accepts frames s st answers first none =
-    gated_whole session_own hosts exchange_own (run_turn hosts accepts) (session_turn hosts accepts) (λ (x : RunState). x.one) (session_part hosts accepts) IsAgentCause (agent_stops hosts accepts) payload_own st frames s answers
-    (λ own_none replies. session_gated hosts accepts (own_events session_own frames) s.one st replies first own_none) none
+pub gated : (hosts : Hosts) (accepts : Accepts) (st : ScriptStop) (frames : List Frame) (s : RunState) (answers : List Answer) → IsBefore hosts s.one frames → NonePayload (events_run (run_turn hosts accepts) s frames st answers).records
+gated hosts accepts st =
+    run_law (run_turn hosts accepts) st (λ s frames answers r. IsBefore hosts s.one frames → NonePayload r.records) (λ s answers before. tt) (λ s frame frames gained first before. tt)
+    (λ s frame frames gained left t stop makes is before. (run_out hosts accepts s frame frames gained t makes before).0)
+    (λ s frame frames gained left t r makes on later before.
+    let out = run_out hosts accepts s frame frames gained t makes before in
+    none_append t.records r.records out.0 (later (out.1 on)))
 
 -- ---- the opening alone
 
-read_shut : (hosts : Hosts) (o : OpeningState) (frame : Frame) (frames : List Frame) (read : Result Event EventError) → event_of frame.kind frame.fields ≡ read → IsFirst o → is_accepted hosts (frame ∷ frames) ≡ false →
-    StaysOut (λ (to : OpeningState). IsFirst to × (is_accepted hosts frames ≡ false)) (event_turn hosts frame.place o read)
-read_shut hosts o frame frames (Ok event) is first none = asked_out hosts o frame frames first event is none (asked_of o event) refl (first_at_most o event first.exchanging)
-read_shut hosts o frame frames (Err reads.Bad) is first none = (tt, tt)
-read_shut hosts o frame frames (Err reads.NoMemory) is first none = (tt, tt)
-
 turn_shut : (hosts : Hosts) (o : OpeningState) (frame : Frame) (frames : List Frame) → IsFirst o → is_accepted hosts (frame ∷ frames) ≡ false →
-    StaysOut (λ (to : OpeningState). IsFirst to × (is_accepted hosts frames ≡ false)) (opening_turn hosts o frame)
-unfolding opening_turn
-turn_shut hosts o frame frames first none = read_shut hosts o frame frames (event_of frame.kind frame.fields) refl first none
+    StaysOut (IsEarly hosts frames) (opening_turn hosts o frame)
+turn_shut hosts o frame frames first none =
+    opening_case hosts o frame (λ read asking. event_of frame.kind frame.fields ≡ read → StaysOut (IsEarly hosts frames) asking)
+    (λ event is. asked_out hosts o frame frames first event is none) (λ e is. (tt, λ on. absurd cc)) refl
 
 -- the opening run doesn't open the session
 abbrev pub IsShut : OpeningStop OpeningState → Type 0
 IsShut stop = OpensIt stop → ⊥
 
-shut_by_turn : (Holds : OpeningState → Type 0) (t : Turn) (next : Onward) (frames : List Frame) (left : List Answer) (later : OpeningRun OpeningState) → StaysIn Holds t.state next → (Holds t.state → IsShut later.stop) → IsShut (by_turn t next frames left later).stop
-shut_by_turn Holds t goes_on frames left later out behind = behind out
-shut_by_turn Holds t opened frames left later out behind = absurd out
-shut_by_turn Holds t (stopped stop) frames left later out behind = λ it. it
-
-shut_asked : (Holds : OpeningState → Type 0) (asking : Asking Turn) (answers : List Answer) (later : Turn → List Answer → OpeningRun OpeningState) → StaysOut Holds asking →
-    ((t : Turn) (left : List Answer) → StaysIn Holds t.state t.next → IsShut (later t left).stop) → IsShut (asked_run (stops_with unanswered_stop) asking answers later).stop
-shut_asked Holds (done t) answers later out each = each t answers out.1
-shut_asked Holds (asks asked on) [] later out each = λ it. it
-shut_asked Holds (asks asked on) (answer ∷ answers) later out each = shut_asked Holds (on answer) answers later (out answer) each
+shut_by_turn : (t : Turn) (next : Onward) (frames : List Frame) (left : List Answer) (later : OpeningRun OpeningState) → t.next ≡ next → (stop_next t.next ≡ None → (t.next ≡ goes_on) × IsShut later.stop) → IsShut (by_turn t next frames left later).stop
+shut_by_turn t goes_on frames left later is out = (out (ap stop_next is)).1
+shut_by_turn t opened frames left later is out = let clash : opened ≡ goes_on = sym is ∙ (out (ap stop_next is)).0 in absurd cc
+shut_by_turn t (stopped stop) frames left later is out = λ it. it
 
 -- if the events hold no exchange whose host key is accepted first, the opening doesn't open the session
 pub opening_shut : (hosts : Hosts) (frames : List Frame) (o : OpeningState) (answers : List Answer) → IsFirst o → is_accepted hosts frames ≡ false → IsShut (opening (opening_turn hosts) o frames answers).stop
 unfolding opening
 opening_shut hosts [] o answers first none = λ it. it
 opening_shut hosts (frame ∷ frames) o answers first none =
-    shut_asked (λ (to : OpeningState). IsFirst to × (is_accepted hosts frames ≡ false)) (opening_turn hosts o frame) answers (λ t left. by_turn t t.next frames left (opening (opening_turn hosts) t.state frames left))
-    (turn_shut hosts o frame frames first none)
-    (λ t left out. shut_by_turn (λ (to : OpeningState). IsFirst to × (is_accepted hosts frames ≡ false)) t t.next frames left (opening (opening_turn hosts) t.state frames left) out (λ on. opening_shut hosts frames t.state left on.0 on.1))
+    asked_law (λ (answers : List Answer) (r : OpeningRun OpeningState). IsShut r.stop) (stops_with unanswered_stop) (opening_turn hosts o frame) answers
+    (λ t left. by_turn t t.next frames left (opening (opening_turn hosts) t.state frames left)) (λ gained asked it. it)
+    (λ gained t left makes.
+    shut_by_turn t t.next frames left (opening (opening_turn hosts) t.state frames left) refl
+    (λ on.
+    let out = (always_makes (λ (t : Turn). StaysOut (IsEarly hosts frames) (done t)) (opening_turn hosts o frame) gained t (turn_shut hosts o frame frames first none) makes).1 on in
+    (out.0, opening_shut hosts frames t.state left out.1.0 out.1.1)))

@@ -1,32 +1,28 @@
 -- Facts that the proofs of the functions cite.
+pub mod RunNames
 pub mod Lines
 pub mod AnsweredQuestions
 pub mod TakenEvents
 pub mod OpeningSteps
 pub mod OpeningCauses
-pub mod UnopenedTurns
+pub mod ReadyTurns
 pub mod SessionSteps
 pub mod SignerFaults
 pub mod SettingsKept
-pub mod TurnCauses
 pub mod RunReplies
 pub mod RunChannels
 pub mod RunOpenCounts
 pub mod RunOpens
 pub mod RunUnfold
 pub mod RunLoop
-pub mod RunEqualsFold
 pub mod OpeningContinues
 pub mod RunLaws
 pub mod PartRuns
 pub mod Products
-pub mod ProductGate
 pub mod ProductTurns
 pub mod OpeningFirsts
-pub mod SessionAsks
 pub mod AgentsTurns
 pub mod SessionPart
-pub mod AgentEnds
 pub mod EventTurns
 pub mod AskersLaws
 pub mod HostKeyGate
@@ -38,11 +34,11 @@ pub mod StandardFacts
 mod ShortUsers
 mod RunPasswords
 mod RunSigned
-mod RunCalls
+pub mod RunCalls
 mod OpenedKeys
 pub mod KeptPromises
 pub mod PausedLemmas
 mod PathLaws
-mod SessionTurns
-mod OpeningTurns
+pub mod SessionTurns
+pub mod OpeningTurns
 mod RunSteps

@@ -1,31 +1,23 @@
 -- A session is opened only by a host key that the known hosts text accepts.
 use Rattle.std.proofs.Common.{◌≡◌, ℕ, Bool, true, false, List, [], ◌∷◌, Option, Some, None, Result, Ok, Err, refl, ap, ◌∙◌}
 use Rattle.sshc_key.specs.KeyGrammar.{Key}
-use Rattle.sshc_key.specs.Signers.{SignCall}
 use Rattle.sshc_key.specs.declared.error.Error.{Error as KeyError}
 use Rattle.sshc_key.specs.declared.identity.PublicKeyOrCertificate.{PublicKeyOrCertificate}
 use Rattle.sshc_key.specs.declared.identity.PublicKeyOrCertificate.TheVariants.{PublicKey, Certificate}
-use Rattle.sshc_hosts.specs.Acceptance.{IsAcceptedBy, accepted_just}
+use Rattle.sshc_hosts.specs.Acceptance.{IsAcceptedBy}
+use Rattle.sshc_hosts.specs.AcceptanceLaws.{accepted_just}
 use Rattle.sshc_hosts.specs.Judgement.{judged}
 use Rattle.sshc_auth_event.specs.HostKey.{host_key}
-use Rattle.sshc_auth_event.specs.declared.event.Event.{Event}
 use Rattle.sshc_auth_event.specs.declared.event.Event.TheVariants as events
 use Rattle.sshc_auth.specs.declared.opening.Settings.{Settings}
 use Rattle.sshc_auth.specs.SessionWords.{IsFirst}
-use Rattle.sshc_run_reader.specs.declared.error.EventError.{EventError}
 use Rattle.sshc_run_reader.specs.declared.event_kind.EventKind.{EventKind}
 use Rattle.sshc_run_reader.specs.declared.event_kind.EventKind.TheVariants as kinds
-use Rattle.sshc_run_reader.specs.EventReading.{event_of}
-use Rattle.sshc_run_reader.specs.Script.{Frame, taken}
-use Rattle.sshc_run_script.specs.declared.known_hosts_handler.HandlerError.{HandlerError}
 use Rattle.sshc_run_script.specs.Headline.{said_of_key, said_by, said_at, said_of_first, is_yes, is_accepted}
-use Rattle.sshc_run_script.specs.KnownHosts.{Hosts, as_handler, verdict}
 use Rattle.sshc_run_script.specs.OpenedKey.{key_by, key_at, first_key, HasAcceptedKey, IsOpenedByAccepted}
-use Rattle.sshc_run_script.specs.Part.{own_answers, own_events}
-use Rattle.sshc_run_script.specs.SessionPart.{session_own}
 use Rattle.sshc_run_script.specs.Turn.{opening_machine}
-use Rattle.sshc_run_script.proofs.HostKeyGate.{exchange_own, opening_shut}
-use Rattle.sshc_run_script.proofs.ProductGate.{said_of_own}
+use Rattle.sshc_run_script.proofs.RunNames.{SignCall, Event, EventError, event_of, Frame, taken, HandlerError, Hosts, as_handler, verdict, own_answers, own_events, session_own}
+use Rattle.sshc_run_script.proofs.HostKeyGate.{opening_shut, said_of_own}
 
 -- ---- what an accepting judgement means
 
@@ -34,22 +26,15 @@ by_judgement hosts key (Ok true) is agreed = (accepted_just hosts.known hosts.ho
 by_judgement hosts key (Ok false) is agreed = absurd cc
 by_judgement hosts key (Err e) is agreed = absurd cc
 
-by_verdict : (hosts : Hosts) (key : PublicKeyOrCertificate) → is_yes (Some (verdict hosts key)) ≡ true → HasAcceptedKey hosts (Some key)
-unfolding verdict
-by_verdict hosts (PublicKey key hash) agreed = by_judgement hosts key.0 (judged hosts.known hosts.host key.0) refl agreed
-by_verdict hosts (Certificate key) agreed = absurd cc
-
 by_key : (hosts : Hosts) (key : Option PublicKeyOrCertificate) → is_yes (Some (said_of_key hosts key)) ≡ true → HasAcceptedKey hosts key
+unfolding verdict
+by_key hosts (Some (PublicKey key hash)) agreed = by_judgement hosts key.0 (judged hosts.known hosts.host key.0) refl agreed
+by_key hosts (Some (Certificate key)) agreed = absurd cc
 by_key hosts None agreed = absurd cc
-by_key hosts (Some key) agreed = by_verdict hosts key agreed
-
-by_event : (hosts : Hosts) (event : Event) → is_yes (said_by hosts (Ok event)) ≡ true → HasAcceptedKey hosts (key_by (Ok event))
-by_event hosts (events.ExchangeDone x) agreed = by_key hosts (host_key x.key) agreed
-by_event hosts event agreed = absurd cc
 
 by_read : (hosts : Hosts) (read : Result Event EventError) → is_yes (said_by hosts read) ≡ true → HasAcceptedKey hosts (key_by read)
-by_read hosts (Ok event) agreed = by_event hosts event agreed
-by_read hosts (Err e) agreed = absurd cc
+by_read hosts (Ok (events.ExchangeDone x)) agreed = by_key hosts (host_key x.key) agreed
+by_read hosts read agreed = absurd cc
 
 by_kind : (hosts : Hosts) (kind : EventKind) (fields : List ℕ) (said : Option (Result Bool HandlerError)) (key : Option PublicKeyOrCertificate) → (is_yes said ≡ true → HasAcceptedKey hosts key) → is_yes (said_at kind hosts fields said) ≡ true → HasAcceptedKey hosts (key_at kind fields key)
 by_kind hosts kinds.ExchangeDone fields said key later agreed = by_read hosts (event_of kinds.ExchangeDone fields) agreed
@@ -70,5 +55,5 @@ by_gate hosts frames own false is same opens = absurd (opens (ap is_yes same ∙
 pub opened_by_accepted : (hosts : Hosts) (settings : Settings) (max : ℕ) (calls : List SignCall) (script : Option (List ℕ)) → IsOpenedByAccepted hosts (opening_machine hosts settings) session_own max calls script
 opened_by_accepted hosts settings max calls script = λ bytes said opens.
     let first : IsFirst (opening_machine hosts settings).first = record { exchanging = refl; runs = λ same. absurd cc; fresh = refl } in
-    by_gate hosts (taken max bytes) (own_events session_own (taken max bytes)) (is_accepted hosts (taken max bytes)) refl (said_of_own session_own hosts exchange_own (taken max bytes))
+    by_gate hosts (taken max bytes) (own_events session_own (taken max bytes)) (is_accepted hosts (taken max bytes)) refl (said_of_own hosts (taken max bytes))
     (λ none. opening_shut hosts (own_events session_own (taken max bytes)) (opening_machine hosts settings).first (own_answers session_own calls) first none opens)

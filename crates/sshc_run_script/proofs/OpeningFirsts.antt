@@ -1,31 +1,25 @@
 -- The relation between the opening and a run that takes events of others in between.
 use Rattle.std.proofs.Common.{◌≡◌, ◌⊎◌, inl, inr, ℕ, List, [], ◌∷◌, ◌++◌, Option, Some, None, Result, Ok, Err, refl, ap, sym, ◌∙◌, subst}
-use Rattle.std.proofs.lemmas.List.{append-nil}
-use Rattle.sshc_wire.specs.Contents.{prepend}
 use Rattle.sshc_wire.specs.Faults.{Rose}
-use Rattle.sshc_wire.specs.declared.record.Record.{Record}
-use Rattle.sshc_key.specs.Signers.{SignCall}
-use Rattle.sshc_auth.specs.declared.ended.Ended.{Ended}
 use Rattle.sshc_auth.specs.declared.ended.Ended.TheVariants.{ScriptEnd}
-use Rattle.sshc_key.specs.Asking.{Answer, Asking, done, asks}
-use Rattle.sshc_key.specs.Signers.{since}
-use Rattle.sshc_run_script.specs.declared.error.RunError.{RunError}
+use Rattle.sshc_run_reader.specs.Script.{more as goes_further}
 use Rattle.sshc_run_script.specs.declared.error.RunError.TheVariants as errors
 use Rattle.sshc_run_script.specs.Prefixes.{IsFront}
-use Rattle.sshc_run_script.specs.Machine.{RunStop, ended, unanswered_stop, Onward, goes_on, opened, stopped, TurnOf, Turns, Machine}
 use Rattle.sshc_run_script.specs.OpeningFirst.{opening_of, BeginsAs, ConcludesAs, IsOpeningFirst, IsOpeningDone, IsValidBy, IsOpeningComplete}
-use Rattle.sshc_run_script.specs.OpeningRun.{OpeningRun, OpeningStop, opens_before, stops_with, through, Continues, Prefixed}
-use Rattle.sshc_run_script.specs.Outcome.{Streams, stop_as, IsExact, EndsBy, Ends}
-use Rattle.sshc_run_script.specs.Part.{Own, own_events, own_records, own_calls, own_answers, HasPart, StopsOthers, StoppedByOther, StopsElse, IsWholePart, PartOf}
-use Rattle.sshc_run_reader.specs.Script.{Frame, ScriptStop, whole, bad, more as goes_further, taken, stop_of}
+use Rattle.sshc_run_script.specs.OpeningRun.{OpeningRun, OpeningStop, opens_before, stops_with, through, Prefixed}
+use Rattle.sshc_run_script.specs.Part.{StoppedByOther}
 use Rattle.sshc_run_script.specs.RunFaults.{fault_counts}
-use Rattle.sshc_run_script.specs.ScriptRun.{Run, at_end, at_first, run, events_run, script_run, run_on, asked_run, answers_of, answers_since}
+use Rattle.sshc_run_script.specs.Turn.{opening_machine}
+use Rattle.sshc_run_script.specs.AgentsTurn.{agents_turn}
+use Rattle.sshc_run_script.proofs.RunNames.{append-nil, prepend, Record, SignCall, Ended, Answer, done, since, Frame, ScriptStop, whole, bad, taken, stop_of, RunError, RunStop, ended, unanswered_stop, Turns, Machine, Streams, stop_as, Ends, Own, own_events, own_records, own_calls, own_answers, StopsElse, IsWholePart, PartOf, Run, at_end, events_run, script_run, answers_of, answers_since, Hosts, Accepts, RunSettings, run_machine, RunState, session_turn, OpeningState, session_own, IsAgentCause}
 use Rattle.sshc_run_script.proofs.AnsweredQuestions.{answers_two}
 use Rattle.sshc_run_script.proofs.OpeningContinues.{prefixed}
-use Rattle.sshc_run_script.proofs.RunEqualsFold.{joined}
-use Rattle.sshc_run_script.proofs.ScriptExtension.{begins}
+use Rattle.sshc_run_script.proofs.AnsweredQuestions.{front_before}
 use Rattle.sshc_run_script.proofs.PartRuns.{parted}
-use Rattle.sshc_run_script.proofs.Promises.{since_is, prefix_of, same_table, with_answers, done_of}
+use Rattle.sshc_run_script.proofs.Promises.{since_is, prefix_of, done_of, told_of, answered, answer_is, IsTold, begins_so}
+use Rattle.sshc_run_script.proofs.RunLaws.{run_law}
+use Rattle.sshc_run_script.proofs.SessionPart.{kept_in, session_apart}
+use Rattle.sshc_run_script.proofs.AgentsTurns.{agents_stop}
 
 -- ---- two prefixes of one list
 
@@ -77,22 +71,11 @@ valid_ends st o through r e is (stops, last) = ap (λ (y : Run). y.stop) is ∙ 
 abbrev Took : Run → List Answer → Type 0
 Took r answers = IsFront (answers_of r.calls) answers
 
-asked_took : {T : Type 0} (asking : Asking T) (answers : List Answer) (later : T → List Answer → Run) → ((x : T) (left : List Answer) → Took (later x left) left) → Took (asked_run unanswered_stop asking answers later) answers
-asked_took (done x) answers later each = each x answers
-asked_took (asks asked on) [] later each = ([], refl)
-asked_took (asks asked on) (answer ∷ answers) later each = let so = asked_took (on answer) answers later each in (so.0, ap (λ (replies : List Answer). answer ∷ replies) so.1)
-
-turn_took : {S : Type 0} (t : TurnOf S) (next : Onward) (r : Run) (left : List Answer) → Took r left → Took (run_on t next r) left
-turn_took t goes_on r left so = so
-turn_took t opened r left so = so
-turn_took t (stopped stop) r left so = (left, refl)
-
 run_took : {S : Type 0} (turn : Turns S) (st : ScriptStop) (frames : List Frame) (s : S) (answers : List Answer) → Took (events_run turn s frames st answers) answers
-unfolding events_run
-run_took turn st [] s answers = (answers, refl)
-run_took turn st (frame ∷ frames) s answers =
-    asked_took (turn s frame) answers (λ t left. run_on t t.next (events_run turn t.state frames st left))
-    (λ t left. turn_took t t.next (events_run turn t.state frames st left) left (run_took turn st frames t.state left))
+run_took turn st =
+    run_law turn st (λ s frames answers r. Took r answers) (λ s answers. (answers, refl)) (λ s frame frames gained first. ([], sym (append-nil (answers_of gained))))
+    (λ s frame frames gained left t stop makes is. rw (append-nil gained) (left, refl))
+    (λ s frame frames gained left t r makes on later. rw (answers_two gained r.calls) (front_before (answers_of gained) (answers_of r.calls) left later))
 
 -- no call is answered twice
 no_more_calls : (a : List Answer) (rest : List SignCall) (left : List Answer) → a ≡ (a ++ answers_of rest) ++ left → rest ≡ []
@@ -110,17 +93,11 @@ module _ {P : Type 0} (m : Machine P) (max : ℕ) where
   calls_by given bytes gained None read made = absurd cc
   calls_by given bytes gained (Some more) read made =
       let same : given ++ more ≡ bytes = cc in
-      let joined_at : (replies : List Answer) (text : List ℕ) → run m.turn max (at_first m.first) replies text ≡ script_run m max replies text = λ replies text. joined m.turn max (at_first m.first) replies text in
-      let longer : IsFront (run m.turn max (at_first m.first) (answers_of gained) given).calls (run m.turn max (at_first m.first) (answers_of gained ++ []) (given ++ more)).calls =
-      (begins m.turn max (at_first m.first) (answers_of gained) [] given more).1
-      in
+      let longer = (begins_so m max (answers_of gained) [] given more).1 in
       let first : IsFront gained (script_run m max (answers_of gained) bytes).calls = (
         longer.0,
-        ap (λ (r : Run). r.calls) (sym (joined_at (answers_of gained) bytes)
-            ∙ ap (λ (text : List ℕ). run m.turn max (at_first m.first) (answers_of gained) text) (sym same)
-            ∙ ap (λ (replies : List Answer). run m.turn max (at_first m.first) replies (given ++ more)) (sym (append-nil (answers_of gained))))
-            ∙ longer.1
-            ∙ ap (λ (cs : List SignCall). cs ++ longer.0) (ap (λ (r : Run). r.calls) (joined_at (answers_of gained) given) ∙ made),
+        ap (λ (text : List ℕ). (script_run m max (answers_of gained) text).calls) (sym same)
+            ∙ ap (λ (replies : List Answer). (script_run m max replies (given ++ more)).calls) (sym (append-nil (answers_of gained))) ∙ longer.1 ∙ ap (λ (cs : List SignCall). cs ++ longer.0) made,
       )
       in
       same_calls (script_run m max (answers_of gained) bytes).calls gained first (run_took m.turn (stop_of max bytes) (taken max bytes) m.first (answers_of gained))
@@ -132,90 +109,57 @@ module _ {P : Type 0} (m : Machine P) (max : ℕ) where
       subst (λ (calls : List SignCall). (script_run m max (answers_of calls) bytes).calls ≡ calls) (sym (since_is before.calls now.calls gained end.asked))
       (calls_by given bytes gained now.left (sym end.read ∙ said) end.made)
 
--- ---- the result, as the table's over the whole script
-
--- out of memory, or the table's stop, if no count rises
-abbrev IsTold : List Answer → (List Answer → List ℕ → Run) → List ℕ → Result Ended RunError → Type 0
-IsTold answers table bytes a = (a ≡ Err errors.NoMemory) ⊎ ((table answers bytes).stop ≡ stop_as a)
-
-told_exact : (table : List Answer → List ℕ → Run) (given bytes : List ℕ) (gained : List SignCall) (before now : Streams) (a : Result Ended RunError) → before.left ≡ prepend given now.left → before.left ≡ Some bytes → IsExact table given gained before now a →
-    IsTold (answers_of gained) table bytes a
-told_exact table given bytes gained before now a read said exact = inr (ap (λ (r : Run). r.stop) (same_table table given bytes gained before now a read said exact) ∙ exact.stop)
-
-told_by : (max : ℕ) (table : List Answer → List ℕ → Run) (before now : Streams) (reads reads' writes writes' : ℕ) (a : Result Ended RunError) (given bytes : List ℕ) (gained : List SignCall) → EndsBy max 0 0 table before now a given gained → before.left ≡ Some bytes →
-    (a ≡ Err errors.ReadFault → Rose reads reads') → (a ≡ Err errors.WriteFault → Rose writes writes') → (Rose reads reads' → ⊥) → (Rose writes writes' → ⊥) → IsTold (answers_of gained) table bytes a
-told_by max table before now reads reads' writes writes' (Ok x) given bytes gained end said r w quiet still = told_exact table given bytes gained before now (Ok x) end.read said end.by
-told_by max table before now reads reads' writes writes' (Err errors.NoMemory) given bytes gained end said r w quiet still = inl refl
-told_by max table before now reads reads' writes writes' (Err errors.ReadFault) given bytes gained end said r w quiet still = absurd (quiet (r refl))
-told_by max table before now reads reads' writes writes' (Err errors.WriteFault) given bytes gained end said r w quiet still = absurd (still (w refl))
-told_by max table before now reads reads' writes writes' (Err x) given bytes gained end said r w quiet still = told_exact table given bytes gained before now (Err x) end.read said end.by
-
-told_of : (max : ℕ) (table : List Answer → List ℕ → Run) (before now : Streams) (reads reads' writes writes' : ℕ) (a : Result Ended RunError) → Ends max 0 0 table before now a → (bytes : List ℕ) → before.left ≡ Some bytes →
-    (a ≡ Err errors.ReadFault → Rose reads reads') → (a ≡ Err errors.WriteFault → Rose writes writes') → (Rose reads reads' → ⊥) → (Rose writes writes' → ⊥) → IsTold (answers_since before.calls now.calls) table bytes a
-told_of max table before now reads reads' writes writes' a (given, gained, end) bytes said r w quiet still =
-    with_answers (λ (answers : List Answer). IsTold answers table bytes a) before now gained end.asked (told_by max table before now reads reads' writes writes' a given bytes gained end said r w quiet still)
-
-answered : (a : Result Ended RunError) → stop_as a ≡ unanswered_stop → ⊥
-answered (Ok e) is = cc
-answered (Err e) is = cc
-
-answer_is : (a : Result Ended RunError) (e : Ended) → stop_as a ≡ ended e → a ≡ Ok e
-answer_is (Ok x) e is = let same : x ≡ e = cc in ap Ok same
-answer_is (Err x) e is = absurd cc
-
--- ---- no other ends the run
-
--- an event of another never ends the run
-abbrev pub EndsNone : (Frame → RunStop → Type 0) → Type 0
-EndsNone Cause = (frame : Frame) (e : Ended) → Cause frame (ended e) → ⊥
-
-none_by_other : (own : Own) (Cause : Frame → RunStop → Type 0) (frames : List Frame) (e : Ended) → EndsNone Cause → StoppedByOther own Cause frames (ended e) → ⊥
-none_by_other own Cause [] e none never = never
-none_by_other own Cause (frame ∷ frames) e none (inl (is, cause)) = none frame e cause
-none_by_other own Cause (frame ∷ frames) e none (inr by) = none_by_other own Cause frames e none by
-
-whole_where_ended : (own : Own) (Cause : Frame → RunStop → Type 0) (frames : List Frame) (r : Run) (part : List Answer → Run) (e : Ended) → EndsNone Cause → r.stop ≡ ended e → IsWholePart own r part ⊎ StopsElse own Cause frames r.stop → IsWholePart own r part
-whole_where_ended own Cause frames r part e none stop (inl is) = is
-whole_where_ended own Cause frames r part e none stop (inr (inl wanting)) = let clash : ended e ≡ unanswered_stop = sym stop ∙ wanting in absurd cc
-whole_where_ended own Cause frames r part e none stop (inr (inr by)) = absurd (none_by_other own Cause frames e none (subst (λ (x : RunStop). StoppedByOther own Cause frames x) stop by))
-
 -- ---- the guarantees
 
-module _ {O : Type 0} {L : Type 0} {P : Type 0} (short : Machine O) (long : Turns L) (as_kept : O → L) (Before : O → Type 0) (continues : Continues short.turn long as_kept Before) (unopened : Before short.first)
-    (m : Machine P) (see : P → L) (own : Own) (has : HasPart m.turn long see own) (Cause : Frame → RunStop → Type 0) (stops : StopsOthers m.turn own Cause)
-    (begin : see m.first ≡ as_kept short.first) (max : ℕ) where
-  -- the run of the part over the script's session events
+-- no event of an agent ends the run
+none_by_agent : (frames : List Frame) (e : Ended) → StoppedByOther session_own IsAgentCause frames (ended e) → ⊥
+none_by_agent [] e never = never
+none_by_agent (frame ∷ frames) e (inl (is, (x, read, stop))) = cc
+none_by_agent (frame ∷ frames) e (inr by) = none_by_agent frames e by
+
+whole_where_ended : (frames : List Frame) (r : Run) (part : List Answer → Run) (e : Ended) → r.stop ≡ ended e → IsWholePart session_own r part ⊎ StopsElse session_own IsAgentCause frames r.stop → IsWholePart session_own r part
+whole_where_ended frames r part e stop (inl is) = is
+whole_where_ended frames r part e stop (inr (inl wanting)) = let clash : ended e ≡ unanswered_stop = sym stop ∙ wanting in absurd cc
+whole_where_ended frames r part e stop (inr (inr by)) = absurd (none_by_agent frames e (subst (λ (x : RunStop). StoppedByOther session_own IsAgentCause frames x) stop by))
+
+module _ (hosts : Hosts) (accepts : Accepts) (settings : RunSettings) (max : ℕ) where
+  abbrev own : Own
+  own = session_own
+
+  abbrev Cause : Frame → RunStop → Type 0
+  Cause = IsAgentCause
+
+  abbrev m : Machine RunState
+  m = run_machine hosts accepts settings
+
+  abbrev short : Machine OpeningState
+  short = opening_machine hosts settings.opening
+
+  -- the run of the session over the script's session events
   abbrev part_run : List ℕ → List Answer → Run
-  part_run bytes answers = events_run long (as_kept short.first) (own_events own (taken max bytes)) (stop_of max bytes) answers
+  part_run bytes answers = events_run (session_turn hosts accepts) (kept_in settings short.first) (own_events own (taken max bytes)) (stop_of max bytes) answers
 
   seen_so : (answers : List Answer) (bytes : List ℕ) → PartOf own (StopsElse own Cause (taken max bytes)) (script_run m max answers bytes) (part_run bytes)
   seen_so answers bytes =
-      subst (λ (s : L). PartOf own (StopsElse own Cause (taken max bytes)) (script_run m max answers bytes) (λ (replies : List Answer). events_run long s (own_events own (taken max bytes)) (stop_of max bytes) replies)) begin
-      (parted m.turn long see own has (stop_of max bytes) Cause stops (taken max bytes) m.first answers)
+      parted own (session_turn hosts accepts) agents_turn (session_apart hosts accepts) Cause (λ s frame is. agents_stop s frame) (stop_of max bytes) (taken max bytes) m.first answers
 
   prefixed_so : (bytes : List ℕ) (calls : List SignCall) → Prefixed (stop_of max bytes) (opening_of short own max calls bytes) (opening_of short own max calls bytes).stop (part_run bytes (own_answers own calls))
-  prefixed_so bytes calls = prefixed short.turn long as_kept Before continues (stop_of max bytes) (own_events own (taken max bytes)) short.first (own_answers own calls) unopened
+  prefixed_so bytes calls = prefixed hosts accepts settings (stop_of max bytes) (own_events own (taken max bytes)) short.first (own_answers own calls) (refl, refl)
 
-  first_says : (answers : List Answer) (bytes : List ℕ) (calls : List SignCall) → (script_run m max answers bytes).calls ≡ calls →
+  -- the session's records and calls begin as the opening's
+  first_begins : (answers : List Answer) (bytes : List ℕ) (calls : List SignCall) → (script_run m max answers bytes).calls ≡ calls →
       BeginsAs (opening_of short own max calls bytes).records (opening_of short own max calls bytes).stop (own_records own (script_run m max answers bytes).records)
-  first_says answers bytes calls made =
+      × BeginsAs (opening_of short own max calls bytes).calls (opening_of short own max calls bytes).stop (own_calls own calls)
+  first_begins answers bytes calls made =
       let r : Run = script_run m max answers bytes in
-      let o : OpeningRun O = opening_of short own max calls bytes in
-      let front : IsFront (own_records own r.records) (part_run bytes (own_answers own calls)).records =
-      subst (λ (replies : List Answer). IsFront (own_records own r.records) (part_run bytes replies).records) (append-nil (own_answers own r.calls) ∙ ap (own_answers own) made) ((seen_so answers bytes).first []).0
+      let o : OpeningRun OpeningState = opening_of short own max calls bytes in
+      let part : Run = part_run bytes (own_answers own calls) in
+      let fronts : IsFront (own_records own r.records) part.records × IsFront (own_calls own calls) part.calls =
+      subst (λ (cs : List SignCall). IsFront (own_records own r.records) (part_run bytes (own_answers own cs)).records × IsFront (own_calls own cs) (part_run bytes (own_answers own cs)).calls) made
+      (subst (λ (replies : List Answer). IsFront (own_records own r.records) (part_run bytes replies).records × IsFront (own_calls own r.calls) (part_run bytes replies).calls) (append-nil (own_answers own r.calls))
+      ((seen_so answers bytes).first []))
       in
-      begins_by (stop_of max bytes) o o.stop (part_run bytes (own_answers own calls)) (own_records own r.records) (prefixed_so bytes calls) front
-
-  first_asks : (answers : List Answer) (bytes : List ℕ) (calls : List SignCall) → (script_run m max answers bytes).calls ≡ calls →
-      BeginsAs (opening_of short own max calls bytes).calls (opening_of short own max calls bytes).stop (own_calls own calls)
-  first_asks answers bytes calls made =
-      let r : Run = script_run m max answers bytes in
-      let o : OpeningRun O = opening_of short own max calls bytes in
-      let front : IsFront (own_calls own calls) (part_run bytes (own_answers own calls)).calls =
-      subst (λ (cs : List SignCall). IsFront (own_calls own cs) (part_run bytes (own_answers own cs)).calls) made
-      (subst (λ (replies : List Answer). IsFront (own_calls own r.calls) (part_run bytes replies).calls) (append-nil (own_answers own r.calls)) ((seen_so answers bytes).first []).1)
-      in
-      calls_begin_by (stop_of max bytes) o o.stop (part_run bytes (own_answers own calls)) (own_calls own calls) (prefixed_so bytes calls) front
+      (begins_by (stop_of max bytes) o o.stop part (own_records own r.records) (prefixed_so bytes calls) fronts.0, calls_begin_by (stop_of max bytes) o o.stop part (own_calls own calls) (prefixed_so bytes calls) fronts.1)
 
   -- the whole run's part, if it ends or stops as the part stops
   whole_says : (r : Run) (bytes : List ℕ) (calls : List SignCall) → r.calls ≡ calls → IsWholePart own r (part_run bytes) → part_run bytes (own_answers own calls) ≡ record { records = own_records own r.records; calls = own_calls own r.calls; stop = r.stop }
@@ -226,31 +170,28 @@ module _ {O : Type 0} {L : Type 0} {P : Type 0} (short : Machine O) (long : Turn
     calls = since before.calls now.calls
 
     pub opening_first_of : (a : Result Ended RunError) → Ends max 0 0 (script_run m max) before now a → IsOpeningFirst short own max before now
-    opening_first_of a ends = λ bytes said. (
-      (script_run m max (answers_since before.calls now.calls) bytes).records,
-      prefix_of m max before now a ends bytes said,
-      first_says (answers_since before.calls now.calls) bytes calls (made_of m max before now a ends bytes said),
-      first_asks (answers_since before.calls now.calls) bytes calls (made_of m max before now a ends bytes said),
-    )
+    opening_first_of a ends = λ bytes said.
+        let begin = first_begins (answers_since before.calls now.calls) bytes calls (made_of m max before now a ends bytes said) in
+        ((script_run m max (answers_since before.calls now.calls) bytes).records, prefix_of m max before now a ends bytes said, begin.0, begin.1)
 
-    done_says : (e : Ended) → EndsNone Cause → Ends max 0 0 (script_run m max) before now (Ok e) → (bytes : List ℕ) → before.left ≡ Some bytes → (script_run m max (answers_since before.calls now.calls) bytes).stop ≡ ended e →
+    done_says : (e : Ended) → Ends max 0 0 (script_run m max) before now (Ok e) → (bytes : List ℕ) → before.left ≡ Some bytes → (script_run m max (answers_since before.calls now.calls) bytes).stop ≡ ended e →
         ConcludesAs (opening_of short own max calls bytes).records (opening_of short own max calls bytes).stop (own_records own (script_run m max (answers_since before.calls now.calls) bytes).records) e
-    done_says e none ends bytes said stop =
+    done_says e ends bytes said stop =
         let r : Run = script_run m max (answers_since before.calls now.calls) bytes in
-        let o : OpeningRun O = opening_of short own max calls bytes in
-        let is = whole_says r bytes calls (made_of m max before now (Ok e) ends bytes said) (whole_where_ended own Cause (taken max bytes) r (part_run bytes) e none stop (seen_so (answers_since before.calls now.calls) bytes).whole) in
+        let o : OpeningRun OpeningState = opening_of short own max calls bytes in
+        let is = whole_says r bytes calls (made_of m max before now (Ok e) ends bytes said) (whole_where_ended (taken max bytes) r (part_run bytes) e stop (seen_so (answers_since before.calls now.calls) bytes).whole) in
         ends_by (stop_of max bytes) o o.stop (part_run bytes (own_answers own calls)) (own_records own r.records) e (prefixed_so bytes calls) (ap (λ (x : Run). x.records) is) (ap (λ (x : Run). x.stop) is ∙ stop)
 
-    pub opening_done_of : (a : Result Ended RunError) → EndsNone Cause → Ends max 0 0 (script_run m max) before now a → IsOpeningDone short own max before now a
-    opening_done_of (Err e) none ends = tt
-    opening_done_of (Ok e) none ends = λ bytes said.
+    pub opening_done_of : (a : Result Ended RunError) → Ends max 0 0 (script_run m max) before now a → IsOpeningDone short own max before now a
+    opening_done_of (Err e) ends = tt
+    opening_done_of (Ok e) ends = λ bytes said.
         let done = (done_of max (script_run m max) before now (Ok e) ends).1 bytes said in
-        ((script_run m max (answers_since before.calls now.calls) bytes).records, done.1, done_says e none ends bytes said done.0)
+        ((script_run m max (answers_since before.calls now.calls) bytes).records, done.1, done_says e ends bytes said done.0)
 
     complete_at : (a : Result Ended RunError) (e : Ended) (bytes : List ℕ) (r : Run) → r.calls ≡ calls → IsValidBy (stop_of max bytes) (opening_of short own max calls bytes).stop e →
         ((stop : RunStop) → StoppedByOther own Cause (taken max bytes) stop → ⊥) → r.stop ≡ stop_as a → IsWholePart own r (part_run bytes) ⊎ StopsElse own Cause (taken max bytes) r.stop → a ≡ Ok e
     complete_at a e bytes r made valid others told (inl is) =
-        let o : OpeningRun O = opening_of short own max calls bytes in
+        let o : OpeningRun OpeningState = opening_of short own max calls bytes in
         let whole_is = whole_says r bytes calls made is in
         answer_is a e (sym told ∙ ap (λ (x : Run). x.stop) (sym whole_is) ∙ valid_ends (stop_of max bytes) o o.stop (part_run bytes (own_answers own calls)) e (prefixed_so bytes calls) valid)
     complete_at a e bytes r made valid others told (inr (inl wanting)) = absurd (answered a (sym told ∙ wanting))

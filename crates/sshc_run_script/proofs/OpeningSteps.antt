@@ -1,14 +1,9 @@
 -- A step of the opening is the table's turn.
 use Rattle.std.proofs.Common.{◌≡◌, inl, inr, ℕ, Bool, true, false, List, [], ◌++◌, Option, Some, None, Result, Ok, Err, refl, ap, sym, ◌∙◌, subst}
-use Rattle.std.proofs.Math.Seq.{drop-length}
-use Rattle.sshc_wire.specs.Outgoing.{Outgoing, shown, shown-open}
-use Rattle.sshc_wire.specs.declared.record.Record.{Record}
-use Rattle.sshc_key.specs.Signers.{SignCall, since}
+use Rattle.sshc_wire.specs.Outgoing.{Outgoing, shown}
+use Rattle.sshc_wire.specs.OutgoingLaws.{shown-open}
 use Rattle.sshc_key.specs.declared.error.Error.TheVariants as key_errors
 use Rattle.sshc_key.specs.declared.identity.PublicKeyOrCertificate.{PublicKeyOrCertificate}
-use Rattle.sshc_key.specs.Asking.{Asking, done, asked_on}
-use Rattle.sshc_key.specs.AskingLaws.{makes_on, first_on, none_first}
-use Rattle.sshc_auth_event.specs.declared.event.Event.{Event}
 use Rattle.sshc_transport.specs.declared.exchange.ExchangeResult.{ExchangeResult}
 use Rattle.sshc_auth.specs.declared.error.Error.{Error}
 use Rattle.sshc_auth.specs.declared.error.Error.TheVariants as auths
@@ -18,17 +13,13 @@ use Rattle.sshc_auth.specs.declared.step.Step.{Step}
 use Rattle.sshc_auth.specs.declared.step.Step.TheVariants as steps
 use Rattle.sshc_auth.specs.declared.step.Told.{Told}
 use Rattle.sshc_auth.specs.declared.step.Told.TheVariants as telling
-use Rattle.sshc_auth.specs.OpeningState.{shut}
-use Rattle.sshc_auth.specs.OpeningTable.{open_row, asked_of}
-use Rattle.sshc_auth.specs.Row.{Row, Span, Adds, Steps}
+use Rattle.sshc_auth.specs.Row.{Span, Adds, Steps}
 use Rattle.sshc_auth.specs.Stepping.{Lent, span_of, gained, GateAnswers, gate_answers, Adds as GateAdds, exchange_in, told_of, Tells, Judged, Answered, map_step, GateRefused, StepsTold, StepsBy}
-use Rattle.sshc_run_script.specs.declared.error.RunError.{RunError}
 use Rattle.sshc_run_script.specs.declared.error.RunError.TheVariants as errors
-use Rattle.sshc_run_script.specs.declared.known_hosts_handler.HandlerError.{HandlerError}
 use Rattle.sshc_run_script.specs.declared.known_hosts_handler.HandlerError.TheVariants.{Client, Key}
-use Rattle.sshc_run_script.specs.KnownHosts.{Hosts, verdict, Judges, AddsNothing}
-use Rattle.sshc_run_script.specs.Turn.{Turn, row_turn, judged_turn, asked_turn, stops, handler_error_of}
-use Rattle.sshc_run_script.specs.TurnContracts.{Took}
+use Rattle.sshc_run_script.specs.KnownHosts.{AddsNothing}
+use Rattle.sshc_run_script.proofs.RunNames.{Record, SignCall, Asking, done, asked_on, makes_on, first_on, none_first, Event, shut, open_row, asked_of, Row, RunError, HandlerError, Hosts, verdict, Judges, Turn, row_turn, judged_turn, asked_turn, stops, handler_error_of, Took}
+use Rattle.sshc_run_script.proofs.TakenEvents.{since_none}
 
 -- ---- a step
 
@@ -68,21 +59,17 @@ module _ (hosts : Hosts) (place : ℕ) (event : Event) (was is : Lent) (result :
       Took (asked_on (row_turn place was.opening) (open_row was.opening event told)) (gained was is) place result is.opening is.outbox.records
   told_took told mid empty unmuted_mid (answer, same, does) = row_took place (open_row was.opening event told) (span_of (record was { outbox = mid }) is) (gained was is) answer result empty unmuted_mid same does
 
-  -- the signer wasn't called
-  unasked : is.calls ≡ was.calls → gained was is ≡ []
-  unasked same = ap (since was.calls) same ∙ drop-length was.calls
-
   -- the gate was out of memory
   memory_took : (asking : Asking Turn) (e : HandlerError) (mid : Outgoing) → mid.records ≡ [] → handler_error_of place e ≡ errors.NoMemory → GateRefused e (record was { outbox = mid }) is result →
       Took asking (gained was is) place result is.opening is.outbox.records
   memory_took asking e mid empty memory (same, left, out, calls) =
-      rw (same, unasked calls) (inl (ap (λ (o : Outgoing). o.records) out ∙ empty, ap (λ (x : RunError). Some (Err x)) memory, none_first asking))
+      rw (same, since_none was.calls is.calls calls) (inl (ap (λ (o : Outgoing). o.records) out ∙ empty, ap (λ (x : RunError). Some (Err x)) memory, none_first asking))
 
   -- the gate refused
   refused_took : (e : HandlerError) (mid : Outgoing) → mid.records ≡ [] → GateRefused e (record was { outbox = mid }) is result →
       Took (done (stops (shut was.opening) (handler_error_of place e))) (gained was is) place result is.opening is.outbox.records
   refused_took e mid empty (same, left, out, calls) =
-      rw (same, unasked calls) (inr (stops (shut was.opening) (handler_error_of place e), refl, ap (λ (o : Outgoing). o.records) out ∙ empty, left, refl))
+      rw (same, since_none was.calls is.calls calls) (inr (stops (shut was.opening) (handler_error_of place e), refl, ap (λ (o : Outgoing). o.records) out ∙ empty, left, refl))
 
   went_took : (told : Told) (mid : Outgoing) → told ≡ telling.Went → (mid.records ≡ []) × (mid.muted ≡ false) → StepsTold (hosts_gate hosts) event (record was { outbox = mid }) is result (Ok told) →
       Took (asked_on (row_turn place was.opening) (open_row was.opening event telling.Went)) (gained was is) place result is.opening is.outbox.records

@@ -1,16 +1,11 @@
--- A run of a machine, seen by a part of it.
+-- A run of two machines side by side, as the first of them sees it.
 use Rattle.std.proofs.Common.{◌≡◌, ◌⊎◌, inl, inr, Bool, true, false, List, [], ◌∷◌, ◌++◌, filter, refl, ap, sym, ◌∙◌, subst}
-use Rattle.std.proofs.lemmas.List.{append-nil}
 use Rattle.std.proofs.lemmas.List.Elements.{filter-append}
-use Rattle.sshc_wire.specs.declared.record.Record.{Record}
-use Rattle.sshc_key.specs.Asking.{SignRequest, Answer, Asking, done, asks, call_of, Always}
-use Rattle.sshc_key.specs.AskingLaws.{always_also}
 use Rattle.sshc_run_script.specs.ReachedStates.{StopsFor}
-use Rattle.sshc_run_script.specs.Machine.{RunStop, unanswered_stop, Onward, goes_on, opened, stopped, TurnOf, Turns}
-use Rattle.sshc_run_script.specs.Part.{Own, own_events, own_records, own_calls, own_answers, SaysBy, AsksBy, HasPart, StopsOthers, StopsElse, IsWholePart, PartOf}
-use Rattle.sshc_run_reader.specs.Script.{Frame, ScriptStop}
-use Rattle.sshc_run_script.specs.ScriptRun.{Run, events_run, run_on, asked_run, after, stopped_with}
-use Rattle.sshc_run_script.proofs.OpeningContinues.{asked_mapped, front_before}
+use Rattle.sshc_run_script.specs.Product.{Both, in_one, in_other, both_turn, Apart}
+use Rattle.sshc_run_script.proofs.RunNames.{append-nil, Record, SignRequest, Answer, Asking, done, asks, call_of, Always, always_also, RunStop, unanswered_stop, Onward, goes_on, opened, stopped, TurnOf, Turns, Own, own_events, own_records, own_calls, own_answers, SaysBy, AsksBy, StopsElse, IsWholePart, PartOf, Frame, ScriptStop, Run, events_run, run_on, asked_run, after, stopped_with}
+use Rattle.sshc_run_script.proofs.AnsweredQuestions.{asked_mapped, front_before}
+use Rattle.sshc_run_script.proofs.Products.{one_takes, other_takes}
 
 -- ---- records of its own
 
@@ -73,11 +68,11 @@ module _ (own : Own) (Else : RunStop → Type 0) where
 
   -- ---- turns
 
-  own_turn : {T : Type 0} (t : TurnOf T) (next : Onward) (r : Run) (part : List Answer → Run) → SaysBy own.said true t.records → PartOf own Else r part →
-      PartOf own Else (run_on t next r) (λ (answers : List Answer). run_on t next (part answers))
-  own_turn t goes_on r part says so = own_before t.records r part says so
-  own_turn t opened r part says so = own_before t.records r part says so
-  own_turn t (stopped stop) r part says so = record {
+  own_turn : {A : Type 0} {B : Type 0} (s : Both A B) (t : TurnOf A) (next : Onward) (r : Run) (part : List Answer → Run) → SaysBy own.said true t.records → PartOf own Else r part →
+      PartOf own Else (run_on (in_one s t) next r) (λ (answers : List Answer). run_on t next (part answers))
+  own_turn s t goes_on r part says so = own_before t.records r part says so
+  own_turn s t opened r part says so = own_before t.records r part says so
+  own_turn s t (stopped stop) r part says so = record {
     first = λ later. (([], sym (append-nil (own_records own t.records) ∙ said_own own.said t.records says)), ([], refl));
     whole = inl (ap (λ (rs : List Record). stopped_with rs stop) (sym (said_own own.said t.records says)));
   }
@@ -126,80 +121,65 @@ part_also : (own : Own) (E E' : RunStop → Type 0) (r : Run) (part : List Answe
 part_also own E E' r part also so = record { first = so.first; whole = else_also (also r.stop) so.whole }
 
 pub stops_also : (E E' : RunStop → Type 0) (next : Onward) → ((stop : RunStop) → E stop → E' stop) → StopsFor E next → StopsFor E' next
-stops_also E E' goes_on also stops = tt
-stops_also E E' opened also stops = tt
 stops_also E E' (stopped stop) also stops = also stop stops
+stops_also E E' next also stops = tt
 
 always_both : {T : Type 0} (P Q : T → Type 0) (asking : Asking T) → Always P asking → Always Q asking → Always (λ (x : T). P x × Q x) asking
 always_both P Q (done x) p q = (p, q)
 always_both P Q (asks asked on) p q = λ answer. always_both P Q (on answer) (p answer) (q answer)
 
-run_seen : {T : Type 0} {U : Type 0} (t : TurnOf T) (u : TurnOf U) (next : Onward) (r : Run) → t.records ≡ u.records → run_on t next r ≡ run_on u next r
-run_seen t u goes_on r is = ap (λ (rs : List Record). after rs [] r) is
-run_seen t u opened r is = ap (λ (rs : List Record). after rs [] r) is
-run_seen t u (stopped stop) r is = ap (λ (rs : List Record). stopped_with rs stop) is
+module _ {A : Type 0} {B : Type 0} (own : Own) (one : Turns A) (other : Turns B) (apart : Apart own one other) (Cause : Frame → RunStop → Type 0)
+    (stops : (s : B) (frame : Frame) → own.event frame ≡ false → Always (λ (t : TurnOf B). StopsFor (Cause frame) t.next) (other s frame)) (st : ScriptStop) where
+  abbrev whole : Turns (Both A B)
+  whole = both_turn own one other
 
-module _ {P : Type 0} {A : Type 0} (whole : Turns P) (part : Turns A) (see : P → A) (own : Own) (has : HasPart whole part see own) (st : ScriptStop) where
-  -- the run of the part from its view of the state
+  -- the run of the first machine alone
   abbrev alone : A → List Frame → List Answer → Run
-  alone a frames answers = events_run part a (own_events own frames) st answers
+  alone a frames answers = events_run one a (own_events own frames) st answers
 
-  module _ (Else : RunStop → Type 0) (frame : Frame) (frames : List Frame) (s : P) (answers : List Answer) where
-    seen_turn : (t : TurnOf A) (left : List Answer) → SaysBy own.said true t.records → PartOf own Else (events_run whole (has.as_whole s t).state frames st left) (alone (see (has.as_whole s t).state) frames) →
-        PartOf own Else (run_on (has.as_whole s t) (has.as_whole s t).next (events_run whole (has.as_whole s t).state frames st left)) (λ (replies : List Answer). run_on t t.next (alone t.state frames replies))
-    seen_turn t left says so =
-        let replies = has.as_whole s t in
-        let r : Run = events_run whole replies.state frames st left in
-        let seen = has.seen s t in
-        subst (λ (x : Run). PartOf own Else x (λ (replies : List Answer). run_on t t.next (alone t.state frames replies))) (sym (ap (λ (n : Onward). run_on replies n r) seen.1 ∙ run_seen replies t t.next r seen.0))
-        (own_turn own Else t t.next r (alone t.state frames) says (subst (λ (a : A). PartOf own Else r (alone a frames)) seen.2 so))
+  -- what is stated of a run, where it may stop at one of these events for another's cause
+  abbrev Parted : List Frame → List Frame → Both A B → List Answer → Type 0
+  Parted all frames s answers = PartOf own (StopsElse own Cause all) (events_run whole s frames st answers) (alone s.one frames)
 
-    frame_own : own.event frame ≡ true → ((s' : P) (left : List Answer) → PartOf own Else (events_run whole s' frames st left) (alone (see s') frames)) →
-        PartOf own Else (events_run whole s (frame ∷ frames) st answers) (alone (see s) (frame ∷ frames))
+  module _ (frame : Frame) (frames : List Frame) (s : Both A B) (answers : List Answer) (later : (s' : Both A B) (left : List Answer) → Parted (frame ∷ frames) frames s' left) where
+    abbrev Else : RunStop → Type 0
+    Else = StopsElse own Cause (frame ∷ frames)
+
+    frame_own : own.event frame ≡ true → Parted (frame ∷ frames) (frame ∷ frames) s answers
     unfolding events_run
-    frame_own is later =
-        subst (λ (fs : List Frame). PartOf own Else (events_run whole s (frame ∷ frames) st answers) (λ (replies : List Answer). events_run part (see s) fs st replies)) (sym (own_first own frame frames is))
-        (rw (has.same s frame is, asked_mapped unanswered_stop (has.as_whole s) (part (see s) frame) answers (λ t left. run_on t t.next (events_run whole t.state frames st left)))
-        (own_asked own Else (part (see s) frame) answers (λ t left. run_on (has.as_whole s t) (has.as_whole s t).next (events_run whole (has.as_whole s t).state frames st left))
-        (λ t replies. run_on t t.next (alone t.state frames replies)) (has.asks_own (see s) frame is) (has.says (see s) frame is)
-        (λ t left says. seen_turn t left says (later (has.as_whole s t).state left))))
+    frame_own is =
+        subst (λ (fs : List Frame). PartOf own Else (events_run whole s (frame ∷ frames) st answers) (λ (replies : List Answer). events_run one s.one fs st replies)) (sym (own_first own frame frames is))
+        (rw (one_takes own one other apart s frame is, asked_mapped unanswered_stop (in_one s) (one s.one frame) answers (λ t left. run_on t t.next (events_run whole t.state frames st left)))
+        (own_asked own Else (one s.one frame) answers (λ t left. run_on (in_one s t) t.next (events_run whole (in_one s t).state frames st left)) (λ t replies. run_on t t.next (alone t.state frames replies))
+        (apart.one_asks s.one frame is) (apart.one_says s.one frame is)
+        (λ t left says. own_turn own Else s t t.next (events_run whole (in_one s t).state frames st left) (alone t.state frames) says (later (in_one s t).state left))))
 
-    -- what is true of a turn of another
-    abbrev Passes : TurnOf P → Type 0
-    Passes t = (SaysBy own.said false t.records × (see t.state ≡ see s)) × StopsFor Else t.next
+    -- what is true of a turn of the other machine
+    abbrev Passes : TurnOf B → Type 0
+    Passes t = SaysBy own.said false t.records × StopsFor Else t.next
 
-    frame_other : own.event frame ≡ false → Else unanswered_stop → Always (λ (t : TurnOf P). StopsFor Else t.next) (whole s frame) →
-        ((s' : P) (left : List Answer) → PartOf own Else (events_run whole s' frames st left) (alone (see s') frames)) →
-        PartOf own Else (events_run whole s (frame ∷ frames) st answers) (alone (see s) (frame ∷ frames))
+    frame_other : own.event frame ≡ false → Parted (frame ∷ frames) (frame ∷ frames) s answers
     unfolding events_run
-    frame_other is none stops later =
-        subst (λ (fs : List Frame). PartOf own Else (events_run whole s (frame ∷ frames) st answers) (λ (replies : List Answer). events_run part (see s) fs st replies)) (sym (other_first own frame frames is))
-        (other_asked own Else Passes (whole s frame) answers (λ t left. run_on t t.next (events_run whole t.state frames st left)) (alone (see s) frames) none (has.asks_other s frame is)
-        (always_both (λ (t : TurnOf P). SaysBy own.said false t.records × (see t.state ≡ see s)) (λ (t : TurnOf P). StopsFor Else t.next) (whole s frame) (has.still s frame is) stops)
-        (λ t left holds.
-        other_turn own Else t t.next (events_run whole t.state frames st left) (alone (see s) frames) holds.0.0 holds.1
-        (subst (λ (a : A). PartOf own Else (events_run whole t.state frames st left) (alone a frames)) holds.0.1 (later t.state left))))
+    frame_other is =
+        subst (λ (fs : List Frame). PartOf own Else (events_run whole s (frame ∷ frames) st answers) (λ (replies : List Answer). events_run one s.one fs st replies)) (sym (other_first own frame frames is))
+        (rw (other_takes own one other apart s frame is, asked_mapped unanswered_stop (in_other s) (other s.other frame) answers (λ t left. run_on t t.next (events_run whole t.state frames st left)))
+        (other_asked own Else Passes (other s.other frame) answers (λ t left. run_on (in_other s t) t.next (events_run whole (in_other s t).state frames st left)) (alone s.one frames) (inl refl) (apart.other_asks s.other frame is)
+        (always_both (λ (t : TurnOf B). SaysBy own.said false t.records) (λ (t : TurnOf B). StopsFor Else t.next) (other s.other frame) (apart.other_says s.other frame is)
+        (always_also (λ (t : TurnOf B). StopsFor (Cause frame) t.next) (λ (t : TurnOf B). StopsFor Else t.next) (other s.other frame) (λ t shows. stops_also (Cause frame) Else t.next (λ stop cause. inr (inl (is, cause))) shows) (stops s.other frame is)))
+        (λ t left holds. other_turn own Else (in_other s t) t.next (events_run whole (in_other s t).state frames st left) (alone s.one frames) holds.0 holds.1 (later (in_other s t).state left))))
 
-  module _ (Cause : Frame → RunStop → Type 0) (stops : StopsOthers whole own Cause) where
-    behind_frame : (frame : Frame) (frames : List Frame) (stop : RunStop) → StopsElse own Cause frames stop → StopsElse own Cause (frame ∷ frames) stop
-    behind_frame frame frames stop (inl none) = inl none
-    behind_frame frame frames stop (inr by) = inr (inr by)
+  behind_frame : (frame : Frame) (frames : List Frame) (stop : RunStop) → StopsElse own Cause frames stop → StopsElse own Cause (frame ∷ frames) stop
+  behind_frame frame frames stop (inl none) = inl none
+  behind_frame frame frames stop (inr by) = inr (inr by)
 
-    parted_by : (b : Bool) (frame : Frame) (frames : List Frame) (s : P) (answers : List Answer) → own.event frame ≡ b →
-        ((s' : P) (left : List Answer) → PartOf own (StopsElse own Cause (frame ∷ frames)) (events_run whole s' frames st left) (alone (see s') frames)) →
-        PartOf own (StopsElse own Cause (frame ∷ frames)) (events_run whole s (frame ∷ frames) st answers) (alone (see s) (frame ∷ frames))
-    parted_by true frame frames s answers is later = frame_own (StopsElse own Cause (frame ∷ frames)) frame frames s answers is later
-    parted_by false frame frames s answers is later =
-        frame_other (StopsElse own Cause (frame ∷ frames)) frame frames s answers is (inl refl)
-        (always_also (λ (t : TurnOf P). StopsFor (Cause frame) t.next) (λ (t : TurnOf P). StopsFor (StopsElse own Cause (frame ∷ frames)) t.next) (whole s frame)
-        (λ t shows. stops_also (Cause frame) (StopsElse own Cause (frame ∷ frames)) t.next (λ stop cause. inr (inl (is, cause))) shows) (stops s frame is))
-        later
-
-    -- the records and calls of a run that are the part's own are those of the part's run over its own events and
-    -- answers, or the first of them if another's event or a call without an answer stopped the run
-    pub parted : (frames : List Frame) (s : P) (answers : List Answer) → PartOf own (StopsElse own Cause frames) (events_run whole s frames st answers) (alone (see s) frames)
-    unfolding events_run
-    parted [] s answers = record { first = λ later. (([], refl), ([], refl)); whole = inl refl }
-    parted (frame ∷ frames) s answers =
-        parted_by (own.event frame) frame frames s answers refl
-        (λ s' left. part_also own (StopsElse own Cause frames) (StopsElse own Cause (frame ∷ frames)) (events_run whole s' frames st left) (alone (see s') frames) (behind_frame frame frames) (parted frames s' left))
+  -- the records and calls of a run that are the first machine's own are those of its run over its own events and
+  -- answers, or the first of them if another's event or a call without an answer stopped the run
+  pub parted : (frames : List Frame) (s : Both A B) (answers : List Answer) → Parted frames frames s answers
+  unfolding events_run
+  parted [] s answers = record { first = λ later. (([], refl), ([], refl)); whole = inl refl }
+  parted (frame ∷ frames) s answers =
+      by (own.event frame) refl (λ s' left. part_also own (StopsElse own Cause frames) (StopsElse own Cause (frame ∷ frames)) (events_run whole s' frames st left) (alone s'.one frames) (behind_frame frame frames) (parted frames s' left))
+    where
+      by : (mine : Bool) → own.event frame ≡ mine → ((s' : Both A B) (left : List Answer) → Parted (frame ∷ frames) frames s' left) → Parted (frame ∷ frames) (frame ∷ frames) s answers
+      by true is later = frame_own frame frames s answers later is
+      by false is later = frame_other frame frames s answers later is

@@ -1,10 +1,7 @@
 -- Laws along a path: what each step keeps is true all along, and what each step adds to adds up.
 use Rattle.std.proofs.Common.{◌≡◌, ◌⊎◌, inl, inr, List, [], ◌∷◌, None, refl, subst, sym}
-use Rattle.sshc_key.specs.Signers.{SignCall}
-use Rattle.sshc_key.specs.Asking.{Answer, Makes}
-use Rattle.sshc_run_script.specs.Machine.{TurnOf, Turns, stop_next}
 use Rattle.sshc_run_script.specs.Path.{Path, StepOf, step_of}
-use Rattle.sshc_run_reader.specs.Script.{Frame}
+use Rattle.sshc_run_script.proofs.RunNames.{SignCall, Answer, Makes, TurnOf, Turns, stop_next, Frame}
 
 -- A ledger is kept between two states by the steps from the one to the other: nothing is added to it without a step, and
 -- each step, from a state that the invariant is true of, adds its part in front.

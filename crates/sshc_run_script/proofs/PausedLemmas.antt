@@ -1,31 +1,19 @@
 -- A run whose events come one at a time: one call more, and what it guarantees at each pause and at its end.
 use Rattle.std.proofs.Common.{◌≡◌, ℕ, zero, suc, ◌+◌, ◌-◌, List, [], ◌++◌, length, drop, Option, Some, true, false, Result, Ok, Err, refl, ap, sym, ◌∙◌, subst, arith}
 use Rattle.std.proofs.Math.Seq.{drop-append_seam}
-use Rattle.std.proofs.lemmas.List.{append-nil}
 use Rattle.std.proofs.lemmas.List.Concat.{flat_map-append}
-use Rattle.sshc_wire.specs.Contents.{append}
-use Rattle.sshc_wire.specs.declared.record.Record.{Record}
-use Rattle.sshc_key.specs.Signers.{SignCall, since}
-use Rattle.sshc_key.specs.Asking.{Answer}
-use Rattle.sshc_auth.specs.declared.ended.Ended.{Ended}
 use Rattle.sshc_auth.specs.declared.ended.Ended.TheVariants.{ScriptEnd}
-use Rattle.sshc_client_packets.specs.HostKeyProof.{Accepts}
 use Rattle.sshc_client.specs.declared.config.Config.{Config}
 use Rattle.sshc_hosts.specs.HostText.{host_text}
-use Rattle.sshc_run_script.specs.declared.error.RunError.{RunError}
 use Rattle.sshc_run_script.specs.LoopInvariant.{BringsTo, IsAlong, Pauses}
-use Rattle.sshc_run_script.specs.Machine.{Machine}
-use Rattle.sshc_run_script.specs.Outcome.{Streams, streams, Ending, told, cut, unread, ending_of, EndsAs, Ends}
 use Rattle.sshc_run_script.specs.Paused.{Paused, is_stopped, spot_of, started, table_from}
 use Rattle.sshc_run_script.specs.PausedRuns.{History, nothing_yet, followed_by, text_since, outside_of, step_of, HasRun, IsRun, Stopped, Takes}
-use Rattle.sshc_run_script.specs.RecordLines.{line, lines}
 use Rattle.sshc_run_script.specs.RunFaults.{fault_counts, FaultsAnswered}
 use Rattle.sshc_run_script.specs.RunOutside.{CountsMoved}
 use Rattle.sshc_run_script.specs.RunPromises.{RunAsked, run_asked}
-use Rattle.sshc_run_script.specs.RunTurn.{RunState, run_machine, run_turn}
-use Rattle.sshc_run_script.specs.ScriptRun.{Run, Spot, Table, at_first, run}
 use Rattle.sshc_run_script.specs.SessionLaws.{SessionLaws}
-use Rattle.sshc_run_script.proofs.KeptPromises.{promised}
+use Rattle.sshc_run_script.proofs.RunNames.{append-nil, append, Record, SignCall, since, Answer, Ended, Accepts, RunError, Machine, Streams, streams, Ending, told, cut, unread, ending_of, EndsAs, Ends, line, lines, RunState, run_machine, run_turn, Run, Spot, Table, at_first, run}
+use Rattle.sshc_run_script.proofs.KeptPromises.{promised, no_fault}
 use Rattle.sshc_run_script.proofs.Promises.{since_is, by_events}
 use Rattle.sshc_run_script.proofs.RunLoop.{brings_none, brings_two, along_ends}
 use Rattle.sshc_run_script.proofs.RunUnfold.{end_ends, limit_ends}
@@ -80,14 +68,7 @@ uncounted script left text calls a faults = record { last_read = omega arith; la
 
 -- at a pause no read and no write has failed
 unfailed : FaultsAnswered (fault_counts 0 0) (fault_counts 0 0) (Ok ScriptEnd)
-unfailed = record {
-  read_later = omega arith;
-  write_later = omega arith;
-  read_fault = λ e. absurd cc;
-  read_told = λ no. refl;
-  write_fault = λ e. absurd cc;
-  write_told = λ no. refl;
-}
+unfailed = no_fault (fault_counts 0 0) (Ok ScriptEnd) (λ e. cc) (λ e. cc)
 
 module _ (laws : SessionLaws) (asked : RunAsked) where
   abbrev machine : Machine RunState
@@ -123,11 +104,8 @@ module _ (laws : SessionLaws) (asked : RunAsked) where
   paused_promised : (h : History) (turns n : ℕ) (at : Spot RunState) (records : List Record) → turns + n ≡ asked.max_events → h.text ≡ lines records → BringsTo table first asked.max_events turns at h.script h.calls records →
       HasRun asked h [] (Ok ScriptEnd)
   paused_promised h turns n at records count is brings =
-      let remain : n ≡ asked.max_events - turns = omega (arith, count) in
-      let here = subst (λ (k : ℕ). Ends k at.place at.last (table k at) (streams (Some []) (Some h.text) 0 h.calls) (streams (Some []) (Some h.text) 0 h.calls) (Ok ScriptEnd)) remain (end_here n at h.text h.calls) in
-      let so_far = subst (λ (bytes : List ℕ). IsAlong table first asked.max_events turns at (streams (Some bytes) (Some []) 0 []) (streams (Some []) (Some h.text) 0 h.calls)) (append-nil h.script) (along h turns at records [] is brings) in
-      let whole = along_ends table first asked.max_events turns at _ _ (streams (Some []) (Some h.text) 0 h.calls) (Ok ScriptEnd) (omega (arith, count)) so_far here in
-      promised laws asked (outside_of h.script [] []) (outside_of [] h.text h.calls) (Ok ScriptEnd) (by_events machine asked.max_events _ _ (Ok ScriptEnd) whole) (uncounted h.script [] h.text h.calls (Ok ScriptEnd) unfailed)
+      rw (append-nil h.script, append-nil h.text, append-nil h.calls) at
+      (run_ended h turns n at records [] [] [] [] (Ok ScriptEnd) count is brings (rw (append-nil h.text, append-nil h.calls) (end_here n at h.text h.calls)) unfailed)
 
   -- ---- at the start
 
@@ -163,31 +141,27 @@ module _ (laws : SessionLaws) (asked : RunAsked) where
         IsRun asked (followed_by h events (since calls calls') (text_since b n)) new
     goes_on_run new left hosts going none (le, (given, gained, records, moved, brings)) =
         let remain : old.remaining ≡ asked.max_events - is.turns = omega (arith, is.count) in
-        let event : given ≡ events = (let whole : events ≡ given ++ left = cc in sym (whole ∙ ap (λ (rest : List ℕ). given ++ rest) none ∙ append-nil given)) in
-        let asked_now : gained ≡ since calls calls' = sym (since_is calls calls' gained moved.asked) in
-        let said : lines records ≡ text_since b n = sym (added_is b n (lines records) moved.wrote) in
+        let event : events ≡ given = (let whole : events ≡ given ++ left = cc in whole ∙ ap (λ (rest : List ℕ). given ++ rest) none ∙ append-nil given) in
+        let asked_now : since calls calls' ≡ gained = since_is calls calls' gained moved.asked in
+        let said : text_since b n ≡ lines records = added_is b n (lines records) moved.wrote in
         let then_on : BringsTo table (spot_of old) (asked.max_events - is.turns) (old.remaining - new.remaining) (spot_of new) given gained records = rw is.hosts at (subst (λ (k : ℕ). BringsTo (table_from old asked.accepts) (spot_of old) k (old.remaining - new.remaining) (spot_of new) given gained records) remain brings) in
-        let whole : BringsTo table first asked.max_events (is.turns + (old.remaining - new.remaining)) (spot_of new) (h.script ++ given) (h.calls ++ gained) (is.records ++ records) =
+        let turns : ℕ = is.turns + (old.remaining - new.remaining) in
+        let whole : BringsTo table first asked.max_events turns (spot_of new) (h.script ++ given) (h.calls ++ gained) (is.records ++ records) =
         brings_two table first asked.max_events is.turns (spot_of old) h.script h.calls is.records is.brings (old.remaining - new.remaining) (spot_of new) given gained records then_on
         in
-        let here : BringsTo table first asked.max_events (is.turns + (old.remaining - new.remaining)) (spot_of new) (h.script ++ events) (h.calls ++ since calls calls') (is.records ++ records) =
-        subst (λ (calls'' : List SignCall). BringsTo table first asked.max_events (is.turns + (old.remaining - new.remaining)) (spot_of new) (h.script ++ events) (h.calls ++ calls'') (is.records ++ records)) asked_now
-        (subst (λ (bytes : List ℕ). BringsTo table first asked.max_events (is.turns + (old.remaining - new.remaining)) (spot_of new) (h.script ++ bytes) (h.calls ++ gained) (is.records ++ records)) event whole)
-        in
-        let count : is.turns + (old.remaining - new.remaining) + new.remaining ≡ asked.max_events = omega (arith, is.count, le) in
-        let text : h.text ++ text_since b n ≡ lines (is.records ++ records) =
-        ap (λ (t : List ℕ). t ++ text_since b n) is.text ∙ ap (λ (t : List ℕ). lines is.records ++ t) (sym said) ∙ sym (flat_map-append line is.records records)
-        in
-        record {
-          promised = paused_promised (followed_by h events (since calls calls') (text_since b n)) (is.turns + (old.remaining - new.remaining)) new.remaining (spot_of new) (is.records ++ records) count text here;
+        let count : turns + new.remaining ≡ asked.max_events = omega (arith, is.count, le) in
+        let text : h.text ++ lines records ≡ lines (is.records ++ records) = ap (λ (t : List ℕ). t ++ lines records) is.text ∙ sym (flat_map-append line is.records records) in
+        rw (event, asked_now, said)
+        (record {
+          promised = paused_promised (followed_by h given gained (lines records)) turns new.remaining (spot_of new) (is.records ++ records) count text whole;
           hosts = hosts ∙ is.hosts;
           going = going;
-          turns = is.turns + (old.remaining - new.remaining);
+          turns = turns;
           count = count;
           records = is.records ++ records;
           text = text;
-          brings = here;
-        }
+          brings = whole;
+        })
 
 -- before its first event, by its arguments
 pub started_run : (laws : SessionLaws) (host : List ℕ) (port : ℕ) (known : List ℕ) (accepts : Accepts) (config : Config) → IsRun (run_asked host port known accepts config) nothing_yet (started (host_text host port) known config)

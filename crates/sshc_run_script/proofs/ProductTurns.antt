@@ -1,19 +1,7 @@
 -- What taking an event does, by a part's turn and by the turn of the whole: the code of each part is proved alone.
 use Rattle.std.proofs.Common.{◌≡◌, inl, inr, ℕ, true, false, List, Option, Some, None, Result, refl, ap, sym, ◌∙◌, subst}
-use Rattle.sshc_wire.specs.Contents.{append, WroteFront}
-use Rattle.sshc_wire.specs.declared.record.Record.{Record}
-use Rattle.sshc_key.specs.Signers.{SignCall}
-use Rattle.sshc_auth.specs.declared.ended.Ended.{Ended}
-use Rattle.sshc_key.specs.Asking.{Asking, asked_on}
-use Rattle.sshc_key.specs.AskingLaws.{makes_on, first_on}
-use Rattle.sshc_run_script.specs.declared.error.RunError.{RunError}
-use Rattle.sshc_run_script.specs.Machine.{TurnOf, Turns, stop_next}
-use Rattle.sshc_run_script.specs.Outcome.{Ending, told, cut, unread, ending_of}
-use Rattle.sshc_run_script.specs.Part.{Own}
 use Rattle.sshc_run_script.specs.Product.{Both, in_one, in_other, both_turn}
-use Rattle.sshc_run_script.specs.RecordLines.{lines}
-use Rattle.sshc_run_reader.specs.Script.{Frame}
-use Rattle.sshc_run_script.specs.TurnContracts.{StopsBy, CutBy, TakeAs, TakeGives}
+use Rattle.sshc_run_script.proofs.RunNames.{append, WroteFront, Record, SignCall, Ended, Asking, asked_on, makes_on, first_on, RunError, TurnOf, Turns, stop_next, Ending, told, cut, unread, ending_of, Own, lines, Frame, StopsBy, CutBy, TakeAs, TakeGives}
 
 module _ {A : Type 0} {B : Type 0} (f : TurnOf A → TurnOf B) (g : A → B) (keeps : (t : TurnOf A) → ((f t).records ≡ t.records) × ((f t).next ≡ t.next) × ((f t).state ≡ g t.state)) where
   stops_on : (asking : Asking (TurnOf A)) (gained : List SignCall) (held now : Option (List ℕ)) (answer : Result Ended RunError) → StopsBy asking gained held now answer → StopsBy (asked_on f asking) gained held now answer

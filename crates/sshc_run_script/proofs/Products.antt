@@ -1,13 +1,8 @@
 -- Each of two machines side by side is a part of both.
-use Rattle.std.proofs.Common.{◌≡◌, Bool, true, false, refl}
+use Rattle.std.proofs.Common.{◌≡◌, Bool, true, false, refl, sym, subst}
 use Rattle.sshc_key.specs.declared.signer.Asker.{Asker}
-use Rattle.sshc_key.specs.Asking.{Asking, done, asks, asked_on, Always}
-use Rattle.sshc_key.specs.AskingLaws.{always_on}
-use Rattle.sshc_run_script.specs.ReachedStates.{StopsFor}
-use Rattle.sshc_run_script.specs.Machine.{RunStop, TurnOf, Turns, IsNoEnd, NeverAtEnd}
-use Rattle.sshc_run_script.specs.Part.{Own, SaysBy, AsksBy, HasPart, StopsOthers}
 use Rattle.sshc_run_script.specs.Product.{Both, in_one, in_other, both_turn, Apart}
-use Rattle.sshc_run_reader.specs.Script.{Frame}
+use Rattle.sshc_run_script.proofs.RunNames.{Asking, done, asks, asked_on, Always, always_on, Frame, TurnOf, Turns, IsNoEnd, NeverAtEnd, Own, AsksBy}
 
 pub asks_on : {A : Type 0} {B : Type 0} (test : Asker → Bool) (is : Bool) (f : A → B) (asking : Asking A) → AsksBy test is asking → AsksBy test is (asked_on f asking)
 asks_on test is f (done x) by = tt
@@ -22,35 +17,19 @@ module _ {A : Type 0} {B : Type 0} (own : Own) (one : Turns A) (other : Turns B)
   unfolding both_turn
   other_takes s frame is = rw is refl
 
-  pub one_part : HasPart (both_turn own one other) one (λ (s : Both A B). s.one) own
-  unfolding both_turn
-  one_part = record {
-    as_whole = in_one;
-    same = λ s frame is. rw is refl;
-    seen = λ s t. (refl, refl, refl);
-    says = apart.one_says;
-    asks_own = apart.one_asks;
-    still = λ s frame is.
-        rw is
-        (always_on (λ (t : TurnOf B). SaysBy own.said false t.records) (λ (t : TurnOf (Both A B)). SaysBy own.said false t.records × (t.state.one ≡ s.one)) (in_other s) (other s.other frame) (λ t says. (says, refl))
-        (apart.other_says s.other frame is));
-    asks_other = λ s frame is. rw is (asks_on own.asker false (in_other s) (other s.other frame) (apart.other_asks s.other frame is));
-  }
-
-  both_never_by : (b : Bool) (s : Both A B) (frame : Frame) → own.event frame ≡ b → Always IsNoEnd (one s.one frame) → Always IsNoEnd (other s.other frame) → Always IsNoEnd (both_turn own one other s frame)
-  unfolding both_turn
-  both_never_by true s frame is never never' = rw is (always_on IsNoEnd IsNoEnd (in_one s) (one s.one frame) (λ t none. none) never)
-  both_never_by false s frame is never never' = rw is (always_on IsNoEnd IsNoEnd (in_other s) (other s.other frame) (λ t none. none) never')
-
-  -- a cause of the other's turn is one of both
-  pub other_stops : (Cause : Frame → RunStop → Type 0) → ((s : B) (frame : Frame) → own.event frame ≡ false → Always (λ (t : TurnOf B). StopsFor (Cause frame) t.next) (other s frame)) → StopsOthers (both_turn own one other) own Cause
-  unfolding both_turn
-  other_stops Cause stops = λ s frame is.
-      rw is
-      (always_on (λ (t : TurnOf B). StopsFor (Cause frame) t.next) (λ (t : TurnOf (Both A B)). StopsFor (Cause frame) t.next) (in_other s) (other s.other frame) (λ t shows. shows) (stops s.other frame is))
+  -- what holds of both machines' turns holds of a turn of both
+  pub both_case : (P : Asking (TurnOf (Both A B)) → Type 0) (s : Both A B) (frame : Frame) → (own.event frame ≡ true → P (asked_on (in_one s) (one s.one frame))) → (own.event frame ≡ false → P (asked_on (in_other s) (other s.other frame))) →
+      P (both_turn own one other s frame)
+  both_case P s frame here there = by (own.event frame) refl
+    where
+      by : (mine : Bool) → own.event frame ≡ mine → P (both_turn own one other s frame)
+      by true is = subst P (sym (one_takes s frame is)) (here is)
+      by false is = subst P (sym (other_takes s frame is)) (there is)
 
   -- ---- both as one machine of a run
 
   -- no turn of both ends with the script's end
   pub both_never : NeverAtEnd one → NeverAtEnd other → NeverAtEnd (both_turn own one other)
-  both_never never never' = λ s frame. both_never_by (own.event frame) s frame refl (never s.one frame) (never' s.other frame)
+  both_never never never' = λ s frame.
+      both_case (Always IsNoEnd) s frame (λ is. always_on IsNoEnd IsNoEnd (in_one s) (one s.one frame) (λ t none. none) (never s.one frame))
+      (λ is. always_on IsNoEnd IsNoEnd (in_other s) (other s.other frame) (λ t none. none) (never' s.other frame))

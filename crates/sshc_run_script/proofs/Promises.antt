@@ -1,41 +1,24 @@
 -- The guarantees of a run by its table.
 use Rattle.std.proofs.Common.{◌≡◌, ℕ, List, [], ◌++◌, length, drop, Option, Some, None, Result, Ok, Err, refl, ap, sym, ◌∙◌, subst, inl, inr, arith}
-use Rattle.std.proofs.Math.Path.{fun_ext}
+use Rattle.std.specs.Prelude.{◌⊎◌}
 use Rattle.std.proofs.Math.Seq.{drop-append_seam}
-use Rattle.std.proofs.lemmas.List.{append-nil}
-use Rattle.sshc_wire.specs.Contents.{prepend, append, WroteFront, prepend-nothing}
 use Rattle.sshc_wire.specs.Faults.{Rose}
-use Rattle.sshc_key.specs.Signers.{SignCall, since}
-use Rattle.sshc_key.specs.Asking.{Answer}
-use Rattle.sshc_auth.specs.declared.ended.Ended.{Ended}
-use Rattle.sshc_client_packets.specs.HostKeyProof.{Accepts}
-use Rattle.sshc_run_script.specs.declared.error.RunError.{RunError}
 use Rattle.sshc_run_script.specs.declared.error.RunError.TheVariants as errors
 use Rattle.sshc_run_script.specs.Headline.{IsGated, IsPrefix, IsDone, KeptBy, IsKept, IsComplete}
-use Rattle.sshc_run_script.specs.KnownHosts.{Hosts}
-use Rattle.sshc_run_script.specs.Machine.{ended, refused, Machine}
-use Rattle.sshc_run_script.specs.Outcome.{Streams, Ending, told, cut, unread, ending_of, IsExact, EndsAs, EndsBy, Ends, HasEarlier, HasWritten}
-use Rattle.sshc_run_script.specs.RecordLines.{lines}
-use Rattle.sshc_run_reader.specs.Script.{taken, stop_of}
 use Rattle.sshc_run_script.specs.RunFaults.{fault_counts}
-use Rattle.sshc_run_script.specs.ScriptRun.{Run, at_first, run, script_run, answers_of, answers_since}
-use Rattle.sshc_run_script.specs.Configured.{RunSettings}
-use Rattle.sshc_run_script.specs.RunTurn.{run_machine}
+use Rattle.sshc_run_script.proofs.RunNames.{append-nil, prepend, append, WroteFront, prepend-nothing, SignCall, since, Answer, Ended, Accepts, taken, stop_of, RunError, Hosts, ended, Machine, unanswered_stop, Streams, Ending, told, cut, unread, ending_of, IsExact, EndsAs, EndsBy, Ends, HasEarlier, HasWritten, stop_as, lines, Run, at_first, run, script_run, answers_of, answers_since, RunSettings, run_machine}
 use Rattle.sshc_run_script.proofs.HostKeyGate.{gated}
 use Rattle.sshc_run_script.proofs.RunUnfold.{not_nothing, run_nothing, nothing_held}
-use Rattle.sshc_run_script.proofs.RunEqualsFold.{joined}
 use Rattle.sshc_run_script.proofs.Lines.{wrote_all, wrote_nothing}
-use Rattle.sshc_run_script.proofs.ScriptExtension.{begins, wrote_longer}
+use Rattle.sshc_run_script.proofs.ScriptExtension.{begins, wrote_longer, Begins}
 
 -- the calls that were added since
 pub since_is : (old new gained : List SignCall) → new ≡ old ++ gained → since old new ≡ gained
 since_is old new gained is = ap (drop (length old)) is ∙ drop-append_seam old gained
 
--- by a table that is the same for all answers and bytes
-ends_same : (n place last : ℕ) (table table' : List Answer → List ℕ → Run) (before now : Streams) (a : Result Ended RunError) → ((answers : List Answer) (bytes : List ℕ) → table answers bytes ≡ table' answers bytes) →
-    Ends n place last table before now a → Ends n place last table' before now a
-ends_same n place last table table' before now a same ends =
-    subst (λ (t : List Answer → List ℕ → Run). Ends n place last t before now a) (fun_ext (λ (answers : List Answer). fun_ext (same answers))) ends
+-- the answers are those of the calls
+pub with_answers : (P : List Answer → Type 0) (before now : Streams) (gained : List SignCall) → now.calls ≡ before.calls ++ gained → P (answers_of gained) → P (answers_since before.calls now.calls)
+with_answers P before now gained asked holds = subst (λ (calls : List SignCall). P (answers_of calls)) (sym (since_is before.calls now.calls gained asked)) holds
 
 -- in each case a prefix of the lines is written
 wrote_some : (ending : Ending) (table : List Answer → List ℕ → Run) (given : List ℕ) (gained : List SignCall) (before now : Streams) (a : Result Ended RunError) → EndsAs ending table given gained before now a →
@@ -45,22 +28,20 @@ wrote_some cut table given gained before now a by = by
 wrote_some unread table given gained before now a by = wrote_all before.held now.held (lines (table (answers_of gained) given).records) by
 
 module _ {S : Type 0} (m : Machine S) (max : ℕ) where
-  -- the recursion over bytes is the run of the script
-  joined_at : (answers : List Answer) (bytes : List ℕ) → run m.turn max (at_first m.first) answers bytes ≡ script_run m max answers bytes
-  joined_at answers bytes = joined m.turn max (at_first m.first) answers bytes
-
   pub by_events : (before now : Streams) (a : Result Ended RunError) → Ends max 0 0 (run m.turn max (at_first m.first)) before now a → Ends max 0 0 (script_run m max) before now a
-  by_events before now a ends = ends_same max 0 0 (run m.turn max (at_first m.first)) (script_run m max) before now a joined_at ends
+  unfolding run
+  by_events before now a ends = ends
 
   -- if memory ran out before the first event was read
   pub none_ran : (before : Streams) → Ends max 0 0 (script_run m max) before before (Err errors.NoMemory)
+  unfolding run
   none_ran before = (
     [],
     [],
     record {
       read = sym (prepend-nothing before.left);
       asked = sym (append-nil before.calls);
-      made = ap (λ (r : Run). r.calls) (sym (joined_at [] []) ∙ run_nothing m.turn max (at_first m.first) []);
+      made = ap (λ (r : Run). r.calls) (run_nothing m.turn max (at_first m.first) []);
       by = wrote_nothing before.held _;
       early = λ later front b more is. absurd (not_nothing front b more is);
       count = omega arith;
@@ -68,23 +49,24 @@ module _ {S : Type 0} (m : Machine S) (max : ℕ) where
     },
   )
 
-  prefix_by : (given bytes : List ℕ) (answers : List Answer) (left held written : Option (List ℕ)) → prepend given left ≡ Some bytes → WroteFront held written (lines (run m.turn max (at_first m.first) answers given).records) →
-      (later : List Answer) → WroteFront held written (lines (run m.turn max (at_first m.first) (answers ++ later) bytes).records)
-  prefix_by given bytes answers None held written read wrote later = absurd cc
-  prefix_by given bytes answers (Some more) held written read wrote later =
+  -- a longer script with more answers begins in the same way
+  pub begins_so : (answers later : List Answer) (given more : List ℕ) → Begins (script_run m max answers given) (script_run m max (answers ++ later) (given ++ more))
+  unfolding run
+  begins_so answers later given more = begins m.turn max (at_first m.first) answers later given more
+
+  prefix_by : (given bytes : List ℕ) (answers later : List Answer) (left held written : Option (List ℕ)) → prepend given left ≡ Some bytes → WroteFront held written (lines (script_run m max answers given).records) →
+      WroteFront held written (lines (script_run m max (answers ++ later) bytes).records)
+  prefix_by given bytes answers later None held written read wrote = absurd cc
+  prefix_by given bytes answers later (Some more) held written read wrote =
       let same : given ++ more ≡ bytes = cc in
-      rw (sym same) (wrote_longer held written _ _ (begins m.turn max (at_first m.first) answers later given more).0 wrote)
+      rw (sym same) (wrote_longer held written _ _ (begins_so answers later given more).0 wrote)
 
   -- the bytes that were written are a prefix of the whole script's records' lines, whatever the signer would answer
   -- then
   pub prefix_later : (before now : Streams) (a : Result Ended RunError) → Ends max 0 0 (script_run m max) before now a → (later : List Answer) → IsPrefix (script_run m max (answers_since before.calls now.calls ++ later)) before now
   prefix_later before now a (given, gained, end) later = λ bytes said.
-      let here : WroteFront before.held now.held (lines (script_run m max (answers_of gained) given).records) = wrote_some (ending_of a) (script_run m max) given gained before now a end.by in
-      let gained_is : gained ≡ since before.calls now.calls = sym (since_is before.calls now.calls gained end.asked) in
-      subst (λ (calls : List SignCall). WroteFront before.held now.held (lines (script_run m max (answers_of calls ++ later) bytes).records)) gained_is
-      (subst (λ (r : Run). WroteFront before.held now.held (lines r.records)) (joined_at (answers_of gained ++ later) bytes)
-      (prefix_by given bytes (answers_of gained) now.left before.held now.held (sym end.read ∙ said)
-      (subst (λ (r : Run). WroteFront before.held now.held (lines r.records)) (sym (joined_at (answers_of gained) given)) here) later))
+      with_answers (λ (answers : List Answer). WroteFront before.held now.held (lines (script_run m max (answers ++ later) bytes).records)) before now gained end.asked
+      (prefix_by given bytes (answers_of gained) later now.left before.held now.held (sym end.read ∙ said) (wrote_some (ending_of a) (script_run m max) given gained before now a end.by))
 
   pub prefix_of : (before now : Streams) (a : Result Ended RunError) → Ends max 0 0 (script_run m max) before now a → IsPrefix (script_run m max (answers_since before.calls now.calls)) before now
   prefix_of before now a ends =
@@ -96,7 +78,7 @@ gate_of hosts accepts settings max before now a (given, gained, end) = (
   end.read,
   λ no. (
     (script_run (run_machine hosts accepts settings) max (answers_of gained) given).records,
-    gated hosts accepts (taken max given) (run_machine hosts accepts settings).first (stop_of max given) (answers_of gained) (record { exchanging = refl; runs = λ same. absurd cc; fresh = refl }) no,
+    gated hosts accepts (stop_of max given) (taken max given) (run_machine hosts accepts settings).first (answers_of gained) (record { exchanging = refl; runs = λ same. absurd cc; fresh = refl }, no),
     wrote_some (ending_of a) (script_run (run_machine hosts accepts settings) max) given gained before now a end.by,
   ),
 )
@@ -114,10 +96,6 @@ same_by table given bytes gained before now (Some more) a is read exact =
 pub same_table : (table : List Answer → List ℕ → Run) (given bytes : List ℕ) (gained : List SignCall) (before now : Streams) (a : Result Ended RunError) → before.left ≡ prepend given now.left → before.left ≡ Some bytes → IsExact table given gained before now a →
     table (answers_of gained) bytes ≡ table (answers_of gained) given
 same_table table given bytes gained before now a read said exact = same_by table given bytes gained before now now.left a refl (sym read ∙ said) exact
-
--- the answers are those of the calls
-pub with_answers : (P : List Answer → Type 0) (before now : Streams) (gained : List SignCall) → now.calls ≡ before.calls ++ gained → P (answers_of gained) → P (answers_since before.calls now.calls)
-with_answers P before now gained asked holds = subst (λ (calls : List SignCall). P (answers_of calls)) (sym (since_is before.calls now.calls gained asked)) holds
 
 pub done_of : (max : ℕ) (table : List Answer → List ℕ → Run) (before now : Streams) (a : Result Ended RunError) → Ends max 0 0 table before now a → IsDone (table (answers_since before.calls now.calls)) before now a
 done_of max table before now (Err e) ends = tt
@@ -140,28 +118,41 @@ kept_of max table before now (Ok e) ends = tt
 kept_of max table before now (Err e) (given, gained, end) =
     with_answers (λ (answers : List Answer). IsKept (table answers) before now (Err e)) before now gained end.asked (given, end.read, kept_as (ending_of (Err e)) table given gained before now e end.by end.early)
 
-refused_not : (table : List Answer → List ℕ → Run) (given bytes : List ℕ) (gained : List SignCall) (before now : Streams) (e : Ended) (x : RunError) → before.left ≡ prepend given now.left → before.left ≡ Some bytes → (table (answers_of gained) bytes).stop ≡ ended e →
-    IsExact table given gained before now (Err x) → ⊥
-refused_not table given bytes gained before now e x read said good exact =
-    let same : table (answers_of gained) bytes ≡ table (answers_of gained) given = same_table table given bytes gained before now (Err x) read said exact in
-    let clash : ended e ≡ refused x = sym good ∙ ap (λ (r : Run). r.stop) same ∙ exact.stop in
-    cc
+-- ---- the result, as the table's over the whole script
 
-ended_same : (x y : Ended) → ended x ≡ ended y → x ≡ y
-ended_same x y h = cc
+-- out of memory, or the table's stop, if no count rises
+abbrev pub IsTold : List Answer → (List Answer → List ℕ → Run) → List ℕ → Result Ended RunError → Type 0
+IsTold answers table bytes a = (a ≡ Err errors.NoMemory) ⊎ ((table answers bytes).stop ≡ stop_as a)
 
-complete_by : (max : ℕ) (table : List Answer → List ℕ → Run) (before now : Streams) (reads reads' writes writes' : ℕ) (a : Result Ended RunError) (given : List ℕ) (gained : List SignCall) → EndsBy max 0 0 table before now a given gained →
-    (a ≡ Err errors.ReadFault → Rose reads reads') → (a ≡ Err errors.WriteFault → Rose writes writes') → IsComplete (table (answers_of gained)) before (fault_counts reads writes) (fault_counts reads' writes') a
-complete_by max table before now reads reads' writes writes' (Ok x) given gained end r w = λ bytes e said good quiet still.
-    let same : table (answers_of gained) bytes ≡ table (answers_of gained) given = same_table table given bytes gained before now (Ok x) end.read said end.by in
-    let ends : ended x ≡ ended e = sym end.by.stop ∙ ap (λ (t : Run). t.stop) (sym same) ∙ good in
-    inl (ap Ok (ended_same x e ends))
-complete_by max table before now reads reads' writes writes' (Err errors.NoMemory) given gained end r w = λ bytes e said good quiet still. inr refl
-complete_by max table before now reads reads' writes writes' (Err errors.ReadFault) given gained end r w = λ bytes e said good quiet still. absurd (quiet (r refl))
-complete_by max table before now reads reads' writes writes' (Err errors.WriteFault) given gained end r w = λ bytes e said good quiet still. absurd (still (w refl))
-complete_by max table before now reads reads' writes writes' (Err x) given gained end r w = λ bytes e said good quiet still. absurd (refused_not table given bytes gained before now e x end.read said good end.by)
+told_exact : (table : List Answer → List ℕ → Run) (given bytes : List ℕ) (gained : List SignCall) (before now : Streams) (a : Result Ended RunError) → before.left ≡ prepend given now.left → before.left ≡ Some bytes → IsExact table given gained before now a →
+    IsTold (answers_of gained) table bytes a
+told_exact table given bytes gained before now a read said exact = inr (ap (λ (r : Run). r.stop) (same_table table given bytes gained before now a read said exact) ∙ exact.stop)
+
+told_by : (max : ℕ) (table : List Answer → List ℕ → Run) (before now : Streams) (reads reads' writes writes' : ℕ) (a : Result Ended RunError) (given bytes : List ℕ) (gained : List SignCall) → EndsBy max 0 0 table before now a given gained → before.left ≡ Some bytes →
+    (a ≡ Err errors.ReadFault → Rose reads reads') → (a ≡ Err errors.WriteFault → Rose writes writes') → (Rose reads reads' → ⊥) → (Rose writes writes' → ⊥) → IsTold (answers_of gained) table bytes a
+told_by max table before now reads reads' writes writes' (Ok x) given bytes gained end said r w quiet still = told_exact table given bytes gained before now (Ok x) end.read said end.by
+told_by max table before now reads reads' writes writes' (Err errors.NoMemory) given bytes gained end said r w quiet still = inl refl
+told_by max table before now reads reads' writes writes' (Err errors.ReadFault) given bytes gained end said r w quiet still = absurd (quiet (r refl))
+told_by max table before now reads reads' writes writes' (Err errors.WriteFault) given bytes gained end said r w quiet still = absurd (still (w refl))
+told_by max table before now reads reads' writes writes' (Err x) given bytes gained end said r w quiet still = told_exact table given bytes gained before now (Err x) end.read said end.by
+
+pub told_of : (max : ℕ) (table : List Answer → List ℕ → Run) (before now : Streams) (reads reads' writes writes' : ℕ) (a : Result Ended RunError) → Ends max 0 0 table before now a → (bytes : List ℕ) → before.left ≡ Some bytes →
+    (a ≡ Err errors.ReadFault → Rose reads reads') → (a ≡ Err errors.WriteFault → Rose writes writes') → (Rose reads reads' → ⊥) → (Rose writes writes' → ⊥) → IsTold (answers_since before.calls now.calls) table bytes a
+told_of max table before now reads reads' writes writes' a (given, gained, end) bytes said r w quiet still =
+    with_answers (λ (answers : List Answer). IsTold answers table bytes a) before now gained end.asked (told_by max table before now reads reads' writes writes' a given bytes gained end said r w quiet still)
+
+pub answered : (a : Result Ended RunError) → stop_as a ≡ unanswered_stop → ⊥
+answered (Ok e) is = cc
+answered (Err e) is = cc
+
+pub answer_is : (a : Result Ended RunError) (e : Ended) → stop_as a ≡ ended e → a ≡ Ok e
+answer_is (Ok x) e is = let same : x ≡ e = cc in ap Ok same
+answer_is (Err x) e is = absurd cc
 
 pub complete_of : (max : ℕ) (table : List Answer → List ℕ → Run) (before now : Streams) (reads reads' writes writes' : ℕ) (a : Result Ended RunError) → Ends max 0 0 table before now a →
     (a ≡ Err errors.ReadFault → Rose reads reads') → (a ≡ Err errors.WriteFault → Rose writes writes') → IsComplete (table (answers_since before.calls now.calls)) before (fault_counts reads writes) (fault_counts reads' writes') a
-complete_of max table before now reads reads' writes writes' a (given, gained, end) r w =
-    with_answers (λ (answers : List Answer). IsComplete (table answers) before (fault_counts reads writes) (fault_counts reads' writes') a) before now gained end.asked (complete_by max table before now reads reads' writes writes' a given gained end r w)
+complete_of max table before now reads reads' writes writes' a ends r w = λ bytes e said good quiet still. by e good (told_of max table before now reads reads' writes writes' a ends bytes said r w quiet still)
+  where
+    by : {bytes : List ℕ} (e : Ended) → (table (answers_since before.calls now.calls) bytes).stop ≡ ended e → IsTold (answers_since before.calls now.calls) table bytes a → (a ≡ Ok e) ⊎ (a ≡ Err errors.NoMemory)
+    by e good (inl memory) = inr memory
+    by e good (inr stop) = inl (answer_is a e (sym stop ∙ good))

@@ -1,23 +1,13 @@
 -- Over a whole run each channel has its account: the law of each row's moves, joined over the steps.
 use Rattle.std.proofs.Common.{◌≡◌, ℕ, Bool, true, false, List, [], ◌∷◌, ◌++◌, length, drop, Option, refl, ap, sym, ◌∙◌, append_assoc}
-use Rattle.sshc_wire.specs.declared.record.Record.{Record}
-use Rattle.sshc_key.specs.Signers.{SignCall}
-use Rattle.sshc_key.specs.Asking.{Answer, Makes}
 use Rattle.sshc_mux.specs.ChannelState.{TableState, channel_of}
 use Rattle.sshc_mux.specs.ChannelTable.{Said}
 use Rattle.sshc_mux.specs.ChannelAccount.{Call, EachEndLeavesAFront, EachLifeHasItsAccount, Life, born, called, no_channels, ran}
 use Rattle.sshc_mux.specs.Packets.{packet_text}
-use Rattle.sshc_client_packets.specs.HostKeyProof.{Accepts}
 use Rattle.sshc_client_table.specs.Moves.{Move, calls_in, done as when_done}
 use Rattle.sshc_client_table.specs.SessionAccount.{ChannelsAreAccounted, channel_packet, channel_packets, said_packets}
-use Rattle.sshc_client_table.specs.SessionState.{SessionState, is_open}
-use Rattle.sshc_client_table.specs.SessionTable.{session_row}
-use Rattle.sshc_client.specs.Follows.{all_moves, default_opinions}
-use Rattle.sshc_run_reader.specs.Script.{Frame}
 use Rattle.sshc_run_script.specs.ChannelRuns.{calls_along, calls_at, calls_by, said_along, said_open, IsLife, HasAccount, AreAccounted}
-use Rattle.sshc_run_script.specs.Configured.{RunSettings}
-use Rattle.sshc_run_script.specs.KnownHosts.{Hosts}
-use Rattle.sshc_run_script.specs.SessionTurn.{SessionTurn, said_by, session_turn}
+use Rattle.sshc_run_script.proofs.RunNames.{Record, SignCall, Answer, Makes, Accepts, SessionState, is_open, session_row, all_moves, default_opinions, Frame, RunSettings, Hosts, SessionTurn, said_by, session_turn}
 use Rattle.sshc_run_script.proofs.RunSteps.{session_along}
 use Rattle.sshc_run_script.proofs.SessionTurns.{turn_by}
 
@@ -73,7 +63,7 @@ module _ (law : ChannelsAreAccounted) (hosts : Hosts) (accepts : Accepts) where
       (λ event on.
       let moves : List Move = all_moves (session_row accepts (default_opinions s) s event) in
       rw on (record { table = (law moves s).table; packets = row_leads moves s none }))
-      (λ event gained t un makes. rw un (record { table = refl; packets = refl })) (λ e x. record { table = refl; packets = none_said (is_open s.opening.phase) }) gained t
+      (λ event gained t un makes. rw un (record { table = refl; packets = refl })) (λ e. record { table = refl; packets = none_said (is_open s.opening.phase) }) gained t
 
   life_has : (accounts : EachLifeHasItsAccount) (s : SessionState) (calls : List Call) → s.table ≡ (ran calls (no_channels 0)).table → (n : ℕ) (l : Life n) → IsLife calls n l → HasAccount s n l
   life_has accounts s calls table n l life =

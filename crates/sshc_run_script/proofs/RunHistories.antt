@@ -1,12 +1,8 @@
 -- Over a whole run the agent's records are the reports of one history: each event of an agent is a piece of it, and
 -- each of the session doesn't change it.
-use Rattle.std.proofs.Common.{◌≡◌, ℕ, Bool, true, false, not, List, [], ◌∷◌, ◌++◌, Option, Result, Ok, Err, refl, ap, sym, ◌∙◌, subst, append_assoc}
-use Rattle.std.proofs.lemmas.List.{append-nil}
+use Rattle.std.proofs.Common.{◌≡◌, ℕ, true, false, not, List, [], ◌∷◌, ◌++◌, Option, Result, Ok, Err, refl, ap, sym, ◌∙◌, subst, append_assoc, inl, inr, None}
+use Rattle.std.specs.Prelude.{◌⊎◌}
 use Rattle.std.proofs.lemmas.List.Elements.{filter-append}
-use Rattle.sshc_wire.specs.declared.record.Record.{Record}
-use Rattle.sshc_key.specs.Signers.{SignCall}
-use Rattle.sshc_key.specs.Asking.{Answer, Asking, asked_on, Makes}
-use Rattle.sshc_key.specs.AskingLaws.{always_makes}
 use Rattle.sshc_agent_core.specs.declared.entry.Entry.{Entry}
 use Rattle.sshc_agent_core.specs.declared.input.AgentInput.{AgentInput}
 use Rattle.sshc_agent_core.specs.declared.input.AgentOutput.{AgentOutput}
@@ -15,32 +11,23 @@ use Rattle.sshc_agent_core.specs.declared.input.Cause.TheVariants as causes
 use Rattle.sshc_agent_core.specs.AgentFrames.{FrameBytes}
 use Rattle.sshc_agent_core.specs.AgentHistory.{AreNumbered, Leads}
 use Rattle.sshc_agent_core.specs.AgentList.{AgentList}
-use Rattle.sshc_agent_core.specs.LocksHold.{locks_hold}
-use Rattle.sshc_agent_core.specs.SignedEntries.{signatures_permitted}
+use Rattle.sshc_agent_core.specs.LocksHoldLaws.{locks_hold}
+use Rattle.sshc_agent_core.specs.SignedEntriesLaws.{signatures_permitted}
 use Rattle.sshc_run_agent.specs.declared.event.AgentEvent.{AgentEvent}
 use Rattle.sshc_run_agent.specs.AgentEvents.{agent_event_of}
 use Rattle.sshc_run_agent.specs.AgentTurns.{AgentTurn, Served, agent_turn, conn_of, each_turn, event_bytes, event_inputs, kept_with, records_of}
 use Rattle.sshc_run_agent.specs.TurnLaws.{AreInputs, IsPiece, on_made, reported, turn_piece}
-use Rattle.sshc_client_packets.specs.HostKeyProof.{Accepts}
 use Rattle.sshc_client_table.specs.SessionRecords.{is_session_record}
-use Rattle.sshc_run_reader.specs.declared.error.EventError.{EventError}
-use Rattle.sshc_run_reader.specs.Script.{Frame, ScriptStop, stop_of, taken}
 use Rattle.sshc_run_script.specs.AgentRuns.{Asked, HasOneHistory, asked_along, asked_at, asked_by_event, asked_in}
-use Rattle.sshc_run_script.specs.AgentsTurn.{agent_read_turn, agents_turn, going_on}
-use Rattle.sshc_run_script.specs.Configured.{RunSettings}
 use Rattle.sshc_run_script.specs.Prefixes.{IsFront}
-use Rattle.sshc_run_script.specs.KnownHosts.{Hosts}
-use Rattle.sshc_run_script.specs.Machine.{Onward, goes_on, opened, stopped, TurnOf, unanswered_stop}
-use Rattle.sshc_run_script.specs.Part.{SaysBy, own_events, own_records}
-use Rattle.sshc_run_script.specs.Product.{in_one, in_other, others}
-use Rattle.sshc_run_script.specs.RunTurn.{RunState, run_machine, run_turn}
-use Rattle.sshc_run_script.specs.ScriptRun.{asked_run, events_run, run_on, script_run}
-use Rattle.sshc_run_script.specs.SessionPart.{session_own}
-use Rattle.sshc_run_script.specs.SessionTurn.{SessionTurn, session_turn}
-use Rattle.sshc_run_script.proofs.AnsweredQuestions.{by_records}
+use Rattle.sshc_run_script.specs.Product.{in_other, others}
+use Rattle.sshc_run_script.specs.declared.error.RunError.TheVariants as errors
+use Rattle.sshc_run_script.proofs.RunNames.{append-nil, Record, SignCall, Answer, Makes, always_makes, Accepts, EventError, Frame, ScriptStop, stop_of, taken, agent_read_turn, agents_turn, going_on, RunSettings, Hosts, TurnOf, stop_next, SaysBy, own_events, own_records, RunState, run_machine, run_turn, events_run, script_run, session_own, SessionTurn, session_turn, stops}
 use Rattle.sshc_run_script.proofs.PartRuns.{own_first, other_first}
-use Rattle.sshc_run_script.proofs.Products.{one_takes, other_takes}
-use Rattle.sshc_run_script.proofs.SessionPart.{session_apart, session_says}
+use Rattle.sshc_run_script.proofs.SessionPart.{session_says, run_by}
+use Rattle.sshc_run_script.proofs.RunLaws.{run_law}
+use Rattle.sshc_run_script.proofs.AnsweredQuestions.{front_before}
+use Rattle.sshc_run_script.proofs.OpeningTurns.{made_done}
 
 -- ---- histories in sequence
 
@@ -85,14 +72,8 @@ none_in [] says = refl
 none_in (said ∷ records) (here, says) = rw here (none_in records says)
 
 output_in : (conn : ℕ) (output : AgentOutput) → agents_in (records_of conn output) ≡ records_of conn output
-output_in conn (outputs.Answer whole) = refl
-output_in conn (outputs.AskRequest message) = refl
-output_in conn (outputs.AskKey blob) = refl
-output_in conn outputs.Nothing = refl
-output_in conn (outputs.Closed causes.TooLong) = refl
-output_in conn (outputs.Closed causes.Unreadable) = refl
-output_in conn (outputs.Closed causes.SignerRefused) = refl
 output_in conn (outputs.Closed causes.NoMemory) = refl
+output_in conn output = refl
 
 -- the entries' reports are all of the agent's
 reported_in : (entries : List Entry) → agents_in (reported entries) ≡ reported entries
@@ -146,9 +127,6 @@ same_frames earlier a frames frames' records same on = record {
   reports = on.reports;
 }
 
-front_behind : (x y z : List Asked) → IsFront y z → IsFront (x ++ y) (x ++ z)
-front_behind x y z (rest, is) = (rest, ap (λ (more : List Asked). x ++ more) is ∙ sym (append_assoc x y rest))
-
 module _ (frame : Frame) (frames : List Frame) (a : Served) (event : AgentEvent) (mine : session_own.event frame ≡ false) (read : agent_event_of frame.kind frame.fields ≡ Ok event) where
   -- the inputs are those of the event, and then those of the events after it
   asked_first : asked_along a.bytes (own_events (others session_own) (frame ∷ frames)) ≡ asked_at frame.moment (conn_of event) (event_inputs event a.bytes) ++ asked_along (event_bytes event a.bytes) (own_events (others session_own) frames)
@@ -167,7 +145,7 @@ module _ (frame : Frame) (frames : List Frame) (a : Served) (event : AgentEvent)
     numbers = numbers_two earlier piece.entries on.entries piece.numbers on.numbers;
     inputs =
         rw (asked_first, asked_two piece.entries on.entries, asked_same frame.moment (conn_of event) (event_inputs event a.bytes) piece.entries piece.inputs_are)
-        (front_behind (asked_at frame.moment (conn_of event) (event_inputs event a.bytes)) (asked_in on.entries) (asked_along (event_bytes event a.bytes) (own_events (others session_own) frames))
+        (front_before (asked_at frame.moment (conn_of event) (event_inputs event a.bytes)) (asked_in on.entries) (asked_along (event_bytes event a.bytes) (own_events (others session_own) frames))
         (subst (λ (bs : List (ℕ × FrameBytes)). IsFront (asked_in on.entries) (asked_along bs (own_events (others session_own) frames))) bytes on.inputs));
     reports = agents_two t.records records ∙ ap (λ (rs : List Record). rs ++ agents_in records) (ap agents_in piece.reports ∙ reported_in piece.entries)
         ∙ ap (λ (rs : List Record). reported piece.entries ++ rs) on.reports ∙ sym (reported_two piece.entries on.entries);
@@ -182,77 +160,51 @@ turn_bytes now event s gained t makes =
 
 -- ---- the run
 
-module _ (hosts : Hosts) (accepts : Accepts) (st : ScriptStop) where
-  abbrev records_from : RunState → List Frame → List Answer → List Record
-  records_from s frames answers = (events_run (run_turn hosts accepts) s frames st answers).records
-
-  module _ (frame : Frame) (frames : List Frame) (s : RunState) (earlier : List Entry) where
-    -- the run continues after this event, whatever state it ended in
-    abbrev Later : Type 0
-    Later = (entries : List Entry) (s' : RunState) (left : List Answer) → GoesOn entries s'.other frames (records_from s' frames left)
-
-    on_next : (t : TurnOf RunState) (next : Onward) (left : List Answer) → agents_in t.records ≡ [] → GoesOn earlier s.other frames (records_from t.state frames left) →
-        GoesOn earlier s.other frames (run_on t next (events_run (run_turn hosts accepts) t.state frames st left)).records
-    on_next t goes_on left none on = behind_session earlier s.other frames t.records (records_from t.state frames left) none on
-    on_next t opened left none on = behind_session earlier s.other frames t.records (records_from t.state frames left) none on
-    on_next t (stopped stop) left none on = ends_here earlier s.other frames t.records none
-
-    -- an event of the session
-    session_frame : (answers : List Answer) → session_own.event frame ≡ true → Later → GoesOn earlier s.other (frame ∷ frames) (records_from s (frame ∷ frames) answers)
-    unfolding events_run
-    session_frame answers is later =
-        same_frames earlier s.other frames (frame ∷ frames) (records_from s (frame ∷ frames) answers) (sym (other_first (others session_own) frame frames (ap not is)))
-        (subst (λ (asking : Asking (TurnOf RunState)). GoesOn earlier s.other frames (asked_run unanswered_stop asking answers (λ t left. run_on t t.next (events_run (run_turn hosts accepts) t.state frames st left))).records)
-        (sym (one_takes session_own (session_turn hosts accepts) agents_turn (session_apart hosts accepts) s frame is))
-        (by_records (GoesOn earlier s.other frames) (asked_on (in_one s) (session_turn hosts accepts s.one frame)) answers (λ t left. run_on t t.next (events_run (run_turn hosts accepts) t.state frames st left))
-        (ends_here earlier s.other frames [] refl)
-        (λ gained t left makes.
-        let turn = on_made (in_one s) (session_turn hosts accepts s.one frame) gained t makes in
-        let says : SaysBy is_session_record true turn.0.records = always_makes (λ (x : SessionTurn). SaysBy is_session_record true x.records) (session_turn hosts accepts s.one frame) gained turn.0 (session_says hosts accepts s.one frame) turn.1 in
-        subst (λ (x : TurnOf RunState). GoesOn earlier s.other frames (run_on x x.next (events_run (run_turn hosts accepts) x.state frames st left)).records) turn.2
-        (on_next (in_one s turn.0) turn.0.next left (none_in turn.0.records says) (later earlier (in_one s turn.0).state left)))))
+module _ (hosts : Hosts) (accepts : Accepts) where
+  module _ (s : RunState) (frame : Frame) (frames : List Frame) where
+    -- the records of a turn continue the history, and so do those of the run after it, if it continues
+    abbrev Adds : TurnOf RunState → Type 0
+    Adds t = (earlier : List Entry) (records : List Record) → (records ≡ []) ⊎ (stop_next t.next ≡ None) → ((entries : List Entry) → GoesOn entries t.state.other frames records) → GoesOn earlier s.other (frame ∷ frames) (t.records ++ records)
 
     -- an agent's event that is read, or not
-    agent_made : (read : Result AgentEvent EventError) → agent_event_of frame.kind frame.fields ≡ read → session_own.event frame ≡ false → Later → (gained : List SignCall) (x : TurnOf Served) (left : List Answer) →
-        Makes (agent_read_turn frame.place frame.moment s.other read) gained x →
-        GoesOn earlier s.other (frame ∷ frames) (run_on (in_other s x) x.next (events_run (run_turn hosts accepts) (in_other s x).state frames st left)).records
-    agent_made (Ok event) read is later gained x left makes =
-        let turn = on_made going_on (agent_turn frame.moment event s.other) gained x makes in
-        let piece = turn_piece frame.moment event s.other earlier gained turn.0 turn.1 in
+    agent_adds : (read : Result AgentEvent EventError) → agent_event_of frame.kind frame.fields ≡ read → session_own.event frame ≡ false → (gained : List SignCall) (t : TurnOf Served) →
+        Makes (agent_read_turn frame.place frame.moment s.other read) gained t → Adds (in_other s t)
+    agent_adds (Ok event) read is gained t makes =
+        let turn = on_made going_on (agent_turn frame.moment event s.other) gained t makes in
         let bytes : turn.0.state.bytes ≡ event_bytes event s.other.bytes = turn_bytes frame.moment event s.other gained turn.0 turn.1 in
-        subst (λ (y : TurnOf Served). GoesOn earlier s.other (frame ∷ frames) (run_on (in_other s y) y.next (events_run (run_turn hosts accepts) (in_other s y).state frames st left)).records) turn.2
-        (behind_piece frame frames s.other event is read earlier turn.0 (records_from (in_other s (going_on turn.0)).state frames left) bytes piece (later (earlier ++ piece.entries) (in_other s (going_on turn.0)).state left))
-    agent_made (Err e) read is later [] x left makes =
-        subst (λ (y : TurnOf Served). GoesOn earlier s.other (frame ∷ frames) (run_on (in_other s y) y.next (events_run (run_turn hosts accepts) (in_other s y).state frames st left)).records) makes
-        (ends_here earlier s.other (frame ∷ frames) [] refl)
-    agent_made (Err e) read is later (call ∷ gained) x left never = absurd never
+        subst (λ (t : TurnOf Served). Adds (in_other s t)) turn.2
+        (λ earlier records on later.
+        let piece = turn_piece frame.moment event s.other earlier gained turn.0 turn.1 in
+        behind_piece frame frames s.other event is read earlier turn.0 records bytes piece (later (earlier ++ piece.entries)))
+    agent_adds (Err e) read is gained t makes = made_done (λ gained t. Adds (in_other s t)) (stops s.other (errors.BadEvent frame.place)) none_more gained t makes
+      where
+        none_more : Adds (in_other s (stops s.other (errors.BadEvent frame.place)))
+        none_more earlier records (inl none) later = rw none (ends_here earlier s.other (frame ∷ frames) [] refl)
+        none_more earlier records (inr on) later = absurd cc
 
-    agent_frame : (answers : List Answer) → session_own.event frame ≡ false → Later → GoesOn earlier s.other (frame ∷ frames) (records_from s (frame ∷ frames) answers)
-    unfolding events_run agents_turn
-    agent_frame answers is later =
-        subst (λ (asking : Asking (TurnOf RunState)). GoesOn earlier s.other (frame ∷ frames) (asked_run unanswered_stop asking answers (λ t left. run_on t t.next (events_run (run_turn hosts accepts) t.state frames st left))).records)
-        (sym (other_takes session_own (session_turn hosts accepts) agents_turn (session_apart hosts accepts) s frame is))
-        (by_records (GoesOn earlier s.other (frame ∷ frames)) (asked_on (in_other s) (agents_turn s.other frame)) answers (λ t left. run_on t t.next (events_run (run_turn hosts accepts) t.state frames st left))
-        (ends_here earlier s.other (frame ∷ frames) [] refl)
-        (λ gained t left makes.
-        let turn = on_made (in_other s) (agents_turn s.other frame) gained t makes in
-        subst (λ (x : TurnOf RunState). GoesOn earlier s.other (frame ∷ frames) (run_on x x.next (events_run (run_turn hosts accepts) x.state frames st left)).records) turn.2
-        (agent_made (agent_event_of frame.kind frame.fields) refl is later gained turn.0 left turn.1)))
+    turn_adds : (gained : List SignCall) (t : TurnOf RunState) → Makes (run_turn hosts accepts s frame) gained t → Adds t
+    unfolding agents_turn
+    turn_adds =
+        run_by hosts accepts s frame (λ gained t. Adds t)
+        (λ is gained t makes earlier records on later.
+        let says = always_makes (λ (x : SessionTurn). SaysBy is_session_record true x.records) (session_turn hosts accepts s.one frame) gained t (session_says hosts accepts s.one frame) makes in
+        same_frames earlier s.other frames (frame ∷ frames) (t.records ++ records) (sym (other_first (others session_own) frame frames (ap not is)))
+        (behind_session earlier s.other frames t.records records (none_in t.records says) (later earlier)))
+        (λ is gained t makes. agent_adds (agent_event_of frame.kind frame.fields) refl is gained t makes)
 
-    frame_goes : (mine : Bool) (answers : List Answer) → session_own.event frame ≡ mine → Later → GoesOn earlier s.other (frame ∷ frames) (records_from s (frame ∷ frames) answers)
-    frame_goes true answers is later = session_frame answers is later
-    frame_goes false answers is later = agent_frame answers is later
-
-  goes_along : (frames : List Frame) (s : RunState) (earlier : List Entry) (answers : List Answer) → GoesOn earlier s.other frames (records_from s frames answers)
-  unfolding events_run
-  goes_along [] s earlier answers = ends_here earlier s.other [] [] refl
-  goes_along (frame ∷ frames) s earlier answers = frame_goes frame frames s earlier (session_own.event frame) answers refl (λ entries s' left. goes_along frames s' entries left)
+  goes_along : (st : ScriptStop) (frames : List Frame) (s : RunState) (answers : List Answer) (earlier : List Entry) → GoesOn earlier s.other frames (events_run (run_turn hosts accepts) s frames st answers).records
+  goes_along st =
+      run_law (run_turn hosts accepts) st (λ s frames answers r. (earlier : List Entry) → GoesOn earlier s.other frames r.records) (λ s answers earlier. ends_here earlier s.other [] [] refl)
+      (λ s frame frames gained first earlier. ends_here earlier s.other (frame ∷ frames) [] refl)
+      (λ s frame frames gained left t stop makes is earlier.
+      subst (GoesOn earlier s.other (frame ∷ frames)) (append-nil t.records) (turn_adds s frame frames gained t makes earlier [] (inl refl) (λ entries. ends_here entries t.state.other frames [] refl)))
+      (λ s frame frames gained left t r makes on later earlier. turn_adds s frame frames gained t makes earlier r.records (inr on) later)
 
 -- the whole run of a script has one history
 pub one_history : (hosts : Hosts) (accepts : Accepts) (settings : RunSettings) (max : ℕ) (answers : List Answer) (script : Option (List ℕ)) →
     HasOneHistory settings.agent_asks max (script_run (run_machine hosts accepts settings) max answers) script
 one_history hosts accepts settings max answers script = λ bytes is.
-    let on = goes_along hosts accepts (stop_of max bytes) (taken max bytes) (run_machine hosts accepts settings).first [] answers in
+    let on = goes_along hosts accepts (stop_of max bytes) (taken max bytes) (run_machine hosts accepts settings).first answers [] in
     record {
       entries = on.entries;
       last = on.last;

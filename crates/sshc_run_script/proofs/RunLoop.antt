@@ -1,22 +1,13 @@
 -- A run after some of its events continues, or ends. Nothing here looks into the table.
 use Rattle.std.proofs.Common.{◌≡◌, ◌⊎◌, inl, inr, refl, ℕ, suc, ◌+◌, ◌-◌, ◌<◌, ◌≤◌, List, [], ◌∷◌, ◌++◌, length, Option, Result, ap, sym, ◌∙◌, subst, append_assoc, length-append, arith}
-use Rattle.std.proofs.lemmas.List.{append-nil}
 use Rattle.std.proofs.lemmas.List.Concat.{flat_map-append}
-use Rattle.sshc_wire.specs.Contents.{prepend, append, WroteFront, append-nothing, prepend-nothing, append-append, prepend-prepend}
-use Rattle.sshc_wire.specs.declared.record.Record.{Record}
-use Rattle.sshc_key.specs.Signers.{SignCall}
-use Rattle.sshc_key.specs.Asking.{Answer}
-use Rattle.sshc_auth.specs.declared.ended.Ended.{Ended}
-use Rattle.sshc_run_script.specs.declared.error.RunError.{RunError}
+use Rattle.sshc_wire.specs.ContentsLaws.{prepend-prepend}
 use Rattle.sshc_run_script.specs.LoopInvariant.{BringsTo, IsAlong, Pauses, Stays}
-use Rattle.sshc_run_script.specs.Machine.{RunStop}
 use Rattle.sshc_run_script.specs.Prefixes.{IsFront}
-use Rattle.sshc_run_script.specs.Outcome.{Streams, Moved, Ending, told, cut, unread, ending_of, IsCut, IsExact, EndsAs, EndsBy, HasEarlier, HasWritten, HoldsAtMost, Ends}
-use Rattle.sshc_run_script.specs.RecordLines.{line, lines}
-use Rattle.sshc_run_reader.specs.Script.{events}
-use Rattle.sshc_run_script.specs.ScriptRun.{Run, Spot, Table, after, answers_of}
-use Rattle.sshc_run_script.specs.TurnContracts.{BringsOn}
+use Rattle.sshc_run_script.specs.Outcome.{Moved}
+use Rattle.sshc_run_script.proofs.RunNames.{append-nil, prepend, append, WroteFront, append-nothing, prepend-nothing, append-append, Record, SignCall, Answer, Ended, events, RunError, RunStop, Streams, Ending, told, cut, unread, ending_of, IsCut, IsExact, EndsAs, EndsBy, HasEarlier, HasWritten, HoldsAtMost, Ends, line, lines, Run, Spot, Table, after, answers_of, BringsOn}
 use Rattle.sshc_run_script.proofs.AnsweredQuestions.{answers_two}
+use Rattle.sshc_run_script.proofs.RunUnfold.{not_nothing}
 
 -- ---- prefixes of two lists in sequence
 
@@ -35,10 +26,6 @@ front_of_two (x ∷ a) b (y ∷ front) c more is =
     let same : x ≡ y = cc in
     let tails : a ++ b ≡ front ++ c ∷ more = cc in
     subst (λ (z : ℕ). FrontOfTwo (x ∷ a) b (z ∷ front) c more) same (longer_front x a b front c more (front_of_two a b front c more tails))
-
-no_front : (front : List ℕ) (c : ℕ) (more : List ℕ) → [] ≡ front ++ c ∷ more → ⊥
-no_front [] c more is = cc
-no_front (b ∷ front) c more is = cc
 
 -- ---- records and calls
 
@@ -91,8 +78,8 @@ module _ {S : Type 0} (table : Table S) (first : Spot S) (max : ℕ) where
         let same : length (events (0 + n) first.place first.last more) ≡ length (events n first.place first.last more) = ap (λ (m : ℕ). length (events m first.place first.last more)) none in
         let here : length (events n first.place first.last more) ≡ length (events n at.place at.last more) = ap (λ (x : Spot S). length (events n x.place x.last more)) (sym is) in
         omega (arith, same, here));
-    early = λ later front c more none. absurd (no_front front c more none);
-    just = λ later front c more none. absurd (no_front front c more none);
+    early = λ later front c more none. absurd (not_nothing front c more none);
+    just = λ later front c more none. absurd (not_nothing front c more none);
   }
 
   pub along_none : (at : Spot S) (before : Streams) → at ≡ first → IsAlong table first max 0 at before before

@@ -1,35 +1,26 @@
 -- Over a whole run no more opens are answered than were asked for. The count along the way is that of the answers and
 -- of the opens that still wait, below a number that is above all those that are answered.
-use Rattle.std.proofs.Common.{◌≡◌, ◌⊎◌, inl, inr, ℕ, zero, suc, ◌+◌, ◌<◌, ◌≤◌, Bool, true, false, if◌then◌else◌, ◌==◌, List, [], ◌∷◌, ◌++◌, length, drop, Option, Some, None, is_some, refl, ap, sym, subst, arith}
+use Rattle.std.proofs.Common.{◌≡◌, ◌⊎◌, inl, inr, ℕ, zero, suc, ◌+◌, ◌<◌, ◌≤◌, Bool, true, false, if◌then◌else◌, ◌==◌, List, [], ◌∷◌, ◌++◌, length, drop, Option, Some, None, is_some, refl, ap, sym, subst, arith, lt-ltb}
+use Rattle.std.specs.Prelude.{nat_lt}
 use Rattle.std.specs.List.{AllByRecursion}
 use Rattle.std.proofs.lemmas.Bool.{eqb-true}
 use Rattle.std.proofs.lemmas.Bool.Decides.{nat_tests}
-use Rattle.sshc_wire.specs.declared.record.Record.{Record}
 use Rattle.sshc_wire.specs.declared.record.Record.TheVariants.{Resolved}
 use Rattle.sshc_wire.specs.declared.resolution.Resolution.{Resolution}
 use Rattle.sshc_wire.specs.declared.resolution.Resolution.TheVariants.{ChannelOpened, ChannelOpenFailed}
 use Rattle.sshc_wire.specs.declared.ticket.Ticket.{Ticket}
 use Rattle.sshc_wire.specs.Outgoing.{listed}
-use Rattle.sshc_key.specs.Signers.{SignCall}
-use Rattle.sshc_key.specs.Asking.{Answer, Makes}
 use Rattle.sshc_mux.specs.ChannelState.{TableState}
 use Rattle.sshc_mux.specs.ChannelTable.{Said, records_of}
 use Rattle.sshc_mux.specs.ChannelTable.Opens.{awaited, next_number}
 use Rattle.sshc_mux.specs.ChannelAccount.{Call, IsLegal, LegalStays, OpenUser, no_channels}
-use Rattle.sshc_client_packets.specs.HostKeyProof.{Accepts}
 use Rattle.sshc_client_table.specs.Moves.{Move, after, calls_in, calls_of, deed_of, did, onto, done as when_done}
 use Rattle.sshc_client_table.specs.OpensOnce.{AnswersOne, NoOpenAnswer, OpensAreAnsweredOnce, call_opens, is_number}
-use Rattle.sshc_client_table.specs.SessionState.{SessionState, is_open}
-use Rattle.sshc_client_table.specs.SessionTable.{session_row}
-use Rattle.sshc_client.specs.Follows.{all_moves, default_opinions}
-use Rattle.sshc_run_reader.specs.Script.{Frame}
 use Rattle.sshc_run_script.specs.ChannelRuns.{calls_along, calls_at, calls_by, said_along, said_open}
-use Rattle.sshc_run_script.specs.Configured.{RunSettings}
-use Rattle.sshc_run_script.specs.KnownHosts.{Hosts}
 use Rattle.sshc_run_script.specs.OpenCounts.{OpensAreCounted, is_open_answer, opens_answered, opens_asked}
-use Rattle.sshc_run_script.specs.SessionTurn.{SessionTurn, said_by, session_turn}
+use Rattle.sshc_run_script.proofs.RunNames.{Record, SignCall, Answer, Makes, Accepts, SessionState, is_open, all_moves, Frame, RunSettings, Hosts, SessionTurn, said_by, session_turn}
 use Rattle.sshc_run_script.proofs.RunSteps.{session_along}
-use Rattle.sshc_run_script.proofs.SessionTurns.{turn_by}
+use Rattle.sshc_run_script.proofs.SessionTurns.{turn_by, default_row}
 
 -- ---- sums below a number
 
@@ -54,35 +45,26 @@ bit false = 0
 abbrev one_at : ℕ → ℕ → ℕ
 one_at id n = bit (id == n)
 
-one_below_at : (id n : ℕ) (b : Bool) → (id == n) ≡ b → suc n ≤ id → bit b ≡ 0
-one_below_at id n true is le = let same : id ≡ n = eqb-true id n is in absurd (omega (arith, same, le))
-one_below_at id n false is le = refl
+bit_most : (b : Bool) → bit b ≤ 1
+bit_most true = omega arith
+bit_most false = omega arith
 
-one_below : (id m : ℕ) → m ≤ id → sum (one_at id) m ≡ 0
-one_below id zero le = refl
-one_below id (suc n) le =
-    let here : one_at id n ≡ 0 = one_below_at id n (id == n) refl le in
-    let rest : sum (one_at id) n ≡ 0 = one_below id n (omega (arith, le)) in
-    omega (arith, here, rest)
+one_step : (id n : ℕ) (same less : Bool) → (id == n) ≡ same → nat_lt id n ≡ less → bit same + bit less ≡ bit (nat_lt id (suc n))
+one_step id n true true is lt = absurd (grind (arith, nat_tests, is, lt))
+one_step id n true false is lt = let below : nat_lt id (suc n) ≡ true = grind (arith, nat_tests, is, lt) in rw below refl
+one_step id n false true is lt = let below : nat_lt id (suc n) ≡ true = grind (arith, nat_tests, is, lt) in rw below refl
+one_step id n false false is lt = let above : nat_lt id (suc n) ≡ false = grind (arith, nat_tests, is, lt) in rw above refl
 
-one_most_at : (id n : ℕ) (b : Bool) → (id == n) ≡ b → sum (one_at id) n ≤ 1 → bit b + sum (one_at id) n ≤ 1
-one_most_at id n true is rest = let same : id ≡ n = eqb-true id n is in let none : sum (one_at id) n ≡ 0 = one_below id n (omega (arith, same)) in omega (arith, none)
-one_most_at id n false is rest = omega (arith, rest)
+-- of all numbers below m it is one, or above them
+one_sum : (id m : ℕ) → sum (one_at id) m ≡ bit (nat_lt id m)
+one_sum id zero = let above : nat_lt id 0 ≡ false = grind (arith, nat_tests) in rw above refl
+one_sum id (suc n) = let rest = one_sum id n in let step = one_step id n (id == n) (nat_lt id n) refl refl in omega (arith, rest, step)
 
 one_most : (id m : ℕ) → sum (one_at id) m ≤ 1
-one_most id zero = omega arith
-one_most id (suc n) = one_most_at id n (id == n) refl (one_most id n)
-
-other_below : (id n : ℕ) → (id == n) ≡ false → id < suc n → id < n
-other_below id n isnt lt = grind (arith, nat_tests, isnt, lt)
-
-one_there_at : (id n : ℕ) (b : Bool) → (id == n) ≡ b → id < suc n → (id < n → 1 ≤ sum (one_at id) n) → 1 ≤ bit b + sum (one_at id) n
-one_there_at id n true is lt rest = omega arith
-one_there_at id n false is lt rest = let there = rest (other_below id n is lt) in omega (arith, there)
+one_most id m = let most = bit_most (nat_lt id m) in omega (arith, one_sum id m, most)
 
 one_there : (id m : ℕ) → id < m → 1 ≤ sum (one_at id) m
-one_there id zero lt = absurd (omega (arith, lt))
-one_there id (suc n) lt = one_there_at id n (id == n) refl lt (one_there id n)
+one_there id m lt = let there : bit (nat_lt id m) ≡ 1 = ap bit (lt-ltb id m lt) in omega (arith, one_sum id m, there)
 
 -- ---- answers among records
 
@@ -138,10 +120,6 @@ opened_most m (Some call) t = let none = sum_zero m in omega (arith, none)
 
 -- ---- one move
 
-waits_most : (b : Bool) → bit b ≤ 1
-waits_most true = omega arith
-waits_most false = omega arith
-
 none_waits : (t : TableState) (n : ℕ) → awaited n t ≡ None → waits t n ≡ 0
 none_waits t n none = ap (λ (o : Option (Option Ticket)). bit (is_some o)) none
 
@@ -154,9 +132,9 @@ module _ (opens : OpensAreAnsweredOnce) (stays : LegalStays) where
       waits (after m s).table n ≤ waits s.table n + bit b
   keeps_by m s legal n (Some ticket) b is opening =
       let one : waits s.table n ≡ 1 = some_waits s.table n ticket is in
-      let most = waits_most (is_some (awaited n (after m s).table)) in
+      let most = bit_most (is_some (awaited n (after m s).table)) in
       omega (arith, one, most)
-  keeps_by m s legal n None true is opening = let most = waits_most (is_some (awaited n (after m s).table)) in omega (arith, most)
+  keeps_by m s legal n None true is opening = let most = bit_most (is_some (awaited n (after m s).table)) in omega (arith, most)
   keeps_by m s legal n None false is opening = let none : waits (after m s).table n ≡ 0 = none_waits (after m s).table n (opens.stays n m s legal is opening) in omega (arith, none)
 
   keeps_at : (m : Move) (s : SessionState) → IsLegal s.table → (n : ℕ) → waits (after m s).table n ≤ waits s.table n + opens_at (deed_of m s).call s.table n
@@ -172,37 +150,29 @@ module _ (opens : OpensAreAnsweredOnce) (stays : LegalStays) where
       omega (arith, before, behind)
   answers_by m s legal one n false is = let kept = keeps_at m s legal n in omega (arith, kept)
 
-  -- the answers of a move, and the opens that wait after it, are no more than those that waited before and those that
-  -- it opens; below each number above the one that it answers
-  record Counts (most : ℕ) (answered asked : ℕ) (old new : TableState) : Type 0 where
-    pub below : (m : ℕ) → most ≤ m → answered + waiting m new ≤ waiting m old + asked
+  -- these answers, and the opens that wait afterwards, are no more than those that waited before and those that were
+  -- asked for, below each number from some on
+  abbrev Within : ℕ → ℕ → TableState → TableState → Type 0
+  Within answered asked old new = (most : ℕ) × ((k : ℕ) → most ≤ k → answered + waiting k new ≤ waiting k old + asked)
 
-  says_by : (m : Move) (s : SessionState) → IsLegal s.table → AllByRecursion NoOpenAnswer (deed_of m s).says ⊎ AnswersOne s (after m s) (deed_of m s).says →
-      (most : ℕ) × Counts most (opens_answered (deed_of m s).says) (opens_asked (calls_of m s)) s.table (after m s).table
+  says_by : (m : Move) (s : SessionState) → IsLegal s.table → AllByRecursion NoOpenAnswer (deed_of m s).says ⊎ AnswersOne s (after m s) (deed_of m s).says → Within (opens_answered (deed_of m s).says) (opens_asked (calls_of m s)) s.table (after m s).table
   says_by m s legal (inl none) = (
     0,
-    record {
-      below = λ k le.
-          let no : opens_answered (deed_of m s).says ≡ 0 = silent (deed_of m s).says none in
-          let parts = sum_le (waits (after m s).table) (λ n. 0) (waits s.table) (opens_at (deed_of m s).call s.table) (λ n. let kept = keeps_at m s legal n in omega (arith, kept)) k in
-          let opened = opened_most k (deed_of m s).call s.table in
-          omega (arith, no, parts, opened);
-    },
+    λ k le.
+        let no : opens_answered (deed_of m s).says ≡ 0 = silent (deed_of m s).says none in
+        let parts = sum_le (waits (after m s).table) (λ n. 0) (waits s.table) (opens_at (deed_of m s).call s.table) (λ n. let kept = keeps_at m s legal n in omega (arith, kept)) k in
+        let opened = opened_most k (deed_of m s).call s.table in
+        omega (arith, no, parts, opened),
   )
   says_by m s legal (inr one) = (
     one.id + 1,
-    record {
-      below = λ k le.
-          let few : opens_answered (deed_of m s).says ≤ 1 = subst (λ (rs : List Record). opens_answered rs ≤ 1) (sym one.says_so) (resolved_most _ _ _) in
-          let there = one_there one.id k (omega (arith, le)) in
-          let parts = sum_le (waits (after m s).table) (one_at one.id) (waits s.table) (opens_at (deed_of m s).call s.table) (λ n. answers_by m s legal one n (one.id == n) refl) k in
-          let opened = opened_most k (deed_of m s).call s.table in
-          omega (arith, few, there, parts, opened);
-    },
+    λ k le.
+        let few : opens_answered (deed_of m s).says ≤ 1 = subst (λ (rs : List Record). opens_answered rs ≤ 1) (sym one.says_so) (resolved_most _ _ _) in
+        let there = one_there one.id k (omega (arith, le)) in
+        let parts = sum_le (waits (after m s).table) (one_at one.id) (waits s.table) (opens_at (deed_of m s).call s.table) (λ n. answers_by m s legal one n (one.id == n) refl) k in
+        let opened = opened_most k (deed_of m s).call s.table in
+        omega (arith, few, there, parts, opened),
   )
-
-  move_counts : (m : Move) (s : SessionState) → IsLegal s.table → (most : ℕ) × Counts most (opens_answered (deed_of m s).says) (opens_asked (calls_of m s)) s.table (after m s).table
-  move_counts m s legal = says_by m s legal (opens.waits m s legal)
 
   -- ---- many moves
 
@@ -233,68 +203,57 @@ module _ (opens : OpensAreAnsweredOnce) (stays : LegalStays) where
       × ((most : ℕ) × ((k : ℕ) → most ≤ k → opens_answered (when_done moves s).records + waiting k (when_done moves s).table ≤ opens_answered s.records + waiting k s.table + opens_asked (calls_in moves s)))
   moves_count [] s legal = (legal, (0, λ k le. omega arith))
   moves_count (m ∷ moves) s legal =
-      let (one, here) = move_counts m s legal in
+      let (one, here) = says_by m s legal (opens.waits m s legal) in
       let (end, (more, rest)) = moves_count moves (after m s) (after_legal m s legal) in (
         end,
         (
           one + more,
           λ k le.
-              let a = here.below k (omega (arith, le)) in
+              let a = here k (omega (arith, le)) in
               let b = rest k (omega (arith, le)) in
-              let said = after_answered m s in
-              let asked = asked_two (calls_of m s) (calls_in moves (after m s)) in
-              omega (arith, a, b, said, asked),
+              omega (arith, a, b, after_answered m s, asked_two (calls_of m s) (calls_in moves (after m s))),
         ),
       )
 
   -- ---- from one state of a run to another
 
-  record Counted (s t : SessionState) (calls : List Call) (said : List Record) : Type 0 where
-    pub legal : IsLegal t.table
-    pub most : ℕ
-    pub below : (k : ℕ) → most ≤ k → opens_answered said + waiting k t.table ≤ waiting k s.table + opens_asked calls
+  abbrev Counted : SessionState → SessionState → List Call → List Record → Type 0
+  Counted s t calls said = IsLegal t.table × Within (opens_answered said) (opens_asked calls) s.table t.table
+
+  counted_none : (s : SessionState) (said : List Record) → opens_answered said ≡ 0 → IsLegal s.table → Counted s s [] said
+  counted_none s said none legal = (legal, (0, λ k le. omega (arith, none)))
 
   counted_two : (s t u : SessionState) (a b : List Call) (x y : List Record) → Counted s t a x → Counted t u b y → Counted s u (a ++ b) (x ++ y)
-  counted_two s t u a b x y one other = record {
-    legal = other.legal;
-    most = one.most + other.most;
-    below = λ k le.
-        let first = one.below k (omega (arith, le)) in
-        let second = other.below k (omega (arith, le)) in
-        let said = answered_two x y in
-        let asked = asked_two a b in
-        omega (arith, first, second, said, asked);
-  }
+  counted_two s t u a b x y (legal, (most, one)) (stays, (more, other)) = (
+    stays,
+    (
+      most + more,
+      λ k le.
+          let first = one k (omega (arith, le)) in
+          let second = other k (omega (arith, le)) in
+          omega (arith, first, second, answered_two x y, asked_two a b),
+    ),
+  )
 
   module _ (hosts : Hosts) (accepts : Accepts) where
     row_counts : (moves : List Move) (s : SessionState) → IsLegal s.table → s.records ≡ [] →
-        IsLegal (when_done moves s).table
-        × ((most : ℕ) × ((k : ℕ) → most ≤ k → opens_answered (said_by moves s) + waiting k (when_done moves s).table ≤ waiting k s.table + opens_asked (calls_in moves s)))
+        IsLegal (when_done moves s).table × Within (opens_answered (said_by moves s)) (opens_asked (calls_in moves s)) s.table (when_done moves s).table
     row_counts moves s legal none =
-        let (end, (most, rest)) = moves_count moves s legal in (
-          end,
-          (
-            most,
-            λ k le.
-                let all = rest k le in
-                let no : opens_answered s.records ≡ 0 = ap opens_answered none in
-                let said : opens_answered (said_by moves s) ≡ opens_answered (when_done moves s).records = ap (λ (rs : List Record). opens_answered (drop (length rs) (when_done moves s).records)) none in
-                omega (arith, all, no, said),
-          ),
-        )
+        let (end, (most, rest)) = moves_count moves s legal in
+        let no : opens_answered s.records ≡ 0 = ap opens_answered none in
+        let said : opens_answered (said_by moves s) ≡ opens_answered (when_done moves s).records = ap (λ (rs : List Record). opens_answered (drop (length rs) (when_done moves s).records)) none in
+        (end, (most, λ k le. let all = rest k le in omega (arith, all, no, said)))
 
-    none_counts : (s : SessionState) (opened : Bool) → IsLegal s.table → Counted s s [] (said_open opened [])
-    none_counts s true legal = record { legal = legal; most = 0; below = λ k le. omega arith }
-    none_counts s false legal = record { legal = legal; most = 0; below = λ k le. omega arith }
+    said_none : (opened : Bool) → opens_answered (said_open opened []) ≡ 0
+    said_none true = refl
+    said_none false = refl
 
     turn_counts : (s : SessionState) (frame : Frame) (gained : List SignCall) (t : SessionTurn) → IsLegal s.table → s.records ≡ [] → Makes (session_turn hosts accepts s frame) gained t →
         Counted s t.state (calls_at accepts s frame) (said_open (is_open s.opening.phase) t.records)
     turn_counts s frame gained t legal none =
         turn_by hosts accepts s frame (λ read gained t. Counted s t.state (calls_by accepts s read) (said_open (is_open s.opening.phase) t.records))
-        (λ event on.
-        let (end, (most, rest)) = row_counts (all_moves (session_row accepts (default_opinions s) s event)) s legal none in
-        rw on (record { legal = end; most = most; below = rest }))
-        (λ event gained t un makes. rw un (record { legal = legal; most = 0; below = λ k le. omega arith })) (λ e x. none_counts s (is_open s.opening.phase) legal) gained t
+        (λ event on. rw on (row_counts (all_moves (default_row accepts s event)) s legal none))
+        (λ event gained t un makes. rw un (legal, (0, λ k le. omega arith))) (λ e. counted_none s (said_open (is_open s.opening.phase) []) (said_none (is_open s.opening.phase)) legal) gained t
 
     none_wait : (last k : ℕ) → waiting k (no_channels last) ≡ 0
     none_wait last zero = refl
@@ -304,12 +263,12 @@ module _ (opens : OpensAreAnsweredOnce) (stays : LegalStays) where
     pub counted : (settings : RunSettings) (max : ℕ) (answers : List Answer) (script : Option (List ℕ)) → OpensAreCounted hosts accepts settings max answers script
     counted settings max answers script = λ bytes is steps s path.
         let so = session_along hosts accepts (λ s steps s'. IsLegal s.table → Counted s s' (calls_along accepts steps) (said_along steps))
-        (λ s legal. record { legal = legal; most = 0; below = λ k le. omega arith })
+        (λ s legal. counted_none s [] refl legal)
         (λ s frame gained t steps s' so makes on later legal.
         let here = turn_counts s frame gained t legal so.taken makes in
-        counted_two s t.state s' (calls_at accepts s frame) (calls_along accepts steps) (said_open (is_open s.opening.phase) t.records) (said_along steps) here (later here.legal))
+        counted_two s t.state s' (calls_at accepts s frame) (calls_along accepts steps) (said_open (is_open s.opening.phase) t.records) (said_along steps) here (later here.0))
         settings max answers script bytes is steps s path (stays.0 0)
         in
-        let all = so.below so.most (omega arith) in
-        let none = none_wait 0 so.most in
+        let all = so.1.1 so.1.0 (omega arith) in
+        let none = none_wait 0 so.1.0 in
         omega (arith, all, none)

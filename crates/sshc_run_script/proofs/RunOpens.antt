@@ -2,19 +2,15 @@
 -- legal.
 use Rattle.std.proofs.Common.{ℕ, List, [], ◌∷◌, Option, sym, subst}
 use Rattle.std.specs.List.{AllByRecursion}
-use Rattle.sshc_key.specs.Asking.{Answer}
 use Rattle.sshc_mux.specs.ChannelState.{TableState}
 use Rattle.sshc_mux.specs.ChannelAccount.{Call, IsLegal, LegalStays, called, ran}
-use Rattle.sshc_client_packets.specs.HostKeyProof.{Accepts}
 use Rattle.sshc_client_table.specs.Moves.{calls_in, done}
 use Rattle.sshc_client_table.specs.OpensOnce.{OpensAreAnsweredOnce}
 use Rattle.sshc_client_table.specs.SessionAccount.{ChannelsAreAccounted}
-use Rattle.sshc_client_table.specs.SessionState.{SessionState}
 use Rattle.sshc_run_script.specs.ChannelRuns.{calls_at}
-use Rattle.sshc_run_script.specs.Configured.{RunSettings}
-use Rattle.sshc_run_script.specs.KnownHosts.{Hosts}
 use Rattle.sshc_run_script.specs.OpenAnswers.{AnswersOpens, OpensAreAnswered}
 use Rattle.sshc_run_script.specs.Path.{StepOf}
+use Rattle.sshc_run_script.proofs.RunNames.{Answer, Accepts, SessionState, RunSettings, Hosts}
 use Rattle.sshc_run_script.proofs.RunChannels.{turn_leads}
 use Rattle.sshc_run_script.proofs.RunSteps.{session_along}
 

@@ -1,19 +1,9 @@
 -- Along a run requests are answered in order: the law of each row's moves, joined over the steps.
 use Rattle.std.proofs.Common.{◌≡◌, ℕ, List, [], ◌++◌, Option, ap, sym, ◌∙◌, append_assoc}
-use Rattle.std.proofs.lemmas.List.{append-nil}
-use Rattle.sshc_key.specs.Signers.{SignCall}
-use Rattle.sshc_key.specs.Asking.{Answer, Makes}
-use Rattle.sshc_client_packets.specs.HostKeyProof.{Accepts}
 use Rattle.sshc_client_table.specs.declared.reply_entry.ReplyEntry.{ReplyEntry}
 use Rattle.sshc_client_table.specs.ReplyQueue.{RepliesAreInOrder}
-use Rattle.sshc_client_table.specs.SessionState.{SessionState}
-use Rattle.sshc_client_table.specs.SessionTable.{session_row}
-use Rattle.sshc_client.specs.Follows.{all_moves, default_opinions}
-use Rattle.sshc_run_reader.specs.Script.{Frame}
-use Rattle.sshc_run_script.specs.Configured.{RunSettings}
-use Rattle.sshc_run_script.specs.KnownHosts.{Hosts}
 use Rattle.sshc_run_script.specs.ReplyOrder.{requests_at, requests_along, requests_of, AreInOrder}
-use Rattle.sshc_run_script.specs.SessionTurn.{SessionTurn, session_turn}
+use Rattle.sshc_run_script.proofs.RunNames.{append-nil, SignCall, Answer, Makes, Accepts, SessionState, session_row, all_moves, default_opinions, Frame, RunSettings, Hosts, SessionTurn, session_turn}
 use Rattle.sshc_run_script.proofs.RunSteps.{session_along}
 use Rattle.sshc_run_script.proofs.SessionTurns.{turn_by}
 
@@ -37,7 +27,7 @@ module _ (law : RepliesAreInOrder) (hosts : Hosts) (accepts : Accepts) where
   turn_in_order s frame =
       turn_by hosts accepts s frame (λ read gained t. InOrder s.replies (requests_of accepts s read) t.state.replies)
       (λ event on. rw on (law.order (all_moves (session_row accepts (default_opinions s) s event)) s))
-      (λ event gained t un makes. rw un (none_asked s.replies)) (λ e x. none_asked s.replies)
+      (λ event gained t un makes. rw un (none_asked s.replies)) (λ e. none_asked s.replies)
 
   -- each state that the session comes to
   pub replies_in_order : (settings : RunSettings) (max : ℕ) (answers : List Answer) (script : Option (List ℕ)) → AreInOrder hosts accepts settings max answers script

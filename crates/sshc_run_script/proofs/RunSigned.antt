@@ -3,51 +3,36 @@ use Rattle.std.proofs.Common.{◌≡◌, ◌≢◌, ◌⊎◌, inl, inr, ℕ, Bo
 use Rattle.std.specs.Prelude.{if◌then◌else◌}
 use Rattle.std.specs.List.{AllByRecursion}
 use Rattle.sshc_wire.specs.declared.auth_record.AuthRecord.TheVariants.{SignRequest, SignRequestCert}
-use Rattle.sshc_wire.specs.declared.record.Record.{Record}
 use Rattle.sshc_wire.specs.declared.record.Record.TheVariants as records
-use Rattle.sshc_key.specs.Signers.{SignCall}
-use Rattle.sshc_key.specs.Asking.{Answer, Asking, Always, Makes, done, asks}
-use Rattle.sshc_key.specs.AskingLaws.{always_makes}
-use Rattle.sshc_auth_event.specs.declared.event.Event.{Event}
 use Rattle.sshc_auth_event.specs.declared.event.Event.TheVariants as events
 use Rattle.sshc_transport.specs.declared.exchange.ExchangeKey.{ExchangeKey}
 use Rattle.sshc_transport.specs.declared.exchange.ExchangeResult.{ExchangeResult}
 use Rattle.sshc_auth.specs.declared.opening.Phase.{Phase}
 use Rattle.sshc_auth.specs.declared.opening.Phase.TheVariants as phases
-use Rattle.sshc_auth.specs.declared.step.Asks.{Asks}
 use Rattle.sshc_auth.specs.declared.step.Told.{Told}
 use Rattle.sshc_auth.specs.declared.step.Told.TheVariants as telling
-use Rattle.sshc_auth.specs.GateLaw.{FirstNext, IsNoExchange, StaysFirst, first_law}
-use Rattle.sshc_auth.specs.KeepLaws.{HandsAll, HandsBytes, Keeps, KeepsAsked, KeepsAsking, KeepsNext, KeepsState, open_keeps}
-use Rattle.sshc_auth.specs.OneKeyLaw.{HasKeyNext, HasKeyRow, later_row}
-use Rattle.sshc_auth.specs.OpeningState.{OpeningState, is_awaiting, shut}
-use Rattle.sshc_auth.specs.OpeningTable.{asked_of, open_row, plain_row, turn_row}
+use Rattle.sshc_auth.specs.GateLaws.{FirstNext, IsNoExchange, StaysFirst, first_law}
+use Rattle.sshc_auth.specs.KeepLaws.{HandsAll, HandsBytes, Keeps, KeepsNext, KeepsState, open_keeps}
+use Rattle.sshc_auth.specs.OneKeyLaws.{HasKeyNext, HasKeyRow, later_row}
+use Rattle.sshc_auth.specs.OpeningState.{is_awaiting}
+use Rattle.sshc_auth.specs.OpeningTable.{plain_row, turn_row}
 use Rattle.sshc_auth.specs.OpeningTable.Exchange.{accepted_row, exchange_done_row, exchange_row_in}
 use Rattle.sshc_auth.specs.OpeningTable.Order.{is_out_of_turn}
-use Rattle.sshc_auth.specs.Row.{Next, Row, ends, opens, refuses, stays}
-use Rattle.sshc_auth.specs.SessionWords.{AsksOnce, HandsStored, IsFirst, Kept, SignsStored, kept_of}
-use Rattle.sshc_auth.specs.SignedRuns.{IsAskedFor, IsHandedFor, IsSignedFor, asked_next, calls_for, handed_for}
-use Rattle.sshc_client_packets.specs.HostKeyProof.{Accepts}
-use Rattle.sshc_client_table.specs.SessionState.{SessionState, is_open}
-use Rattle.sshc_client_table.specs.SessionTable.{session_row}
+use Rattle.sshc_auth.specs.SessionWords.{AsksOnce, HandsStored, IsFirst, Kept, kept_of}
+use Rattle.sshc_auth.specs.SignedRuns.{IsAskedFor, IsHandedFor, IsSignedFor}
+use Rattle.sshc_auth.specs.SignedRunLaws.{asked_next, calls_for, handed_for}
 use Rattle.sshc_client_table.specs.SessionRow.{Next as RowNext, goes as row_continues, ends as row_ends, refuses as row_refuses}
-use Rattle.sshc_client_table.specs.OneKeyLaw.{session_has}
-use Rattle.sshc_client.specs.Follows.{all_moves, default_opinions}
+use Rattle.sshc_client_table.specs.OneKeyLaws.{session_has}
 use Rattle.sshc_client_state.specs.Start.{new_session}
-use Rattle.sshc_client_table.specs.NoRequests.{IsSameRequest, moves_request}
-use Rattle.sshc_run_reader.specs.declared.error.EventError.{EventError}
-use Rattle.sshc_run_reader.specs.EventReading.{event_of}
-use Rattle.sshc_run_reader.specs.Script.{Frame}
-use Rattle.sshc_run_script.specs.Configured.{RunSettings}
-use Rattle.sshc_run_script.specs.KnownHosts.{Hosts}
+use Rattle.sshc_client_table.specs.NoRequests.{IsSameRequest}
+use Rattle.sshc_client_table.specs.NoRequestsLaws.{moves_request}
 use Rattle.sshc_run_script.specs.Path.{StepOf, step_of}
-use Rattle.sshc_run_script.specs.Machine.{TurnOf, stop_next}
-use Rattle.sshc_run_script.specs.SessionTurn.{SessionTurn, onward, session_turn}
 use Rattle.sshc_run_script.specs.SignedRequests.{AreSigned, AreSignedSteps, HasHostKey, behind, first_exchange, or_exchange}
-use Rattle.sshc_run_script.specs.Turn.{asked_turn, next_turn}
+use Rattle.sshc_run_script.proofs.RunNames.{Record, SignCall, Answer, Asking, Always, Makes, always_makes, always_also, Event, OpeningState, shut, asked_of, open_row, Next, Row, opens, stays, Accepts, SessionState, is_open, session_row, all_moves, default_opinions, EventError, event_of, Frame, RunSettings, Hosts, TurnOf, stop_next, SessionTurn, onward, session_turn, asked_turn, next_turn}
 use Rattle.sshc_run_script.proofs.RunSteps.{session_along}
 use Rattle.sshc_run_script.proofs.OpeningTurns.{asked_by}
 use Rattle.sshc_run_script.proofs.SessionTurns.{turn_by}
+use Rattle.sshc_run_script.proofs.RunCalls.{asked_once, AskedOnce}
 
 -- ---- what is true of a state, with the events before it
 
@@ -79,26 +64,16 @@ stored_all : (k : Kept) (next : Next) (said : List Record) → HandsAll k next s
 stored_all k next [] hands = tt
 stored_all k next (one ∷ said) hands = (stored_bytes k next one said hands.0, stored_all k next said hands.1)
 
--- the calls that a row makes are of the stored request
-record MadeSo (k : Kept) (event : Event) (calls : List SignCall) (row : Row) : Type 0 where
-  keeps : Keeps k event row
-  once : (t : OpeningState) → t.closed ≡ true → AsksOnce k t calls
+-- the row keeps what it must, and a call that it makes is of the stored request
+keeps_of : (k : Kept) (event : Event) (calls : List SignCall) (row : Row) → AskedOnce k event calls row → Keeps k event row
+keeps_of k event [] row made = made
+keeps_of k event (call ∷ []) row (by, signs, keeps, settled) = keeps
+keeps_of k event (call ∷ other ∷ calls) row never = absurd never
 
-by_answer : (k : Kept) (event : Event) (asked : Asking Row) (calls : List SignCall) (row : Row) → KeepsAsked k event asked → Makes asked calls row → (calls ≡ []) × Keeps k event row
-by_answer k event (done to) [] row keeps is = (refl, subst (Keeps k event) is keeps.0)
-by_answer k event (done to) (call ∷ calls) row keeps never = absurd never
-by_answer k event (asks asked on) calls row never is = absurd never
-
-made_so : (k : Kept) (event : Event) (asked : Asking Row) (calls : List SignCall) (row : Row) → KeepsAsking k event asked → Makes asked calls row → MadeSo k event calls row
-made_so k event (done to) [] row keeps is = record { keeps = subst (Keeps k event) is keeps; once = λ t over. tt }
-made_so k event (done to) (call ∷ calls) row keeps never = absurd never
-made_so k event (asks asked on) [] row keeps never = absurd never
-made_so k event (asks asked on) (call ∷ calls) row (by, signs, each) (is, makes) =
-    let rest = by_answer k event (on call.answer) calls row (each call.answer) makes in
-    record {
-      keeps = rest.1;
-      once = λ t over. rw rest.0 (ap (λ (c : SignCall). c.by) is ∙ by, subst (λ (c : SignCall). SignsStored k.method k c.key c.hash c.bytes) (sym is) signs, inr over);
-    }
+once_of : (k : Kept) (event : Event) (calls : List SignCall) (row : Row) (t : OpeningState) → t.closed ≡ true → AskedOnce k event calls row → AsksOnce k t calls
+once_of k event [] row t over made = tt
+once_of k event (call ∷ []) row t over (by, signs, keeps, settled) = (by, signs, inr over)
+once_of k event (call ∷ other ∷ calls) row t over never = absurd never
 
 -- ---- the first exchange
 
@@ -106,70 +81,58 @@ made_so k event (asks asked on) (call ∷ calls) row (by, signs, each) (is, make
 abbrev IsTaken : ExchangeResult → OpeningState → Type 0
 IsTaken x t = ◌≡◌ {A = List ℕ × ExchangeKey} (t.session_id, t.host_key) (x.session_hash, x.key)
 
--- after an exchange that is done while the first one runs the session continues only if it is accepted, with its hash
--- as the session id and its host key
-abbrev TakesNext : ExchangeResult → Next → Type 0
-TakesNext x (stays t) = IsTaken x t × (t.phase ≢ phases.Exchanging)
-TakesNext x (opens t) = IsTaken x t × (t.phase ≢ phases.Exchanging)
-TakesNext x next = Unit {0}
+-- how a state is entered while the first exchange runs: by its accepted end, with its hash as the session id and its
+-- host key; or the exchange still runs
+abbrev Enters : Event → OpeningState → Type 0
+Enters (events.ExchangeDone x) t = IsTaken x t × (t.phase ≢ phases.Exchanging)
+Enters event t = IsFirst t × IsNoExchange event
 
-abbrev TakesRow : ExchangeResult → Row → Type 0
-TakesRow x row = TakesNext x row.next
+abbrev EntersNext : Event → Next → Type 0
+EntersNext event (stays t) = Enters event t
+EntersNext event (opens t) = Enters event t × (t.phase ≢ phases.Exchanging)
+EntersNext event next = Unit {0}
 
-cond_takes : (x : ExchangeResult) (b : Bool) (one other : Asking Row) → Always (TakesRow x) one → Always (TakesRow x) other → Always (TakesRow x) (if b then one else other)
-cond_takes x true one other a b = a
-cond_takes x false one other a b = b
+abbrev EntersRow : Event → Row → Type 0
+EntersRow event row = EntersNext event row.next
 
-accepted_takes : (s : OpeningState) (x : ExchangeResult) (anonymous : Bool) → TakesRow x (accepted_row anonymous s x)
-accepted_takes s x false = (refl, λ same. absurd cc)
-accepted_takes s x true = (refl, λ same. absurd cc)
+cond_enters : (event : Event) (b : Bool) (one other : Asking Row) → Always (EntersRow event) one → Always (EntersRow event) other → Always (EntersRow event) (if b then one else other)
+cond_enters event true one other a b = a
+cond_enters event false one other a b = b
 
-exchange_takes : (s : OpeningState) (x : ExchangeResult) (told : Told) (phase : Phase) → phase ≡ phases.Exchanging → TakesRow x (exchange_row_in phase s x told)
-exchange_takes s x telling.Went phases.Exchanging is = accepted_takes s x s.settings.anonymous
-exchange_takes s x told phases.Exchanging is = tt
-exchange_takes s x told phase is = absurd cc
+accepted_enters : (s : OpeningState) (x : ExchangeResult) (anonymous : Bool) → EntersRow (events.ExchangeDone x) (accepted_row anonymous s x)
+accepted_enters s x false = (refl, λ same. absurd cc)
+accepted_enters s x true = ((refl, λ same. absurd cc), λ same. absurd cc)
+
+exchange_enters : (s : OpeningState) (x : ExchangeResult) (told : Told) (phase : Phase) → phase ≡ phases.Exchanging → EntersRow (events.ExchangeDone x) (exchange_row_in phase s x told)
+exchange_enters s x telling.Went phases.Exchanging is = accepted_enters s x s.settings.anonymous
+exchange_enters s x told phases.Exchanging is = tt
+exchange_enters s x told phase is = absurd cc
 
 calm : (phase : Phase) → phase ≡ phases.Exchanging → is_awaiting phase ≡ false
 calm phase is = rw is refl
 
-turn_takes : (s : OpeningState) (x : ExchangeResult) (told : Told) (awaits : Bool) → is_awaiting s.phase ≡ awaits → s.phase ≡ phases.Exchanging → Always (TakesRow x) (turn_row awaits s (events.ExchangeDone x) told)
+turn_enters : (s : OpeningState) (x : ExchangeResult) (told : Told) (awaits : Bool) → is_awaiting s.phase ≡ awaits → s.phase ≡ phases.Exchanging → Always (EntersRow (events.ExchangeDone x)) (turn_row awaits s (events.ExchangeDone x) told)
 unfolding plain_row exchange_done_row
-turn_takes s x told true is first = let clash : true ≡ false = sym is ∙ calm s.phase first in absurd cc
-turn_takes s x told false is first = exchange_takes s x told s.phase first
+turn_enters s x told true is first = let clash : true ≡ false = sym is ∙ calm s.phase first in absurd cc
+turn_enters s x told false is first = exchange_enters s x told s.phase first
 
-done_takes : (s : OpeningState) (x : ExchangeResult) (told : Told) → s.phase ≡ phases.Exchanging → Always (TakesRow x) (open_row s (events.ExchangeDone x) told)
-unfolding open_row
-done_takes s x told first = cond_takes x (is_out_of_turn s (events.ExchangeDone x)) _ _ tt (turn_takes s x told (is_awaiting s.phase) refl first)
-
+-- an event that is no exchange
 no_exchange : (event : Event) → IsNoExchange event → or_exchange None event ≡ None
 no_exchange (events.ExchangeDone x) never = absurd never
 no_exchange event none = refl
 
--- the opening's next state while the first exchange runs
-first_next : (past : List Event) (s : OpeningState) (event : Event) (told : Told) (calls : List SignCall) (row : Row) (t : OpeningState) → IsFirst s → first_exchange past ≡ None → Makes (open_row s event told) calls row →
-    (row.next ≡ stays t) ⊎ (row.next ≡ opens t) → (t.phase ≡ phases.Exchanging → IsFirst t × (first_exchange (event ∷ past) ≡ None)) × (t.phase ≢ phases.Exchanging → first_exchange (event ∷ past) ≡ Some (t.session_id, t.host_key))
-first_next past s (events.ExchangeDone x) told calls row t first none makes next = by next
-  where
-    takes : TakesRow x row
-    takes = always_makes (TakesRow x) (open_row s (events.ExchangeDone x) told) calls row (done_takes s x told first.exchanging) makes
+first_enters : (event : Event) (next : Next) → FirstNext event next → EntersNext event next
+first_enters (events.ExchangeDone x) (stays t) on = absurd on.1
+first_enters event (stays t) on = on
+first_enters event (opens t) on = absurd on
+first_enters event next on = tt
 
-    found : or_exchange (first_exchange past) (events.ExchangeDone x) ≡ Some (x.session_hash, x.key)
-    found = rw none refl
-
-    so : IsTaken x t × (t.phase ≢ phases.Exchanging) → (t.phase ≡ phases.Exchanging → IsFirst t × (first_exchange (events.ExchangeDone x ∷ past) ≡ None)) × (t.phase ≢ phases.Exchanging → first_exchange (events.ExchangeDone x ∷ past) ≡ Some (t.session_id, t.host_key))
-    so taken = ((λ same. absurd (taken.1 same)), λ other. found ∙ ap (λ (h : List ℕ × ExchangeKey). Some h) (sym taken.0))
-
-    by : (row.next ≡ stays t) ⊎ (row.next ≡ opens t) → (t.phase ≡ phases.Exchanging → IsFirst t × (first_exchange (events.ExchangeDone x ∷ past) ≡ None)) × (t.phase ≢ phases.Exchanging → first_exchange (events.ExchangeDone x ∷ past) ≡ Some (t.session_id, t.host_key))
-    by (inl is) = so (subst (TakesNext x) is takes)
-    by (inr is) = so (subst (TakesNext x) is takes)
-first_next past s event told calls row t first none makes next = by next (always_makes (StaysFirst event) (open_row s event told) calls row (first_law s event told first (λ never. never)) makes).1
-  where
-    goes : IsFirst t × IsNoExchange event → (t.phase ≡ phases.Exchanging → IsFirst t × (first_exchange (event ∷ past) ≡ None)) × (t.phase ≢ phases.Exchanging → first_exchange (event ∷ past) ≡ Some (t.session_id, t.host_key))
-    goes on = ((λ same. (on.0, ap (λ (h : Option (List ℕ × ExchangeKey)). or_exchange h event) none ∙ no_exchange event on.1)), λ other. absurd (other on.0.exchanging))
-
-    by : (row.next ≡ stays t) ⊎ (row.next ≡ opens t) → FirstNext event row.next → (t.phase ≡ phases.Exchanging → IsFirst t × (first_exchange (event ∷ past) ≡ None)) × (t.phase ≢ phases.Exchanging → first_exchange (event ∷ past) ≡ Some (t.session_id, t.host_key))
-    by (inl is) on = goes (subst (FirstNext event) is on)
-    by (inr is) on = absurd (subst (FirstNext event) is on)
+row_enters : (s : OpeningState) (event : Event) (told : Told) → IsFirst s → Always (EntersRow event) (open_row s event told)
+unfolding open_row
+row_enters s (events.ExchangeDone x) told first =
+    cond_enters (events.ExchangeDone x) (is_out_of_turn s (events.ExchangeDone x)) _ _ tt (turn_enters s x told (is_awaiting s.phase) refl first.exchanging)
+row_enters s event told first =
+    always_also (StaysFirst event) (EntersRow event) (open_row s event told) (λ row stays. first_enters event row.next stays.1) (first_law s event told first (λ never. never))
 
 -- no exchange was done until the first
 not_done : (event : Event) (key : ExchangeKey) → or_exchange None event ≡ None → HasHostKey key event
@@ -184,33 +147,37 @@ none_done : (past : List Event) (key : ExchangeKey) → first_exchange past ≡ 
 none_done [] key none = tt
 none_done (event ∷ past) key none = let one = none_before (first_exchange past) event key none in (one.1, none_done past key one.0)
 
--- behind the first exchange its host key is the session's
-first_has : (s : OpeningState) (event : Event) (told : Told) (calls : List SignCall) (row : Row) (t : OpeningState) → IsFirst s → Makes (open_row s event told) calls row → (row.next ≡ stays t) ⊎ (row.next ≡ opens t) → HasHostKey t.host_key event
-first_has s (events.ExchangeDone x) told calls row t first makes next = by next
-  where
-    takes : TakesRow x row
-    takes = always_makes (TakesRow x) (open_row s (events.ExchangeDone x) told) calls row (done_takes s x told first.exchanging) makes
+-- a state that is entered so
+entered : (past : List Event) (event : Event) (t : OpeningState) → first_exchange past ≡ None → Enters event t → IsAskedFor (event ∷ past) t.user t.method → SignedSo (event ∷ past) t
+entered past (events.ExchangeDone x) t none (taken, later) asked = record {
+  first = λ same. absurd (later same);
+  session = λ other. rw none (ap (λ (h : List ℕ × ExchangeKey). Some h) (sym taken));
+  keys = λ other. (sym (ap (λ (p : List ℕ × ExchangeKey). p.1) taken), none_done past t.host_key none);
+  asked = asked;
+}
+entered past event t none (first, same) asked = record {
+  first = λ early. (first, rw none (no_exchange event same));
+  session = λ other. absurd (other first.exchanging);
+  keys = λ other. absurd (other first.exchanging);
+  asked = asked;
+}
 
-    by : (row.next ≡ stays t) ⊎ (row.next ≡ opens t) → x.key ≡ t.host_key
-    by (inl is) = sym (ap (λ (p : List ℕ × ExchangeKey). p.1) (subst (TakesNext x) is takes).0)
-    by (inr is) = sym (ap (λ (p : List ℕ × ExchangeKey). p.1) (subst (TakesNext x) is takes).0)
-first_has s event told calls row t first makes next = tt
+-- the session isn't over after a row
+abbrev Leads : Next → Type 0
+Leads (stays t) = Unit {0}
+Leads (opens t) = Unit {0}
+Leads next = ⊥
 
--- and a later one has it too
-later_has : (s : OpeningState) (event : Event) (told : Told) (calls : List SignCall) (row : Row) (t : OpeningState) → s.phase ≢ phases.Exchanging → Makes (open_row s event told) calls row → (row.next ≡ stays t) ⊎ (row.next ≡ opens t) → HasHostKey s.host_key event
-later_has s (events.ExchangeDone x) told calls row t later makes next = by next
-  where
-    has : HasKeyRow s x row
-    has = always_makes (HasKeyRow s x) (open_row s (events.ExchangeDone x) told) calls row (later_row s x told later) makes
+-- behind the first exchange, an exchange that is done has the session's host key
+key_of : (s : OpeningState) (x : ExchangeResult) (next : Next) → HasKeyNext s x next → Leads next → x.key ≡ s.host_key
+key_of s x (stays t) has leads = has.0
+key_of s x (opens t) has leads = has.0
+key_of s x next has never = absurd never
 
-    by : (row.next ≡ stays t) ⊎ (row.next ≡ opens t) → x.key ≡ s.host_key
-    by (inl is) = (subst (HasKeyNext s x) is has).0
-    by (inr is) = (subst (HasKeyNext s x) is has).0
-later_has s event told calls row t later makes next = tt
-
-early_opens : (s : OpeningState) (event : Event) (told : Told) (calls : List SignCall) (row : Row) (t : OpeningState) → IsFirst s → Makes (open_row s event told) calls row → row.next ≡ opens t → t.phase ≢ phases.Exchanging
-early_opens s (events.ExchangeDone x) told calls row t first makes is = (subst (TakesNext x) is (always_makes (TakesRow x) (open_row s (events.ExchangeDone x) told) calls row (done_takes s x told first.exchanging) makes)).1
-early_opens s event told calls row t first makes is = absurd (subst (FirstNext event) is (always_makes (StaysFirst event) (open_row s event told) calls row (first_law s event told first (λ never. never)) makes).1)
+later_has : (s : OpeningState) (event : Event) (told : Told) (calls : List SignCall) (row : Row) → s.phase ≢ phases.Exchanging → Makes (open_row s event told) calls row → Leads row.next → HasHostKey s.host_key event
+later_has s (events.ExchangeDone x) told calls row later makes leads =
+    key_of s x row.next (always_makes (HasKeyRow s x) (open_row s (events.ExchangeDone x) told) calls row (later_row s x told later) makes) leads
+later_has s event told calls row later makes leads = tt
 
 -- ---- a turn of the opening
 
@@ -219,48 +186,36 @@ abbrev GoesSo : List Event → Event → TurnOf OpeningState → Type 0
 GoesSo past event t = stop_next t.next ≡ None → SignedSo (event ∷ past) t.state
 
 module _ (past : List Event) (s : OpeningState) (event : Event) (so : SignedSo past s) where
-  next_state : (told : Told) (calls : List SignCall) (row : Row) (t : OpeningState) → Makes (open_row s event told) calls row → (row.next ≡ stays t) ⊎ (row.next ≡ opens t) → KeepsState (kept_of s) event t → SignedSo (event ∷ past) t
-  next_state told calls row t makes next keeps = by (stage_of s.phase)
+  next_state : (t : OpeningState) → (s.phase ≡ phases.Exchanging → Enters event t) → (s.phase ≢ phases.Exchanging → HasHostKey s.host_key event) → KeepsState (kept_of s) event t → SignedSo (event ∷ past) t
+  next_state t enters has keeps = by (stage_of s.phase)
     where
       asked : IsAskedFor (event ∷ past) t.user t.method
       asked = asked_next s event past t so.asked keeps.1
 
       by : Stage s.phase → SignedSo (event ∷ past) t
-      by (Early early) =
-          let here = so.first early in
-          let on = first_next past s event told calls row t here.0 here.1 makes next in
-          record {
-            first = on.0;
-            session = on.1;
-            keys = λ other. (first_has s event told calls row t here.0 makes next, none_done past t.host_key here.1);
-            asked = asked;
-          }
+      by (Early early) = entered past event t (so.first early).1 (enters early) asked
       by (Later later) =
           let kept = keeps.0 later in
           record {
             first = λ same. absurd (kept.1 same);
             session = λ other. ap (λ (h : Option (List ℕ × ExchangeKey)). or_exchange h event) (so.session later) ∙ ap (λ (h : List ℕ × ExchangeKey). Some h) (sym kept.0);
             keys = λ other.
-                subst (λ (key : ExchangeKey). AllByRecursion (HasHostKey key) (event ∷ past)) (sym (ap (λ (p : List ℕ × ExchangeKey). p.1) kept.0))
-                (later_has s event told calls row t later makes next, so.keys later);
+                subst (λ (key : ExchangeKey). AllByRecursion (HasHostKey key) (event ∷ past)) (sym (ap (λ (p : List ℕ × ExchangeKey). p.1) kept.0)) (has later, so.keys later);
             asked = asked;
           }
 
   shut_so : (t : OpeningState) → t.phase ≢ phases.Exchanging → SignedSo (event ∷ past) t → SignedSo (event ∷ past) (shut t)
   shut_so t later signed = record { first = λ same. absurd (later same); session = signed.session; keys = signed.keys; asked = signed.asked }
 
-  opens_later : (told : Told) (calls : List SignCall) (row : Row) (t : OpeningState) → Makes (open_row s event told) calls row → row.next ≡ opens t → KeepsState (kept_of s) event t → t.phase ≢ phases.Exchanging
-  opens_later told calls row t makes is keeps = by (stage_of s.phase)
+  by_next : (place : ℕ) (row : Row) (next : Next) → (s.phase ≡ phases.Exchanging → EntersNext event next) → (s.phase ≢ phases.Exchanging → Leads next → HasHostKey s.host_key event) → KeepsNext (kept_of s) event next →
+      GoesSo past event (next_turn place s row next)
+  by_next place row (stays t) enters has keeps = λ goes. next_state t enters (λ later. has later tt) keeps
+  by_next place row (opens t) enters has keeps = λ goes. shut_so t (away (stage_of s.phase)) (next_state t (λ early. (enters early).0) (λ later. has later tt) keeps)
     where
-      by : Stage s.phase → t.phase ≢ phases.Exchanging
-      by (Early early) = early_opens s event told calls row t (so.first early).0 makes is
-      by (Later later) = (keeps.0 later).1
-
-  by_next : (place : ℕ) (told : Told) (calls : List SignCall) (row : Row) (next : Next) → row.next ≡ next → Makes (open_row s event told) calls row → KeepsNext (kept_of s) event next → GoesSo past event (next_turn place s row next)
-  by_next place told calls row (stays t) is makes keeps = λ goes. next_state told calls row t makes (inl is) keeps
-  by_next place told calls row (opens t) is makes keeps = λ goes. shut_so t (opens_later told calls row t makes is keeps) (next_state told calls row t makes (inr is) keeps)
-  by_next place told calls row (ends e) is makes keeps = λ goes. absurd cc
-  by_next place told calls row (refuses e) is makes keeps = λ goes. absurd cc
+      away : Stage s.phase → t.phase ≢ phases.Exchanging
+      away (Early early) = (enters early).1
+      away (Later behind) = (keeps.0 behind).1
+  by_next place row next enters has keeps = λ goes. absurd cc
 
   -- a turn's calls and records, and the state from which it continues
   record TurnSo (calls : List SignCall) (t : TurnOf OpeningState) : Type 0 where
@@ -270,19 +225,20 @@ module _ (past : List Event) (s : OpeningState) (event : Event) (so : SignedSo p
 
   said_in : (place : ℕ) (row : Row) (next : Next) → (next_turn place s row next).records ≡ row.records
   said_in place row (stays t) = refl
-  said_in place row (opens t) = refl
-  said_in place row (ends e) = refl
-  said_in place row (refuses e) = refl
+  said_in place row next = refl
 
-  asked_so : (hosts : Hosts) (place : ℕ) (wanted : Asks) (calls : List SignCall) (t : TurnOf OpeningState) → Makes (asked_turn hosts place s event wanted) calls t → TurnSo calls t
+  asked_so : (hosts : Hosts) (place : ℕ) (calls : List SignCall) (t : TurnOf OpeningState) → Makes (asked_turn hosts place s event (asked_of s event)) calls t → TurnSo calls t
   asked_so hosts place =
       asked_by hosts place s event TurnSo
       (λ told calls row makes.
-      let made = made_so (kept_of s) event (open_row s event told) calls row (open_keeps s event told) makes in
-      let handed = handed_for s.session_id past (kept_of s) row.records refl so.asked (stored_all (kept_of s) row.next row.records made.keeps.0) in
+      let made = asked_once (kept_of s) event (open_row s event told) calls row (open_keeps s event told) makes in
+      let keeps = keeps_of (kept_of s) event calls row made in
+      let handed = handed_for s.session_id past (kept_of s) row.records refl so.asked (stored_all (kept_of s) row.next row.records keeps.0) in
       record {
-        goes = by_next place told calls row row.next refl makes made.keeps.1;
-        asked = calls_for s.session_id past (kept_of s) (shut s) calls refl so.asked (made.once (shut s) refl);
+        goes =
+            by_next place row row.next (λ early. always_makes (EntersRow event) (open_row s event told) calls row (row_enters s event told (so.first early).0) makes)
+            (λ later leads. later_has s event told calls row later makes leads) keeps.1;
+        asked = calls_for s.session_id past (kept_of s) (shut s) calls refl so.asked (once_of (kept_of s) event calls row (shut s) refl made);
         handed = subst (AllByRecursion (IsHandedFor s.session_id past)) (sym (said_in place row row.next)) handed;
       })
       (λ e. record { goes = λ goes. absurd cc; asked = tt; handed = tt })
@@ -331,9 +287,9 @@ turn_so hosts accepts past s frame calls t so makes =
       handed = λ unopened. let clash : true ≡ false = sym on ∙ unopened in absurd cc;
     })
     (λ event calls t un makes.
-    let done_so = asked_so past s.opening event so hosts frame.place (asked_of s.opening event) calls t makes in
+    let done_so = asked_so past s.opening event so hosts frame.place calls t makes in
     record { goes = done_so.goes; asked = done_so.asked; handed = λ unopened. done_so.handed })
-    (λ e x. record { goes = λ goes. absurd cc; asked = tt; handed = λ unopened. tt }) calls t makes
+    (λ e. record { goes = λ goes. absurd cc; asked = tt; handed = λ unopened. tt }) calls t makes
 
 -- ---- the run
 

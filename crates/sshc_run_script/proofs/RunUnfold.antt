@@ -1,30 +1,21 @@
 -- A run by its first event, of any machine.
 use Rattle.std.proofs.Common.{◌≡◌, ℕ, zero, suc, ◌+◌, ◌≤◌, List, [], ◌∷◌, ◌++◌, length, Option, Some, None, Result, Ok, Err, refl, ap, sym, ◌∙◌, inl, inr, append_assoc, arith}
 use Rattle.std.specs.Option.{IfNone}
-use Rattle.std.proofs.lemmas.List.{append-nil}
 use Rattle.std.proofs.lemmas.List.Concat.{flat_map-append}
-use Rattle.sshc_wire.specs.Contents.{append, prepend, WroteFront, IsAtEnd, append-nothing, prepend-nothing}
-use Rattle.sshc_wire.specs.declared.record.Record.{Record}
-use Rattle.sshc_key.specs.Signers.{SignCall}
-use Rattle.sshc_key.specs.Asking.{Answer, Makes, MakesFirst}
-use Rattle.sshc_key.specs.AskingLaws.{always_makes, none_first, all_first}
-use Rattle.sshc_auth.specs.declared.ended.Ended.{Ended}
+use Rattle.sshc_wire.specs.Contents.{IsAtEnd}
 use Rattle.sshc_auth.specs.declared.ended.Ended.TheVariants as ends
-use Rattle.sshc_run_script.specs.declared.error.RunError.{RunError}
-use Rattle.sshc_run_script.specs.declared.error.RunError.TheVariants as errors
 use Rattle.sshc_run_reader.specs.declared.error.NextError.{NextError}
 use Rattle.sshc_run_reader.specs.declared.error.NextError.TheVariants as nexts
-use Rattle.sshc_run_script.specs.Machine.{Onward, goes_on, opened, stopped, RunStop, ended, refused, unanswered_stop, TurnOf, Turns, stop_next, IsNoEnd, NeverAtEnd}
-use Rattle.sshc_run_script.specs.Outcome.{Streams, Ending, told, cut, unread, ending_of, stop_as, IsCut, IsExact, EndsAs, HasEarlier, HasWritten, HoldsAtMost, Ends}
 use Rattle.sshc_run_reader.specs.Reading.{IsNoEvent, IsOneAtMost, IsBad, IsWhole, Gave, ReadFor, NextGives}
-use Rattle.sshc_run_script.specs.RecordLines.{line, lines}
-use Rattle.sshc_run_reader.specs.Script.{Frame, Head, Front, End, Bad, Whole, front, frame_at, size_of, stop_at_most, events}
-use Rattle.sshc_run_script.specs.ScriptRun.{Run, Spot, spot_after, run, run_on, at_end, after, stopped_with, asked_run, answers_of}
-use Rattle.sshc_run_script.specs.TurnContracts.{StopsBy, CutBy, TakeAs, TakeGives, BringsOn, TurnGives, LimitGives}
-use Rattle.sshc_run_script.proofs.AnsweredQuestions.{asked_made, asked_first}
+use Rattle.sshc_run_reader.specs.Script.{stop_at_most}
 use Rattle.sshc_run_reader.specs.FrontLaws.{none_more, front_short}
+use Rattle.sshc_run_script.specs.declared.error.RunError.TheVariants as errors
+use Rattle.sshc_run_script.specs.Machine.{refused}
+use Rattle.sshc_run_script.specs.TurnContracts.{TurnGives, LimitGives}
+use Rattle.sshc_run_script.proofs.RunNames.{append-nil, append, prepend, WroteFront, append-nothing, prepend-nothing, Record, SignCall, Answer, Makes, MakesFirst, Asking, always_makes, none_first, all_first, Ended, Frame, Head, Front, End, Bad, Whole, front, frame_at, size_of, events, stop, RunError, Onward, goes_on, opened, stopped, RunStop, ended, unanswered_stop, TurnOf, Turns, stop_next, IsNoEnd, NeverAtEnd, Streams, Ending, told, cut, unread, ending_of, stop_as, IsCut, IsExact, EndsAs, HasEarlier, HasWritten, HoldsAtMost, Ends, line, lines, Run, Spot, spot_after, run, run_on, at_end, after, stopped_with, asked_run, answers_of, events_run, StopsBy, CutBy, TakeAs, TakeGives, BringsOn}
+use Rattle.sshc_run_script.proofs.AnsweredQuestions.{asked_made, asked_first}
 use Rattle.sshc_run_script.proofs.ScriptExtension.{front_more}
-use Rattle.sshc_run_script.proofs.Lines.{wrote_nothing}
+use Rattle.sshc_run_script.proofs.Lines.{wrote_nothing, wrote_all}
 
 front_nothing : (last : ℕ) → front last [] ≡ End
 unfolding front
@@ -36,49 +27,30 @@ not_nothing (c ∷ part) b more is = cc
 
 -- ---- prefixes of an event's bytes
 
--- a shorter prefix of a whole event's bytes isn't an event
-shorter_by : (last : ℕ) (head : Head) (bytes part : List ℕ) (b : ℕ) (more : List ℕ) (f : Front) → front last part ≡ f → IsWhole last head bytes → bytes ≡ part ++ b ∷ more → IsNoEvent last part
-shorter_by last head bytes part b more End f whole is = inl f
-shorter_by last head bytes part b more Bad f whole is = inr f
-shorter_by last head bytes part b more (Whole h rest) f whole is =
-    let longer : Whole head [] ≡ Whole h (rest ++ b ∷ more) = sym (whole.is []) ∙ ap (front last) (append-nil bytes ∙ is) ∙ front_more last part (b ∷ more) h rest f in
-    let nothing : [] ≡ rest ++ b ∷ more = cc in
-    absurd (not_nothing rest b more nothing)
-
-no_shorter : (last : ℕ) (head : Head) (bytes part : List ℕ) (b : ℕ) (more : List ℕ) → IsWhole last head bytes → bytes ≡ part ++ b ∷ more → IsNoEvent last part
-no_shorter last head bytes part b more whole is = shorter_by last head bytes part b more (front last part) refl whole is
-
--- nor is a prefix of bytes that aren't an event
-none_by : (last : ℕ) (bytes part : List ℕ) (b : ℕ) (more : List ℕ) (f : Front) → front last part ≡ f → front last bytes ≡ Bad → bytes ≡ part ++ b ∷ more → IsNoEvent last part
-none_by last bytes part b more End f bad is = inl f
-none_by last bytes part b more Bad f bad is = inr f
-none_by last bytes part b more (Whole h rest) f bad is =
-    let clash : Bad ≡ Whole h (rest ++ b ∷ more) = sym bad ∙ ap (front last) is ∙ front_more last part (b ∷ more) h rest f in absurd cc
-
-no_front : (last : ℕ) (bytes part : List ℕ) (b : ℕ) (more : List ℕ) → front last bytes ≡ Bad → bytes ≡ part ++ b ∷ more → IsNoEvent last part
-no_front last bytes part b more bad is = none_by last bytes part b more (front last part) refl bad is
-
--- nor is one of bytes on which the script ends
-end_by : (last : ℕ) (bytes part : List ℕ) (b : ℕ) (more : List ℕ) (f : Front) → front last part ≡ f → front last bytes ≡ End → bytes ≡ part ++ b ∷ more → IsNoEvent last part
-end_by last bytes part b more End f nothing is = inl f
-end_by last bytes part b more Bad f nothing is = inr f
-end_by last bytes part b more (Whole h rest) f nothing is =
-    let clash : End ≡ Whole h (rest ++ b ∷ more) = sym nothing ∙ ap (front last) is ∙ front_more last part (b ∷ more) h rest f in absurd cc
-
--- nor is a shorter one of one event
-one_by : (last : ℕ) (bytes part : List ℕ) (b : ℕ) (more : List ℕ) (head : Head) (f : Front) → front last part ≡ f → front last bytes ≡ Whole head [] → bytes ≡ part ++ b ∷ more → IsNoEvent last part
-one_by last bytes part b more head End f one is = inl f
-one_by last bytes part b more head Bad f one is = inr f
-one_by last bytes part b more head (Whole h rest) f one is =
-    let longer : Whole head [] ≡ Whole h (rest ++ b ∷ more) = sym one ∙ ap (front last) is ∙ front_more last part (b ∷ more) h rest f in
-    let nothing : [] ≡ rest ++ b ∷ more = cc in
-    absurd (not_nothing rest b more nothing)
+-- if a shorter prefix begins with an event, so do the bytes, and more bytes follow it
+front_by : (last : ℕ) (bytes part : List ℕ) (b : ℕ) (more : List ℕ) (f : Front) → front last part ≡ f → bytes ≡ part ++ b ∷ more → ((head : Head) (rest : List ℕ) → front last bytes ≡ Whole head (rest ++ b ∷ more) → ⊥) → IsNoEvent last part
+front_by last bytes part b more End f is never = inl f
+front_by last bytes part b more Bad f is never = inr f
+front_by last bytes part b more (Whole head rest) f is never = absurd (never head rest (ap (front last) is ∙ front_more last part (b ∷ more) head rest f))
 
 -- a shorter prefix of bytes that are at most one event isn't an event
 none_shorter : (last : ℕ) (bytes part : List ℕ) (b : ℕ) (more : List ℕ) → IsOneAtMost last bytes → bytes ≡ part ++ b ∷ more → IsNoEvent last part
-none_shorter last bytes part b more (inl (inl nothing)) is = end_by last bytes part b more (front last part) refl nothing is
-none_shorter last bytes part b more (inl (inr bad)) is = no_front last bytes part b more bad is
-none_shorter last bytes part b more (inr (head, one)) is = one_by last bytes part b more head (front last part) refl one is
+none_shorter last bytes part b more one is = front_by last bytes part b more (front last part) refl is (by one)
+  where
+    by : IsOneAtMost last bytes → (head : Head) (rest : List ℕ) → front last bytes ≡ Whole head (rest ++ b ∷ more) → ⊥
+    by (inl (inl nothing)) head rest whole = let clash : End ≡ Whole head (rest ++ b ∷ more) = sym nothing ∙ whole in cc
+    by (inl (inr bad)) head rest whole = let clash : Bad ≡ Whole head (rest ++ b ∷ more) = sym bad ∙ whole in cc
+    by (inr (one, is)) head rest whole =
+        let longer : Whole one [] ≡ Whole head (rest ++ b ∷ more) = sym is ∙ whole in
+        let nothing : [] ≡ rest ++ b ∷ more = cc in
+        not_nothing rest b more nothing
+
+-- a whole event's bytes are one event
+front_is : (last : ℕ) (head : Head) (bytes : List ℕ) → IsWhole last head bytes → front last bytes ≡ Whole head []
+front_is last head bytes whole = ap (front last) (sym (append-nil bytes)) ∙ whole.is []
+
+one_whole : (last : ℕ) (head : Head) (bytes : List ℕ) → IsWhole last head bytes → IsOneAtMost last bytes
+one_whole last head bytes whole = inr (head, front_is last head bytes whole)
 
 -- ---- how many events some bytes hold
 
@@ -108,7 +80,7 @@ one_held n place last bytes (inr (head, is)) =
     omega (arith, one, nothing)
 
 whole_held : (n place last : ℕ) (head : Head) (bytes : List ℕ) → IsWhole last head bytes → HoldsAtMost (suc n) place last bytes
-whole_held n place last head bytes whole = one_held n place last bytes (inr (head, ap (front last) (sym (append-nil bytes)) ∙ whole.is []))
+whole_held n place last head bytes whole = one_held n place last bytes (one_whole last head bytes whole)
 
 -- if there are no records, nothing remains to be written
 said_none : (held now : Option (List ℕ)) (records : List Record) (part : List ℕ) → records ≡ [] → now ≡ append held part → HasWritten held now (lines records)
@@ -118,12 +90,12 @@ said_none held now records part none wrote = (part, wrote ∙ ap (λ (r : List R
 
 module _ {S : Type 0} (turn : Turns S) where
   pub run_end : (n : ℕ) (at : Spot S) (answers : List Answer) (bytes : List ℕ) → front at.last bytes ≡ End → run turn (suc n) at answers bytes ≡ stopped_with [] (ended ends.ScriptEnd)
-  unfolding run
-  run_end n at answers bytes h = rw (h, run) refl
+  unfolding run events stop events_run
+  run_end n at answers bytes h = rw (h, run, events, stop, events_run) refl
 
   pub run_bad : (n : ℕ) (at : Spot S) (answers : List Answer) (bytes : List ℕ) → front at.last bytes ≡ Bad → run turn (suc n) at answers bytes ≡ stopped_with [] (refused (errors.BadEvent at.place))
-  unfolding run
-  run_bad n at answers bytes h = rw (h, run) refl
+  unfolding run events stop events_run
+  run_bad n at answers bytes h = rw (h, run, events, stop, events_run) refl
 
   -- after a turn
   abbrev behind : ℕ → Spot S → Head → List ℕ → TurnOf S → List Answer → Run
@@ -131,8 +103,8 @@ module _ {S : Type 0} (turn : Turns S) where
 
   pub run_whole : (n : ℕ) (at : Spot S) (answers : List Answer) (bytes : List ℕ) (head : Head) (rest : List ℕ) → front at.last bytes ≡ Whole head rest →
       run turn (suc n) at answers bytes ≡ asked_run unanswered_stop (turn at.state (frame_at at.place head)) answers (behind n at head rest)
-  unfolding run
-  run_whole n at answers bytes head rest h = rw (h, run) refl
+  unfolding run events stop events_run
+  run_whole n at answers bytes head rest h = rw (h, run, events, stop, events_run) refl
 
   -- a turn after which the run continues, and one that stops it
   going_by : (t : TurnOf S) (next : Onward) (r : Run) → stop_next next ≡ None → run_on t next r ≡ after t.records [] r
@@ -141,13 +113,12 @@ module _ {S : Type 0} (turn : Turns S) where
   going_by t (stopped stop) r h = absurd cc
 
   stopping_by : (t : TurnOf S) (next : Onward) (r : Run) (stop : RunStop) → stop_next next ≡ Some stop → run_on t next r ≡ stopped_with t.records stop
-  stopping_by t goes_on r stop h = absurd cc
-  stopping_by t opened r stop h = absurd cc
   stopping_by t (stopped x) r stop h = let same : x ≡ stop = cc in ap (λ (y : RunStop). stopped_with t.records y) same
+  stopping_by t next r stop h = absurd cc
 
   -- on no bytes the run is at the script's end
   pub run_nothing : (n : ℕ) (at : Spot S) (answers : List Answer) → run turn n at answers [] ≡ stopped_with [] (ended ends.ScriptEnd)
-  unfolding run
+  unfolding run events stop events_run
   run_nothing zero at answers = refl
   run_nothing (suc n) at answers = run_end n at answers [] (front_nothing at.last)
 
@@ -175,29 +146,26 @@ module _ {S : Type 0} (turn : Turns S) where
 
   -- ---- a read that returns no event
 
+  -- these bytes were read, no call was made, and nothing was written
+  bare_ends : (n : ℕ) (at : Spot S) (before : Streams) (left : Option (List ℕ)) (reads : ℕ) (bytes : List ℕ) (a : Result Ended RunError) → before.left ≡ prepend bytes left → ReadFor before.reads reads bytes → (run turn n at [] bytes).calls ≡ [] →
+      EndsAs (ending_of a) (run turn n at) bytes [] before (record before { left = left; reads = reads }) a → HasEarlier (run turn n at) bytes [] before.held before.held → HoldsAtMost n at.place at.last bytes →
+      Ends n at.place at.last (run turn n at) before (record before { left = left; reads = reads }) a
+  bare_ends n at before left reads bytes a given count made by early few = (bytes, [], record { read = given; asked = sym (append-nil before.calls); made = made; by = by; early = early; count = count; few = few })
+
   -- the script ends
   pub end_ends : (at : Spot S) (before : Streams) (left : Option (List ℕ)) (reads : ℕ) → before.left ≡ left → IsAtEnd left → reads ≤ before.reads + 1 →
       (n : ℕ) → Ends (suc n) at.place at.last (run turn (suc n) at) before (record before { left = left; reads = reads }) (Ok ends.ScriptEnd)
   end_ends at before left reads same end count n =
-      let none : (answers : List Answer) → run turn (suc n) at answers [] ≡ stopped_with [] (ended ends.ScriptEnd) = λ answers. run_nothing (suc n) at answers in (
-        [],
-        [],
-        record {
-          read = same ∙ sym (prepend-nothing left);
-          asked = sym (append-nil before.calls);
-          made = rw (none []) refl;
-          by = record {
-            all = rw (none []) (sym (append-nothing before.held));
-            stop = rw (none []) refl;
-            rest = λ later more e. ap (run turn (suc n) at later) (none_more left more e end) ∙ none later ∙ sym (none []);
-            just = λ later part b more is. absurd (not_nothing part b more is);
-            whole = λ done. end;
-          };
-          early = early_one n at [] [] before.held before.held [] (inl (inl (front_nothing at.last))) (sym (append-nothing before.held));
-          count = omega (arith, count);
-          few = none_held (suc n) at.place at.last [] (inl (front_nothing at.last));
-        },
-      )
+      let none : (answers : List Answer) → run turn (suc n) at answers [] ≡ stopped_with [] (ended ends.ScriptEnd) = λ answers. run_nothing (suc n) at answers in
+      bare_ends (suc n) at before left reads [] (Ok ends.ScriptEnd) (same ∙ sym (prepend-nothing left)) (omega (arith, count)) (rw (none []) refl)
+      (record {
+        all = rw (none []) (sym (append-nothing before.held));
+        stop = rw (none []) refl;
+        rest = λ later more e. ap (run turn (suc n) at later) (none_more left more e end) ∙ none later ∙ sym (none []);
+        just = λ later part b more is. absurd (not_nothing part b more is);
+        whole = λ done. end;
+      })
+      (early_one n at [] [] before.held before.held [] (inl (inl (front_nothing at.last))) (sym (append-nothing before.held))) (nothing_held (suc n) at.place at.last)
 
   -- an event that can't be read
   bad_ends : (at : Spot S) (before now : Streams) (bytes : List ℕ) → now.held ≡ before.held → IsBad at.last now.left bytes → (n : ℕ) → IsExact (run turn (suc n) at) bytes [] before now (Err (errors.BadEvent at.place))
@@ -207,7 +175,7 @@ module _ {S : Type 0} (turn : Turns S) where
         all = rw (none []) (held ∙ sym (append-nothing before.held));
         stop = rw (none []) refl;
         rest = λ later more e. run_bad n at later (bytes ++ more) (bad.all more e) ∙ sym (none []);
-        just = λ later part b more is. none_cut n at later part (no_front at.last bytes part b more bad.given is);
+        just = λ later part b more is. none_cut n at later part (none_shorter at.last bytes part b more (inl (inr bad.given)) is);
         whole = λ done. absurd cc;
       }
 
@@ -216,19 +184,8 @@ module _ {S : Type 0} (turn : Turns S) where
       (a : Result Ended RunError) (n : ℕ) → EndsAs (ending_of a) (run turn (suc n) at) bytes [] before (record before { left = left; reads = reads }) a →
       Ends (suc n) at.place at.last (run turn (suc n) at) before (record before { left = left; reads = reads }) a
   unread_ends at before left reads bytes given none count a n by =
-      let is = none_is n at [] bytes none in (
-        bytes,
-        [],
-        record {
-          read = given;
-          asked = sym (append-nil before.calls);
-          made = rw is.1 refl;
-          by = by;
-          early = early_one n at [] bytes before.held before.held [] (inl none) (sym (append-nothing before.held));
-          count = count;
-          few = none_held (suc n) at.place at.last bytes none;
-        },
-      )
+      let is = none_is n at [] bytes none in
+      bare_ends (suc n) at before left reads bytes a given count (rw is.1 refl) by (early_one n at [] bytes before.held before.held [] (inl none) (sym (append-nothing before.held))) (none_held (suc n) at.place at.last bytes none)
 
   -- what an error of the read means for the run
   pub next_ends : (at : Spot S) (before : Streams) (left : Option (List ℕ)) (reads : ℕ) (x : NextError) (e : RunError) → NextGives at.last before.left left before.reads reads (Err x) →
@@ -236,19 +193,10 @@ module _ {S : Type 0} (turn : Turns S) where
       (n : ℕ) → Ends (suc n) at.place at.last (run turn (suc n) at) before (record before { left = left; reads = reads }) (Err e)
   next_ends at before left reads nexts.NoMemory e (bytes, given, (inl none, count)) is n = rw is (unread_ends at before left reads bytes given none count (Err errors.NoMemory) n (wrote_nothing before.held _))
   next_ends at before left reads nexts.NoMemory e (bytes, given, (inr (head, one), count)) is n =
-      rw is (
-        bytes,
-        [],
-        record {
-          read = given;
-          asked = sym (append-nil before.calls);
-          made = rw (run_whole n at [] bytes head [] one) (asked_first unanswered_stop (turn at.state (frame_at at.place head)) [] (behind n at head []) (λ t. quiet n at head t t.next) (none_first _));
-          by = wrote_nothing before.held _;
-          early = early_one n at [] bytes before.held before.held [] (inr (head, one)) (sym (append-nothing before.held));
-          count = count;
-          few = one_held n at.place at.last bytes (inr (head, one));
-        },
-      )
+      rw is
+      (bare_ends (suc n) at before left reads bytes (Err errors.NoMemory) given count
+      (rw (run_whole n at [] bytes head [] one) (asked_first unanswered_stop (turn at.state (frame_at at.place head)) [] (behind n at head []) (λ t. quiet n at head t t.next) (none_first _))) (wrote_nothing before.held _)
+      (early_one n at [] bytes before.held before.held [] (inr (head, one)) (sym (append-nothing before.held))) (one_held n at.place at.last bytes (inr (head, one))))
   next_ends at before left reads nexts.ReadFault e (bytes, given, (none, count)) is n =
       let nothing = none_is n at [] bytes none in
       rw is (unread_ends at before left reads bytes given none count (Err errors.ReadFault) n (rw nothing.1 (sym (append-nothing before.held))))
@@ -259,9 +207,8 @@ module _ {S : Type 0} (turn : Turns S) where
 
   -- a turn that stops the run
   stop_is : (next : Onward) (stop : RunStop) → stop_next next ≡ Some stop → next ≡ stopped stop
-  stop_is goes_on stop is = absurd cc
-  stop_is opened stop is = absurd cc
   stop_is (stopped x) stop is = let same : x ≡ stop = cc in ap stopped same
+  stop_is next stop is = absurd cc
 
   -- no event that was taken ends the script
   pub not_taken : NeverAtEnd turn → (s s' : S) (frame : Frame) (gained : List SignCall) (held now : Option (List ℕ)) (a : Result Ended RunError) → a ≡ Ok ends.ScriptEnd → TakeGives (turn s frame) gained s' held now (Some a) → ⊥
@@ -287,14 +234,14 @@ module _ {S : Type 0} (turn : Turns S) where
             ∙ asked_made unanswered_stop (turn at.state (frame_at at.place head)) gained t later (behind n at head more) makes
             ∙ ap (λ (r : Run). after [] gained r) (going_by t t.next _ on ∙ ap (λ (x : Spot S). after t.records [] (run turn n x later more)) (sym same));
         counts = λ n more. event_counted n at.place at.last (bytes ++ more) head more (whole.is more) ∙ ap (λ (x : Spot S). suc (length (events n x.place x.last more))) (sym same);
-        quiet = λ n answers part b more parts. none_said n at answers part (no_shorter at.last head bytes part b more whole parts);
-        just = λ n answers part b more parts. none_cut n at answers part (no_shorter at.last head bytes part b more whole parts);
+        quiet = λ n answers part b more parts. none_said n at answers part (none_shorter at.last bytes part b more (one_whole at.last head bytes whole) parts);
+        just = λ n answers part b more parts. none_cut n at answers part (none_shorter at.last bytes part b more (one_whole at.last head bytes whole) parts);
       }
 
   -- the event alone, with its own calls alone
   alone : (n : ℕ) (at : Spot S) (head : Head) (gained : List SignCall) (bytes : List ℕ) → IsWhole at.last head bytes →
       run turn (suc n) at (answers_of gained) bytes ≡ asked_run unanswered_stop (turn at.state (frame_at at.place head)) (answers_of gained) (behind n at head [])
-  alone n at head gained bytes whole = run_whole n at (answers_of gained) bytes head [] (ap (front at.last) (sym (append-nil bytes)) ∙ whole.is [])
+  alone n at head gained bytes whole = run_whole n at (answers_of gained) bytes head [] (front_is at.last head bytes whole)
 
   -- the same if all its calls were made
   made_alone : (n : ℕ) (at : Spot S) (head : Head) (t : TurnOf S) (gained : List SignCall) (bytes : List ℕ) → Makes (turn at.state (frame_at at.place head)) gained t → IsWhole at.last head bytes →
@@ -326,7 +273,7 @@ module _ {S : Type 0} (turn : Turns S) where
         all = rw here wrote;
         stop = rw here refl;
         rest = λ later more e. stopped_so later more ∙ sym here;
-        just = λ later part b more parts. none_cut n at (answers_of gained ++ later) part (no_shorter at.last head bytes part b more whole parts);
+        just = λ later part b more parts. none_cut n at (answers_of gained ++ later) part (none_shorter at.last bytes part b more (one_whole at.last head bytes whole) parts);
         whole = λ done.
             absurd (always_makes IsNoEnd (turn at.state (frame_at at.place head)) gained t (never at.state (frame_at at.place head)) makes
             (stop_is t.next (stop_as a) stops ∙ ap (λ (x : Result Ended RunError). stopped (stop_as x)) done));
@@ -351,27 +298,15 @@ module _ {S : Type 0} (turn : Turns S) where
         wrote,
       )
 
-  -- the calls are the first of the turn's
-  cut_first : (at : Spot S) (head : Head) (held now : Option (List ℕ)) (gained : List SignCall) → CutBy (turn at.state (frame_at at.place head)) gained held now → MakesFirst (turn at.state (frame_at at.place head)) gained
-  cut_first at head held now gained (inl (first, same)) = first
-  cut_first at head held now gained (inr (t, makes, wrote)) = all_first (turn at.state (frame_at at.place head)) gained t makes
+  -- the calls are the first of the turn's, and what was written
+  as_cut : (ending : Ending) (asking : Asking (TurnOf S)) (held now : Option (List ℕ)) (gained : List SignCall) (a : Result Ended RunError) → TakeAs ending asking gained held now a → CutBy asking gained held now
+  as_cut told asking held now gained a (t, makes, stops, wrote) = inr (t, makes, wrote_all held now (lines t.records) wrote)
+  as_cut cut asking held now gained a gives = gives
+  as_cut unread asking held now gained a (t, makes, stops, wrote) = inr (t, makes, wrote_all held now (lines t.records) wrote)
 
-  take_first : (ending : Ending) (at : Spot S) (head : Head) (held now : Option (List ℕ)) (gained : List SignCall) (a : Result Ended RunError) → TakeAs ending (turn at.state (frame_at at.place head)) gained held now a →
-      MakesFirst (turn at.state (frame_at at.place head)) gained
-  take_first told at head held now gained a (t, makes, stops, wrote) = all_first (turn at.state (frame_at at.place head)) gained t makes
-  take_first cut at head held now gained a gives = cut_first at head held now gained gives
-  take_first unread at head held now gained a (t, makes, stops, wrote) = all_first (turn at.state (frame_at at.place head)) gained t makes
-
-  -- what was written of it
-  take_wrote : (ending : Ending) (at : Spot S) (head : Head) (held now : Option (List ℕ)) (gained : List SignCall) (a : Result Ended RunError) → TakeAs ending (turn at.state (frame_at at.place head)) gained held now a → (part : List ℕ) × (now ≡ append held part)
-  take_wrote told at head held now gained a (t, makes, stops, wrote) = (lines t.records, wrote)
-  take_wrote cut at head held now gained a (inl (first, same)) = ([], same ∙ sym (append-nothing held))
-  take_wrote cut at head held now gained a (inr (t, makes, (part, others, due, wrote))) = (part, wrote)
-  take_wrote unread at head held now gained a (t, makes, stops, wrote) = (lines t.records, wrote)
-
-  -- the event's bytes are one event
-  one_is : (at : Spot S) (head : Head) (bytes : List ℕ) → IsWhole at.last head bytes → IsOneAtMost at.last bytes
-  one_is at head bytes whole = inr (head, ap (front at.last) (sym (append-nil bytes)) ∙ whole.is [])
+  cut_so : (asking : Asking (TurnOf S)) (held now : Option (List ℕ)) (gained : List SignCall) → CutBy asking gained held now → MakesFirst asking gained × ((part : List ℕ) × (now ≡ append held part))
+  cut_so asking held now gained (inl (first, same)) = (first, ([], same ∙ sym (append-nothing held)))
+  cut_so asking held now gained (inr (t, makes, (part, others, due, wrote))) = (all_first asking gained t makes, (part, wrote))
 
   taken_ends : NeverAtEnd turn → (ending : Ending) (at : Spot S) (head : Head) (before now : Streams) (gained : List SignCall) (bytes : List ℕ) (a : Result Ended RunError) → IsWhole at.last head bytes →
       TakeAs ending (turn at.state (frame_at at.place head)) gained before.held now.held a → (n : ℕ) → EndsAs ending (run turn (suc n) at) bytes gained before now a
@@ -390,26 +325,26 @@ module _ {S : Type 0} (turn : Turns S) where
     record { read = given; asked = asked; wrote = all; count = count },
     brings at at' head t gained bytes makes on (spot_is at at' head t.state moved.0 moved.1 state) whole,
   )
-  taken_gives never at at' head before now gained (Some a) asked (bytes, given, (whole, count)) gives moved = λ n. (
-    bytes,
-    gained,
-    record {
-      read = given;
-      asked = asked;
-      made = taken_made n at head gained bytes (take_first (ending_of a) at head before.held now.held gained a gives) whole;
-      by = taken_ends never (ending_of a) at head before now gained bytes a whole gives n;
-      early =
-          (let wrote = take_wrote (ending_of a) at head before.held now.held gained a gives in
-          early_one n at gained bytes before.held now.held wrote.0 (one_is at head bytes whole) wrote.1);
-      count = omega (arith, count);
-      few = whole_held n at.place at.last head bytes whole;
-    },
-  )
+  taken_gives never at at' head before now gained (Some a) asked (bytes, given, (whole, count)) gives moved = λ n.
+      let asking : Asking (TurnOf S) = turn at.state (frame_at at.place head) in
+      let so = cut_so asking before.held now.held gained (as_cut (ending_of a) asking before.held now.held gained a gives) in (
+        bytes,
+        gained,
+        record {
+          read = given;
+          asked = asked;
+          made = taken_made n at head gained bytes so.0 whole;
+          by = taken_ends never (ending_of a) at head before now gained bytes a whole gives n;
+          early = early_one n at gained bytes before.held now.held so.1.0 (one_whole at.last head bytes whole) so.1.1;
+          count = omega (arith, count);
+          few = whole_held n at.place at.last head bytes whole;
+        },
+      )
 
   -- ---- the limit
 
   pub run_limit : (at : Spot S) (answers : List Answer) (bytes : List ℕ) → run turn 0 at answers bytes ≡ stopped_with [] (at_end (stop_at_most bytes))
-  unfolding run
+  unfolding run events stop events_run
   run_limit at answers bytes = refl
 
   -- a shorter prefix of one byte is empty
@@ -423,76 +358,37 @@ module _ {S : Type 0} (turn : Turns S) where
       said_none held held _ [] (ap (λ (r : Run). r.records) (run_limit at (answers_of gained ++ later) front)) (sym (append-nothing held))
 
   -- at the limit
+  limit_none : (at : Spot S) (before : Streams) (left : Option (List ℕ)) (reads : ℕ) (a : Result Ended RunError) → before.left ≡ left → reads ≤ before.reads + 1 → EndsAs (ending_of a) (run turn 0 at) [] [] before (record before { left = left; reads = reads }) a →
+      Ends 0 at.place at.last (run turn 0 at) before (record before { left = left; reads = reads }) a
+  unfolding run events stop events_run
+  limit_none at before left reads a same count by =
+      bare_ends 0 at before left reads [] a (same ∙ sym (prepend-nothing left)) (omega (arith, count)) refl by (early_limit at [] [] before.held) (nothing_held 0 at.place at.last)
+
   pub limit_ends : (at : Spot S) (before : Streams) (left : Option (List ℕ)) (reads : ℕ) (a : Result Ended RunError) → LimitGives before.left left a → reads ≤ before.reads + 1 →
       Ends 0 at.place at.last (run turn 0 at) before (record before { left = left; reads = reads }) a
-  unfolding run
-  limit_ends at before left reads (Ok ends.ScriptEnd) (same, end) count = (
-    [],
-    [],
-    record {
-      read = same ∙ sym (prepend-nothing left);
-      asked = sym (append-nil before.calls);
-      made = refl;
-      by = record {
+  unfolding run events stop events_run
+  limit_ends at before left reads (Ok ends.ScriptEnd) (same, end) count =
+      limit_none at before left reads (Ok ends.ScriptEnd) same count
+      (record {
         all = sym (append-nothing before.held);
         stop = refl;
         rest = λ later more e. ap (run turn 0 at later) (none_more left more e end);
         just = λ later part b more is. absurd (not_nothing part b more is);
         whole = λ done. end;
-      };
-      early = early_limit at [] [] before.held;
-      count = omega (arith, count);
-      few = none_held 0 at.place at.last [] (inl (front_nothing at.last));
-    },
-  )
-  limit_ends at before left reads (Ok ends.Disconnected) h count = absurd h
-  limit_ends at before left reads (Ok ends.Closed) h count = absurd h
-  limit_ends at before left reads (Ok (ends.RemoteDisconnect info)) h count = absurd h
-  limit_ends at before left reads (Err errors.ScriptTooLong) (b, given) count = (
-    b ∷ [],
-    [],
-    record {
-      read = given;
-      asked = sym (append-nil before.calls);
-      made = refl;
-      by = record {
+      })
+  limit_ends at before left reads (Ok e) h count = absurd h
+  limit_ends at before left reads (Err errors.ScriptTooLong) (b, given) count =
+      bare_ends 0 at before left reads (b ∷ []) (Err errors.ScriptTooLong) given (omega (arith, count)) refl
+      (record {
         all = sym (append-nothing before.held);
         stop = refl;
         rest = λ later more e. refl;
         just = λ later part c more is. limit_front at later b part c more is;
         whole = λ done. absurd cc;
-      };
-      early = early_limit at [] (b ∷ []) before.held;
-      count = omega (arith, count);
-      few = none_held 0 at.place at.last (b ∷ []) (front_short at.last (b ∷ []) (omega arith));
-    },
-  )
-  limit_ends at before left reads (Err errors.ReadFault) same count = (
-    [],
-    [],
-    record {
-      read = same ∙ sym (prepend-nothing left);
-      asked = sym (append-nil before.calls);
-      made = refl;
-      by = sym (append-nothing before.held);
-      early = early_limit at [] [] before.held;
-      count = omega (arith, count);
-      few = none_held 0 at.place at.last [] (inl (front_nothing at.last));
-    },
-  )
-  limit_ends at before left reads (Err errors.NoMemory) same count = (
-    [],
-    [],
-    record {
-      read = same ∙ sym (prepend-nothing left);
-      asked = sym (append-nil before.calls);
-      made = refl;
-      by = wrote_nothing before.held [];
-      early = early_limit at [] [] before.held;
-      count = omega (arith, count);
-      few = none_held 0 at.place at.last [] (inl (front_nothing at.last));
-    },
-  )
+      })
+      (early_limit at [] (b ∷ []) before.held) (none_held 0 at.place at.last (b ∷ []) (front_short at.last (b ∷ []) (omega arith)))
+  limit_ends at before left reads (Err errors.ReadFault) same count = limit_none at before left reads (Err errors.ReadFault) same count (sym (append-nothing before.held))
+  limit_ends at before left reads (Err errors.NoMemory) same count = limit_none at before left reads (Err errors.NoMemory) same count (wrote_nothing before.held [])
   limit_ends at before left reads (Err e) h count = absurd h
 
 -- where the script ends at the limit, nothing was read

@@ -2,19 +2,13 @@
 use Rattle.std.proofs.Common.{◌≡◌, ℕ, zero, suc, ◌≤◌, Bool, true, false, List, [], ◌∷◌, ◌++◌, length, take, drop, Option, Result, Ok, Err, nat_lt, refl, ap, sym, ◌∙◌, append_assoc, length-append, arith}
 use Rattle.std.specs.Prelude.{◌||◌, if◌then◌else◌}
 use Rattle.std.specs.Int.{w32, from_be_bytes}
-use Rattle.std.proofs.lemmas.List.{append-nil, take-append-le, drop-append-le}
+use Rattle.std.proofs.lemmas.List.{take-append-le, drop-append-le}
 use Rattle.std.proofs.lemmas.Bool.Decides.{nat_tests}
 use Rattle.std.proofs.lemmas.List.Concat.{flat_map-append}
-use Rattle.sshc_wire.specs.Contents.{WroteFront}
-use Rattle.sshc_wire.specs.declared.record.Record.{Record}
-use Rattle.sshc_key.specs.Asking.{Answer, Asking, done, asks, call_of}
-use Rattle.sshc_run_reader.specs.declared.error.EventError.{EventError}
+use Rattle.sshc_run_reader.specs.Script.{events}
 use Rattle.sshc_run_script.specs.Prefixes.{IsFront}
-use Rattle.sshc_run_script.specs.Machine.{Onward, goes_on, opened, stopped, unanswered_stop, TurnOf, Turns}
-use Rattle.sshc_run_script.specs.RecordLines.{line, lines}
-use Rattle.sshc_run_reader.specs.Script.{Head, Front, End, Bad, Whole, whole_front, sized_front, front, frame_at, head_at}
-use Rattle.sshc_run_script.specs.ScriptRun.{Run, Spot, spot_after, run, run_on, asked_run, after}
-use Rattle.sshc_run_script.proofs.OpeningContinues.{front_before}
+use Rattle.sshc_run_script.proofs.RunNames.{append-nil, WroteFront, Record, Answer, Asking, done, asks, call_of, EventError, Head, Front, End, Bad, Whole, whole_front, sized_front, front, frame_at, head_at, stop, Onward, goes_on, opened, stopped, unanswered_stop, TurnOf, Turns, line, lines, Run, Spot, spot_after, run, run_on, asked_run, after, events_run}
+use Rattle.sshc_run_script.proofs.AnsweredQuestions.{front_before}
 
 -- ---- a whole event is still the first of longer bytes
 
@@ -80,18 +74,18 @@ module _ {S : Type 0} (turn : Turns S) where
   front_begins : (n : ℕ) (at : Spot S) (answers later : List Answer) (bytes more : List ℕ) (f : Front) → front at.last bytes ≡ f →
       ((at' : Spot S) (left : List Answer) (rest : List ℕ) → Begins (run turn n at' left rest) (run turn n at' (left ++ later) (rest ++ more))) →
       Begins (run turn (suc n) at answers bytes) (run turn (suc n) at (answers ++ later) (bytes ++ more))
-  unfolding run
+  unfolding run events stop events_run
   front_begins n at answers later bytes more End f rest =
-      (((run turn (suc n) at (answers ++ later) (bytes ++ more)).records, rw (f, run) refl), ((run turn (suc n) at (answers ++ later) (bytes ++ more)).calls, rw (f, run) refl))
+      (((run turn (suc n) at (answers ++ later) (bytes ++ more)).records, rw (f, run, events, stop, events_run) refl), ((run turn (suc n) at (answers ++ later) (bytes ++ more)).calls, rw (f, run, events, stop, events_run) refl))
   front_begins n at answers later bytes more Bad f rest =
-      (((run turn (suc n) at (answers ++ later) (bytes ++ more)).records, rw (f, run) refl), ((run turn (suc n) at (answers ++ later) (bytes ++ more)).calls, rw (f, run) refl))
+      (((run turn (suc n) at (answers ++ later) (bytes ++ more)).records, rw (f, run, events, stop, events_run) refl), ((run turn (suc n) at (answers ++ later) (bytes ++ more)).calls, rw (f, run, events, stop, events_run) refl))
   front_begins n at answers later bytes more (Whole head tail) f rest =
-      rw (front_more at.last bytes more head tail f, f, run)
+      rw (front_more at.last bytes more head tail f, f, run, events, stop, events_run)
       (asked_begins (turn at.state (frame_at at.place head)) answers later _ _ (λ t left. turn_begins t t.next _ _ (rest (spot_after at head t.state) left tail)))
 
   -- the records and calls of a script with some answers are the first of those of a longer one with more
   pub begins : (n : ℕ) (at : Spot S) (answers later : List Answer) (bytes more : List ℕ) → Begins (run turn n at answers bytes) (run turn n at (answers ++ later) (bytes ++ more))
-  unfolding run
+  unfolding run events stop events_run
   begins zero at answers later bytes more = (([], refl), ([], refl))
   begins (suc n) at answers later bytes more = front_begins n at answers later bytes more (front at.last bytes) refl (λ at' left rest. begins n at' left later rest more)
 

@@ -2,33 +2,33 @@
 -- script.
 use Rattle.std.proofs.Common.{◌≡◌, ◌≤◌, ◌<◌, ◌^◌, ◌+◌, ℕ, zero, suc, Bool, true, false, cond, List, [], ◌∷◌, length, take, drop, Option, Some, None, Result, Ok, Err, refl, ap, sym, subst, ◌∙◌, arith}
 use Rattle.std.specs.Prelude.{◌||◌, nat_lt}
-use Rattle.std.specs.Int.{w32, w64, from_be_bytes}
+use Rattle.std.specs.Int.{w32, w64, from_be_bytes, Width, byte_len}
 use Rattle.std.specs.List.{AllByRecursion}
 use Rattle.std.specs.Str.{is_utf8}
 use Rattle.std.proofs.lemmas.Bool.{ltb-false}
 use Rattle.std.proofs.lemmas.List.{length-drop, length-take}
-use Rattle.sshc_wire.specs.Cases.{neither}
-use Rattle.sshc_wire.specs.Format.{bind_ok, both_at, faults_ok, ok_is, part_at}
+use Rattle.sshc_wire.specs.CasesLaws.{neither}
+use Rattle.sshc_wire.specs.Format.{both_at, part_at}
+use Rattle.sshc_wire.specs.FormatLaws.{bind_ok, faults_ok, ok_is}
 use Rattle.sshc_wire.specs.Grammar.{finished}
 use Rattle.sshc_wire.specs.Reads.{◌>>=◌, byte_at, number_at, string_at, text_at}
 use Rattle.sshc_wire.specs.Wire.{IsShort}
 use Rattle.sshc_wire.specs.declared.error.WireError.{WireError}
 use Rattle.sshc_wire.specs.declared.error.WireError.TheVariants.{NotText, Short}
 use Rattle.sshc_wire.specs.declared.ticket.Ticket.{Ticket}
-use Rattle.sshc_auth_event.specs.declared.event.Event.{Event}
 use Rattle.sshc_auth_event.specs.declared.event.Event.TheVariants as events
 use Rattle.sshc_auth_event.specs.declared.method.Method.{Method}
 use Rattle.sshc_auth.specs.Passwords.{HasShortUser}
-use Rattle.sshc_run_reader.specs.declared.error.EventError.{EventError}
 use Rattle.sshc_run_reader.specs.declared.error.EventError.TheVariants as reads
 use Rattle.sshc_run_reader.specs.declared.event_kind.EventKind.{EventKind}
 use Rattle.sshc_run_reader.specs.declared.event_kind.EventKind.TheVariants as kinds
 use Rattle.sshc_run_reader.specs.EventFields.{kind_of}
 use Rattle.sshc_run_reader.specs.EventKinds.{kind_numbered}
 use Rattle.sshc_run_reader.specs.EventParts.{as_bad, ticket_at, u32_at, words_at}
-use Rattle.sshc_run_reader.specs.EventReading.{authenticate_at, authenticate_of, event_of, method_at}
-use Rattle.sshc_run_reader.specs.KindLaw.{ReadAs, read_as}
-use Rattle.sshc_run_reader.specs.Script.{Bad, End, Frame, Front, Head, Whole, events, front, frame_at, head_at, head_of, size_of, sized_front, whole_front}
+use Rattle.sshc_run_reader.specs.EventReading.{authenticate_at, authenticate_of, method_at}
+use Rattle.sshc_run_reader.specs.KindLaws.{ReadAs, read_as}
+use Rattle.sshc_run_reader.specs.Script.{head_of}
+use Rattle.sshc_run_script.proofs.RunNames.{Event, EventError, event_of, Bad, End, Frame, Front, Head, Whole, events, front, frame_at, head_at, size_of, sized_front, whole_front}
 
 -- ---- what a reader reads, and what remains, is no longer than its bytes
 
@@ -36,12 +36,12 @@ guard_is : {A E : Type 0} (b : Bool) (d : E) (x y : A) → cond b (Err d) (Ok x)
 guard_is true d x y e = absurd cc
 guard_is false d x y e = (refl, cc)
 
-number_leaves : (bytes : List ℕ) (n : ℕ × List ℕ) → number_at w32 bytes ≡ Ok n → length n.1 ≤ length bytes
+number_leaves : (w : Width) (bytes : List ℕ) (n : ℕ × List ℕ) → number_at w bytes ≡ Ok n → length n.1 ≤ length bytes
 unfolding number_at
-number_leaves bytes n e =
-    let h = guard_is (nat_lt (length bytes) 4) Short (from_be_bytes w32 (take 4 bytes), drop 4 bytes) n e in
-    let left : length n.1 ≡ length (drop 4 bytes) = sym (ap (λ (p : ℕ × List ℕ). length p.1) h.1) in
-    omega (arith, left, length-drop 4 bytes)
+number_leaves w bytes n e =
+    let h = guard_is (nat_lt (length bytes) (byte_len w)) Short (from_be_bytes w (take (byte_len w) bytes), drop (byte_len w) bytes) n e in
+    let left : length n.1 ≡ length (drop (byte_len w) bytes) = sym (ap (λ (p : ℕ × List ℕ). length p.1) h.1) in
+    omega (arith, left, length-drop (byte_len w) bytes)
 
 string_short : (bytes : List ℕ) (t : List ℕ × List ℕ) → string_at bytes ≡ Ok t → length t.0 ≤ length bytes
 unfolding string_at
@@ -49,7 +49,7 @@ string_short bytes t e =
     let b = bind_ok (number_at w32 bytes) (λ n. cond (nat_lt (length n.1) n.0) (Err Short) (Ok (take n.0 n.1, drop n.0 n.1))) t e in
     let g = guard_is (nat_lt (length b.0.1) b.0.0) Short (take b.0.0 b.0.1, drop b.0.0 b.0.1) t b.2 in
     let read : length t.0 ≡ length (take b.0.0 b.0.1) = sym (ap (λ (p : List ℕ × List ℕ). length p.0) g.1) in
-    omega (arith, read, length-take b.0.0 b.0.1, number_leaves bytes b.0 b.1)
+    omega (arith, read, length-take b.0.0 b.0.1, number_leaves w32 bytes b.0 b.1)
 
 text_is : (utf8 : Bool) (t u : List ℕ × List ℕ) → cond utf8 (Ok t) (Err NotText) ≡ Ok u → t ≡ u
 text_is true t u e = cc
@@ -71,7 +71,7 @@ ticket_leaves bytes t e =
     let b = bind_ok (part_at as_bad (number_at w32) bytes) (λ n. Ok (record { 0 = n.0 }, n.1)) t e in
     let n = faults_ok as_bad (number_at w32 bytes) b.0 b.1 in
     let left : length t.1 ≡ length b.0.1 = sym (ap (λ (p : Ticket × List ℕ). length p.1) (ok_is {E = EventError} (record { 0 = b.0.0 }, b.0.1) t b.2)) in
-    omega (arith, left, number_leaves bytes b.0 n)
+    omega (arith, left, number_leaves w32 bytes b.0 n)
 
 -- ---- an event
 
@@ -110,13 +110,6 @@ user_of kind bytes event read short = tt
 
 -- ---- the events of a script
 
-long_number_leaves : (bytes : List ℕ) (n : ℕ × List ℕ) → number_at w64 bytes ≡ Ok n → length n.1 ≤ length bytes
-unfolding number_at
-long_number_leaves bytes n e =
-    let h = guard_is (nat_lt (length bytes) 8) Short (from_be_bytes w64 (take 8 bytes), drop 8 bytes) n e in
-    let left : length n.1 ≡ length (drop 8 bytes) = sym (ap (λ (p : ℕ × List ℕ). length p.1) h.1) in
-    omega (arith, left, length-drop 8 bytes)
-
 byte_leaves : (bytes : List ℕ) (b : ℕ × List ℕ) → byte_at bytes ≡ Ok b → length b.1 ≤ length bytes
 unfolding byte_at
 byte_leaves [] b e = absurd cc
@@ -137,7 +130,7 @@ head_short last body head e =
     let moment = bind_ok (part_at as_bad (number_at w64) body) (λ m. part_at as_bad byte_at m.1 >>= λ k. head_of last m.0 (kind_numbered k.0) k.1) head e in
     let number = bind_ok (part_at as_bad byte_at moment.0.1) (λ k. head_of last moment.0.0 (kind_numbered k.0) k.1) head moment.2 in
     let fields = head_fields last moment.0.0 (kind_numbered number.0.0) number.0.1 head number.2 in
-    let one = long_number_leaves body moment.0 (faults_ok as_bad (number_at w64 body) moment.0 moment.1) in
+    let one = number_leaves w64 body moment.0 (faults_ok as_bad (number_at w64 body) moment.0 moment.1) in
     let two = byte_leaves moment.0.1 number.0 (faults_ok as_bad (byte_at moment.0.1) number.0 number.1) in
     omega (arith, fields, one, two)
 

@@ -1,17 +1,14 @@
 -- `SignerFault` is the result of a step only if the signer's count of refusals rose: neither the known hosts gate nor a
 -- row of an open session has this error, and the opening has it from the signer alone.
-use Rattle.std.proofs.Common.{◌≡◌, ◌≤◌, inl, inr, ℕ, Bool, true, false, List, Option, Some, None, Result, Ok, Err, refl, ap, sym, subst}
+use Rattle.std.proofs.Common.{◌≡◌, inl, inr, ℕ, Bool, true, false, Option, Some, None, Result, Ok, Err, refl, ap, sym, subst}
 use Rattle.sshc_wire.specs.Faults.{Rose}
 use Rattle.sshc_wire.specs.Outgoing.{Outgoing}
-use Rattle.sshc_wire.specs.declared.record.Record.{Record}
 use Rattle.sshc_key.specs.declared.error.Error.{Error as KeyError}
 use Rattle.sshc_key.specs.declared.error.Error.TheVariants as key_errors
 use Rattle.sshc_key.specs.declared.identity.PublicKeyOrCertificate.{PublicKeyOrCertificate}
 use Rattle.sshc_key.specs.declared.identity.PublicKeyOrCertificate.TheVariants.{PublicKey, Certificate}
 use Rattle.sshc_hosts.specs.Judgement.{judged}
-use Rattle.sshc_auth_event.specs.declared.event.Event.{Event}
 use Rattle.sshc_transport.specs.declared.exchange.ExchangeResult.{ExchangeResult}
-use Rattle.sshc_auth.specs.declared.ended.Ended.{Ended}
 use Rattle.sshc_auth.specs.declared.error.Error.{Error}
 use Rattle.sshc_auth.specs.declared.error.Error.TheVariants as auths
 use Rattle.sshc_auth.specs.declared.step.Asks.{Asks}
@@ -21,23 +18,15 @@ use Rattle.sshc_auth.specs.declared.step.Step.TheVariants as steps
 use Rattle.sshc_auth.specs.declared.step.Told.{Told}
 use Rattle.sshc_auth.specs.Causes.{CountRose, HasGateCause}
 use Rattle.sshc_auth.specs.Stepping.{Answered, Judged, LentGate, Tells, lent, told_of, with_gate}
-use Rattle.sshc_client_packets.specs.HostKeyProof.{Accepts}
 use Rattle.sshc_client_table.specs.OpenCauseLaws.{NextCaused, open_why, session_holds}
-use Rattle.sshc_client_table.specs.SessionRow.{Next, SessionRow, refuses}
-use Rattle.sshc_client_table.specs.SessionState.{SessionState, is_live, is_open}
-use Rattle.sshc_client_table.specs.SessionTable.{session_row}
+use Rattle.sshc_client_table.specs.SessionRow.{Next, refuses}
 use Rattle.sshc_client_state.specs.OpeningStep.{Lent, outgoing}
-use Rattle.sshc_client.specs.Follows.{default_opinions}
 use Rattle.sshc_client.specs.Stepping.{SessionStepped, StepsRow}
-use Rattle.sshc_run_script.specs.declared.error.RunError.{RunError}
 use Rattle.sshc_run_script.specs.declared.error.RunError.TheVariants as errors
-use Rattle.sshc_run_script.specs.declared.known_hosts_handler.HandlerError.{HandlerError}
 use Rattle.sshc_run_script.specs.declared.known_hosts_handler.HandlerError.TheVariants.{Client, Key}
-use Rattle.sshc_run_script.specs.KnownHosts.{AddsNothing, Hosts, Judges, as_handler, verdict}
-use Rattle.sshc_run_script.specs.Ready.{IsReady}
 use Rattle.sshc_run_script.specs.RunFaults.{SignerTaken}
-use Rattle.sshc_run_script.specs.Turn.{error_of, handler_error_of, key_error_of}
-use Rattle.sshc_run_script.specs.TurnContracts.{step_answer}
+use Rattle.sshc_run_script.specs.Turn.{key_error_of}
+use Rattle.sshc_run_script.proofs.RunNames.{Event, Ended, Accepts, SessionRow, SessionState, is_live, is_open, session_row, default_opinions, RunError, HandlerError, Hosts, Judges, as_handler, verdict, IsReady, error_of, handler_error_of, step_answer}
 use Rattle.sshc_run_script.proofs.OpeningSteps.{hosts_gate}
 use Rattle.sshc_run_script.proofs.SessionSteps.{later_opens}
 
@@ -45,43 +34,11 @@ use Rattle.sshc_run_script.proofs.SessionSteps.{later_opens}
 
 from_client : (place : ℕ) (e : Error) → error_of place e ≡ errors.SignerFault → e ≡ auths.SignerFault
 from_client place auths.SignerFault same = refl
-from_client place auths.NoMemory same = absurd cc
-from_client place auths.OutOfTurn same = absurd cc
-from_client place auths.TransportFailed same = absurd cc
-from_client place auths.UnknownKey same = absurd cc
-from_client place auths.Inconsistent same = absurd cc
-from_client place auths.Pending same = absurd cc
-from_client place auths.NoAuthMethod same = absurd cc
-from_client place auths.NotAuthenticated same = absurd cc
-from_client place auths.SshEncoding same = absurd cc
-from_client place auths.InvalidDisconnect same = absurd cc
-from_client place auths.RecvError same = absurd cc
-from_client place auths.KeepaliveTimeout same = absurd cc
-from_client place auths.InactivityTimeout same = absurd cc
-from_client place auths.RekeyKey same = absurd cc
-from_client place auths.WrongServerSig same = absurd cc
-from_client place auths.RequestDenied same = absurd cc
-from_client place (auths.ChannelOpenFailure reason) same = absurd cc
-from_client place auths.SendError same = absurd cc
-from_client place auths.Disconnect same = absurd cc
+from_client place e same = absurd cc
 
 from_key : (e : KeyError) → key_error_of e ≡ errors.SignerFault → ⊥
-from_key key_errors.CouldNotReadKey same = cc
-from_key key_errors.NoHomeDir same = cc
-from_key (key_errors.KeyChanged line) same = cc
-from_key key_errors.AgentProtocolError same = cc
-from_key key_errors.AgentFailure same = cc
 from_key key_errors.Decode same = cc
-from_key key_errors.SshKey same = cc
-from_key key_errors.SshEncoding same = cc
-from_key key_errors.EnvVar same = cc
-from_key key_errors.BadAuthSock same = cc
-from_key key_errors.Utf8 same = cc
-from_key key_errors.ReadFault same = cc
-from_key key_errors.WriteFault same = cc
-from_key key_errors.UnexpectedEnd same = cc
-from_key key_errors.NoMemory same = cc
-from_key (key_errors.Revoked line) same = cc
+from_key e same = cc
 
 from_handler : (place : ℕ) (e : HandlerError) → handler_error_of place e ≡ errors.SignerFault → e ≡ Client auths.SignerFault
 from_handler place (Client e) same = ap Client (from_client place e same)
@@ -94,11 +51,8 @@ same_error : (a b : RunError) → failed a ≡ failed b → a ≡ b
 same_error a b same = cc
 
 refused_so : (place : ℕ) (step : Step HandlerError) → step_answer place step ≡ Some (Err errors.SignerFault) → step ≡ steps.Refused (Client auths.SignerFault)
-refused_so place steps.Went same = absurd cc
-refused_so place steps.Opened same = absurd cc
-refused_so place (steps.Ended e) same = absurd cc
 refused_so place (steps.Refused e) same = ap steps.Refused (from_handler place e (same_error _ _ same))
-refused_so place steps.Closed same = absurd cc
+refused_so place step same = absurd cc
 
 -- ---- the known hosts gate
 
@@ -183,8 +137,3 @@ module _ (hosts : Hosts) (accepts : Accepts) (event : Event) (was is : Lent) (re
     later = stepped.signer;
     fault = λ answer. fault_by (is_open was.session.opening.phase) refl step stepped (refused_so place step answer);
   }
-
--- ---- what isn't a signer's fault
-
-pub other_answer : (before now : ℕ) (answer : Option (Result Ended RunError)) → before ≤ now → (answer ≡ Some (Err errors.SignerFault) → ⊥) → SignerTaken before now answer
-other_answer before now answer later never = record { later = later; fault = λ is. absurd (never is) }

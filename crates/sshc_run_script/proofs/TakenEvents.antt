@@ -1,23 +1,12 @@
 -- What taking an event does, for any machine, by the result of a step and what was written.
 use Rattle.std.proofs.Common.{◌≡◌, inl, inr, List, [], ◌∷◌, ◌++◌, Option, Some, None, Result, Err, ℕ, refl, ap, sym, ◌∙◌, subst}
 use Rattle.std.specs.Option.{option_map}
-use Rattle.std.proofs.lemmas.List.{append-nil}
 use Rattle.std.proofs.Math.Seq.{drop-length}
-use Rattle.sshc_wire.specs.Contents.{append, append-nothing, WroteFront}
-use Rattle.sshc_wire.specs.declared.record.Record.{Record}
 use Rattle.sshc_wire.specs.declared.source.Failed.{Failed}
 use Rattle.sshc_wire.specs.declared.source.Failed.TheVariants as failures
-use Rattle.sshc_key.specs.Signers.{SignCall, since}
-use Rattle.sshc_key.specs.Asking.{Asking, done, Makes}
-use Rattle.sshc_auth.specs.declared.ended.Ended.{Ended}
 use Rattle.sshc_auth.specs.declared.step.Step.{Step}
-use Rattle.sshc_run_script.specs.declared.error.RunError.{RunError}
 use Rattle.sshc_run_script.specs.declared.error.RunError.TheVariants as errors
-use Rattle.sshc_run_script.specs.declared.known_hosts_handler.HandlerError.{HandlerError}
-use Rattle.sshc_run_script.specs.Machine.{TurnOf, stop_next}
-use Rattle.sshc_run_script.specs.Outcome.{Ending, told, cut, unread, ending_of, stop_as}
-use Rattle.sshc_run_script.specs.RecordLines.{lines}
-use Rattle.sshc_run_script.specs.TurnContracts.{step_answer, Came, CutBy, TakeAs, TakeGives}
+use Rattle.sshc_run_script.proofs.RunNames.{append-nil, append, WroteFront, append-nothing, Record, SignCall, since, Asking, done, Makes, Ended, RunError, HandlerError, TurnOf, stop_next, Ending, told, cut, unread, ending_of, stop_as, lines, step_answer, Came, CutBy, TakeAs, TakeGives}
 use Rattle.sshc_run_script.proofs.Lines.{wrote_all}
 use Rattle.sshc_run_script.proofs.ScriptExtension.{wrote_longer}
 
@@ -69,5 +58,8 @@ stops_turn t s calls held e none stop =
     unasked (done t) calls s held held (Some (Err e)) (take_as (done t) [] (ending_of (Err e)) t held held (Err e) refl stop (sym (append-nothing held) ∙ ap (λ rs. append held (lines rs)) (sym none)))
 
 -- nothing was gained
+pub since_none : (old new : List SignCall) → new ≡ old → since old new ≡ []
+since_none old new same = ap (since old) same ∙ drop-length old
+
 pub unchanged : (old new : List SignCall) → new ≡ old → new ≡ old ++ since old new
-unchanged old new same = same ∙ sym (append-nil old) ∙ ap (λ (gained : List SignCall). old ++ gained) (sym (ap (since old) same ∙ drop-length old))
+unchanged old new same = same ∙ sym (append-nil old) ∙ ap (λ (gained : List SignCall). old ++ gained) (sym (since_none old new same))

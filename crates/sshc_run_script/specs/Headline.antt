@@ -5,7 +5,7 @@ use Rattle.sshc_wire.specs.Faults.{Rose}
 use Rattle.sshc_wire.specs.declared.record.Record.{Record}
 use Rattle.sshc_key.specs.declared.identity.PublicKeyOrCertificate.{PublicKeyOrCertificate}
 use Rattle.sshc_auth_event.specs.HostKey.{host_key}
-use Rattle.sshc_auth.specs.GateLaw.{NonePayload}
+use Rattle.sshc_auth.specs.GateLaws.{NonePayload}
 use Rattle.sshc_auth.specs.declared.ended.Ended.{Ended}
 use Rattle.sshc_auth.specs.declared.ended.Ended.TheVariants.{ScriptEnd}
 use Rattle.sshc_auth_event.specs.declared.event.Event.{Event}

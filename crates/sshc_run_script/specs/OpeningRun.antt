@@ -1,10 +1,10 @@
 -- The opening run: a table folded over the events of a script until it opens the session.
 -- A fold over a whole list; the code takes one event at a time.
 use Rattle.std.specs.Prelude.{◌≡◌, List, [], ◌∷◌}
-use Rattle.sshc_key.specs.Asking.{Always, Answer, asked_on}
+use Rattle.sshc_key.specs.Asking.{Answer}
+use Rattle.sshc_run_reader.specs.Script.{Frame, ScriptStop}
 use Rattle.sshc_run_script.specs.Prefixes.{IsFront}
 use Rattle.sshc_run_script.specs.Machine.{RunStop, unanswered_stop, Onward, goes_on, opened, stopped, TurnOf, Turns}
-use Rattle.sshc_run_reader.specs.Script.{Frame, ScriptStop}
 use Rattle.sshc_run_script.specs.ScriptRun.{RunOf, Run, stopped_with, after, asked_run, at_end}
 
 -- how the opening run stops: the session is open, and these events and answers remain; the run stops; or the list is
@@ -31,17 +31,6 @@ opening turn s (frame ∷ frames) answers =
     asked_run (stops_with unanswered_stop) (turn s frame) answers (λ t left. by_turn t t.next frames left (opening turn t.state frames left))
 
 -- ---- a larger machine that begins as the opening
-
--- Until the table opens the session, in each state that it continues from, which `Before` is true of, the machine's
--- turns are the table's, with its state mapped in this way. When the table opens the session, its records come first,
--- and the machine continues from a state of its own.
-pub record Continues {A : Type 0} {B : Type 0} (short : Turns A) (long : Turns B) (as_kept : A → B) (Before : A → Type 0) : Type 0 where
-  pub turn_of : TurnOf A → TurnOf B
-  pub same : (s : A) (frame : Frame) → Before s → long (as_kept s) frame ≡ asked_on turn_of (short s frame)
-  pub stays : (s : A) (frame : Frame) → Before s → Always (λ (t : TurnOf A). t.next ≡ goes_on → Before t.state) (short s frame)
-  pub on : (t : TurnOf A) → t.next ≡ goes_on → turn_of t ≡ record { records = t.records; state = as_kept t.state; next = goes_on }
-  pub opens : (t : TurnOf A) → t.next ≡ opened → IsFront t.records (turn_of t).records × ((turn_of t).next ≡ opened)
-  pub stops : (t : TurnOf A) (stop : RunStop) → t.next ≡ stopped stop → ((turn_of t).records ≡ t.records) × ((turn_of t).next ≡ stopped stop)
 
 -- the records and the calls are the opening run's, and it stops in the same way; or, once it opens the session, they
 -- are all of its records and calls followed by more, and if no event follows, the run stops at what follows the events

@@ -1,14 +1,13 @@
--- A part of a larger machine: the events of its own are taken by its turns, and every other event leaves it as it was.
--- The session is such a part of a machine that serves agents besides; so are the agents. A machine is a part of itself.
-use Rattle.std.specs.Prelude.{◌≡◌, ◌⊎◌, Bool, true, false, List, [], ◌∷◌, ◌++◌, filter}
+-- A part of a larger machine: which events, records and calls of the signer are its own, and what its share of a run
+-- is. The session is such a part of a machine that serves agents besides. A machine is a part of itself.
+use Rattle.std.specs.Prelude.{◌≡◌, ◌⊎◌, Bool, false, List, [], ◌∷◌, ◌++◌, filter}
 use Rattle.sshc_wire.specs.declared.record.Record.{Record}
 use Rattle.sshc_key.specs.Signers.{SignCall}
 use Rattle.sshc_key.specs.declared.signer.Asker.{Asker}
-use Rattle.sshc_key.specs.Asking.{Answer, Asking, done, asks, asked_on, Always}
-use Rattle.sshc_run_script.specs.ReachedStates.{StopsFor}
-use Rattle.sshc_run_script.specs.Prefixes.{IsFront}
-use Rattle.sshc_run_script.specs.Machine.{RunStop, unanswered_stop, TurnOf, Turns}
+use Rattle.sshc_key.specs.Asking.{Answer, Asking, done, asks}
 use Rattle.sshc_run_reader.specs.Script.{Frame}
+use Rattle.sshc_run_script.specs.Prefixes.{IsFront}
+use Rattle.sshc_run_script.specs.Machine.{RunStop, unanswered_stop}
 use Rattle.sshc_run_script.specs.ScriptRun.{Run, answers_of}
 
 -- ---- what is a part's own
@@ -43,21 +42,6 @@ SaysBy test is (said ∷ records) = (test said ≡ is) × SaysBy test is records
 abbrev pub AsksBy : {A : Type 0} → (Asker → Bool) → Bool → Asking A → Type 0
 AsksBy test is (done x) = Unit {0}
 AsksBy test is (asks asked on) = (test asked.by ≡ is) × ((answer : Answer) → AsksBy test is (on answer))
-
--- an event of its own is taken by the part's turn, whose records and askers are its own; another event doesn't change
--- the part, has no record of its own and asks the signer by no asker of its own
-pub record HasPart {P : Type 0} {A : Type 0} (whole : Turns P) (part : Turns A) (see : P → A) (own : Own) : Type 0 where
-  pub as_whole : P → TurnOf A → TurnOf P
-  pub same : (s : P) (frame : Frame) → own.event frame ≡ true → whole s frame ≡ asked_on (as_whole s) (part (see s) frame)
-  pub seen : (s : P) (t : TurnOf A) → ((as_whole s t).records ≡ t.records) × ((as_whole s t).next ≡ t.next) × (see (as_whole s t).state ≡ t.state)
-  pub says : (a : A) (frame : Frame) → own.event frame ≡ true → Always (λ (t : TurnOf A). SaysBy own.said true t.records) (part a frame)
-  pub asks_own : (a : A) (frame : Frame) → own.event frame ≡ true → AsksBy own.asker true (part a frame)
-  pub still : (s : P) (frame : Frame) → own.event frame ≡ false → Always (λ (t : TurnOf P). SaysBy own.said false t.records × (see t.state ≡ see s)) (whole s frame)
-  pub asks_other : (s : P) (frame : Frame) → own.event frame ≡ false → AsksBy own.asker false (whole s frame)
-
--- why an event of another stops the run
-abbrev pub StopsOthers : {P : Type 0} → Turns P → Own → (Frame → RunStop → Type 0) → Type 0
-StopsOthers {P = P} whole own Cause = (s : P) (frame : Frame) → own.event frame ≡ false → Always (λ (t : TurnOf P). StopsFor (Cause frame) t.next) (whole s frame)
 
 -- one of these events is another's, and the run stopped for its cause
 abbrev pub StoppedByOther : Own → (Frame → RunStop → Type 0) → List Frame → RunStop → Type 0

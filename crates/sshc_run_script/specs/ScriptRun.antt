@@ -1,14 +1,13 @@
 -- A whole run of a script by a machine: the records in order, the signer's calls in order, and how it stops. It is the
--- fold of the machine's turns over the script's events, and then what follows them; the recursion over bytes is only a
--- device of the proof, and a law relates the two definitions.
-use Rattle.std.specs.Prelude.{ℕ, zero, suc, ◌+◌, List, [], ◌∷◌, ◌++◌}
+-- fold of the machine's turns over the script's events, and then what follows them.
+use Rattle.std.specs.Prelude.{ℕ, ◌+◌, List, [], ◌∷◌, ◌++◌}
 use Rattle.sshc_wire.specs.declared.record.Record.{Record}
 use Rattle.sshc_key.specs.Signers.{SignCall, since}
 use Rattle.sshc_key.specs.Asking.{Answer, Asking, done, asks, call_of}
 use Rattle.sshc_auth.specs.declared.ended.Ended.TheVariants.{ScriptEnd}
 use Rattle.sshc_run_script.specs.declared.error.RunError.TheVariants as errors
 use Rattle.sshc_run_script.specs.Machine.{RunStop, ended, refused, unanswered_stop, Onward, goes_on, opened, stopped, TurnOf, Turns, Machine}
-use Rattle.sshc_run_reader.specs.Script.{Frame, Head, End, Bad, Whole, front, frame_at, size_of, ScriptStop, whole, bad, more, stop_at_most, taken, stop_of}
+use Rattle.sshc_run_reader.specs.Script.{Frame, Head, size_of, ScriptStop, whole, bad, more, events, stop, taken, stop_of}
 
 -- all records in order, the calls of the signer in order, and how it stops
 pub record RunOf (E : Type 0) : Type 0 where
@@ -65,7 +64,7 @@ answers_of (call ∷ calls) = call.answer ∷ answers_of calls
 abbrev pub answers_since : List SignCall → List SignCall → List Answer
 answers_since old new = answers_of (since old new)
 
--- ---- by recursion over bytes
+-- ---- from one event on
 
 -- the state of a run: the place of the next event, the last moment, and the machine's state
 pub record Spot (S : Type 0) : Type 0 where
@@ -86,10 +85,6 @@ spot_after at head s = record { place = at.place + size_of head; last = head.0; 
 abbrev pub Table : Type 0 → Type 0
 Table S = ℕ → Spot S → List Answer → List ℕ → Run
 
+-- the run from a spot: its first events, and then what follows them
 unfoldable pub run : {S : Type 0} → Turns S → ℕ → Spot S → List Answer → List ℕ → Run
-run turn zero at answers bytes = stopped_with [] (at_end (stop_at_most bytes))
-run turn (suc n) at answers bytes = elim (front at.last bytes) [
-  | End ↦ stopped_with [] (ended ScriptEnd)
-  | Bad ↦ stopped_with [] (refused (errors.BadEvent at.place))
-  | Whole head rest ↦ asked_run unanswered_stop (turn at.state (frame_at at.place head)) answers (λ t left. run_on t t.next (run turn n (spot_after at head t.state) left rest))
-]
+run turn n at answers bytes = events_run turn at.state (events n at.place at.last bytes) (stop n at.place at.last bytes) answers

@@ -1,6 +1,6 @@
 use Rattle.std.proofs.Common.{refl, sym, ◌∙◌, arith}
 use Rattle.std.proofs.lemmas.Result.{err_from_is_err_and}
-use Rattle.sshc_wire.specs.Contents.{append-nothing, no_writes, writes_on, writes_end}
+use Rattle.sshc_wire.specs.ContentsLaws.{append-nothing, no_writes, writes_on, writes_end}
 use Rattle.sshc_run_script.proofs.Lines.{cut_line_at, next_line_at}
 use Rattle.sshc_run_script.proofs.record_lines.write_lines.Goals as goal
 

@@ -1,5 +1,5 @@
 use Rattle.std.proofs.Common.{arith, refl, subst, ap, sym, ◌∙◌, ◌≡◌, ◌-◌, ℕ, Some}
-use Rattle.sshc_wire.specs.Contents.{no_writes, writes_on, writes_end, moved_for}
+use Rattle.sshc_wire.specs.ContentsLaws.{no_writes, writes_on, writes_end, moved_for}
 use Rattle.sshc_run_script.specs.Outcome.{Streams, streams, Ends}
 use Rattle.sshc_run_script.specs.Ready.{IsReady}
 use Rattle.sshc_run_script.specs.ScriptRun.{Spot, spot, run}
