@@ -81,7 +81,7 @@ impl<H: Handler> Handle<H> {
     /// `poll` of that channel takes it. `None` if the session has ended and nothing more is held. So one thread serves
     /// many channels, and takes what is held of those that nobody else asks for.
     pub fn wait_any<R: Wait>(&self, rt: &R) -> Option<ChannelId> {
-        let mut state = self.shared.lock(rt);
+        let mut state = self.shared.look_for_some(rt);
         for _ in rt.forever() {
             let first = state.first_channel();
             if first.is_some() || state.is_over() {
@@ -94,7 +94,7 @@ impl<H: Handler> Handle<H> {
 
     /// The same, and `None` too if nothing is held after this time.
     pub fn wait_any_for<R: Wait + Clock>(&self, rt: &R, limit: Duration) -> Option<ChannelId> {
-        let state = self.shared.lock(rt);
+        let state = self.shared.look_for_some(rt);
         self.shared
             .wait_for_some_within(rt, state, limit)
             .first_channel()

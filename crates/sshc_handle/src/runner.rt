@@ -22,8 +22,8 @@ const PAUSE: u64 = 1;
 const LONGEST: u64 = 3_600_000;
 
 /// Takes turns with a session until it has ended, in a thread of its own. It asks its transport once a millisecond, or
-/// when it is woken, once a waker was made. Where a runner is dropped that hasn't run, its session is refused: calls that
-/// wait return, and nothing more is submitted.
+/// when it is woken, once a waker was made. Where a runner is dropped that hasn't run, its session is refused: calls
+/// that wait return, and nothing more is submitted.
 #[derive(Drop)]
 pub struct Runner<
     H: Handler + Drop,

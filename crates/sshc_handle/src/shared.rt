@@ -264,7 +264,25 @@ impl<H> Shared<H> {
         if state.holds_of(id) || state.is_channel_closed(id) || state.is_over() {
             return state;
         }
-        let place = self.place_of_channel(id.0);
+        self.look_at(rt, state, self.place_of_channel(id.0))
+    }
+
+    /// The locked value, as soon as something may be held of some channel, or after a moment.
+    pub(crate) fn look_for_some<R: Wait>(&self, rt: &R) -> MutexGuard<'_, HandleState<H>> {
+        let state = self.lock(rt);
+        if state.first_channel().is_some() || state.is_over() {
+            return state;
+        }
+        self.look_at(rt, state, &self.happened)
+    }
+
+    /// Lets the lock go, and takes it again once those who wait at this place are called, or after a moment.
+    fn look_at<'a, R: Wait>(
+        &'a self,
+        rt: &R,
+        state: MutexGuard<'a, HandleState<H>>,
+        place: &Place,
+    ) -> MutexGuard<'a, HandleState<H>> {
         let seen = place.calls();
         drop(state);
         place.look(&self.patience, seen);

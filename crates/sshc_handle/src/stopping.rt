@@ -6,8 +6,8 @@ use std::alloc::Global;
 use std::sync::Arc;
 use std::sync::atomic::{AtomicBool, Ordering};
 
-/// A transport that is at its end once its stopper was used. Contracts don't see what its `next` returned, since another
-/// thread may use the stopper meanwhile.
+/// A transport that is at its end once its stopper was used. Contracts don't see what its `next` returned, since
+/// another thread may use the stopper meanwhile.
 #[derive(Drop)]
 pub struct Stoppable<T: Transport + Drop> {
     transport: T,

@@ -7,7 +7,9 @@ ghost use Rattle.sshc_client.specs.declared.message.Msg.TheVariants as msgs;
 ghost use Rattle.sshc_handle_messages.specs.Messages.{asked_ticket};
 ghost use Rattle.sshc_handle_calls.specs.Lines.{submitted};
 ghost use Rattle.sshc_handle_calls.specs.Rounds.{Until, or_record};
-ghost use Rattle.sshc_handle_calls.specs.Gssapi.{Authenticates, AuthenticatorCall, Reports, Steps, StepsAndTells, StepsIn, SteppingRound, authenticator_at, completed, gssapi_said, reported, step_in, step_msg, stepped, stepping_at, then_call};
+ghost use Rattle.sshc_handle_calls.specs.Gssapi.{Authenticates, AuthenticatorCall, Reports, Steps, StepsAndTells};
+ghost use Rattle.sshc_handle_calls.specs.Gssapi.{StepsIn, SteppingRound, authenticator_at, completed, gssapi_said};
+ghost use Rattle.sshc_handle_calls.specs.Gssapi.{reported, step_in, step_msg, stepped, stepping_at, then_call};
 
 use crate::line::{Line, tell};
 use crate::signing::read_login;

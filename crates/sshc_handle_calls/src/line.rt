@@ -4,7 +4,8 @@ ghost use Rattle.std.specs.Prelude.{◌≡◌, [], ◌∷◌, true, IfErr};
 ghost use Rattle.sshc_handle_tickets.specs.Tickets.{is_of};
 ghost use Rattle.sshc_handle_state.specs.Submission.{asks_answer};
 ghost use Rattle.sshc_handle_calls.specs.Asking.{Asked, Reads, Told};
-ghost use Rattle.sshc_handle_calls.specs.Lines.{Calls, CannotRespond, Given, gains, prompts_started, responded, submitted, taken};
+ghost use Rattle.sshc_handle_calls.specs.Lines.{Calls, CannotRespond, Given, gains, prompts_started, responded};
+ghost use Rattle.sshc_handle_calls.specs.Lines.{submitted, taken};
 
 use crate::reader::Reader;
 use sshc_auth::Error;

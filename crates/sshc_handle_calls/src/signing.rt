@@ -8,7 +8,8 @@ ghost use Rattle.sshc_handle_tickets.specs.Answers.{auth_answer};
 ghost use Rattle.sshc_handle_messages.specs.Messages.{asked_ticket, identity_of_certificate, identity_of_key};
 ghost use Rattle.sshc_handle_calls.specs.Lines.{submitted};
 ghost use Rattle.sshc_handle_calls.specs.Rounds.{Until, or_record, read_by};
-ghost use Rattle.sshc_handle_calls.specs.Signing.{SignerCall, Signs, SignsAndTells, SignsIn, SigningRound, and_call, bytes_to_sign, signature_in, signer_at, signing_at};
+ghost use Rattle.sshc_handle_calls.specs.Signing.{SignerCall, Signs, SignsAndTells, SignsIn, SigningRound, and_call};
+ghost use Rattle.sshc_handle_calls.specs.Signing.{bytes_to_sign, signature_in, signer_at, signing_at};
 
 use crate::line::{Line, tell};
 use crate::with_error::WithError;

@@ -4,7 +4,8 @@ use Rattle.std.specs.Prelude.{Bool, true, false, if◌then◌else◌, is_some, O
 use Rattle.sshc_wire.specs.declared.channel_id.ChannelId.{ChannelId}
 use Rattle.sshc_wire.specs.declared.ticket.Ticket.{Ticket}
 use Rattle.sshc_auth_event.specs.declared.channel_msg.ChannelMsg.{ChannelMsg}
-use Rattle.sshc_auth_event.specs.declared.channel_msg.ChannelMsg.TheVariants.{ExitSignal, ExitStatus, Failure, Open, OpenFailure, Success, WindowAdjusted, XonXoff}
+use Rattle.sshc_auth_event.specs.declared.channel_msg.ChannelMsg.TheVariants.{ExitSignal, ExitStatus, Failure, Open, OpenFailure}
+use Rattle.sshc_auth_event.specs.declared.channel_msg.ChannelMsg.TheVariants.{Success, WindowAdjusted, XonXoff}
 use Rattle.sshc_auth_event.specs.declared.event.Event.{Event}
 use Rattle.sshc_auth_event.specs.declared.event.Event.TheVariants as events
 use Rattle.sshc_client.specs.declared.message.Msg.{Msg}
@@ -56,6 +57,41 @@ is_reported msg = false
 abbrev pub channel_event : ChannelId → ChannelMsg → Option Event
 channel_event id msg = if is_reported msg then None else Some (events.Channel id msg)
 
+-- The event of a message is in four tables: what one doesn't name, the one before it has.
+
+-- a question about the server's extensions, or a global request that asks for an answer and forwards nothing
+unfoldable pub request_event : Ticket → Msg → Option Event
+request_event fresh (msgs.AwaitExtensionInfo name ticket) = Some (events.AwaitExtensionInfo (stamped fresh ticket) name)
+request_event fresh (msgs.GetServerSigAlgs ticket) = Some (events.GetServerSigAlgs (stamped fresh ticket))
+request_event fresh (msgs.Ping ticket) = Some (events.Ping (stamped fresh ticket))
+request_event fresh (msgs.HostKeysProve ticket keys) = Some (events.HostKeysProve (stamped fresh ticket) keys)
+request_event fresh (msgs.SendGlobalRequest name body ticket) =
+    Some (events.SendGlobalRequest (stamped fresh ticket) name body)
+request_event fresh msg = None
+
+-- a global request that begins or ends forwarding
+unfoldable pub forward_event : Ticket → Msg → Option Event
+forward_event fresh (msgs.TcpIpForward ticket address port) =
+    Some (events.TcpIpForward (stamped fresh ticket) address port)
+forward_event fresh (msgs.CancelTcpIpForward ticket address port) =
+    Some (events.CancelTcpIpForward (stamped fresh ticket) address port)
+forward_event fresh (msgs.StreamLocalForward ticket path) = Some (events.StreamLocalForward (stamped fresh ticket) path)
+forward_event fresh (msgs.CancelStreamLocalForward ticket path) =
+    Some (events.CancelStreamLocalForward (stamped fresh ticket) path)
+forward_event fresh msg = request_event fresh msg
+
+-- an open of a channel
+unfoldable pub open_event : Ticket → Msg → Option Event
+open_event fresh (msgs.ChannelOpenSession ticket) = Some (events.ChannelOpenSession (stamped fresh ticket))
+open_event fresh (msgs.ChannelOpenX11 address port ticket) =
+    Some (events.ChannelOpenX11 (stamped fresh ticket) address port)
+open_event fresh (msgs.ChannelOpenDirectTcpIp host port address own_port ticket) =
+    Some (events.ChannelOpenDirectTcpIp (stamped fresh ticket) host port address own_port)
+open_event fresh (msgs.ChannelOpenDirectStreamLocal path ticket) =
+    Some (events.ChannelOpenDirectStreamLocal (stamped fresh ticket) path)
+open_event fresh msg = forward_event fresh msg
+
+-- the event of any message: here a login, and what asks for no answer
 unfoldable pub event_of : Ticket → Msg → Option Event
 event_of fresh (msgs.Authenticate user method ticket) = Some (events.Authenticate (stamped fresh ticket) user method)
 event_of fresh (msgs.AuthInfoResponse responses) = Some (events.AuthInfoResponse responses)
@@ -64,23 +100,12 @@ event_of fresh (msgs.AuthGssapiMic token mic) = Some (events.AuthGssapiMic token
 event_of fresh (msgs.AuthGssapiExchangeComplete token) = Some (events.AuthGssapiExchangeComplete token)
 event_of fresh (msgs.Signed body) = Some (events.Signed body)
 event_of fresh msgs.SignFailed = Some events.SignFailed
-event_of fresh (msgs.ChannelOpenSession ticket) = Some (events.ChannelOpenSession (stamped fresh ticket))
-event_of fresh (msgs.ChannelOpenX11 address port ticket) = Some (events.ChannelOpenX11 (stamped fresh ticket) address port)
-event_of fresh (msgs.ChannelOpenDirectTcpIp host port address own_port ticket) = Some (events.ChannelOpenDirectTcpIp (stamped fresh ticket) host port address own_port)
-event_of fresh (msgs.ChannelOpenDirectStreamLocal path ticket) = Some (events.ChannelOpenDirectStreamLocal (stamped fresh ticket) path)
-event_of fresh (msgs.TcpIpForward ticket address port) = Some (events.TcpIpForward (stamped fresh ticket) address port)
-event_of fresh (msgs.CancelTcpIpForward ticket address port) = Some (events.CancelTcpIpForward (stamped fresh ticket) address port)
-event_of fresh (msgs.StreamLocalForward ticket path) = Some (events.StreamLocalForward (stamped fresh ticket) path)
-event_of fresh (msgs.CancelStreamLocalForward ticket path) = Some (events.CancelStreamLocalForward (stamped fresh ticket) path)
 event_of fresh (msgs.Close id) = Some (events.Close id)
-event_of fresh (msgs.Disconnect reason description language_tag) = Some (events.Disconnect reason description language_tag)
+event_of fresh (msgs.Disconnect reason description language_tag) =
+    Some (events.Disconnect reason description language_tag)
 event_of fresh (msgs.Channel id msg) = channel_event id msg
 event_of fresh (msgs.ServerChannelOpenReply id result) = Some (events.ServerChannelOpenReply id result)
 event_of fresh msgs.Rekey = Some events.Rekey
-event_of fresh (msgs.AwaitExtensionInfo name ticket) = Some (events.AwaitExtensionInfo (stamped fresh ticket) name)
-event_of fresh (msgs.GetServerSigAlgs ticket) = Some (events.GetServerSigAlgs (stamped fresh ticket))
 event_of fresh (msgs.Keepalive want_reply) = Some (events.Keepalive want_reply)
 event_of fresh (msgs.NoMoreSessions want_reply) = Some (events.NoMoreSessions want_reply)
-event_of fresh (msgs.Ping ticket) = Some (events.Ping (stamped fresh ticket))
-event_of fresh (msgs.HostKeysProve ticket keys) = Some (events.HostKeysProve (stamped fresh ticket) keys)
-event_of fresh (msgs.SendGlobalRequest name body ticket) = Some (events.SendGlobalRequest (stamped fresh ticket) name body)
+event_of fresh msg = open_event fresh msg

@@ -91,8 +91,8 @@ fn deal_one<T: Transport>(
     }
 }
 
-/// What is done with the first record, which is let go; a packet is lent to the transport where it lies. Returns false if
-/// there is no record.
+/// What is done with the first record, which is let go; a packet is lent to the transport where it lies. Returns false
+/// if there is no record.
 fn deal_first<T: Transport>(
     said: &mut Outbox,
     transport: &mut T,

@@ -1,7 +1,8 @@
 //! Which event a turn takes.
 
 ghost use Rattle.std.specs.Prelude.{◌≡◌};
-ghost use Rattle.sshc_handle_state.specs.Picking.{Picks, Ruled, begun_at, heard, link_at, oldest, on_answer, on_event, picked, users_event};
+ghost use Rattle.sshc_handle_state.specs.Picking.{Picks, Ruled, begun_at, heard, link_at, oldest, on_answer};
+ghost use Rattle.sshc_handle_state.specs.Picking.{on_event, picked, users_event};
 
 use crate::state::HandleState;
 use sshc_auth::Event;

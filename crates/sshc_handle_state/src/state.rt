@@ -6,7 +6,8 @@ ghost use Rattle.sshc_wire.specs.Outgoing.{listed};
 ghost use Rattle.sshc_mux.specs.ChannelState.{channel_of};
 ghost use Rattle.sshc_mux.specs.ChannelTable.{waits_in, window_in};
 ghost use Rattle.sshc_auth.specs.OpeningState.{is_awaiting};
-ghost use Rattle.sshc_handle_tickets.specs.Tickets.{channel_in, closed_with, first_of, is_channel, is_of, is_on, is_on_some, is_ticket, without_first};
+ghost use Rattle.sshc_handle_tickets.specs.Tickets.{channel_in, closed_with, first_of, is_channel, is_of};
+ghost use Rattle.sshc_handle_tickets.specs.Tickets.{is_on, is_on_some, is_ticket, without_first};
 ghost use Rattle.sshc_handle_state.specs.Asked.{Admits, PromptsAt, Responds, TellsEnd, kept_prompts};
 ghost use Rattle.sshc_handle_state.specs.Clocks.{due_in};
 ghost use Rattle.sshc_handle_state.specs.HandleAt.{new_handle};
@@ -214,7 +215,10 @@ impl<H> HandleState<H> {
     /// Takes the oldest record that is held for this ticket.
     pub fn poll(&mut self, ticket: Ticket) -> Option<Record>
         ensures taken { result ≡ first_of (is_of ticket.0) self.old.tickets.held }
-        ensures rest { self.new ≡ record self.old { tickets = record (self.old.tickets) { held = without_first (is_of ticket.0) self.old.tickets.held } } }
+        ensures rest { self.new ≡ record self.old {
+          tickets = record (self.old.tickets)
+              { held = without_first (is_of ticket.0) self.old.tickets.held };
+        } }
     {
         self.tickets.poll(ticket)
     }
@@ -223,7 +227,12 @@ impl<H> HandleState<H> {
     /// closed, until one of its number opens again.
     pub fn poll_channel(&mut self, id: ChannelId) -> Option<Record>
         ensures taken { result ≡ first_of (is_on id.0) self.old.tickets.held }
-        ensures rest { self.new ≡ record self.old { tickets = record (self.old.tickets) { held = without_first (is_on id.0) self.old.tickets.held; closed = closed_with result self.old.tickets.closed } } }
+        ensures rest { self.new ≡ record self.old {
+          tickets = record (self.old.tickets) {
+            held = without_first (is_on id.0) self.old.tickets.held;
+            closed = closed_with result self.old.tickets.closed;
+          };
+        } }
     {
         self.tickets.poll_channel(id)
     }

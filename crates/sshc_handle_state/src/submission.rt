@@ -1,7 +1,8 @@
 //! The event of a message that a user submits.
 
 ghost use Rattle.std.specs.Prelude.{◌≡◌};
-ghost use Rattle.sshc_handle_state.specs.Submission.{asks_answer, channel_event, event_of, is_reported, stamped, ticket_in};
+ghost use Rattle.sshc_handle_state.specs.Submission.{asks_answer, channel_event, is_reported, stamped, ticket_in};
+ghost use Rattle.sshc_handle_state.specs.Submission.{event_of, forward_event, open_event, request_event};
 
 use sshc_auth::{ChannelMsg, Event};
 use sshc_client::Msg;
@@ -75,7 +76,7 @@ fn channel_event(id: ChannelId, msg: ChannelMsg) -> Option<Event>
 }
 
 /// The event of a message, with this ticket if an answer is asked for; `None` for a message that only reports what
-/// happened.
+/// happened. Here are a login and what asks for no answer; `open_event` has the others.
 #[tactic(auto, unfolding(crate::specs::Submission::event_of))]
 pub(crate) fn event_of(fresh: Ticket, msg: Msg) -> Option<Event>
     ensures { result ≡ event_of fresh msg }
@@ -96,6 +97,31 @@ pub(crate) fn event_of(fresh: Ticket, msg: Msg) -> Option<Event>
         Msg::AuthGssapiExchangeComplete { token } => Event::AuthGssapiExchangeComplete { token },
         Msg::Signed { body } => Event::Signed { body },
         Msg::SignFailed => Event::SignFailed,
+        Msg::Close { id } => Event::Close { id },
+        Msg::Disconnect {
+            reason,
+            description,
+            language_tag,
+        } => Event::Disconnect {
+            reason,
+            description,
+            language_tag,
+        },
+        Msg::Channel(id, msg) => return channel_event(id, msg),
+        Msg::ServerChannelOpenReply { id, result } => Event::ServerChannelOpenReply { id, result },
+        Msg::Rekey => Event::Rekey,
+        Msg::Keepalive { want_reply } => Event::Keepalive { want_reply },
+        Msg::NoMoreSessions { want_reply } => Event::NoMoreSessions { want_reply },
+        msg => return open_event(fresh, msg),
+    })
+}
+
+/// The event of a message that opens a channel, or else what `forward_event` has for it.
+#[tactic(auto, unfolding(crate::specs::Submission::open_event))]
+fn open_event(fresh: Ticket, msg: Msg) -> Option<Event>
+    ensures { result ≡ open_event fresh msg }
+{
+    Some(match msg {
         Msg::ChannelOpenSession { ticket } => Event::ChannelOpenSession {
             ticket: stamped(fresh, ticket),
         },
@@ -128,6 +154,16 @@ pub(crate) fn event_of(fresh: Ticket, msg: Msg) -> Option<Event>
             ticket: stamped(fresh, ticket),
             socket_path,
         },
+        msg => return forward_event(fresh, msg),
+    })
+}
+
+/// The event of a global request that begins or ends forwarding, or else what `request_event` has for it.
+#[tactic(auto, unfolding(crate::specs::Submission::forward_event))]
+fn forward_event(fresh: Ticket, msg: Msg) -> Option<Event>
+    ensures { result ≡ forward_event fresh msg }
+{
+    Some(match msg {
         Msg::TcpIpForward {
             ticket,
             address,
@@ -160,42 +196,42 @@ pub(crate) fn event_of(fresh: Ticket, msg: Msg) -> Option<Event>
             ticket: stamped(fresh, ticket),
             socket_path,
         },
-        Msg::Close { id } => Event::Close { id },
-        Msg::Disconnect {
-            reason,
-            description,
-            language_tag,
-        } => Event::Disconnect {
-            reason,
-            description,
-            language_tag,
-        },
-        Msg::Channel(id, msg) => return channel_event(id, msg),
-        Msg::ServerChannelOpenReply { id, result } => Event::ServerChannelOpenReply { id, result },
-        Msg::Rekey => Event::Rekey,
+        msg => return request_event(fresh, msg),
+    })
+}
+
+/// The event of a question about the server's extensions, or of a global request that asks for an answer and forwards
+/// nothing; `None` for any other message.
+#[tactic(auto, unfolding(crate::specs::Submission::request_event))]
+fn request_event(fresh: Ticket, msg: Msg) -> Option<Event>
+    ensures { result ≡ request_event fresh msg }
+{
+    match msg {
         Msg::AwaitExtensionInfo {
             extension_name,
             ticket,
-        } => Event::AwaitExtensionInfo {
+        } => Some(Event::AwaitExtensionInfo {
             ticket: stamped(fresh, ticket),
             extension_name,
-        },
-        Msg::GetServerSigAlgs { ticket } => Event::GetServerSigAlgs {
+        }),
+        Msg::GetServerSigAlgs { ticket } => Some(Event::GetServerSigAlgs {
             ticket: stamped(fresh, ticket),
-        },
-        Msg::Keepalive { want_reply } => Event::Keepalive { want_reply },
-        Msg::NoMoreSessions { want_reply } => Event::NoMoreSessions { want_reply },
-        Msg::Ping { ticket } => Event::Ping {
+        }),
+        Msg::Ping { ticket } => Some(Event::Ping {
             ticket: stamped(fresh, ticket),
-        },
-        Msg::HostKeysProve { ticket, keys } => Event::HostKeysProve {
+        }),
+        Msg::HostKeysProve { ticket, keys } => Some(Event::HostKeysProve {
             ticket: stamped(fresh, ticket),
             keys,
-        },
-        Msg::SendGlobalRequest { name, body, ticket } => Event::SendGlobalRequest {
+        }),
+        Msg::SendGlobalRequest { name, body, ticket } => Some(Event::SendGlobalRequest {
             ticket: stamped(fresh, ticket),
             name,
             body,
-        },
-    })
+        }),
+        other => {
+            drop(other);
+            None
+        }
+    }
 }

@@ -1,7 +1,8 @@
 //! The moments by which the two timers of a session run.
 
 ghost use Rattle.std.specs.Prelude.{◌≡◌, Some};
-ghost use Rattle.sshc_handle_state.specs.Clocks.{begun, due_in, has_passed, is_inactive, is_keepalive_due, left_of, sooner};
+ghost use Rattle.sshc_handle_state.specs.Clocks.{begun, due_in, has_passed, is_inactive, is_keepalive_due};
+ghost use Rattle.sshc_handle_state.specs.Clocks.{left_of, sooner};
 
 /// The two timers of a session, with the moments by which they run, in milliseconds.
 #[derive(Clone, Copy, PartialEq, Eq)]

@@ -4,7 +4,8 @@ ghost use Rattle.std.specs.Prelude.{◌≡◌, None, IfOk};
 ghost use Rattle.sshc_client.specs.HandledStep.{handler_gate};
 ghost use Rattle.sshc_handle_state.specs.HandleAt.{ended_with, left};
 ghost use Rattle.sshc_handle_state.specs.Picking.{link_at};
-ghost use Rattle.sshc_handle_state.specs.Turning.{Binds, Closes, DealsWith, TakesEvent, Turns, binding_of, both, callers_at, key_blob, turn_by};
+ghost use Rattle.sshc_handle_state.specs.Turning.{Binds, Closes, DealsWith, TakesEvent, Turns, binding_of};
+ghost use Rattle.sshc_handle_state.specs.Turning.{both, callers_at, key_blob, turn_by};
 ghost use Rattle.sshc_client_state.specs.OpeningStep.{goes_on};
 
 use crate::dealing::deal;

@@ -2,7 +2,7 @@
 use Rattle.std.proofs.Common.{◌≡◌, refl, ℕ, zero, suc, ◌<◌, ◌≤◌, Bool, true, false, List, [], ◌∷◌, length, take, Some, None, ap, slice_index_or, arith}
 use Rattle.std.proofs.lemmas.List.{take_all}
 use Rattle.std.specs.List.{list_any, remove}
-use Rattle.sshc_wire.specs.Cases.{neither}
+use Rattle.sshc_wire.specs.CasesLaws.{neither}
 use Rattle.sshc_handle_tickets.specs.Tickets.{first_of, without_first}
 
 -- none before this place passes
