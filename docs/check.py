@@ -14,6 +14,8 @@
 - A count of the repository's crates or edits has to be right, and no other count of what is in it may stand in a
   document, since nothing would notice when it no longer is so. What was measured on a day is no such count (DATED).
 - The documents have at most so many lines (LINES), and no line of text that is longer than anybody reads (LONGEST).
+- A file of specs/ holds definitions, or its name ends in Laws. A law is what has a type and no other mark, and whose
+  type ends with a relation. Equality tests and codes hold the proofs that they are right (WITH_PROOFS).
 
 The lists and counts that docs/crates.py writes are compared by `docs/crates.py --check`."""
 import pathlib
@@ -49,6 +51,10 @@ NUMBERS = "ten eleven twelve thirteen fourteen fifteen sixteen twenty thirty for
 THINGS = "crates edits lemmas clauses promises definitions functions files documents situations rows".split()
 COUNT = re.compile(rf"\b([0-9][0-9,]*|{'|'.join(NUMBERS)}) (?:[a-z-]+ )?({'|'.join(THINGS)})\b", re.IGNORECASE)
 SMALL = 9
+# Files of specs/ whose definitions are values with proofs in them.
+WITH_PROOFS = re.compile(r"(?:Codes?|KeyEq|Tested)\.antt\Z")
+SIGNATURE = re.compile(r"^(?:pub )?([^\s:(){}]+) : (.*(?:\n[ \t]+(?![^\n=]* = ).*)*)", re.MULTILINE)
+RELATION = re.compile(r"≡|≢|≤|<|\bIs[A-Z]")
 
 
 def tracked():
@@ -135,6 +141,14 @@ class Crates:
         return self.around[crate]
 
 
+def laws_in(name):
+    """The laws that a file of definitions holds."""
+    if not re.search(r"/specs/.*\.antt\Z", name) or re.search(r"Laws(?:/\w+)?\.antt\Z", name) or WITH_PROOFS.search(name):
+        return []
+    types = SIGNATURE.findall((TOP / name).read_text())
+    return [law for law, type_ in types if RELATION.search(type_.rsplit(" → ", 1)[-1]) and not type_.rstrip().endswith("Type 0")]
+
+
 def main():
     files = tracked()
     folders = {str(parent) for name in files for parent in pathlib.PurePath(name).parents}
@@ -158,6 +172,10 @@ def main():
         nonlocal found
         print(f"{name}:{at}: {what}")
         found += 1
+
+    for name in files:
+        for law in laws_in(name):
+            report(name, 1, f"{law} is a law: its file's name has to end in Laws")
 
     for name, text in texts.items():
         lines = without_blocks(text).splitlines()

@@ -72,7 +72,7 @@ PROMISES = [
     ("Channels (`channels`)", "sshc_run_script", "ChannelRuns"),
     ("", "sshc_mux", "ChannelState ChannelTable ChannelTable/ Packets ChannelAccount"),
     ("One history of one agent (`agents`)", "sshc_run_script", "AgentRuns"),
-    ("", "sshc_agent_core", "KeyList Deadlines AgentFrames AgentTable Turn AgentHistory LocksHold"),
+    ("", "sshc_agent_core", "KeyList Deadlines AgentFrames AgentTable Turn AgentHistory LockLaw"),
 ]
 
 
