@@ -62,7 +62,7 @@ impl AgentHandle {
 #[unsafe(no_mangle)]
 pub extern "C" fn sshc_agent_new(alloc: Global, agent: &mut AgentHandle, asks: u32) -> u32
     ensures made { result ≡ 0 → IfSome agent.new.held.run (λ run. (run.core ≡ empty_list (is_yes asks))
-        × (run.said ≡ []) × HasNoParts run.question) }
+        × (run.last ≡ []) × HasNoParts run.question) }
     ensures held { result ≡ 0 → IsSome agent.new.held.run }
     ensures kept { result ≢ 0 → agent.new.held.run ≡ agent.old.held.run }
     ensures misuse { IsSome agent.old.held.run → result ≡ 2 }
@@ -97,7 +97,7 @@ pub extern "C" fn sshc_agent_asks(
         × (hash.new ≡ after.question.hash))) }
     // Nothing else changes: neither the agent nor the bytes of its last output.
     ensures same { IfSome agent.old.held.run (λ before. IfSome agent.new.held.run (λ after.
-        (after.core ≡ before.core) × (after.said ≡ before.said))) }
+        (after.core ≡ before.core) × (after.last ≡ before.last))) }
     ensures held { IsSome agent.old.held.run → IsSome agent.new.held.run }
     ensures misuse { agent.old.held.run ≡ None →
         (result ≡ 2) × (hash.new ≡ hash.old) × (agent.new.held.run ≡ None) }
@@ -169,7 +169,7 @@ pub extern "C" fn sshc_agent_take(
 ) -> u32
     ensures takes { IfSome agent.old.held.run (λ before. IfSome agent.new.held.run (λ after.
         TakesNumber now conn (input_of input frame.now) (answer_told told signature.now) before.core after.core
-        (said_as after.said number.new result))) }
+        (said_as after.last number.new result))) }
     ensures held { IsSome agent.old.held.run → IsSome agent.new.held.run }
     ensures misuse { agent.old.held.run ≡ None →
         (result ≡ 2) × (number.new ≡ number.old) × (agent.new.held.run ≡ None) }
@@ -193,7 +193,7 @@ pub extern "C" fn sshc_agent_answer(
     to: &mut [u8],
     size: &mut usize,
 ) -> u32
-    ensures copied { IfSome agent.old.held.run (λ run. CopiedOut run.said to.old to.new size.new result) }
+    ensures copied { IfSome agent.old.held.run (λ run. CopiedOut run.last to.old to.new size.new result) }
     ensures kept { agent.new.held.run ≡ agent.old.held.run }
     ensures misuse { agent.old.held.run ≡ None → (result ≡ 2) × (size.new ≡ 0) × (to.new ≡ to.old) }
 {
@@ -203,7 +203,7 @@ pub extern "C" fn sshc_agent_answer(
             MISUSE
         }
         Some(run) => {
-            let status = copy_out(run.said.as_slice(), to, size);
+            let status = copy_out(run.last.as_slice(), to, size);
             *agent = AgentHandle::of_box(run);
             status
         }

@@ -30,7 +30,8 @@ pub extern "C" fn sshc_known_hosts_check(
 ) -> u32
     // For texts, the answer is that of the definitions, or out of memory.
     ensures says { IsUtf8 host.now → IsUtf8 known.now →
-        IsAnswer (answer_for known.now (host_text host.now port) (whole_blob_key key.now)) (host_answer result line.new) }
+        IsAnswer (answer_for known.now (host_text host.now port) (whole_blob_key key.now))
+        (host_answer result line.new) }
     ensures no_text { (IsUtf8 host.now → IsUtf8 known.now → ⊥) → (result ≡ 3) × (line.new ≡ 0) }
     // Each line for the host can be read, none contradicts or revokes the key, one records it.
     ensures known { result ≡ 0 → IsKnown known.now (host_text host.now port) key.now }

@@ -13,3 +13,4 @@ mod DueLemmas
 mod DueCuts
 pub mod Sending
 mod Standings
+mod Hints

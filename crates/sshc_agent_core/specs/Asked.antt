@@ -6,7 +6,7 @@ use Rattle.sshc_key.specs.Asking.{Answer, SignRequest}
 use Rattle.sshc_key.specs.declared.signer.Asker.TheVariants.{Agent}
 use Rattle.sshc_key.specs.declared.signer.SignRefused.{SignRefused}
 use Rattle.sshc_key.specs.declared.signer.SignRefused.TheVariants.{NoMemory, Refused}
-use Rattle.sshc_agent_core.specs.declared.signing.Asked.{Asked}
+use Rattle.sshc_agent_core.specs.declared.signing.SignQuestion.{SignQuestion}
 use Rattle.sshc_agent_core.specs.declared.signing.Told.{Told}
 use Rattle.sshc_agent_core.specs.declared.signing.Told.TheVariants as told
 use Rattle.sshc_agent_core.specs.declared.input.AgentInput.{AgentInput}
@@ -19,7 +19,7 @@ unfoldable pub asked_of : ℕ → ℕ → AgentInput → AgentList → Option Si
 asked_of now conn input l = asked_in (agent_row now conn input l)
 
 -- the request to the signer, which the agent asks for a connection
-abbrev pub request_by : ℕ → Option Asked → Option SignRequest
+abbrev pub request_by : ℕ → Option SignQuestion → Option SignRequest
 request_by conn None = None
 request_by conn (Some asked) = Some (record { by = Agent conn; key = asked.key.now; hash = asked.hash; bytes = asked.bytes.now })
 

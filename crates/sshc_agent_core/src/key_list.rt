@@ -58,7 +58,8 @@ impl Model for KeyList {
 
     ghost view = { λ k. values k.keys };
 
-    ghost invariant = { λ k. AreKeyed k.keys.entries × AreApart (values k.keys) × Agree (values k.keys) (get nat_cmp k.due) };
+    ghost invariant = { λ k. AreKeyed k.keys.entries × AreApart (values k.keys)
+        × Agree (values k.keys) (get nat_cmp k.due) };
 }
 
 impl KeyList {
@@ -98,7 +99,7 @@ impl KeyList {
     }
 
     /// Drops the keys whose deadline has come. Takes no memory.
-    #[tactic(auto, using(crate::proofs::DueCuts::cut_agree, crate::proofs::DueLemmas::kept_apart, crate::proofs::DueCuts::none_past, crate::proofs::DueCuts::none_cut, crate::proofs::DueLemmas::same_agree))]
+    #[tactic(auto, using(crate::proofs::Hints::expire))]
     pub(crate) fn expire(&mut self, now: u64)
         ensures { self.new ≡ unexpired now self.old }
     {

@@ -23,5 +23,5 @@ pub use frames::Frames;
 pub use input::{AgentInput, AgentOutput, Cause};
 pub use key_list::HeldKey;
 pub use message::message_type;
-pub use signing::{Asked, Told};
+pub use signing::{SignQuestion, Told};
 pub use sshc_wire::MessageType;

@@ -7,7 +7,7 @@ use sshc_key::{HashAlg, PrivateKey, SignRefused};
 
 /// What a step asks to be signed: by whoever holds or reaches the key, in this process or another.
 #[derive(Clone, Copy)]
-pub struct Asked<'a> {
+pub struct SignQuestion<'a> {
     pub key: &'a PrivateKey,
     /// The hash that the request's flags ask for; only an RSA key has one.
     pub hash: Option<HashAlg>,

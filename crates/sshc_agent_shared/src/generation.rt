@@ -64,10 +64,17 @@ impl<L: Settings> Model for Generation<L> {
     ghost view = { λ s. record {
       start = s.start.value;
       last = s.last;
-      of = record { asks = s.given.asks; list = s.agent; journal = s.journal.items; made = s.made; limit = s.given.limit };
+      of = record {
+        asks = s.given.asks;
+        list = s.agent;
+        journal = s.journal.items;
+        made = s.made;
+        limit = s.given.limit;
+      };
     } };
 
-    ghost invariant = { λ s. IsKept s.start.value s.agent s.journal.items s.counts s.book.total s.spare.amount s.spare.parts s.made s.weight s.given.limit };
+    ghost invariant = { λ s. IsKept s.start.value s.agent s.journal.items s.counts s.book.total s.spare.amount
+        s.spare.parts s.made s.weight s.given.limit };
 }
 
 impl<L: Settings> Generation<L> {

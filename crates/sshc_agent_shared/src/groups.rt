@@ -67,7 +67,8 @@ impl<'a> Groups<'a> {
     ) -> Result<Option<Tear>, NoMemory>
         requires { length (entries_at self.now conn) < 2 ^ 32 }
         ensures { IfOk result (λ r. MatchOption r (map call_in (entries_at self.now conn) ≡ calls.now)
-            (λ t. (t.got ≡ slice_get calls.now t.at) × (t.kept ≡ slice_get (map call_in (entries_at self.now conn)) t.at)
+            (λ t. (t.got ≡ slice_get calls.now t.at)
+            × (t.kept ≡ slice_get (map call_in (entries_at self.now conn)) t.at)
             × (t.got ≢ t.kept))) }
     {
         match self.at(conn) {

@@ -127,8 +127,10 @@ impl<L: Settings> Generation<L> {
         requires staying { plan.staying.items ≡ conns_of live.old.items }
         requires gone { plan.gone.items ≡ conns_of ended.old.items }
         requires fresh { (plan.fresh.items ≡ []) × (length live.old.items ≤ vec_capacity plan.fresh) }
-        ensures past { result ≡ record { start = self.old.start; last = self.old.of.list; entries = self.old.of.journal } }
-        ensures together { length self.old.of.journal ≡ sum_by (λ p. length p.calls) (live.old.items ++ ended.old.items) }
+        ensures past { result
+            ≡ record { start = self.old.start; last = self.old.of.list; entries = self.old.of.journal } }
+        ensures together { length self.old.of.journal
+            ≡ sum_by (λ p. length p.calls) (live.old.items ++ ended.old.items) }
         ensures next { self.new ≡ next_of self.old (conns_of ended.old.items) (length live.old.items) }
         ensures seats { live.new.items ≡ renewed live.old.items }
         ensures none { ended.new.items ≡ [] }

@@ -22,8 +22,8 @@ abbrev pub Covers : List ℕ → List (List ℕ) → List LineKey → Type 0
 Covers host [] seen = Unit {0}
 Covers host (part ∷ parts) seen = IsAmong (line_key host part) seen × Covers host parts seen
 
-among_more : (o said : Option LineKey) (seen : List LineKey) → IsAmong said seen → IsAmong said (cons_option o seen)
-among_more None said seen h = h
+among_more : (o seen_entry : Option LineKey) (seen : List LineKey) → IsAmong seen_entry seen → IsAmong seen_entry (cons_option o seen)
+among_more None seen_entry seen h = h
 among_more (Some x) None seen h = tt
 among_more (Some x) (Some y) seen h = inr h
 
@@ -82,8 +82,8 @@ module _ (host : List ℕ) where
   follows_case : (earlier : List (List ℕ)) (seen : List LineKey) (part : List ℕ) (changes : List Change) (b : Bool) → is_doubled earlier part ≡ b → Covers host earlier seen
       → ((more : List LineKey) → Covers host (earlier ++ part ∷ []) more → Follows host more changes) → Follows host seen ((part, if b then None else Some part) ∷ changes)
   follows_case earlier seen part changes true e covers later =
-      let said : IsAmong (line_key host part) seen = doubled_among earlier seen part e covers in
-      (said, later seen (covers_next host earlier seen part covers said))
+      let seen_entry : IsAmong (line_key host part) seen = doubled_among earlier seen part e covers in
+      (seen_entry, later seen (covers_next host earlier seen part covers seen_entry))
   follows_case earlier seen part changes false e covers later = (
     refl,
     later (cons_option (line_key host part) seen)

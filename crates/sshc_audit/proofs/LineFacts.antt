@@ -49,11 +49,11 @@ by_mark Revoked fields line h = in_fields Revoked fields line h
 by_mark Recorded [] line h = cc h
 by_mark Recorded (first ∷ fields) line h = recorded_case first fields line (is_mark first) h
 
-line_from : (part : List ℕ) (said : Mark × List (List ℕ)) (line : Line) → is_comment part ≡ false → marked (parts_at 32 part) ≡ said → HasFields said.0 said.1 line → IsLine part line
-line_from part said line no_comment parts (name, later, is, rest, mark) = record {
+line_from : (part : List ℕ) (seen_entry : Mark × List (List ℕ)) (line : Line) → is_comment part ≡ false → marked (parts_at 32 part) ≡ seen_entry → HasFields seen_entry.0 seen_entry.1 line → IsLine part line
+line_from part seen_entry line no_comment parts (name, later, is, rest, mark) = record {
   name = name;
   later = later;
-  fields = parts ∙ ap (λ (fields : List (List ℕ)). (said.0, fields)) is ∙ ap (λ (m : Mark). (m, line.host ∷ name ∷ line.key ∷ later)) (sym mark);
+  fields = parts ∙ ap (λ (fields : List (List ℕ)). (seen_entry.0, fields)) is ∙ ap (λ (m : Mark). (m, line.host ∷ name ∷ line.key ∷ later)) (sym mark);
   rest = rest;
   no_comment = no_comment;
 }
@@ -61,8 +61,8 @@ line_from part said line no_comment parts (name, later, is, rest, mark) = record
 comment_case : (part : List ℕ) (line : Line) (b : Bool) → is_comment part ≡ b → (if b then None else line_by (marked (parts_at 32 part))) ≡ Some line → IsLine part line
 comment_case part line true e h = cc h
 comment_case part line false e h =
-    let said : Mark × List (List ℕ) = marked (parts_at 32 part) in
-    line_from part said line e refl (by_mark said.0 said.1 line h)
+    let seen_entry : Mark × List (List ℕ) = marked (parts_at 32 part) in
+    line_from part seen_entry line e refl (by_mark seen_entry.0 seen_entry.1 line h)
 
 pub is_line : (part : List ℕ) (line : Line) → line_of part ≡ Some line → IsLine part line
 unfolding line_of
@@ -70,7 +70,7 @@ is_line part line h = comment_case part line (is_comment part) refl h
 
 -- the fields behind the mark lack the byte
 abbrev LackIt : ℕ → Mark × List (List ℕ) → Type 0
-LackIt byte said = EachLacks said.1 byte
+LackIt byte seen_entry = EachLacks seen_entry.1 byte
 
 lack_case : (byte : ℕ) (first : List ℕ) (fields : List (List ℕ)) (b : Bool) → EachLacks (first ∷ fields) byte → LackIt byte (if b then (Revoked, fields) else (Recorded, first ∷ fields))
 lack_case byte first fields true each = each.1
@@ -235,8 +235,8 @@ no_line_case : (host part : List ℕ) (b : Bool) → begins_apart host ≡ false
     → (if b then None else marked_key host (marked (parts_at 32 part))) ≡ None
 no_line_case host part true apart h = refl
 no_line_case host part false apart h =
-    let said : Mark × List (List ℕ) = marked (parts_at 32 part) in
-    ap (option_map (marked_as said.0)) (no_line_marked host said.0 said.1 apart h)
+    let seen_entry : Mark × List (List ℕ) = marked (parts_at 32 part) in
+    ap (option_map (marked_as seen_entry.0)) (no_line_marked host seen_entry.0 seen_entry.1 apart h)
 
 -- a part that is no line matches no host text that begins neither with `#` nor with `@`
 pub no_line_key : (host part : List ℕ) → begins_apart host ≡ false → line_of part ≡ None → line_key host part ≡ None

@@ -5,7 +5,7 @@ use Rattle.std.specs.List.{list_any}
 use Rattle.std.specs.HashSet.{HashSet, contains, UpdatesBy}
 use Rattle.sshc_hosts.specs.MatchingLines.{is_revoked}
 use Rattle.sshc_audit.specs.Lines.{Line, line_of}
-use Rattle.sshc_audit.specs.Doubled.{both_say, is_doubled, Said, same_said, says, IsSeen}
+use Rattle.sshc_audit.specs.Doubled.{both_say, is_doubled, SeenEntry, same_said, says, IsSeen}
 
 any_same : (p q : List ℕ → Bool) (xs : List (List ℕ)) → ((x : List ℕ) → p x ≡ q x) → list_any p xs ≡ list_any q xs
 any_same p q [] same = refl
@@ -33,24 +33,24 @@ no_line_doubled earlier part is =
     sym (any_false (λ other. both_say (line_of other) (line_of part)) earlier (λ other. ap (both_say (line_of other)) is ∙ none_says (line_of other)))
 
 -- the compared fields of a line, as the set keeps them
-abbrev pub IsKept : Said → Line → Type 0
-IsKept said line = (said.0 ≡ is_revoked line.mark) × (said.1.now ≡ line.host) × (said.2.now ≡ line.key)
+abbrev pub IsKept : SeenEntry → Line → Type 0
+IsKept seen_entry line = (seen_entry.0 ≡ is_revoked line.mark) × (seen_entry.1.now ≡ line.host) × (seen_entry.2.now ≡ line.key)
 
-kept_says : (said : Said) (line : Line) (o : Option Line) → IsKept said line → says said o ≡ both_say o (Some line)
-kept_says said line None is = refl
-kept_says said line (Some other) is = rw (is.0, is.1, is.2) refl
+kept_says : (seen_entry : SeenEntry) (line : Line) (o : Option Line) → IsKept seen_entry line → says seen_entry o ≡ both_say o (Some line)
+kept_says seen_entry line None is = refl
+kept_says seen_entry line (Some other) is = rw (is.0, is.1, is.2) refl
 
 not_not : (b : Bool) → not (not b) ≡ b
 not_not true = refl
 not_not false = refl
 
 -- a line that was added to the set because it was not there isn't doubled
-pub seen_answer : {S : Type 0} (seen : HashSet Said S) (earlier : List (List ℕ)) (part : List ℕ) (line : Line) (said : Said) (added : Bool) → IsSeen seen earlier → line_of part ≡ Some line
-    → IsKept said line → added ≡ not (contains same_said seen said) → not added ≡ is_doubled earlier part
-seen_answer seen earlier part line said added is line_is kept new =
-    ap not new ∙ not_not _ ∙ is said
-    ∙ any_same (λ other. says said (line_of other)) (λ other. both_say (line_of other) (line_of part)) earlier
-    (λ other. kept_says said line (line_of other) kept ∙ ap (both_say (line_of other)) (sym line_is))
+pub seen_answer : {S : Type 0} (seen : HashSet SeenEntry S) (earlier : List (List ℕ)) (part : List ℕ) (line : Line) (seen_entry : SeenEntry) (added : Bool) → IsSeen seen earlier → line_of part ≡ Some line
+    → IsKept seen_entry line → added ≡ not (contains same_said seen seen_entry) → not added ≡ is_doubled earlier part
+seen_answer seen earlier part line seen_entry added is line_is kept new =
+    ap not new ∙ not_not _ ∙ is seen_entry
+    ∙ any_same (λ other. says seen_entry (line_of other)) (λ other. both_say (line_of other) (line_of part)) earlier
+    (λ other. kept_says seen_entry line (line_of other) kept ∙ ap (both_say (line_of other)) (sym line_is))
 
 cond_or : (b any : Bool) → (if b then true else any) ≡ (any || (b || false))
 cond_or true true = refl
@@ -58,16 +58,16 @@ cond_or true false = refl
 cond_or false true = refl
 cond_or false false = refl
 
-kept_is : (said q : Said) (line : Line) → IsKept said line
-    → same_said said q ≡ says q (Some line)
-kept_is said q line is = rw (is.0, is.1, is.2) refl
+kept_is : (seen_entry q : SeenEntry) (line : Line) → IsKept seen_entry line
+    → same_said seen_entry q ≡ says q (Some line)
+kept_is seen_entry q line is = rw (is.0, is.1, is.2) refl
 
 -- the set after the line was added
-pub seen_next : {S : Type 0} (seen seen' : HashSet Said S) (earlier : List (List ℕ)) (part : List ℕ) (line : Line) (said : Said) → IsSeen seen earlier → line_of part ≡ Some line → IsKept said line
-    → UpdatesBy same_said (same_said said) seen seen' true
+pub seen_next : {S : Type 0} (seen seen' : HashSet SeenEntry S) (earlier : List (List ℕ)) (part : List ℕ) (line : Line) (seen_entry : SeenEntry) → IsSeen seen earlier → line_of part ≡ Some line → IsKept seen_entry line
+    → UpdatesBy same_said (same_said seen_entry) seen seen' true
     → IsSeen seen' (earlier ++ part ∷ [])
-seen_next seen seen' earlier part line said is line_is kept updates q =
-    updates.0 q ∙ ap (λ (b : Bool). if b then true else contains same_said seen q) (kept_is said q line kept) ∙ ap (λ (b : Bool). if says q (Some line) then true else b) (is q)
+seen_next seen seen' earlier part line seen_entry is line_is kept updates q =
+    updates.0 q ∙ ap (λ (b : Bool). if b then true else contains same_said seen q) (kept_is seen_entry q line kept) ∙ ap (λ (b : Bool). if says q (Some line) then true else b) (is q)
     ∙ cond_or (says q (Some line)) (list_any (λ other. says q (line_of other)) earlier)
     ∙ ap (λ (o : Option Line). list_any (λ other. says q (line_of other)) earlier || (says q o || false)) (sym line_is)
     ∙ sym (any_last (λ other. says q (line_of other)) earlier part)

@@ -33,18 +33,18 @@ drops_doubled text = undoubled [] (parts_at 10 text)
 -- ---- the set that the code keeps
 
 -- the compared fields of a line, as the set keeps them
-abbrev pub Said : Type 0
-Said = Bool × (Bor (List ℕ)) × (Bor (List ℕ))
+abbrev pub SeenEntry : Type 0
+SeenEntry = Bool × (Bor (List ℕ)) × (Bor (List ℕ))
 
-abbrev pub says : Said → Option Line → Bool
-says said None = false
-says said (Some line) = (beq (is_revoked line.mark) said.0 && bytes_eq line.host said.1.now) && bytes_eq line.key said.2.now
+abbrev pub says : SeenEntry → Option Line → Bool
+says seen_entry None = false
+says seen_entry (Some line) = (beq (is_revoked line.mark) seen_entry.0 && bytes_eq line.host seen_entry.1.now) && bytes_eq line.key seen_entry.2.now
 
 -- two of these are equal
-abbrev pub same_said : Said → Said → Bool
+abbrev pub same_said : SeenEntry → SeenEntry → Bool
 same_said a b = (beq a.0 b.0 && bytes_eq a.1.now b.1.now) && bytes_eq a.2.now b.2.now
 
 -- the set has the compared fields of each of these earlier parts, and no others
-abbrev pub IsSeen : {S : Type 0} → HashSet Said S → List (List ℕ) → Type 0
+abbrev pub IsSeen : {S : Type 0} → HashSet SeenEntry S → List (List ℕ) → Type 0
 IsSeen seen earlier =
-    (said : Said) → contains same_said seen said ≡ list_any (λ other. says said (line_of other)) earlier
+    (seen_entry : SeenEntry) → contains same_said seen seen_entry ≡ list_any (λ other. says seen_entry (line_of other)) earlier

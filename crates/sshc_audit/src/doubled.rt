@@ -13,10 +13,10 @@ use std::alloc::Global;
 use std::collections::HashSet;
 
 /// The fields by which lines are compared: whether the line revokes its key, its host field and its third field.
-type Said<'a> = (bool, &'a str, &'a str);
+type SeenEntry<'a> = (bool, &'a str, &'a str);
 
 /// Whether the part is a line with the same compared fields as an earlier one. Adds the part to the earlier ones.
-fn is_doubled<'a>(seen: &mut HashSet<Said<'a>>, part: &'a str) -> Result<bool, NoMemory>
+fn is_doubled<'a>(seen: &mut HashSet<SeenEntry<'a>>, part: &'a str) -> Result<bool, NoMemory>
     ensures answer { (earlier : List (List ℕ)) → IsSeen seen.old earlier
         → IfOk result (λ b. b ≡ is_doubled earlier part.now) }
     ensures seen { (earlier : List (List ℕ)) → IsSeen seen.old earlier
@@ -30,7 +30,7 @@ fn is_doubled<'a>(seen: &mut HashSet<Said<'a>>, part: &'a str) -> Result<bool, N
 
 /// Adds the part, unless it is doubled.
 fn add_undoubled<'a>(
-    seen: &mut HashSet<Said<'a>>,
+    seen: &mut HashSet<SeenEntry<'a>>,
     out: &mut Joining,
     part: &'a str,
 ) -> Result<(), NoMemory>

@@ -64,98 +64,98 @@ gate_adds gate event old mid told (asking.Banner text) tells = by_gate (gate.tel
 
 all_two : (P : Record → Type 0) (a b : List Record) → AllByRecursion P a → AllByRecursion P b → AllByRecursion P (a ++ b)
 all_two P [] b one other = other
-all_two P (said ∷ a) b one other = (one.0, all_two P a b one.1 other)
+all_two P (output ∷ a) b one other = (one.0, all_two P a b one.1 other)
 
-kept_all : (P : Record → Type 0) (muted : Bool) (said : Record) → P said → AllByRecursion P (kept muted said)
-kept_all P false said holds = (holds, tt)
+kept_all : (P : Record → Type 0) (muted : Bool) (output : Record) → P output → AllByRecursion P (kept muted output)
+kept_all P false output holds = (holds, tt)
 kept_all P true (records.Payload packet) holds = tt
-kept_all P true said holds = (holds, tt)
+kept_all P true output holds = (holds, tt)
 
-shown_all : (P : Record → Type 0) (muted : Bool) (said : List Record) → AllByRecursion P said → AllByRecursion P (shown muted said)
+shown_all : (P : Record → Type 0) (muted : Bool) (output : List Record) → AllByRecursion P output → AllByRecursion P (shown muted output)
 shown_all P muted [] holds = tt
-shown_all P muted (one ∷ said) holds = all_two P (kept muted one) (shown muted said) (kept_all P muted one holds.0) (shown_all P muted said holds.1)
+shown_all P muted (one ∷ output) holds = all_two P (kept muted one) (shown muted output) (kept_all P muted one holds.0) (shown_all P muted output holds.1)
 
-resolved_all : (P : Record → Type 0) → ((said : Record) → IsResolved said → P said) → (said : List Record) → AllByRecursion IsResolved said → AllByRecursion P said
+resolved_all : (P : Record → Type 0) → ((output : Record) → IsResolved output → P output) → (output : List Record) → AllByRecursion IsResolved output → AllByRecursion P output
 resolved_all P each [] holds = tt
-resolved_all P each (one ∷ said) holds = (each one holds.0, resolved_all P each said holds.1)
+resolved_all P each (one ∷ output) holds = (each one holds.0, resolved_all P each output holds.1)
 
-no_packet : (said : Record) → IsResolved said → IsNoPacket said
+no_packet : (output : Record) → IsResolved output → IsNoPacket output
 no_packet (records.Resolved ticket resolution) is = λ never. never
-no_packet said never = absurd never
+no_packet output never = absurd never
 
-none_handed : (k : Kept) (said : Record) → IsResolved said → HandsStored k said
+none_handed : (k : Kept) (output : Record) → IsResolved output → HandsStored k output
 none_handed k (records.Resolved ticket resolution) is = tt
-none_handed k said never = absurd never
+none_handed k output never = absurd never
 
-nothing_handed : (said : Record) → IsResolved said → HandsNothing said
+nothing_handed : (output : Record) → IsResolved output → HandsNothing output
 nothing_handed (records.Resolved ticket resolution) is = tt
-nothing_handed said never = absurd never
+nothing_handed output never = absurd never
 
 -- ---- bytes that are handed out
 
-stored_bytes : (k : Kept) (next : Next) (said : Record) (later : List Record) → HandsBytes k next said later → HandsStored k said
+stored_bytes : (k : Kept) (next : Next) (output : Record) (later : List Record) → HandsBytes k next output later → HandsStored k output
 stored_bytes k next (records.Auth ticket (SignRequest blob hash bytes)) later hands = hands.0
 stored_bytes k next (records.Auth ticket (SignRequestCert blob hash bytes)) later hands = hands.0
-stored_bytes k next said later hands = tt
+stored_bytes k next output later hands = tt
 
-stored_all : (k : Kept) (next : Next) (said : List Record) → HandsAll k next said → AllByRecursion (HandsStored k) said
+stored_all : (k : Kept) (next : Next) (output : List Record) → HandsAll k next output → AllByRecursion (HandsStored k) output
 stored_all k next [] hands = tt
-stored_all k next (one ∷ said) hands = (stored_bytes k next one said hands.0, stored_all k next said hands.1)
+stored_all k next (one ∷ output) hands = (stored_bytes k next one output hands.0, stored_all k next output hands.1)
 
-nothing_last : (t : OpeningState) (calls : List SignCall) (said : Record) (later : List Record) → HandsNothing said → HandsLast t calls said later
+nothing_last : (t : OpeningState) (calls : List SignCall) (output : Record) (later : List Record) → HandsNothing output → HandsLast t calls output later
 nothing_last t calls (records.Auth ticket (SignRequest blob hash bytes)) later never = absurd never
 nothing_last t calls (records.Auth ticket (SignRequestCert blob hash bytes)) later never = absurd never
-nothing_last t calls said later none = tt
+nothing_last t calls output later none = tt
 
-none_once : (t : OpeningState) (calls : List SignCall) (said : List Record) → AllByRecursion HandsNothing said → HandsOnce t calls said
+none_once : (t : OpeningState) (calls : List SignCall) (output : List Record) → AllByRecursion HandsNothing output → HandsOnce t calls output
 none_once t calls [] none = tt
-none_once t calls (one ∷ said) none = (nothing_last t calls one said none.0, none_once t calls said none.1)
+none_once t calls (one ∷ output) none = (nothing_last t calls one output none.0, none_once t calls output none.1)
 
 behind_once : (t : OpeningState) (calls : List SignCall) (a b : List Record) → AllByRecursion HandsNothing a → HandsOnce t calls b → HandsOnce t calls (a ++ b)
 behind_once t calls [] b none once = once
 behind_once t calls (one ∷ a) b none once = (nothing_last t calls one (a ++ b) none.0, behind_once t calls a b none.1 once)
 
-bytes_last : (k : Kept) (next : Next) (t : OpeningState) (calls : List SignCall) (said : Record) (later : List Record) → calls ≡ [] → (SettledNext next → IsSettled t) → HandsBytes k next said later → HandsLast t calls said later
+bytes_last : (k : Kept) (next : Next) (t : OpeningState) (calls : List SignCall) (output : Record) (later : List Record) → calls ≡ [] → (SettledNext next → IsSettled t) → HandsBytes k next output later → HandsLast t calls output later
 bytes_last k next t calls (records.Auth ticket (SignRequest blob hash bytes)) later none settles hands = (none, settles hands.1, hands.2)
 bytes_last k next t calls (records.Auth ticket (SignRequestCert blob hash bytes)) later none settles hands = (none, settles hands.1, hands.2)
-bytes_last k next t calls said later none settles hands = tt
+bytes_last k next t calls output later none settles hands = tt
 
-all_once : (k : Kept) (next : Next) (t : OpeningState) (calls : List SignCall) (said : List Record) → (SettledNext next → IsSettled t) → (calls ≡ []) ⊎ AllByRecursion HandsNothing said → HandsAll k next said → HandsOnce t calls said
+all_once : (k : Kept) (next : Next) (t : OpeningState) (calls : List SignCall) (output : List Record) → (SettledNext next → IsSettled t) → (calls ≡ []) ⊎ AllByRecursion HandsNothing output → HandsAll k next output → HandsOnce t calls output
 all_once k next t calls [] settles which hands = tt
-all_once k next t calls (one ∷ said) settles (inl none) hands = (bytes_last k next t calls one said none settles hands.0, all_once k next t calls said settles (inl none) hands.1)
-all_once k next t calls (one ∷ said) settles (inr none) hands = none_once t calls (one ∷ said) none
+all_once k next t calls (one ∷ output) settles (inl none) hands = (bytes_last k next t calls one output none settles hands.0, all_once k next t calls output settles (inl none) hands.1)
+all_once k next t calls (one ∷ output) settles (inr none) hands = none_once t calls (one ∷ output) none
 
-last_shown : (muted : Bool) (t : OpeningState) (calls : List SignCall) (said : Record) (later : List Record) → HandsLast t calls said later → HandsLast t calls said (shown muted later)
+last_shown : (muted : Bool) (t : OpeningState) (calls : List SignCall) (output : Record) (later : List Record) → HandsLast t calls output later → HandsLast t calls output (shown muted later)
 last_shown muted t calls (records.Auth ticket (SignRequest blob hash bytes)) later last = (last.0, last.1, shown_all HandsNothing muted later last.2)
 last_shown muted t calls (records.Auth ticket (SignRequestCert blob hash bytes)) later last = (last.0, last.1, shown_all HandsNothing muted later last.2)
-last_shown muted t calls said later last = tt
+last_shown muted t calls output later last = tt
 
-kept_once : (muted : Bool) (t : OpeningState) (calls : List SignCall) (said : Record) (later : List Record) → HandsLast t calls said later → HandsOnce t calls later → HandsOnce t calls (kept muted said ++ later)
-kept_once false t calls said later last once = (last, once)
+kept_once : (muted : Bool) (t : OpeningState) (calls : List SignCall) (output : Record) (later : List Record) → HandsLast t calls output later → HandsOnce t calls later → HandsOnce t calls (kept muted output ++ later)
+kept_once false t calls output later last once = (last, once)
 kept_once true t calls (records.Payload packet) later last once = once
-kept_once true t calls said later last once = (last, once)
+kept_once true t calls output later last once = (last, once)
 
-shown_once : (muted : Bool) (t : OpeningState) (calls : List SignCall) (said : List Record) → HandsOnce t calls said → HandsOnce t calls (shown muted said)
+shown_once : (muted : Bool) (t : OpeningState) (calls : List SignCall) (output : List Record) → HandsOnce t calls output → HandsOnce t calls (shown muted output)
 shown_once muted t calls [] once = tt
-shown_once muted t calls (one ∷ said) once = kept_once muted t calls one (shown muted said) (last_shown muted t calls one said once.0) (shown_once muted t calls said once.1)
+shown_once muted t calls (one ∷ output) once = kept_once muted t calls one (shown muted output) (last_shown muted t calls one output once.0) (shown_once muted t calls output once.1)
 
 -- the gate's records, and then the row's
-added_behind : (was is : Lent) (mid : Outgoing) (said : List Record) (gate : GateAdds was.outbox mid) → is.outbox.records ≡ mid.records ++ shown mid.muted said → is.outbox.records ≡ was.outbox.records ++ (gate.more ++ shown mid.muted said)
-added_behind was is mid said gate added = added ∙ ap (λ (before : List Record). before ++ shown mid.muted said) gate.added ∙ append_assoc was.outbox.records gate.more (shown mid.muted said)
+added_behind : (was is : Lent) (mid : Outgoing) (output : List Record) (gate : GateAdds was.outbox mid) → is.outbox.records ≡ mid.records ++ shown mid.muted output → is.outbox.records ≡ was.outbox.records ++ (gate.more ++ shown mid.muted output)
+added_behind was is mid output gate added = added ∙ ap (λ (before : List Record). before ++ shown mid.muted output) gate.added ∙ append_assoc was.outbox.records gate.more (shown mid.muted output)
 
-adds_both : (P : Record → Type 0) (was is : Lent) (mid : Outgoing) (said : List Record) → ((one : Record) → IsResolved one → P one) → GateAdds was.outbox mid → is.outbox.records ≡ mid.records ++ shown mid.muted said → AllByRecursion P said → AddsOnly P was is
-adds_both P was is mid said each gate added holds = (
-  gate.more ++ shown mid.muted said,
-  added_behind was is mid said gate added,
-  all_two P gate.more (shown mid.muted said) (resolved_all P each gate.more gate.answers) (shown_all P mid.muted said holds),
+adds_both : (P : Record → Type 0) (was is : Lent) (mid : Outgoing) (output : List Record) → ((one : Record) → IsResolved one → P one) → GateAdds was.outbox mid → is.outbox.records ≡ mid.records ++ shown mid.muted output → AllByRecursion P output → AddsOnly P was is
+adds_both P was is mid output each gate added holds = (
+  gate.more ++ shown mid.muted output,
+  added_behind was is mid output gate added,
+  all_two P gate.more (shown mid.muted output) (resolved_all P each gate.more gate.answers) (shown_all P mid.muted output holds),
 )
 
 -- the same of bytes that are handed out: the gate's records hand out none
-adds_once : (was is : Lent) (mid : Outgoing) (said : List Record) → GateAdds was.outbox mid → is.outbox.records ≡ mid.records ++ shown mid.muted said → HandsOnce is.opening (gained was is) said → AddsHandedOnce (gained was is) was is
-adds_once was is mid said gate added once = (
-  gate.more ++ shown mid.muted said,
-  added_behind was is mid said gate added,
-  behind_once is.opening (gained was is) gate.more (shown mid.muted said) (resolved_all HandsNothing nothing_handed gate.more gate.answers) (shown_once mid.muted is.opening (gained was is) said once),
+adds_once : (was is : Lent) (mid : Outgoing) (output : List Record) → GateAdds was.outbox mid → is.outbox.records ≡ mid.records ++ shown mid.muted output → HandsOnce is.opening (gained was is) output → AddsHandedOnce (gained was is) was is
+adds_once was is mid output gate added once = (
+  gate.more ++ shown mid.muted output,
+  added_behind was is mid output gate added,
+  behind_once is.opening (gained was is) gate.more (shown mid.muted output) (resolved_all HandsNothing nothing_handed gate.more gate.answers) (shown_once mid.muted is.opening (gained was is) output once),
 )
 
 adds_gate : (P : Record → Type 0) (was is : Lent) (mid : Outgoing) → ((one : Record) → IsResolved one → P one) → GateAdds was.outbox mid → is.outbox ≡ mid → AddsOnly P was is
@@ -261,7 +261,7 @@ kept_by s event told calls at steps.Closed same never = absurd never
 
 -- the records of the row, of which this holds, and no others
 row_adds : (Q : Record → Type 0) (row : Asking Row) (calls : List SignCall) (at : Span) (answer : Step Error) → ((to : Row) → Makes row calls to → AllByRecursion Q to.records) → Steps row calls at answer →
-    (said : List Record) × (at.new.records ≡ at.old.records ++ shown at.old.muted said) × AllByRecursion Q said
+    (output : List Record) × (at.new.records ≡ at.old.records ++ shown at.old.muted output) × AllByRecursion Q output
 row_adds Q row calls at steps.Went each (to, (makes, adds), next) = (to.records, adds.0, each to makes)
 row_adds Q row calls at steps.Opened each (to, s, (makes, adds), next, after) = (to.records, adds.0, each to makes)
 row_adds Q row calls at (steps.Ended e) each (to, (makes, adds), next, after) = (to.records, adds.0, each to makes)
@@ -271,7 +271,7 @@ row_adds Q row calls at steps.Closed each never = absurd never
 
 -- the records of the row hand bytes out once at most
 row_once : (k : Kept) (event : Event) (row : Asking Row) (calls : List SignCall) (at : Span) (answer : Step Error) → KeepsAsking k event row → Steps row calls at answer →
-    (said : List Record) × (at.new.records ≡ at.old.records ++ shown at.old.muted said) × HandsOnce at.after calls said
+    (output : List Record) × (at.new.records ≡ at.old.records ++ shown at.old.muted output) × HandsOnce at.after calls output
 row_once k event row calls at steps.Went keeps (to, (makes, adds), next) =
     let made = made_keeps k event row calls to keeps makes in
     (to.records, adds.0, all_once k to.next at.after calls to.records (λ settled. inl (subst SettledNext next settled)) (nothing_by calls to made.1) made.0.0)
@@ -427,13 +427,13 @@ shown_first true (asking.HostKey key) (Some x) one more is = let same : records.
 shown_first true asking.Exchange (Some x) one more is = let same : records.KexDone x.names.kex ≡ one = cc in rw (sym same) refl
 shown_first true wanted None one more is = absurd cc
 
-reported_by : (event : Event) (was is : Lent) (mid : Outgoing) (said : List Record) (one : Option Record) → reported (asked_of was.opening event) (exchange_in event) ≡ one → GateAdds was.outbox mid →
-    is.outbox.records ≡ mid.records ++ shown mid.muted said → Reports one said → IsReported one was is
-reported_by event was is mid said None which adds added first = tt
-reported_by event was is mid said (Some one) which adds added (more, is_so) = (
+reported_by : (event : Event) (was is : Lent) (mid : Outgoing) (output : List Record) (one : Option Record) → reported (asked_of was.opening event) (exchange_in event) ≡ one → GateAdds was.outbox mid →
+    is.outbox.records ≡ mid.records ++ shown mid.muted output → Reports one output → IsReported one was is
+reported_by event was is mid output None which adds added first = tt
+reported_by event was is mid output (Some one) which adds added (more, is_so) = (
   adds.more,
   shown mid.muted more,
-  added_behind was is mid said adds added ∙ ap (λ (rest : List Record). was.outbox.records ++ (adds.more ++ rest)) (ap (shown mid.muted) is_so ∙ shown_first mid.muted (asked_of was.opening event) (exchange_in event) one more which),
+  added_behind was is mid output adds added ∙ ap (λ (rest : List Record). was.outbox.records ++ (adds.more ++ rest)) (ap (shown mid.muted) is_so ∙ shown_first mid.muted (asked_of was.opening event) (exchange_in event) one more which),
 )
 
 told_reports : {E : Type 0} (gate : GateAnswers E) (event : Event) (was is : Lent) (mid : Outgoing) (told : Told) (answer : Step Error) (result : Step E) → was.opening.closed ≡ false → GateAdds was.outbox mid → result ≡ map_step gate.told_as answer →

@@ -25,11 +25,11 @@ use Rattle.sshc_auth.proofs.KeptLemmas.{GateAdds, gate_adds, nothing_added}
 
 -- ---- records
 
-none_answered : (packet : List ℕ) (said : List Record) → AllByRecursion IsResolved said → times_written packet said ≡ 0
+none_answered : (packet : List ℕ) (output : List Record) → AllByRecursion IsResolved output → times_written packet output ≡ 0
 none_answered packet [] answers = refl
-none_answered packet (records.Resolved ticket resolution ∷ said) answers = none_answered packet said answers.1
-none_answered packet (records.Payload body ∷ said) answers = absurd answers.0
-none_answered packet (one ∷ said) answers = absurd answers.0
+none_answered packet (records.Resolved ticket resolution ∷ output) answers = none_answered packet output answers.1
+none_answered packet (records.Payload body ∷ output) answers = absurd answers.0
+none_answered packet (one ∷ output) answers = absurd answers.0
 
 kept_at_most : (packet : List ℕ) (muted : Bool) (one : Record) → times_written packet (kept muted one) ≤ times_written packet (one ∷ [])
 kept_at_most packet false one = omega arith
@@ -37,10 +37,10 @@ kept_at_most packet true (records.Payload body) = omega arith
 kept_at_most packet true one = omega arith
 
 -- what is shown of records has no more of them
-shown_at_most : (packet : List ℕ) (muted : Bool) (said : List Record) → times_written packet (shown muted said) ≤ times_written packet said
+shown_at_most : (packet : List ℕ) (muted : Bool) (output : List Record) → times_written packet (shown muted output) ≤ times_written packet output
 shown_at_most packet muted [] = omega arith
-shown_at_most packet muted (one ∷ said) =
-    omega (arith, written_two packet (kept muted one) (shown muted said), kept_at_most packet muted one, shown_at_most packet muted said, written_two packet (one ∷ []) said)
+shown_at_most packet muted (one ∷ output) =
+    omega (arith, written_two packet (kept muted one) (shown muted output), kept_at_most packet muted one, shown_at_most packet muted output, written_two packet (one ∷ []) output)
 
 -- ---- a step by its result
 

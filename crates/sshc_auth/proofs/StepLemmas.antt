@@ -57,7 +57,7 @@ ended_cause s event told was is at e follows = ended_by (why (WasToldNo told) s 
 no_key : {E : Type 0} (gate : GateAnswers E) (o : Option ExchangeResult) (old mid : Outgoing) (told : Told) (key : Option PublicKeyOrCertificate) → Answered gate o old mid (Ok told) (key_asked key) → told ≢ telling.Went → SaysNoTo gate.judges key
 no_key gate o old mid told None answered never = tt
 no_key gate o old mid told (Some key) (Ok true, judges, (went, adds)) never = absurd (never went)
-no_key gate o old mid told (Some key) (Ok false, judges, said) never = judges
+no_key gate o old mid told (Some key) (Ok false, judges, output) never = judges
 no_key gate o old mid told (Some key) (Err e, judges, (is, same)) never = absurd cc
 
 said_no : {E : Type 0} (gate : GateAnswers E) (s : OpeningState) (event : Event) (old mid : Outgoing) (told : Told) → s.closed ≡ false → Answered gate (exchange_in event) old mid (Ok told) (asked_of s event) → SaysAlso (WasToldNo told) (GateSaysNo gate) s event

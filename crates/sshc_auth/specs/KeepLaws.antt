@@ -75,11 +75,11 @@ SettledNext next = Unit {0}
 abbrev pub HandsBytes : Kept → Next → Record → List Record → Type 0
 HandsBytes s next (records.Auth ticket (SignRequest blob hash bytes)) later = HandsKey s.method s blob hash bytes × SettledNext next × AllByRecursion HandsNothing later
 HandsBytes s next (records.Auth ticket (SignRequestCert blob hash bytes)) later = HandsCertificate s.method s blob hash bytes × SettledNext next × AllByRecursion HandsNothing later
-HandsBytes s next said later = Unit {0}
+HandsBytes s next output later = Unit {0}
 
 abbrev pub HandsAll : Kept → Next → List Record → Type 0
 HandsAll s next [] = Unit {0}
-HandsAll s next (said ∷ later) = HandsBytes s next said later × HandsAll s next later
+HandsAll s next (output ∷ later) = HandsBytes s next output later × HandsAll s next later
 
 -- what is handed out belongs to the stored request, and what is kept is as it was or comes from the event
 abbrev pub Keeps : Kept → Event → Row → Type 0
@@ -121,23 +121,23 @@ end_keeps s event (b ∷ left) row keeps = (tt, tt)
 
 two_nothing : (a b : List Record) → AllByRecursion HandsNothing a → AllByRecursion HandsNothing b → AllByRecursion HandsNothing (a ++ b)
 two_nothing [] b one other = other
-two_nothing (said ∷ a) b one other = (one.0, two_nothing a b one.1 other)
+two_nothing (output ∷ a) b one other = (one.0, two_nothing a b one.1 other)
 
-nothing_hands : (s : Kept) (next : Next) (said : Record) (later : List Record) → HandsNothing said → HandsBytes s next said later
+nothing_hands : (s : Kept) (next : Next) (output : Record) (later : List Record) → HandsNothing output → HandsBytes s next output later
 nothing_hands s next (records.Auth ticket (SignRequest blob hash bytes)) later never = absurd never
 nothing_hands s next (records.Auth ticket (SignRequestCert blob hash bytes)) later never = absurd never
-nothing_hands s next said later none = tt
+nothing_hands s next output later none = tt
 
-pub none_hands : (s : Kept) (next : Next) (said : List Record) → AllByRecursion HandsNothing said → HandsAll s next said
+pub none_hands : (s : Kept) (next : Next) (output : List Record) → AllByRecursion HandsNothing output → HandsAll s next output
 none_hands s next [] none = tt
-none_hands s next (said ∷ later) none = (nothing_hands s next said later none.0, none_hands s next later none.1)
+none_hands s next (output ∷ later) none = (nothing_hands s next output later none.0, none_hands s next later none.1)
 
 -- a row that hands out nothing
 none_keeps : (s : OpeningState) (event : Event) (row : Row) → AllByRecursion HandsNothing row.records → KeepsNext (kept_of s) event row.next → Keeps (kept_of s) event row
 none_keeps s event row none next = (none_hands (kept_of s) row.next row.records none, next)
 
 resolved_nothing : (ticket : Ticket) (resolution : Resolution) → AllByRecursion HandsNothing (resolved ticket resolution)
-resolved_nothing ticket resolution = by_cases (λ (said : List Record). AllByRecursion HandsNothing said) (ticket.0 == 0) _ _ tt (tt, tt)
+resolved_nothing ticket resolution = by_cases (λ (output : List Record). AllByRecursion HandsNothing output) (ticket.0 == 0) _ _ tt (tt, tt)
 
 -- ---- packets
 
@@ -153,7 +153,7 @@ seen_nothing : (name : List ℕ) (waiters : List Waiter) → AllByRecursion Hand
 seen_nothing name [] = tt
 seen_nothing name (waiter ∷ waiters) =
     two_nothing (if waits_for name waiter then resolved waiter.ticket answers.ExtInfoSeen else []) (answers_seen name waiters)
-    (by_cases (λ (said : List Record). AllByRecursion HandsNothing said) (waits_for name waiter) _ _ (resolved_nothing waiter.ticket answers.ExtInfoSeen) tt)
+    (by_cases (λ (output : List Record). AllByRecursion HandsNothing output) (waits_for name waiter) _ _ (resolved_nothing waiter.ticket answers.ExtInfoSeen) tt)
     (seen_nothing name waiters)
 
 told_nothing : (extensions : List Extension) (waiters : List Waiter) → AllByRecursion HandsNothing (answers_to extensions waiters)
@@ -337,7 +337,7 @@ unfolding authenticate_first_row authenticate_again_row
 request_keeps s ticket user method phases.Service is =
     none_keeps s (events.Authenticate ticket user method) (authenticate_first_row s ticket user method)
     (two_nothing (resolved s.ticket answers.Dropped) (asked_for_service s.requested) (resolved_nothing s.ticket answers.Dropped)
-    (by_cases (λ (said : List Record). AllByRecursion HandsNothing said) s.requested _ _ tt (tt, tt)))
+    (by_cases (λ (output : List Record). AllByRecursion HandsNothing output) s.requested _ _ tt (tt, tt)))
     ((λ later. (refl, later)), inr (refl, refl))
 request_keeps s ticket user method phases.Auth is =
     none_keeps s (events.Authenticate ticket user method) (authenticate_again_row s ticket user method)

@@ -108,7 +108,7 @@ other_written body packet never = omega (arith, not_written body packet (bytes_e
 pub written_two : (packet : List ℕ) (a b : List Record) → times_written packet (a ++ b) ≡ times_written packet a + times_written packet b
 written_two packet [] b = omega arith
 written_two packet (records.Payload body ∷ a) b = omega (arith, written_two packet a b)
-written_two packet (said ∷ a) b = written_two packet a b
+written_two packet (output ∷ a) b = written_two packet a b
 
 none_two : (packet : List ℕ) (a b : List Record) → times_written packet a ≡ 0 → times_written packet b ≡ 0 → times_written packet (a ++ b) ≡ 0
 none_two packet a b one other = omega (arith, written_two packet a b, one, other)
@@ -207,7 +207,7 @@ none_seen : (packet name : List ℕ) (waiters : List Waiter) → times_written p
 none_seen packet name [] = refl
 none_seen packet name (waiter ∷ waiters) =
     none_two packet (if waits_for name waiter then resolved waiter.ticket answers.ExtInfoSeen else []) (answers_seen name waiters)
-    (by_cases (λ (said : List Record). times_written packet said ≡ 0) (waits_for name waiter) _ _ (none_resolved packet waiter.ticket answers.ExtInfoSeen) refl)
+    (by_cases (λ (output : List Record). times_written packet output ≡ 0) (waits_for name waiter) _ _ (none_resolved packet waiter.ticket answers.ExtInfoSeen) refl)
     (none_seen packet name waiters)
 
 none_told : (packet : List ℕ) (extensions : List Extension) (waiters : List Waiter) → times_written packet (answers_to extensions waiters) ≡ 0
@@ -487,9 +487,9 @@ module _ (user password : List ℕ) (short : IsShort user) where
   unopened_sound s (events.HostKeysProve ticket keys) fits = answered_sound s (events.HostKeysProve ticket keys) ticket (host_keys_answer keys) fits
   unopened_sound s event fits = passed_sound s event fits
 
-  gssapi_sound : (s : OpeningState) (event : Event) (said : List Record) → times_written packet said ≡ 0 → FitsRequest s → Sound packet s event (if is_gssapi s.phase s.class then goes said s else passed_over s)
-  gssapi_sound s event said none fits =
-      by_cases (Sound packet s event) (is_gssapi s.phase s.class) _ _ (quiet_sound packet s event (goes said s) (none, still packet s fits)) (passed_sound s event fits)
+  gssapi_sound : (s : OpeningState) (event : Event) (output : List Record) → times_written packet output ≡ 0 → FitsRequest s → Sound packet s event (if is_gssapi s.phase s.class then goes output s else passed_over s)
+  gssapi_sound s event output none fits =
+      by_cases (Sound packet s event) (is_gssapi s.phase s.class) _ _ (quiet_sound packet s event (goes output s) (none, still packet s fits)) (passed_sound s event fits)
 
   user_sound : (s : OpeningState) (event : Event) → FitsRequest s → HasShortUser event → Sound packet s event (user_row s event)
   unfolding user_row user_token_row user_mic_row user_complete_row rekey_row await_extension_info_row get_server_sig_algs_row user_disconnect_row

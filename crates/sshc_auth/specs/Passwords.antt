@@ -30,8 +30,8 @@ once_if false = 0
 -- how many of the records are this packet
 abbrev pub times_written : List ℕ → List Record → ℕ
 times_written packet [] = 0
-times_written packet (Payload body ∷ said) = once_if (bytes_eq body packet) + times_written packet said
-times_written packet (other ∷ said) = times_written packet said
+times_written packet (Payload body ∷ output) = once_if (bytes_eq body packet) + times_written packet output
+times_written packet (other ∷ output) = times_written packet output
 
 -- once where the event asks for it
 abbrev pub times_asked : List ℕ → Event → ℕ

@@ -40,7 +40,7 @@ AddsOnly P was is = (more : List Record) × (is.outbox.records ≡ was.outbox.re
 
 -- a record that isn't for the transport
 abbrev pub IsNoPacket : Record → Type 0
-IsNoPacket said = IsPayload said → ⊥
+IsNoPacket output = IsPayload output → ⊥
 
 -- what is kept of the state before the step: its phase, the session id, the host key, and the request that is stored
 pub record Kept : Type 0 where
@@ -125,13 +125,13 @@ HandsCertificate method s blob hash bytes = ⊥
 abbrev pub HandsStored : Kept → Record → Type 0
 HandsStored s (Auth ticket (SignRequest blob hash bytes)) = HandsKey s.method s blob hash bytes
 HandsStored s (Auth ticket (SignRequestCert blob hash bytes)) = HandsCertificate s.method s blob hash bytes
-HandsStored s said = Unit {0}
+HandsStored s output = Unit {0}
 
 -- a record that hands out no bytes to be signed
 abbrev pub HandsNothing : Record → Type 0
 HandsNothing (Auth ticket (SignRequest blob hash bytes)) = ⊥
 HandsNothing (Auth ticket (SignRequestCert blob hash bytes)) = ⊥
-HandsNothing said = Unit {0}
+HandsNothing output = Unit {0}
 
 -- the request isn't stored any more, or the session is over
 abbrev pub IsSettled : OpeningState → Type 0
@@ -147,12 +147,12 @@ AsksOnce s t (call ∷ other ∷ calls) = ⊥
 abbrev pub HandsLast : OpeningState → List SignCall → Record → List Record → Type 0
 HandsLast t calls (Auth ticket (SignRequest blob hash bytes)) later = (calls ≡ []) × IsSettled t × AllByRecursion HandsNothing later
 HandsLast t calls (Auth ticket (SignRequestCert blob hash bytes)) later = (calls ≡ []) × IsSettled t × AllByRecursion HandsNothing later
-HandsLast t calls said later = Unit {0}
+HandsLast t calls output later = Unit {0}
 
 -- bytes are handed out once at most
 abbrev pub HandsOnce : OpeningState → List SignCall → List Record → Type 0
 HandsOnce t calls [] = Unit {0}
-HandsOnce t calls (said ∷ later) = HandsLast t calls said later × HandsOnce t calls later
+HandsOnce t calls (output ∷ later) = HandsLast t calls output later × HandsOnce t calls later
 
 -- the same of the records that a step added
 abbrev pub AddsHandedOnce : List SignCall → Lent → Lent → Type 0
@@ -182,7 +182,7 @@ reported asks None = None
 -- it is among the records that were added
 abbrev pub IsReported : Option Record → Lent → Lent → Type 0
 IsReported None was is = Unit {0}
-IsReported (Some said) was is = (before after : List Record) × (is.outbox.records ≡ was.outbox.records ++ (before ++ (said ∷ after)))
+IsReported (Some output) was is = (before after : List Record) × (is.outbox.records ≡ was.outbox.records ++ (before ++ (output ∷ after)))
 
 -- ---- what a step satisfies
 

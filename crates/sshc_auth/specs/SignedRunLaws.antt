@@ -35,15 +35,15 @@ certificate_for : (id : List ℕ) (past : List Event) (k : Kept) (method : Optio
 certificate_for id past k (Some (methods.FutureCertificate cert own)) blob hash bytes is asked hands = (k.user, methods.FutureCertificate cert own, asked, rw (sym is) hands)
 certificate_for id past k method blob hash bytes is asked never = absurd never
 
-record_for : (id : List ℕ) (past : List Event) (k : Kept) (said : Record) → k.session_id ≡ id → IsAskedFor past k.user k.method → HandsStored k said → IsHandedFor id past said
+record_for : (id : List ℕ) (past : List Event) (k : Kept) (output : Record) → k.session_id ≡ id → IsAskedFor past k.user k.method → HandsStored k output → IsHandedFor id past output
 record_for id past k (Auth ticket (SignRequest blob hash bytes)) is asked hands = key_for id past k k.method blob hash bytes is asked hands
 record_for id past k (Auth ticket (SignRequestCert blob hash bytes)) is asked hands = certificate_for id past k k.method blob hash bytes is asked hands
-record_for id past k said is asked hands = tt
+record_for id past k output is asked hands = tt
 
 -- what is handed out of the stored request is handed out of one among the events
-pub handed_for : (id : List ℕ) (past : List Event) (k : Kept) (said : List Record) → k.session_id ≡ id → IsAskedFor past k.user k.method → AllByRecursion (HandsStored k) said → AllByRecursion (IsHandedFor id past) said
+pub handed_for : (id : List ℕ) (past : List Event) (k : Kept) (output : List Record) → k.session_id ≡ id → IsAskedFor past k.user k.method → AllByRecursion (HandsStored k) output → AllByRecursion (IsHandedFor id past) output
 handed_for id past k [] is asked hands = tt
-handed_for id past k (one ∷ said) is asked hands = (record_for id past k one is asked hands.0, handed_for id past k said is asked hands.1)
+handed_for id past k (one ∷ output) is asked hands = (record_for id past k one is asked hands.0, handed_for id past k output is asked hands.1)
 
 one_more : (event : Event) (past : List Event) (user : List ℕ) (method : Method) → HasRequest past user method → HasRequest (event ∷ past) user method
 one_more (events.Authenticate ticket own asked) past user method has = inr has

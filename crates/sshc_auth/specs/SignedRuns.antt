@@ -44,4 +44,4 @@ IsHandedFor id past (Auth ticket (SignRequest blob hash bytes)) =
     (user : List ℕ) × (method : Method) × HasRequest past user method × HandsKey (Some method) (request_of id user method) blob hash bytes
 IsHandedFor id past (Auth ticket (SignRequestCert blob hash bytes)) =
     (user : List ℕ) × (method : Method) × HasRequest past user method × HandsCertificate (Some method) (request_of id user method) blob hash bytes
-IsHandedFor id past said = Unit {0}
+IsHandedFor id past output = Unit {0}

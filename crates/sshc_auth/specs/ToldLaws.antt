@@ -36,25 +36,25 @@ use Rattle.sshc_auth.specs.SessionWords.{reported}
 
 -- the record is the first
 abbrev pub Reports : Option Record → List Record → Type 0
-Reports None said = Unit {0}
-Reports (Some one) said = (more : List Record) × (said ≡ one ∷ more)
+Reports None output = Unit {0}
+Reports (Some one) output = (more : List Record) × (output ≡ one ∷ more)
 
 -- where the session continues
 abbrev pub ReportsNext : Option Record → List Record → Next → Type 0
-ReportsNext one said (stays t) = Reports one said
-ReportsNext one said (opens t) = Reports one said
-ReportsNext one said next = Unit {0}
+ReportsNext one output (stays t) = Reports one output
+ReportsNext one output (opens t) = Reports one output
+ReportsNext one output next = Unit {0}
 
 abbrev pub ReportsRow : Option Record → Row → Type 0
 ReportsRow one row = ReportsNext one row.records row.next
 
 -- ---- nothing to be reported
 
-none_next : (said : List Record) (next : Next) → ReportsNext None said next
-none_next said (stays t) = tt
-none_next said (opens t) = tt
-none_next said (ends e) = tt
-none_next said (refuses e) = tt
+none_next : (output : List Record) (next : Next) → ReportsNext None output next
+none_next output (stays t) = tt
+none_next output (opens t) = tt
+none_next output (ends e) = tt
+none_next output (refuses e) = tt
 
 none_always : (row : Asking Row) → Always (ReportsRow None) row
 none_always (done row) = none_next row.records row.next

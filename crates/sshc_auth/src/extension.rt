@@ -3,7 +3,8 @@
 ghost use Rattle.std.specs.Prelude.{◌≡◌, ◌≤◌, ◌+◌, ◌++◌, IfOk, OnOk, filter, length, map};
 ghost use Rattle.std.specs.Vec.{vec_capacity};
 ghost use Rattle.sshc_wire.specs.Counted.{times_at};
-ghost use Rattle.sshc_auth.specs.Extensions.{extension_at, extensions_at, answers_seen, answers_to, last_listed, names_of, others, still_waiting};
+ghost use Rattle.sshc_auth.specs.Extensions.{extension_at, extensions_at, answers_seen, answers_to, last_listed};
+ghost use Rattle.sshc_auth.specs.Extensions.{names_of, others, still_waiting};
 ghost use Rattle.sshc_auth.specs.Reading.{ReadsOr};
 ghost use Rattle.sshc_auth.specs.Row.{resolved};
 ghost use Rattle.sshc_auth.specs.SignatureNames.{is_signature_name};
@@ -95,8 +96,8 @@ pub fn read_extensions(alloc: Global, packet: &mut Cursor<'_>) -> Result<List<Ex
 fn answer(ticket: Ticket, answers: &mut Vec<Record>) -> Result<(), NoMemory>
     ensures { OnOk result (answers.new.items ≡ answers.old.items ++ resolved ticket ExtInfoSeen) }
 {
-    if let Some(said) = resolved(ticket, Resolution::ExtInfoSeen) {
-        answers.push(said)?;
+    if let Some(output) = resolved(ticket, Resolution::ExtInfoSeen) {
+        answers.push(output)?;
     }
     Ok(())
 }

@@ -2,7 +2,7 @@
 
 ghost use Rattle.std.specs.Prelude.{◌≡◌, ◌≤◌, ◌+◌, ℕ, List, Option, Result, Bool, OnErr, option_copied};
 ghost use Rattle.sshc_wire.specs.Faults.{Rose};
-ghost use Rattle.sshc_wire.specs.declared.record.Record.{Record as Said};
+ghost use Rattle.sshc_wire.specs.declared.record.Record.{Record as Output};
 ghost use Rattle.sshc_key.specs.declared.identity.PublicKeyOrCertificate.{PublicKeyOrCertificate as HostKey};
 ghost use Rattle.sshc_auth.specs.declared.error.Error.{Error as Refusal};
 ghost use Rattle.sshc_transport.specs.declared.exchange.ExchangeNames.{ExchangeNames as Names};
@@ -24,10 +24,10 @@ pub trait Gate {
     ghost judges: { Self → HostKey → Result Bool Self.Error → Type 0 };
 
     /// What `kex_done` may return for an exchange's secret and names, and the answers to tickets that it then adds.
-    ghost tells: { Option (List ℕ) → Names → Result (Unit {0}) Self.Error → List Said → Type 0 };
+    ghost tells: { Option (List ℕ) → Names → Result (Unit {0}) Self.Error → List Output → Type 0 };
 
     /// The same for `auth_banner`, by the banner's text.
-    ghost tells_banner: { List ℕ → Result (Unit {0}) Self.Error → List Said → Type 0 };
+    ghost tells_banner: { List ℕ → Result (Unit {0}) Self.Error → List Output → Type 0 };
 
     /// The gate's error for an error of the opening.
     ghost told_as: { Refusal → Self.Error };

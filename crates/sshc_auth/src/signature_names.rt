@@ -2,7 +2,8 @@
 
 ghost use Rattle.std.specs.Prelude.{◌≡◌, bytes_eq, is_some};
 ghost use Rattle.std.specs.List.{list_all, list_any};
-ghost use Rattle.sshc_key.specs.AlgorithmNames.{is_name_byte, known_stemmed, is_taken, is_side, is_marked, is_opaque, is_opaque_name};
+ghost use Rattle.sshc_key.specs.AlgorithmNames.{is_name_byte, known_stemmed, is_taken, is_side, is_marked, is_opaque};
+ghost use Rattle.sshc_key.specs.AlgorithmNames.{is_opaque_name};
 ghost use Rattle.sshc_auth.specs.SignatureNames.{is_signature_name, signature_names};
 
 /// The most bytes of a name with a domain.

@@ -4,7 +4,8 @@ ghost use Rattle.std.specs.Prelude.{◌≡◌, ◌≤◌, ◌+◌, Result, Bool,
 ghost use Rattle.sshc_wire.specs.Faults.{Rose};
 ghost use Rattle.sshc_auth.specs.OpeningTable.{asked_of, keys_asked};
 ghost use Rattle.sshc_auth.specs.Promises.{ByTable, Stepped};
-ghost use Rattle.sshc_auth.specs.Stepping.{gate_answers, lent, with_gate, map_step, exchange_in, Answered, Judged, Tells, HasExchange, GateKeeps};
+ghost use Rattle.sshc_auth.specs.Stepping.{gate_answers, lent, with_gate, map_step, exchange_in, Answered, Judged};
+ghost use Rattle.sshc_auth.specs.Stepping.{Tells, HasExchange, GateKeeps};
 
 use crate::error::Error;
 use crate::gate::Gate;

@@ -1,1 +1,2 @@
 mod SameKeyLemmas
+mod Hints

@@ -3,7 +3,8 @@
 ghost use Rattle.std.specs.Prelude.{◌≡◌, IfOk, Some, bytes_eq};
 ghost use Rattle.sshc_wire.specs.Wire.{IsBytes};
 ghost use Rattle.sshc_key.specs.Nesting.{whole_blob_key};
-ghost use Rattle.sshc_auth_event.specs.HostKey.{host_key, bare, is_plain, is_same_key, plain_identity, certificate_identity, certificate_case, TellsKeysApart};
+ghost use Rattle.sshc_auth_event.specs.HostKey.{host_key, bare, is_plain, is_same_key, plain_identity};
+ghost use Rattle.sshc_auth_event.specs.HostKey.{certificate_identity, certificate_case, TellsKeysApart};
 ghost use Rattle.sshc_key.specs.View.{view};
 
 use sshc_key::{Error, KeyData, PublicKey, PublicKeyOrCertificate, parse_whole_public_key};
@@ -114,7 +115,7 @@ fn is_same_blob(kept: &Octets, blob: &Octets) -> bool
 
 /// Whether the host key of an exchange is the one that was kept: both are keys, or both are certificates, of the same
 /// bytes. A missing key is never the one that was kept.
-#[tactic(auto, using(crate::proofs::SameKeyLemmas::plain_apart, crate::proofs::SameKeyLemmas::certificates_apart, crate::proofs::SameKeyLemmas::missing_kept, crate::proofs::SameKeyLemmas::missing_key, crate::proofs::SameKeyLemmas::plain_other, crate::proofs::SameKeyLemmas::certificate_other))]
+#[tactic(auto, using(crate::proofs::Hints::is_same_key))]
 pub fn is_same_key(kept: &ExchangeKey, key: &ExchangeKey) -> bool
     ensures same { result ≡ is_same_key kept.now key.now }
     ensures keys { TellsKeysApart result kept.now key.now }

@@ -1,7 +1,8 @@
 //! The other packets of authentication, and the disconnection.
 
 ghost use Rattle.std.specs.Prelude.{◌≡◌, ◌<◌, ◌^◌, length, IfOk};
-ghost use Rattle.sshc_auth_request.specs.RequestTexts.{service_request, info_response, gssapi_token, gssapi_complete, gssapi_mic, disconnect};
+ghost use Rattle.sshc_auth_request.specs.RequestTexts.{service_request, info_response, gssapi_token, gssapi_complete};
+ghost use Rattle.sshc_auth_request.specs.RequestTexts.{gssapi_mic, disconnect};
 
 use crate::parts::{put_texts, texts_size};
 use sshc_wire::{

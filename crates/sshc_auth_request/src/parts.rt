@@ -19,8 +19,8 @@ use std::alloc::Global;
 /// How many bytes a request has before its method beside the user's own: a number, two lengths and the service.
 const HEAD: usize = 23;
 
-/// How many bytes a request by key has after the service beside the algorithm's name and the key: the method's name and a
-/// flag.
+/// How many bytes a request by key has after the service beside the algorithm's name and the key: the method's name
+/// and a flag.
 const BY_KEY: usize = 14;
 
 /// How many bytes the number of strings has.
@@ -170,7 +170,9 @@ pub fn certificate_part(certificate: &Certificate, hash: Option<HashAlg>) -> Key
 /// Writes the method `publickey` with a key, without a signature.
 #[tactic(auto, using(std::proofs::lemmas::List::append_assoc))]
 pub fn put_key_method(out: &mut Vec<u8>, flag: u8, part: &KeyPart<'_>) -> Result<(), NoMemory>
-    ensures { OnOk result (out.new.items ≡ out.old.items ++ string_text (codes "publickey") ++ (flag ∷ string_text (spelled part.now.algorithm)) ++ string_text (key_text (key_lent part.now.key))) }
+    ensures { OnOk result
+        (out.new.items ≡ out.old.items ++ string_text (codes "publickey")
+        ++ (flag ∷ string_text (spelled part.now.algorithm)) ++ string_text (key_text (key_lent part.now.key))) }
 {
     put_text(out, "publickey")?;
     out.push(flag)?;

@@ -107,7 +107,9 @@ fn put_empty(out: &mut Vec<u8>) -> Result<(), NoMemory>
 /// The method `keyboard-interactive`, in any language (RFC 4256, section 3.1).
 #[tactic(auto, using(std::proofs::lemmas::List::append_assoc))]
 fn put_keyboard_interactive(out: &mut Vec<u8>, submethods: &Text) -> Result<(), NoMemory>
-    ensures { OnOk result (out.new.items ≡ out.old.items ++ (string_text (codes "keyboard-interactive") ++ string_text [] ++ string_text submethods.now)) }
+    ensures { OnOk result
+        (out.new.items ≡ out.old.items
+        ++ (string_text (codes "keyboard-interactive") ++ string_text [] ++ string_text submethods.now)) }
 {
     put_text(out, "keyboard-interactive")?;
     put_empty(out)?;
@@ -137,7 +139,9 @@ fn put_keyboard_interactive_request(
 /// The method `gssapi-with-mic` with these mechanisms (RFC 4462, section 3.2).
 #[tactic(auto, using(std::proofs::lemmas::List::append_assoc))]
 fn put_gssapi(out: &mut Vec<u8>, mechanism_oids: &List<Octets>) -> Result<(), NoMemory>
-    ensures { OnOk result (out.new.items ≡ out.old.items ++ (string_text (codes "gssapi-with-mic") ++ counted_strings mechanism_oids.now)) }
+    ensures { OnOk result
+        (out.new.items ≡ out.old.items
+        ++ (string_text (codes "gssapi-with-mic") ++ counted_strings mechanism_oids.now)) }
 {
     put_text(out, "gssapi-with-mic")?;
     put_octets(out, mechanism_oids)?;

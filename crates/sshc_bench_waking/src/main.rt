@@ -175,11 +175,11 @@ fn by_channel<R: Threads + Wait + Sync>(
     times: u64,
 ) -> Result<u64, std::alloc::AllocError> {
     let (to, heard) = unbounded(alloc)?;
-    let (said, from) = unbounded(alloc)?;
+    let (output, from) = unbounded(alloc)?;
     let (passed, _echoed) = thread::join(
         rt,
         || pass(rt, to, from, times),
-        || echo(rt, heard, said),
+        || echo(rt, heard, output),
     );
     Ok(passed)
 }

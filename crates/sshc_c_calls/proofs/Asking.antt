@@ -3,25 +3,25 @@ use Rattle.std.proofs.Common.{◌≡◌, inl, inr, ℕ, List, [], Option, Some, 
 use Rattle.sshc_key.specs.Asking.{Answer, SignRequest}
 use Rattle.sshc_agent_core.specs.declared.input.AgentInput.{AgentInput}
 use Rattle.sshc_agent_core.specs.declared.input.AgentOutput.{AgentOutput}
-use Rattle.sshc_agent_core.specs.declared.signing.Asked.{Asked}
+use Rattle.sshc_agent_core.specs.declared.signing.SignQuestion.{SignQuestion}
 use Rattle.sshc_agent_core.specs.AgentList.{AgentList}
 use Rattle.sshc_agent_core.specs.AgentTable.{Steps}
 use Rattle.sshc_agent_core.specs.Asked.{asked_of, request_by}
 use Rattle.sshc_agent_core.specs.Turn.{told_calls}
 use Rattle.sshc_c_calls.specs.declared.question.Question.{Question}
 use Rattle.sshc_c_calls.specs.AgentInputs.{RefusesInput}
-use Rattle.sshc_c_calls.specs.AgentOutputs.{Said, TakesInput, TakesNumber, bytes_of, number_of, said_as, status_of}
+use Rattle.sshc_c_calls.specs.AgentOutputs.{Returned, TakesInput, TakesNumber, bytes_of, number_of, said_as, status_of}
 use Rattle.sshc_c_calls.specs.Questions.{AsksNumber, AsksRequest, HasNoParts, HasParts}
 
 pub asked_none : (conn : ℕ) (q : Option SignRequest) (question : Question) (status : ℕ) → request_by conn None ≡ q → status ≡ 6 → HasNoParts question → AsksRequest q question status
 asked_none conn q question status is h none = subst (λ (q : Option SignRequest). AsksRequest q question status) is (h, none)
 
-pub asked_some : (conn : ℕ) (asked : Asked) (q : Option SignRequest) (question : Question) (status : ℕ) → request_by conn (Some asked) ≡ q → HasParts asked question → status ≡ 12 → AsksRequest q question status
+pub asked_some : (conn : ℕ) (asked : SignQuestion) (q : Option SignRequest) (question : Question) (status : ℕ) → request_by conn (Some asked) ≡ q → HasParts asked question → status ≡ 12 → AsksRequest q question status
 asked_some conn asked q question status is parts h =
     subst (λ (q : Option SignRequest). AsksRequest q question status) is
     (inr (h, record { hash = parts.hash; bytes = parts.bytes; key = parts.key; pair = parts.pair }))
 
-pub starved : (conn : ℕ) (asked : Asked) (q : Option SignRequest) (question : Question) (status : ℕ) → request_by conn (Some asked) ≡ q → status ≡ 20 → HasNoParts question → AsksRequest q question status
+pub starved : (conn : ℕ) (asked : SignQuestion) (q : Option SignRequest) (question : Question) (status : ℕ) → request_by conn (Some asked) ≡ q → status ≡ 20 → HasNoParts question → AsksRequest q question status
 starved conn asked q question status is h none = subst (λ (q : Option SignRequest). AsksRequest q question status) is (inl (h, none))
 
 pub taken : (now conn : ℕ) (input : AgentInput) (answer told : Option Answer) (old new : AgentList) (output : AgentOutput) (bytes : List ℕ) (number status : ℕ)
@@ -47,5 +47,5 @@ pub refused_take : (now conn : ℕ) (o : Option AgentInput) (answer : Option Ans
 refused_take now conn None answer old new bytes number status h empty zero same = ((h, empty, zero), same)
 refused_take now conn (Some input) answer old new bytes number status h empty zero same = inl ((h, empty, zero), same)
 
-pub made_take : (now conn : ℕ) (o : Option AgentInput) (input : AgentInput) (answer : Option Answer) (old new : AgentList) (said : Said) → o ≡ Some input → TakesInput now conn input answer old new said → TakesNumber now conn o answer old new said
-made_take now conn o input answer old new said is h = subst (λ (o : Option AgentInput). TakesNumber now conn o answer old new said) (sym is) (inr h)
+pub made_take : (now conn : ℕ) (o : Option AgentInput) (input : AgentInput) (answer : Option Answer) (old new : AgentList) (returned : Returned) → o ≡ Some input → TakesInput now conn input answer old new returned → TakesNumber now conn o answer old new returned
+made_take now conn o input answer old new returned is h = subst (λ (o : Option AgentInput). TakesNumber now conn o answer old new returned) (sym is) (inr h)

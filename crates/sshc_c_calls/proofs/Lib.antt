@@ -1,3 +1,4 @@
 pub mod Asking
 pub mod Decoding
 pub mod Judging
+mod Hints

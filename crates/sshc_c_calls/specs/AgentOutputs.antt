@@ -50,28 +50,28 @@ abbrev pub answer_told : ℕ → List ℕ → Option Answer
 answer_told told signature = if told == 0 then None else (if told == 1 then Some (Some signature) else Some None)
 
 -- what a caller gets of an output
-pub record Said : Type 0 where
+pub record Returned : Type 0 where
   pub bytes : List ℕ
   pub number : ℕ
   pub status : ℕ
 
-abbrev pub said_as : List ℕ → ℕ → ℕ → Said
+abbrev pub said_as : List ℕ → ℕ → ℕ → Returned
 said_as bytes number status = record { bytes = bytes; number = number; status = status }
 
 -- an input was taken with this answer of the signer: the agent made the step of its table, and this is its output
-pub record TakesInput (now conn : ℕ) (input : AgentInput) (answer : Option Answer) (old new : AgentList) (said : Said) : Type 0 where
+pub record TakesInput (now conn : ℕ) (input : AgentInput) (answer : Option Answer) (old new : AgentList) (returned : Returned) : Type 0 where
   pub output : AgentOutput
   pub steps : Steps now conn input old new (told_calls (asked_of now conn input old) answer) output
-  pub bytes : said.bytes ≡ bytes_of output
-  pub number : said.number ≡ number_of output
-  pub status : said.status ≡ status_of output
+  pub bytes : returned.bytes ≡ bytes_of output
+  pub number : returned.number ≡ number_of output
+  pub status : returned.status ≡ status_of output
 
 -- nothing is said, under this status
-abbrev pub SaysNothing : Said → ℕ → Type 0
-SaysNothing said status = (said.status ≡ status) × (said.bytes ≡ []) × (said.number ≡ 0)
+abbrev pub SaysNothing : Returned → ℕ → Type 0
+SaysNothing returned status = (returned.status ≡ status) × (returned.bytes ≡ []) × (returned.number ≡ 0)
 
 -- the number names no input, or memory ran out before the step, and then nothing happened and nothing is said; or the
 -- input was taken
-abbrev pub TakesNumber : ℕ → ℕ → Option AgentInput → Option Answer → AgentList → AgentList → Said → Type 0
-TakesNumber now conn None answer old new said = SaysNothing said 4 × (new ≡ old)
-TakesNumber now conn (Some input) answer old new said = (SaysNothing said 20 × (new ≡ old)) ⊎ TakesInput now conn input answer old new said
+abbrev pub TakesNumber : ℕ → ℕ → Option AgentInput → Option Answer → AgentList → AgentList → Returned → Type 0
+TakesNumber now conn None answer old new returned = SaysNothing returned 4 × (new ≡ old)
+TakesNumber now conn (Some input) answer old new returned = (SaysNothing returned 20 × (new ≡ old)) ⊎ TakesInput now conn input answer old new returned

@@ -8,7 +8,7 @@ use Rattle.sshc_key.specs.PairGrammar.{key_pair_text}
 use Rattle.sshc_agent_core.specs.declared.input.AgentInput.{AgentInput}
 use Rattle.sshc_agent_core.specs.AgentList.{AgentList}
 use Rattle.sshc_agent_core.specs.Asked.{asked_of}
-use Rattle.sshc_agent_core.specs.declared.signing.Asked.{Asked}
+use Rattle.sshc_agent_core.specs.declared.signing.SignQuestion.{SignQuestion}
 use Rattle.sshc_c_calls.specs.declared.question.Question.{Question}
 
 -- no hash, SHA-256, SHA-512
@@ -26,7 +26,7 @@ pub record IsQuestion (asked : SignRequest) (question : Question) : Type 0 where
   pub pair : question.pair ≡ key_pair_text asked.key
 
 -- the same of what the core asks
-pub record HasParts (asked : Asked) (question : Question) : Type 0 where
+pub record HasParts (asked : SignQuestion) (question : Question) : Type 0 where
   pub hash : question.hash ≡ hash_number asked.hash
   pub bytes : question.bytes ≡ asked.bytes.now
   pub key : question.key ≡ key_text asked.key.now.public.0

@@ -22,7 +22,7 @@ use std::alloc::Global;
 #[derive(Drop)]
 pub struct AgentRun {
     pub core: AgentCore,
-    pub said: Octets,
+    pub last: Octets,
     pub number: u32,
     pub question: Question,
 }
@@ -57,23 +57,23 @@ impl AgentRun {
     /// No keys and no lock. If `asks`, the user is asked about each request.
     pub fn new(alloc: Global, asks: bool) -> AgentRun
         ensures core { result.core ≡ empty_list asks }
-        ensures said { (result.said ≡ []) × (result.number ≡ 0) }
+        ensures last { (result.last ≡ []) × (result.number ≡ 0) }
         ensures question { HasNoParts result.question }
     {
         AgentRun {
             core: AgentCore::new(alloc, asks),
-            said: Octets::new(alloc),
+            last: Octets::new(alloc),
             number: 0,
             question: Question::none(alloc),
         }
     }
 
     /// Keeps what a step with this input asks to be signed.
-    #[tactic(auto, using(crate::proofs::Asking::asked_none, crate::proofs::Asking::asked_some, crate::proofs::Asking::starved))]
+    #[tactic(auto, using(crate::proofs::Hints::ask_input))]
     fn ask_input(&mut self, alloc: Global, now: u64, conn: u32, input: &AgentInput) -> u32
         ensures asks { AsksRequest (asked_of now conn input.now self.old.core) self.new.question result }
         ensures core { self.new.core ≡ self.old.core }
-        ensures said { (self.new.said ≡ self.old.said) × (self.new.number ≡ self.old.number) }
+        ensures last { (self.new.last ≡ self.old.last) × (self.new.number ≡ self.old.number) }
     {
         self.question = Question::none(alloc);
         match self.core.asks(now, conn, input) {
@@ -93,7 +93,7 @@ impl AgentRun {
     pub fn ask(&mut self, alloc: Global, now: u64, conn: u32, number: u32, frame: &[u8]) -> u32
         ensures asks { AsksNumber now conn (input_of number frame.now) self.old.core self.new.question result }
         ensures core { self.new.core ≡ self.old.core }
-        ensures said { (self.new.said ≡ self.old.said) × (self.new.number ≡ self.old.number) }
+        ensures last { (self.new.last ≡ self.old.last) × (self.new.number ≡ self.old.number) }
     {
         match input_of(alloc, number, frame) {
             Ok(input) => self.ask_input(alloc, now, conn, &input),
@@ -106,16 +106,16 @@ impl AgentRun {
 
     /// Keeps the bytes of an output, and returns its status.
     fn keep(&mut self, alloc: Global, output: AgentOutput) -> u32
-        ensures bytes { self.new.said ≡ bytes_of output }
+        ensures bytes { self.new.last ≡ bytes_of output }
         ensures number { self.new.number ≡ number_of output }
         ensures status { result ≡ status_of output }
         ensures core { self.new.core ≡ self.old.core }
     {
         self.number = 0;
-        self.said = Octets::new(alloc);
+        self.last = Octets::new(alloc);
         match output {
             AgentOutput::Answer(frame) => {
-                self.said = frame;
+                self.last = frame;
                 OK
             }
             AgentOutput::AskRequest(message) => {
@@ -123,7 +123,7 @@ impl AgentRun {
                 ASKS_REQUEST
             }
             AgentOutput::AskKey(blob) => {
-                self.said = blob;
+                self.last = blob;
                 ASKS_KEY
             }
             AgentOutput::Nothing => NOTHING,
@@ -146,7 +146,7 @@ impl AgentRun {
         signature: &[u8],
     ) -> u32
         ensures takes { TakesInput now conn input.now (answer_told told signature.now) self.old.core self.new.core
-            (said_as self.new.said self.new.number result) }
+            (said_as self.new.last self.new.number result) }
     {
         let output = self.core.apply(now, conn, input, told_as(told, signature));
         self.keep(alloc, output)
@@ -166,12 +166,12 @@ impl AgentRun {
         signature: &[u8],
     ) -> u32
         ensures takes { TakesNumber now conn (input_of number frame.now) (answer_told told signature.now)
-            self.old.core self.new.core (said_as self.new.said self.new.number result) }
+            self.old.core self.new.core (said_as self.new.last self.new.number result) }
     {
         match input_of(alloc, number, frame) {
             Ok(input) => self.take_input(alloc, now, conn, &input, told, signature),
             Err(status) => {
-                self.said = Octets::new(alloc);
+                self.last = Octets::new(alloc);
                 self.number = 0;
                 status
             }
@@ -181,7 +181,7 @@ impl AgentRun {
     /// Forgets a connection that ended.
     pub fn forget(&mut self, conn: u32)
         ensures core { self.new.core ≡ forgotten conn self.old.core }
-        ensures said { (self.new.said ≡ self.old.said) × (self.new.number ≡ self.old.number) }
+        ensures last { (self.new.last ≡ self.old.last) × (self.new.number ≡ self.old.number) }
     {
         self.core.forget(conn);
     }

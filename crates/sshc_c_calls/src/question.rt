@@ -5,7 +5,7 @@ ghost use Rattle.sshc_key.specs.KeyGrammar.{key_text};
 ghost use Rattle.sshc_key.specs.PairGrammar.{key_pair_text};
 ghost use Rattle.sshc_c_calls.specs.Questions.{hash_number, HasNoParts, HasParts};
 
-use sshc_agent_core::Asked;
+use sshc_agent_core::SignQuestion;
 use sshc_key::{HashAlg, PrivateKey, PublicKeyBase64, write_key_pair};
 use sshc_wire::{NoMemory, Octets};
 use std::alloc::Global;
@@ -61,7 +61,7 @@ impl Question {
     }
 
     /// The parts of what is asked.
-    pub fn of(alloc: Global, asked: &Asked<'_>) -> Result<Question, NoMemory>
+    pub fn of(alloc: Global, asked: &SignQuestion<'_>) -> Result<Question, NoMemory>
         ensures { IfOk result (λ question. HasParts asked.now question) }
     {
         let bytes = Octets::from_slice(alloc, asked.bytes)?;

@@ -38,7 +38,7 @@ fn read_digits(digits: &[u8], to: &mut [u8])
 }
 
 /// Copies the bytes of the first line to the front of the caller's memory, if they fit.
-#[tactic(auto, using(crate::proofs::Decoding::reads_nothing, crate::proofs::Decoding::reads_no_room, crate::proofs::Decoding::reads_copied))]
+#[tactic(auto, using(crate::proofs::Hints::read_record))]
 pub fn read_record(lines: &[u8], to: &mut [u8]) -> ReadRecord
     ensures reads { ReadsFirst lines.now to.old to.new result }
     ensures within { IsWithin lines.now result }

@@ -238,8 +238,8 @@ pub lent_with : {E : Type 0} (told_as : Error → E) (judges : PublicKeyOrCertif
     StepsLent (handler_gate told_as judges) event (lent_session s calls refusals r setting heard) (lent_session t calls2 refusals2 r2 setting2 heard2) result
 lent_with told_as judges accepts event s t calls calls2 refusals refusals2 r r2 setting setting2 result said keeps step = record {
   opening = step.opening;
-  said = step.said;
-  stepped = stepped_with told_as judges accepts event (lent s.opening (outbox_of s) calls refusals) (lent step.opening step.said calls2 refusals2) r r2 setting setting2 result said keeps step.stepped;
+  output = step.output;
+  stepped = stepped_with told_as judges accepts event (lent s.opening (outbox_of s) calls refusals) (lent step.opening step.output calls2 refusals2) r r2 setting setting2 result said keeps step.stepped;
   rest = step.rest;
 }
 

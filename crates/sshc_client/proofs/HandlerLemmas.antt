@@ -258,10 +258,10 @@ unfolding asking
 asked_front defaults was is m callback back old new r f = front_one defaults was is m (asking [] callback back) old new r f
 
 -- a report on a channel, after a move
-pub reports_front : {E : Type 0} (defaults : Type 0) (was is : HandlerAt) (m : Move) (id : ℕ) (said told : ChannelRecord) (back : List Move) (old new : SessionState) (r : Result Flow (Stop E)) →
-    said ≡ told → FollowsOne defaults was is (reports [] id told back) (after m old) new r → FollowsOne defaults was is (reports (m ∷ []) id said back) old new r
+pub reports_front : {E : Type 0} (defaults : Type 0) (was is : HandlerAt) (m : Move) (id : ℕ) (output told : ChannelRecord) (back : List Move) (old new : SessionState) (r : Result Flow (Stop E)) →
+    output ≡ told → FollowsOne defaults was is (reports [] id told back) (after m old) new r → FollowsOne defaults was is (reports (m ∷ []) id output back) old new r
 unfolding asking
-reports_front defaults was is m id said told back old new r same f =
+reports_front defaults was is m id output told back old new r same f =
     subst (λ (x : ChannelRecord). FollowsOne defaults was is (reports (m ∷ []) id x back) old new r) (sym same)
     (front_one defaults was is m (reports [] id told back) old new r f)
 
@@ -289,39 +289,39 @@ opines_default defaults call default h = record { keeps = unheard (call ∷ []) 
 
 -- ---- our window is refilled
 
-retarget_row : {E : Type 0} (defaults : Type 0) (was is : HandlerAt) (positive : Bool) (id len : ℕ) (said : ChannelRecord) (window : ℕ) (old new : SessionState) (r : Result Flow (Stop E)) →
-    FollowsRow defaults was is (reports [] id said []) (done (if positive then Targets window ∷ [] else []) (after (Receives id len) old)) new r →
-    FollowsRow defaults was is (reports (Receives id len ∷ (if positive then Targets window ∷ [] else [])) id said []) old new r
+retarget_row : {E : Type 0} (defaults : Type 0) (was is : HandlerAt) (positive : Bool) (id len : ℕ) (output : ChannelRecord) (window : ℕ) (old new : SessionState) (r : Result Flow (Stop E)) →
+    FollowsRow defaults was is (reports [] id output []) (done (if positive then Targets window ∷ [] else []) (after (Receives id len) old)) new r →
+    FollowsRow defaults was is (reports (Receives id len ∷ (if positive then Targets window ∷ [] else [])) id output []) old new r
 unfolding asking
-retarget_row defaults was is true id len said window old new r f =
-    front_row defaults was is (Receives id len) (reports (Targets window ∷ []) id said []) old new r
-    (front_row defaults was is (Targets window) (reports [] id said []) (after (Receives id len) old) new r f)
-retarget_row defaults was is false id len said window old new r f =
-    front_row defaults was is (Receives id len) (reports [] id said []) old new r f
+retarget_row defaults was is true id len output window old new r f =
+    front_row defaults was is (Receives id len) (reports (Targets window ∷ []) id output []) old new r
+    (front_row defaults was is (Targets window) (reports [] id output []) (after (Receives id len) old) new r f)
+retarget_row defaults was is false id len output window old new r f =
+    front_row defaults was is (Receives id len) (reports [] id output []) old new r f
 
-pub kept_window : {E : Type 0} (defaults : Type 0) (was is : HandlerAt) (id len : ℕ) (said : ChannelRecord) (old new : SessionState) (r : Result Flow (Stop E)) →
-    adjusted_at id len (own_window old) old.table ≡ false → FollowsOne defaults was is (reports [] id said []) (after (Receives id len) old) new r →
-    FollowsWith defaults was is (λ o. bytes_row o old id len said) old new r
+pub kept_window : {E : Type 0} (defaults : Type 0) (was is : HandlerAt) (id len : ℕ) (output : ChannelRecord) (old new : SessionState) (r : Result Flow (Stop E)) →
+    adjusted_at id len (own_window old) old.table ≡ false → FollowsOne defaults was is (reports [] id output []) (after (Receives id len) old) new r →
+    FollowsWith defaults was is (λ o. bytes_row o old id len output) old new r
 unfolding asking
-kept_window defaults was is id len said old new r kept f = record {
+kept_window defaults was is id len output old new r kept f = record {
   opinions = default_opinions old;
   default = λ plain. refl;
-  follows = rw kept (opined_row defaults was is None (reports (Receives id len ∷ []) id said []) old new r (front_row defaults was is (Receives id len) (reports [] id said []) old new r f.follows));
+  follows = rw kept (opined_row defaults was is None (reports (Receives id len ∷ []) id output []) old new r (front_row defaults was is (Receives id len) (reports [] id output []) old new r f.follows));
   keeps = rw kept f.keeps;
 }
 
-pub brought_back : {E : Type 0} (defaults : Type 0) (was mid is : HandlerAt) (id len : ℕ) (said : ChannelRecord) (old last new : SessionState) (r : Result Flow (Stop E)) →
+pub brought_back : {E : Type 0} (defaults : Type 0) (was mid is : HandlerAt) (id len : ℕ) (output : ChannelRecord) (old last new : SessionState) (r : Result Flow (Stop E)) →
     adjusted_at id len (own_window old) old.table ≡ true → Retargets defaults id old.window_target was mid (after (Receives id len) old) last →
-    FollowsOne defaults mid is (reports [] id said []) last new r →
-    FollowsWith defaults was is (λ o. bytes_row o old id len said) old new r
+    FollowsOne defaults mid is (reports [] id output []) last new r →
+    FollowsWith defaults was is (λ o. bytes_row o old id len output) old new r
 unfolding asking
-brought_back defaults was mid is id len said old last new r back asked f =
-    let follows = subst (λ (s : SessionState). FollowsRow defaults mid is (reports [] id said []) s new r) asked.left f.follows in
+brought_back defaults was mid is id len output old last new r back asked f =
+    let follows = subst (λ (s : SessionState). FollowsRow defaults mid is (reports [] id output []) s new r) asked.left f.follows in
     record {
       opinions = record { takes_unknown = false; window_target = asked.window };
       default = λ plain. ap (λ (w : ℕ). record { takes_unknown = false; window_target = w }) (asked.opines.default_body plain);
-      follows = rw back (opined_row defaults was is (Some (WindowRefilled id old.window_target)) (reports (Receives id len ∷ (if nat_lt 0 asked.window then Targets asked.window ∷ [] else [])) id said []) old new r
-          (retarget_row defaults was is (nat_lt 0 asked.window) id len said asked.window old new r (called_before defaults was mid is (reports [] id said []) _ new r asked.opines.keeps follows)));
+      follows = rw back (opined_row defaults was is (Some (WindowRefilled id old.window_target)) (reports (Receives id len ∷ (if nat_lt 0 asked.window then Targets asked.window ∷ [] else [])) id output []) old new r
+          (retarget_row defaults was is (nat_lt 0 asked.window) id len output asked.window old new r (called_before defaults was mid is (reports [] id output []) _ new r asked.opines.keeps follows)));
       keeps = rw back (keeps_on was mid is asked.opines.keeps f.keeps);
     }
 
@@ -336,13 +336,13 @@ confirmed_one defaults was is None c old new r waits f = absurd cc
 confirmed_one defaults was is (Some ticket) c old new r waits f =
     front_one defaults was is (Confirms c) (reports [] c.recipient (happened.Open c.sender.max_packet_size c.sender.window_size) (Grants c.recipient 0 ∷ [])) old new r f
 
-pub failed_one : {E : Type 0} (defaults : Type 0) (was is : HandlerAt) (ticket : Option (Option Ticket)) (x : Refusal) (said : ChannelRecord) (old new : SessionState) (r : Result Flow (Stop E)) →
-    is_some ticket ≡ true → said ≡ happened.OpenFailure x.reason x.description x.language →
-    FollowsOne defaults was is (reports [] x.id.0 said []) (after (Fails x.id.0 x.reason) old) new r →
+pub failed_one : {E : Type 0} (defaults : Type 0) (was is : HandlerAt) (ticket : Option (Option Ticket)) (x : Refusal) (output : ChannelRecord) (old new : SessionState) (r : Result Flow (Stop E)) →
+    is_some ticket ≡ true → output ≡ happened.OpenFailure x.reason x.description x.language →
+    FollowsOne defaults was is (reports [] x.id.0 output []) (after (Fails x.id.0 x.reason) old) new r →
     FollowsOne defaults was is (failed_row ticket x) old new r
 unfolding asking
-failed_one defaults was is None x said old new r waits same f = absurd cc
-failed_one {E = E} defaults was is (Some ticket) x said old new r waits same f =
+failed_one defaults was is None x output old new r waits same f = absurd cc
+failed_one {E = E} defaults was is (Some ticket) x output old new r waits same f =
     front_one defaults was is (Fails x.id.0 x.reason) (reports [] x.id.0 (happened.OpenFailure x.reason x.description x.language) []) old new r (subst (λ (z : ChannelRecord). FollowsOne {E = E} defaults was is (reports [] x.id.0 z []) (after (Fails x.id.0 x.reason) old) new r) same f)
 
 -- no open of ours waits under the number

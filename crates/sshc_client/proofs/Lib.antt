@@ -5,3 +5,4 @@ mod LawLemmas
 mod MethodLemmas
 mod RowLemmas
 mod StepLemmas
+mod Hints

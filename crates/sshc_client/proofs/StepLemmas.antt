@@ -188,10 +188,10 @@ muted_of s is = ap (λ (life : Life). record { records = s.records; muted = not 
 lent_so : {E : Type 0} (gate : GateAnswers E) (event : Event) (was is : Lent) (result : Step E) → was.session.life ≡ Runs → StepsLent gate event was is result → StepsOpening gate event was is result
 lent_so gate event was is result life s = record {
   opening = s.opening;
-  said = s.said;
-  stepped = subst (λ (out : Outgoing). Stepped gate event (with_gate (lent was.session.opening out was.calls was.signer_refusals) was.gate_refusals was.setting) (with_gate (lent s.opening s.said is.calls is.signer_refusals) is.gate_refusals is.setting) result)
+  output = s.output;
+  stepped = subst (λ (out : Outgoing). Stepped gate event (with_gate (lent was.session.opening out was.calls was.signer_refusals) was.gate_refusals was.setting) (with_gate (lent s.opening s.output is.calls is.signer_refusals) is.gate_refusals is.setting) result)
       (muted_of was.session life) s.stepped;
-  rest = s.rest ∙ ap (λ (l : Life). record (was.session) { opening = s.opening; records = s.said.records; life = l }) (behind_if (goes_on result) was.session.life life);
+  rest = s.rest ∙ ap (λ (l : Life). record (was.session) { opening = s.opening; records = s.output.records; life = l }) (behind_if (goes_on result) was.session.life life);
 }
 
 behind_so : {E : Type 0} (defaults : Type 0) (gate : GateAnswers E) (event : Event) (s t : SessionState) (calls calls2 : List SignCall) (x x2 r r2 : ℕ) (setting setting2 : List (List ℕ)) (result : Step E) {heard heard2 : List Callback} → defaults → s.life ≡ Runs →
@@ -243,7 +243,7 @@ shut_so : {E : Type 0} (gate : GateAnswers E) (event : Event) (s : SessionState)
     StepsOpening gate event (lent_session s calls x r setting heard) (lent_session (shut_session s) calls2 x r2 setting2 heard2) (steps.Refused e)
 shut_so gate event s calls calls2 x r r2 setting setting2 e fresh same keeps row cause = record {
   opening = shut s.opening;
-  said = outgoing s;
+  output = outgoing s;
   stepped = shut_stepped gate event s.opening (outgoing s) calls calls2 x r r2 setting setting2 e fresh same keeps row cause;
   rest = refl;
 }

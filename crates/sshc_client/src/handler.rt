@@ -202,7 +202,8 @@ pub trait Handler: Send {
         language: &str,
         session: &mut Session,
     ) -> Result<(), Self::Error>
-        ensures { Handles keeps_defaults (Happened channel.0 (happened.OpenFailure reason description.now language.now)) (Ok tt)
+        ensures { Handles keeps_defaults
+            (Happened channel.0 (happened.OpenFailure reason description.now language.now)) (Ok tt)
             (handler_at (refusals self.old) (setting self.old) (heard self.old))
             (handler_at (refusals self.new) (setting self.new) (heard self.new))
             session.old session.new result }
@@ -236,7 +237,9 @@ pub trait Handler: Send {
         originator_port: u32,
         session: &mut Session,
     ) -> Result<OpenAnswer, Self::Error>
-        ensures { Handles keeps_defaults (ServerOpened id.0 (opens.DirectTcpIp host.now port originator_address.now originator_port)) (Ok OpenAnswer.Accept)
+        ensures { Handles keeps_defaults
+            (ServerOpened id.0 (opens.DirectTcpIp host.now port originator_address.now originator_port))
+            (Ok OpenAnswer.Accept)
             (handler_at (refusals self.old) (setting self.old) (heard self.old))
             (handler_at (refusals self.new) (setting self.new) (heard self.new))
             session.old session.new result }
@@ -252,7 +255,8 @@ pub trait Handler: Send {
         socket_path: &str,
         session: &mut Session,
     ) -> Result<OpenAnswer, Self::Error>
-        ensures { Handles keeps_defaults (ServerOpened id.0 (opens.DirectStreamLocal socket_path.now)) (Ok OpenAnswer.Accept)
+        ensures { Handles keeps_defaults (ServerOpened id.0 (opens.DirectStreamLocal socket_path.now))
+            (Ok OpenAnswer.Accept)
             (handler_at (refusals self.old) (setting self.old) (heard self.old))
             (handler_at (refusals self.new) (setting self.new) (heard self.new))
             session.old session.new result }
@@ -269,7 +273,8 @@ pub trait Handler: Send {
         originator_port: u32,
         session: &mut Session,
     ) -> Result<OpenAnswer, Self::Error>
-        ensures { Handles keeps_defaults (ServerOpened id.0 (opens.X11 originator_address.now originator_port)) (Ok OpenAnswer.Accept)
+        ensures { Handles keeps_defaults (ServerOpened id.0 (opens.X11 originator_address.now originator_port))
+            (Ok OpenAnswer.Accept)
             (handler_at (refusals self.old) (setting self.old) (heard self.old))
             (handler_at (refusals self.new) (setting self.new) (heard self.new))
             session.old session.new result }
@@ -288,7 +293,9 @@ pub trait Handler: Send {
         originator_port: u32,
         session: &mut Session,
     ) -> Result<OpenAnswer, Self::Error>
-        ensures { Handles keeps_defaults (ServerOpened id.0 (opens.ForwardedTcpIp host.now port originator_address.now originator_port)) (Ok OpenAnswer.Accept)
+        ensures { Handles keeps_defaults
+            (ServerOpened id.0 (opens.ForwardedTcpIp host.now port originator_address.now originator_port))
+            (Ok OpenAnswer.Accept)
             (handler_at (refusals self.old) (setting self.old) (heard self.old))
             (handler_at (refusals self.new) (setting self.new) (heard self.new))
             session.old session.new result }
@@ -304,7 +311,8 @@ pub trait Handler: Send {
         socket_path: &str,
         session: &mut Session,
     ) -> Result<OpenAnswer, Self::Error>
-        ensures { Handles keeps_defaults (ServerOpened id.0 (opens.ForwardedStreamLocal socket_path.now)) (Ok OpenAnswer.Accept)
+        ensures { Handles keeps_defaults (ServerOpened id.0 (opens.ForwardedStreamLocal socket_path.now))
+            (Ok OpenAnswer.Accept)
             (handler_at (refusals self.old) (setting self.old) (heard self.old))
             (handler_at (refusals self.new) (setting self.new) (heard self.new))
             session.old session.new result }
@@ -334,7 +342,8 @@ pub trait Handler: Send {
         id: ChannelId,
         session: &mut Session,
     ) -> Result<OpenAnswer, Self::Error>
-        ensures { Handles keeps_defaults (ServerOpened id.0 opens.Unknown) (Ok (OpenAnswer.Reject ChannelOpenFailure.AdministrativelyProhibited))
+        ensures { Handles keeps_defaults (ServerOpened id.0 opens.Unknown)
+            (Ok (OpenAnswer.Reject ChannelOpenFailure.AdministrativelyProhibited))
             (handler_at (refusals self.old) (setting self.old) (heard self.old))
             (handler_at (refusals self.new) (setting self.new) (heard self.new))
             session.old session.new result }
@@ -418,7 +427,8 @@ pub trait Handler: Send {
         lang_tag: &str,
         session: &mut Session,
     ) -> Result<(), Self::Error>
-        ensures { Handles keeps_defaults (Happened channel.0 (happened.ExitSignal signal_name core_dumped error_message.now lang_tag.now)) (Ok tt)
+        ensures { Handles keeps_defaults
+            (Happened channel.0 (happened.ExitSignal signal_name core_dumped error_message.now lang_tag.now)) (Ok tt)
             (handler_at (refusals self.old) (setting self.old) (heard self.old))
             (handler_at (refusals self.new) (setting self.new) (heard self.new))
             session.old session.new result }

@@ -2,3 +2,4 @@ mod KeyLists
 mod PacketGrammar
 pub mod ProofLemmas
 mod StandardFacts
+mod Hints

@@ -133,7 +133,7 @@ fn put_sender(out: &mut Vec<u8>, sender: Sender) -> Result<(), NoMemory>
 }
 
 /// CHANNEL_OPEN (RFC 4254, section 5.1).
-#[tactic(auto, using(std::proofs::lemmas::List::append_assoc), unfolding(crate::specs::ChannelOpens::channel_open_text))]
+#[tactic(auto, using(crate::proofs::Hints::joined), unfolding(crate::specs::ChannelOpens::channel_open_text))]
 pub fn channel_open_packet(
     alloc: Global,
     asked: &ChannelOpen<'_>,
@@ -151,7 +151,7 @@ pub fn channel_open_packet(
 }
 
 /// CHANNEL_OPEN_CONFIRMATION (RFC 4254, section 5.1).
-#[tactic(auto, using(std::proofs::lemmas::List::append_assoc), unfolding(crate::specs::ChannelOpens::confirmation_text))]
+#[tactic(auto, using(crate::proofs::Hints::joined), unfolding(crate::specs::ChannelOpens::confirmation_text))]
 pub fn confirmation_packet(alloc: Global, confirmation: Confirmation) -> Result<Octets, NoMemory>
     ensures { IfOk result (λ packet. packet ≡ confirmation_text confirmation) }
 {
@@ -166,7 +166,7 @@ pub fn confirmation_packet(alloc: Global, confirmation: Confirmation) -> Result<
 }
 
 /// CHANNEL_OPEN_FAILURE with the reason's own text, in English (RFC 4254, section 5.1).
-#[tactic(auto, using(std::proofs::lemmas::List::append_assoc), unfolding(crate::specs::ChannelOpens::open_failure_text))]
+#[tactic(auto, using(crate::proofs::Hints::joined), unfolding(crate::specs::ChannelOpens::open_failure_text))]
 pub fn open_failure_packet(
     alloc: Global,
     recipient: u32,

@@ -278,7 +278,7 @@ fn put_fields(out: &mut Vec<u8>, request: &ChannelRequest<'_>) -> Result<(), NoM
 }
 
 /// CHANNEL_REQUEST (RFC 4254, section 5.4).
-#[tactic(auto, using(std::proofs::lemmas::List::append_assoc), unfolding(crate::specs::ChannelRequests::channel_request_text))]
+#[tactic(auto, using(crate::proofs::Hints::joined), unfolding(crate::specs::ChannelRequests::channel_request_text))]
 pub fn channel_request_packet(
     alloc: Global,
     recipient: u32,

@@ -116,7 +116,7 @@ fn put_fields(out: &mut Vec<u8>, request: &GlobalRequest<'_>) -> Result<(), NoMe
 }
 
 /// GLOBAL_REQUEST (RFC 4254, section 4).
-#[tactic(auto, using(std::proofs::lemmas::List::append_assoc), unfolding(crate::specs::GlobalRequests::global_request_text))]
+#[tactic(auto, using(crate::proofs::Hints::joined), unfolding(crate::specs::GlobalRequests::global_request_text))]
 pub fn global_request_packet(
     alloc: Global,
     want_reply: bool,

@@ -115,7 +115,8 @@ fn success_of<V: Verifier>(
     first: &ReplyEntry,
     body: &[u8],
 ) -> Result<Option<Resolution>, Error>
-    ensures { Succeeds (success_of (V.accepts verifier.now) session_id.now first.now.kind first.now.keys body.now) result }
+    ensures { Succeeds (success_of (V.accepts verifier.now) session_id.now first.now.kind first.now.keys body.now)
+        result }
 {
     match first.kind {
         ReplyKind::Forward => Ok(Some(port_answer(forward_port(body)))),

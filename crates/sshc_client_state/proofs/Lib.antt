@@ -2,3 +2,4 @@ mod LiveLemmas
 mod MoveLemmas
 mod OpeningLemmas
 mod UnknownLemmas
+mod Hints

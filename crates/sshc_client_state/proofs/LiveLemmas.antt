@@ -39,7 +39,7 @@ shown_resolved false ticket resolution = refl
 pub nothing_more : (records : List Record) → records ++ [] ≡ records
 nothing_more records = append-nil records
 
-pub shown_told : (muted : Bool) (said : Record) → shown muted (told said) ≡ told said
+pub shown_told : (muted : Bool) (output : Record) → shown muted (told output) ≡ told output
 shown_told true (Payload packet) = refl
 shown_told true (Resolved ticket resolution) = refl
 shown_told true BeginExchange = refl
@@ -51,4 +51,4 @@ shown_told true (Channel id happened) = refl
 shown_told true (ServerOpened id server_open) = refl
 shown_told true (HostKeysAnnounced keys) = refl
 shown_told true (Agent conn answer) = refl
-shown_told false said = shown-open (told said)
+shown_told false output = shown-open (told output)

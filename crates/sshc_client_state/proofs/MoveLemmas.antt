@@ -10,7 +10,7 @@ use Rattle.sshc_auth.specs.Row.{resolved}
 use Rattle.sshc_transport.specs.declared.exchange.ExchangeFlag.TheVariants.{Idle}
 use Rattle.sshc_mux.specs.declared.chunk.Stream.{Stream}
 use Rattle.sshc_mux.specs.ChannelState.{ChannelState, TableState, channel_of}
-use Rattle.sshc_mux.specs.ChannelTable.{Effect, Said, Turn, accept_turn, confirm_turn, is_awaited, no_packets_of, records_of, said_by, taken_away, turned, unmoved}
+use Rattle.sshc_mux.specs.ChannelTable.{Effect, ChannelPacket, Turn, accept_turn, confirm_turn, is_awaited, no_packets_of, records_of, said_by, taken_away, turned, unmoved}
 use Rattle.sshc_mux.specs.ChannelTable.Opens.{awaited, is_reserved, next_number, opened_by_user, reserved_by_server, unsettled_at}
 use Rattle.sshc_mux.specs.ChannelAccount.{AskClose, AskEof, Bytes, Call, Confirm, Fail, FlushAll, Grant, OpenUser, PeerClose, Received, ReserveServer, SettleServer, called, opened}
 use Rattle.sshc_client_packets.specs.declared.channel_open.Confirmation.{Confirmation}
@@ -28,7 +28,7 @@ use Rattle.sshc_client_table.specs.SessionState.{SessionState, exchanging, is_li
 -- the session after only a call of the table
 abbrev after_call : Call → SessionState → SessionState
 after_call call s =
-    record s { table = (called call s.table).table; records = s.records ++ records_of (called call s.table).said }
+    record s { table = (called call s.table).table; records = s.records ++ records_of (called call s.table).output }
 
 pub after_sends : (id : ℕ) (stream : Stream) (bytes : List ℕ) (s : SessionState) → is_live s ≡ true →
     after (Sends id stream bytes) s ≡ after_call (Bytes id stream bytes (exchanging s)) s
@@ -57,43 +57,43 @@ after_receives id len s live = is_done (Receives id len) s live ∙ called_alone
 -- ---- calls that write nothing
 
 turned_quietly : (n : ℕ) (o : Option ChannelState) (turn : ChannelState → Turn) (t : TableState) →
-    ((c : ChannelState) → (turn c).packets ≡ []) → (turned n o turn t).said ≡ []
+    ((c : ChannelState) → (turn c).packets ≡ []) → (turned n o turn t).output ≡ []
 turned_quietly n None turn t quiet = refl
 turned_quietly n (Some c) turn t quiet = ap (said_by c) (quiet c)
 
-taken_if : (goes : Bool) (x : Effect) (t : TableState) → x.said ≡ [] → (if goes then x else unmoved t).said ≡ []
+taken_if : (goes : Bool) (x : Effect) (t : TableState) → x.output ≡ [] → (if goes then x else unmoved t).output ≡ []
 taken_if true x t is = is
 taken_if false x t is = refl
 
 taken_quietly : (n : ℕ) (o : Option ChannelState) (goes : ChannelState → Bool) (t : TableState) →
-    (taken_away n o goes no_packets_of t).said ≡ []
+    (taken_away n o goes no_packets_of t).output ≡ []
 taken_quietly n None goes t = refl
 taken_quietly n (Some c) goes t = taken_if (goes c) _ t refl
 
-opened_quietly : (o : Option ℕ) (channel : ℕ → ChannelState) (t : TableState) → (opened o channel t).said ≡ []
+opened_quietly : (o : Option ℕ) (channel : ℕ → ChannelState) (t : TableState) → (opened o channel t).output ≡ []
 opened_quietly None channel t = refl
 opened_quietly (Some n) channel t = refl
 
-settled_quietly : (id : ℕ) (accept : Bool) (t : TableState) → (called (SettleServer id accept) t).said ≡ []
+settled_quietly : (id : ℕ) (accept : Bool) (t : TableState) → (called (SettleServer id accept) t).output ≡ []
 settled_quietly id true t = turned_quietly id (channel_of id t.channels) accept_turn t (λ c. refl)
 settled_quietly id false t = taken_quietly id (channel_of id t.channels) is_reserved t
 
 -- the session after a call that writes nothing, and records
 abbrev after_both : Call → List Record → SessionState → SessionState
-after_both call said s = record s { table = (called call s.table).table; records = s.records ++ said }
+after_both call output s = record s { table = (called call s.table).table; records = s.records ++ output }
 
-quietly : (call : Call) (said : List Record) (s : SessionState) → (called call s.table).said ≡ [] →
-    with_deed (calls_and_says call said s) s ≡ after_both call said s
-quietly call said s quiet =
+quietly : (call : Call) (output : List Record) (s : SessionState) → (called call s.table).output ≡ [] →
+    with_deed (calls_and_says call output s) s ≡ after_both call output s
+quietly call output s quiet =
     ap (λ (rs : List Record). record s { table = (called call s.table).table; records = rs })
-    (ap (λ (made : List Said). onto (onto s.records (records_of made)) said) quiet ∙ onto-append s.records said)
+    (ap (λ (made : List ChannelPacket). onto (onto s.records (records_of made)) output) quiet ∙ onto-append s.records output)
 
 -- the session after a call that writes nothing
-quiet_call : (call : Call) (s : SessionState) → (called call s.table).said ≡ [] →
+quiet_call : (call : Call) (s : SessionState) → (called call s.table).output ≡ [] →
     with_deed (calls_table call s) s ≡ record s { table = (called call s.table).table }
 quiet_call call s quiet =
     ap (λ (rs : List Record). record s { table = (called call s.table).table; records = rs })
-    (ap (λ (made : List Said). onto s.records (records_of made)) quiet)
+    (ap (λ (made : List ChannelPacket). onto s.records (records_of made)) quiet)
 
 pub after_reserves : (sender : Sender) (s : SessionState) → is_live s ≡ true →
     after (Reserves sender) s
@@ -158,9 +158,9 @@ after_asks ask s live =
     is_done (Asks ask) s live
     ∙ ap (λ (ws : List ReplyEntry). record s { replies = ws; records = s.records ++ sent (asking_message ask) }) (onto-append s.replies (queued ask))
 
-pub after_tells : (said : Record) (s : SessionState) → may_tell s ≡ true →
-    after (Tells said) s ≡ record s { records = s.records ++ told said }
-after_tells said s may = is_done (Tells said) s may ∙ said_alone (told said) s
+pub after_tells : (output : Record) (s : SessionState) → may_tell s ≡ true →
+    after (Tells output) s ≡ record s { records = s.records ++ told output }
+after_tells output s may = is_done (Tells output) s may ∙ said_alone (told output) s
 
 pub after_resolves : (ticket : Ticket) (resolution : Resolution) (s : SessionState) → is_live s ≡ true →
     after (Resolves ticket resolution) s ≡ record s { records = s.records ++ direct_answer ticket resolution }
@@ -179,8 +179,8 @@ after_replied resolution s live =
 
 pub after_resumes : (s : SessionState) → is_live s ≡ true →
     after Resumes s
-    ≡ record s { opening = with_flag Idle s.opening; table = (called FlushAll s.table).table; records = s.records ++ records_of (called FlushAll s.table).said }
+    ≡ record s { opening = with_flag Idle s.opening; table = (called FlushAll s.table).table; records = s.records ++ records_of (called FlushAll s.table).output }
 after_resumes s live =
     is_done Resumes s live
     ∙ ap (λ (rs : List Record). record s { opening = with_flag Idle s.opening; table = (called FlushAll s.table).table; records = rs })
-    (onto-append s.records (records_of (called FlushAll s.table).said))
+    (onto-append s.records (records_of (called FlushAll s.table).output))

@@ -33,12 +33,12 @@ tells_keeps tells old new (Err e) (more, holds, resolved, records, muted) = mute
 judged_keeps : {E : Type 0} (tells : Result (Unit {0}) E → List Record → Type 0) (old new : Outgoing) (result : Result Told E) (verdict : Result Bool E) →
     Judged tells old new result verdict → new.muted ≡ old.muted
 judged_keeps tells old new result (Ok true) j = tells_keeps tells old new result j
-judged_keeps tells old new result (Ok false) (said, same) = same_muted new old same
-judged_keeps tells old new result (Err e) (said, same) = same_muted new old same
+judged_keeps tells old new result (Ok false) (output, same) = same_muted new old same
+judged_keeps tells old new result (Err e) (output, same) = same_muted new old same
 
 answered_keeps : {E : Type 0} (gate : GateAnswers E) (x : Option ExchangeResult) (old new : Outgoing) (result : Result Told E) (asks : Asks) →
     Answered gate x old new result asks → new.muted ≡ old.muted
-answered_keeps gate x old new result asking.Nothing (said, same) = same_muted new old same
+answered_keeps gate x old new result asking.Nothing (output, same) = same_muted new old same
 answered_keeps gate x old new result (asking.HostKey key) (verdict, judges, judged) = judged_keeps (told_of gate x) old new result verdict judged
 answered_keeps gate x old new result asking.Exchange a = tells_keeps (told_of gate x) old new result a
 answered_keeps gate x old new result (asking.Banner text) a = tells_keeps (gate.tells_banner text) old new result a
@@ -99,7 +99,7 @@ pub steps_lent : {E : Type 0} (gate : GateAnswers E) (event : Event) (s t : Sess
     StepsLent gate event (lent_session s calls refusals gate_refusals setting heard) (lent_session t calls2 refusals2 gate_refusals2 setting2 heard2) result
 steps_lent gate event s t before after old new calls calls2 refusals refusals2 gate_refusals gate_refusals2 setting setting2 result stepped opening_is records_are muted_is rest_is = record {
   opening = after;
-  said = new;
+  output = new;
   stepped =
       subst (λ (o : OpeningState). Stepped gate event (with_gate (lent o (outbox_of s) calls refusals) gate_refusals setting) (with_gate (lent after new calls2 refusals2) gate_refusals2 setting2) result)
       (sym opening_is)

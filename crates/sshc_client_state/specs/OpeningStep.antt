@@ -50,11 +50,11 @@ outbox_of s = record { records = s.records; muted = not (runs s.life) }
 -- the opening's step on the session's records, where nothing else of the session changes except its life
 pub record StepsLent {E : Type 0} (gate : GateAnswers E) (event : Event) (was is : Lent) (result : Step E) : Type 0 where
   pub opening : OpeningState
-  pub said : Outgoing
+  pub output : Outgoing
   pub stepped :
       Stepped gate event (with_gate (lent was.session.opening (outbox_of was.session) was.calls was.signer_refusals) was.gate_refusals was.setting)
-      (with_gate (lent opening said is.calls is.signer_refusals) is.gate_refusals is.setting) result
-  pub rest : is.session ≡ record (was.session) { opening = opening; records = said.records; life = life_behind (goes_on result) was.session.life }
+      (with_gate (lent opening output is.calls is.signer_refusals) is.gate_refusals is.setting) result
+  pub rest : is.session ≡ record (was.session) { opening = opening; records = output.records; life = life_behind (goes_on result) was.session.life }
 
 -- the records of a session that drops no packets
 abbrev pub outgoing : SessionState → Outgoing
@@ -63,8 +63,8 @@ outgoing s = record { records = s.records; muted = false }
 -- the opening's step on the session's records, where nothing else of the session changes
 pub record StepsOpening {E : Type 0} (gate : GateAnswers E) (event : Event) (was is : Lent) (result : Step E) : Type 0 where
   pub opening : OpeningState
-  pub said : Outgoing
+  pub output : Outgoing
   pub stepped :
       Stepped gate event (with_gate (lent was.session.opening (outgoing was.session) was.calls was.signer_refusals) was.gate_refusals was.setting)
-      (with_gate (lent opening said is.calls is.signer_refusals) is.gate_refusals is.setting) result
-  pub rest : is.session ≡ record (was.session) { opening = opening; records = said.records; life = life_if (goes_on result) }
+      (with_gate (lent opening output is.calls is.signer_refusals) is.gate_refusals is.setting) result
+  pub rest : is.session ≡ record (was.session) { opening = opening; records = output.records; life = life_if (goes_on result) }

@@ -16,7 +16,7 @@ use Rattle.sshc_auth_request.specs.RequestTexts.{disconnect}
 use Rattle.sshc_mux.specs.declared.chunk.Stream.TheVariants as Streams
 use Rattle.sshc_mux.specs.ChannelState.{TableState, channel_of}
 use Rattle.sshc_mux.specs.Packets.{Packet, Piece, Eof, Close, Adjust, packet_text}
-use Rattle.sshc_mux.specs.ChannelTable.{Said, records_of}
+use Rattle.sshc_mux.specs.ChannelTable.{ChannelPacket, records_of}
 use Rattle.sshc_mux.specs.ChannelAccount.{Call, EachLifeHasItsAccount, Life, born, called, no_channels, ran}
 use Rattle.sshc_client_packets.specs.declared.channel_open.Sender.{Sender}
 use Rattle.sshc_client_packets.specs.GlobalRequests.{global_request_text}
@@ -38,21 +38,21 @@ pub packets-append : (a b : List Record) → channel_packets (a ++ b) ≡ channe
 packets-append [] b = refl
 packets-append (r ∷ a) b = ap (λ (ps : List (List ℕ)). channel_packet r ++ ps) (packets-append a b) ∙ sym (append_assoc (channel_packet r) (channel_packets a) (channel_packets b))
 
-said-append : (a b : List Said) → said_packets (a ++ b) ≡ said_packets a ++ said_packets b
-said-append [] b = refl
-said-append (s ∷ a) b = ap (λ (ps : List (List ℕ)). packet_text s.recipient s.packet ∷ ps) (said-append a b)
+output-append : (a b : List ChannelPacket) → said_packets (a ++ b) ≡ said_packets a ++ said_packets b
+output-append [] b = refl
+output-append (s ∷ a) b = ap (λ (ps : List (List ℕ)). packet_text s.recipient s.packet ∷ ps) (output-append a b)
 
 pub ran-table : (a b : List Call) (t : TableState) → (ran (a ++ b) t).table ≡ (ran b (ran a t).table).table
 ran-table [] b t = refl
 ran-table (c ∷ a) b t = ran-table a b (called c t).table
 
-ran-said : (a b : List Call) (t : TableState) → said_packets (ran (a ++ b) t).said ≡ said_packets (ran a t).said ++ said_packets (ran b (ran a t).table).said
-ran-said [] b t = refl
-ran-said (c ∷ a) b t =
-    said-append (called c t).said (ran (a ++ b) (called c t).table).said
-    ∙ ap (λ (ps : List (List ℕ)). said_packets (called c t).said ++ ps) (ran-said a b (called c t).table)
-    ∙ sym (append_assoc (said_packets (called c t).said) (said_packets (ran a (called c t).table).said) (said_packets (ran b (ran a (called c t).table).table).said))
-    ∙ ap (λ (ps : List (List ℕ)). ps ++ said_packets (ran b (ran a (called c t).table).table).said) (sym (said-append (called c t).said (ran a (called c t).table).said))
+ran-output : (a b : List Call) (t : TableState) → said_packets (ran (a ++ b) t).output ≡ said_packets (ran a t).output ++ said_packets (ran b (ran a t).table).output
+ran-output [] b t = refl
+ran-output (c ∷ a) b t =
+    output-append (called c t).output (ran (a ++ b) (called c t).table).output
+    ∙ ap (λ (ps : List (List ℕ)). said_packets (called c t).output ++ ps) (ran-output a b (called c t).table)
+    ∙ sym (append_assoc (said_packets (called c t).output) (said_packets (ran a (called c t).table).output) (said_packets (ran b (ran a (called c t).table).table).output))
+    ∙ ap (λ (ps : List (List ℕ)). ps ++ said_packets (ran b (ran a (called c t).table).table).output) (sym (output-append (called c t).output (ran a (called c t).table).output))
 
 -- ---- which packets are of channels
 
@@ -63,11 +63,11 @@ of_channel recipient Eof = refl
 of_channel recipient Close = refl
 of_channel recipient (Adjust amount) = refl
 
-all_of_channel : (said : List Said) → channel_packets (records_of said) ≡ said_packets said
+all_of_channel : (output : List ChannelPacket) → channel_packets (records_of output) ≡ said_packets output
 all_of_channel [] = refl
-all_of_channel (s ∷ said) =
-    ap (λ (ps : List (List ℕ)). ps ++ channel_packets (records_of said)) (of_channel s.recipient s.packet)
-    ∙ ap (λ (ps : List (List ℕ)). packet_text s.recipient s.packet ∷ ps) (all_of_channel said)
+all_of_channel (s ∷ output) =
+    ap (λ (ps : List (List ℕ)). ps ++ channel_packets (records_of output)) (of_channel s.recipient s.packet)
+    ∙ ap (λ (ps : List (List ℕ)). packet_text s.recipient s.packet ∷ ps) (all_of_channel output)
 
 -- ---- what holds no packet of a channel
 
@@ -131,10 +131,10 @@ plain_direct ticket (SigAlgs known names) = plain_answer ticket (SigAlgs known n
 plain_direct ticket HostKeysProved = plain_answer ticket HostKeysProved
 plain_direct ticket resolution = refl
 
-plain_told : (said : Record) → IsPlain (m.told said)
+plain_told : (output : Record) → IsPlain (m.told output)
 plain_told (Payload packet) = refl
 plain_told (Resolved ticket resolution) = refl
-plain_told said = refl
+plain_told output = refl
 
 plain_begin : (flag : ExchangeFlag) → IsPlain (m.peer_begin_says flag)
 plain_begin Idle = refl
@@ -155,7 +155,7 @@ plain_deed (m.Disconnects reason description language) s = plain_disconnection r
 plain_deed (m.Replied resolution) s = plain_reply s.replies resolution
 plain_deed (m.Resolves ticket resolution) s = plain_direct ticket resolution
 plain_deed (m.DeniesTicket ticket) s = plain_answer ticket _
-plain_deed (m.Tells said) s = plain_told said
+plain_deed (m.Tells output) s = plain_told output
 plain_deed m.PeerBegins s = plain_begin s.opening.flag
 plain_deed move s = refl
 
@@ -167,27 +167,27 @@ plain_done false d s plain = refl
 
 pub record One (s new : SessionState) (calls : List Call) : Type 0 where
   pub table : new.table ≡ (ran calls s.table).table
-  pub packets : channel_packets new.records ≡ channel_packets s.records ++ said_packets (ran calls s.table).said
+  pub packets : channel_packets new.records ≡ channel_packets s.records ++ said_packets (ran calls s.table).output
 
 did_table : (o : Option Call) (t : TableState) → (did o t).table ≡ (ran (listed o) t).table
 did_table None t = refl
 did_table (Some call) t = refl
 
-did_said : (o : Option Call) (t : TableState) → (did o t).said ≡ (ran (listed o) t).said
+did_said : (o : Option Call) (t : TableState) → (did o t).output ≡ (ran (listed o) t).output
 did_said None t = refl
-did_said (Some call) t = sym (append-nil (called call t).said)
+did_said (Some call) t = sym (append-nil (called call t).output)
 
 one_deed : (d : Deed) (s : SessionState) → IsPlain d.says → One s (with_deed d s) (listed d.call)
 one_deed d s plain = record {
   table = did_table d.call s.table;
   packets =
-      ap channel_packets (onto-two s.records (records_of (did d.call s.table).said) d.says)
-      ∙ packets-append s.records (records_of (did d.call s.table).said ++ d.says)
+      ap channel_packets (onto-two s.records (records_of (did d.call s.table).output) d.says)
+      ∙ packets-append s.records (records_of (did d.call s.table).output ++ d.says)
       ∙ ap (λ (ps : List (List ℕ)). channel_packets s.records ++ ps)
-      (packets-append (records_of (did d.call s.table).said) d.says
-      ∙ ap (λ (ps : List (List ℕ)). channel_packets (records_of (did d.call s.table).said) ++ ps) plain
-      ∙ append-nil (channel_packets (records_of (did d.call s.table).said))
-      ∙ all_of_channel (did d.call s.table).said
+      (packets-append (records_of (did d.call s.table).output) d.says
+      ∙ ap (λ (ps : List (List ℕ)). channel_packets (records_of (did d.call s.table).output) ++ ps) plain
+      ∙ append-nil (channel_packets (records_of (did d.call s.table).output))
+      ∙ all_of_channel (did d.call s.table).output
       ∙ ap said_packets (did_said d.call s.table));
 }
 
@@ -206,10 +206,10 @@ accounted_more move moves s first rest =
       table = rest.table ∙ ap (λ (t : TableState). (ran b t).table) (sym here) ∙ sym (ran-table a b s.table);
       packets =
           rest.packets
-          ∙ ap (λ (ps : List (List ℕ)). ps ++ said_packets (ran b (after move s).table).said) first.packets
-          ∙ append_assoc (channel_packets s.records) (said_packets (ran a s.table).said) (said_packets (ran b (after move s).table).said)
-          ∙ ap (λ (t : TableState). channel_packets s.records ++ (said_packets (ran a s.table).said ++ said_packets (ran b t).said)) (sym here)
-          ∙ ap (λ (ps : List (List ℕ)). channel_packets s.records ++ ps) (sym (ran-said a b s.table));
+          ∙ ap (λ (ps : List (List ℕ)). ps ++ said_packets (ran b (after move s).table).output) first.packets
+          ∙ append_assoc (channel_packets s.records) (said_packets (ran a s.table).output) (said_packets (ran b (after move s).table).output)
+          ∙ ap (λ (t : TableState). channel_packets s.records ++ (said_packets (ran a s.table).output ++ said_packets (ran b t).output)) (sym here)
+          ∙ ap (λ (ps : List (List ℕ)). channel_packets s.records ++ ps) (sym (ran-output a b s.table));
     }
 
 pub accounted : (moves : List Move) (s : SessionState) → Accounted moves s

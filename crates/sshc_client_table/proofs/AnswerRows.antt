@@ -67,11 +67,11 @@ pub record Held (full own : SessionRow) : Type 0 where
 -- the packet may not come now
 pub record Refuses (full : SessionRow) : Type 0 where
   pub error : Error
-  pub row_is : full ≡ behind_moves (Hears ∷ []) (record { opinion = None; front = []; asks = None; back = λ said. []; next = refuses error })
+  pub row_is : full ≡ behind_moves (Hears ∷ []) (record { opinion = None; front = []; asks = None; back = λ output. []; next = refuses error })
 
 held_if : (much : Bool) (s : SessionState) (len : ℕ) (own : SessionRow) →
-    Held (behind_moves (Hears ∷ []) (if much then record { opinion = None; front = []; asks = None; back = λ said. []; next = refuses Pending } else behind_moves (Counts len ∷ []) own)) own
-    ⊎ Refuses (behind_moves (Hears ∷ []) (if much then record { opinion = None; front = []; asks = None; back = λ said. []; next = refuses Pending } else behind_moves (Counts len ∷ []) own))
+    Held (behind_moves (Hears ∷ []) (if much then record { opinion = None; front = []; asks = None; back = λ output. []; next = refuses Pending } else behind_moves (Counts len ∷ []) own)) own
+    ⊎ Refuses (behind_moves (Hears ∷ []) (if much then record { opinion = None; front = []; asks = None; back = λ output. []; next = refuses Pending } else behind_moves (Counts len ∷ []) own))
 held_if true s len own = inr (record { error = Pending; row_is = refl })
 held_if false s len own = inl (record { first = Hears ∷ Counts len ∷ []; is_first = heard_counted len; row_is = refl })
 

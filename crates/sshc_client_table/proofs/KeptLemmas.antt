@@ -7,7 +7,7 @@ use Rattle.sshc_wire.specs.declared.ticket.Ticket.{Ticket}
 use Rattle.sshc_mux.specs.declared.chunk.Stream.{Stream}
 use Rattle.sshc_mux.specs.ChannelState.{ChannelState, Head, TableState, channel_of, with_channel}
 use Rattle.sshc_mux.specs.Packets.{Packet, Piece, Eof, Close, Adjust}
-use Rattle.sshc_mux.specs.ChannelTable.{Said, Turn, close_turn, data_turn, eof_turn, turned}
+use Rattle.sshc_mux.specs.ChannelTable.{ChannelPacket, Turn, close_turn, data_turn, eof_turn, turned}
 use Rattle.sshc_mux.specs.ChannelTable.Ends.{is_unasked, takes}
 use Rattle.sshc_mux.specs.ChannelTable.Opens.{next_number, opened_by_user}
 use Rattle.sshc_mux.specs.ChannelAccount.{AskClose, AskEof, Bytes, Call, answered, EachCallDoesItsPart, EachCallKeepsTheRules, ExchangesAreQuiet, IsLegal, LegalStays, Moves, OpenUser, Part, bytes_in, bytes_part, called, close_part, eof_part, marked, may_send, no_part, opened, packets_by, packets_in, part, pending}
@@ -114,10 +114,10 @@ rest_empty Eof qs all = all
 rest_empty Close qs all = all
 rest_empty (Adjust amount) qs all = all
 
-none_by : (n : ℕ) (said : List Said) → bytes_in (packets_in said) ≡ [] → bytes_in (packets_by n said) ≡ []
+none_by : (n : ℕ) (output : List ChannelPacket) → bytes_in (packets_in output) ≡ [] → bytes_in (packets_by n output) ≡ []
 none_by n [] all = refl
-none_by n (s ∷ said) all =
-    if_empty (eqb s.number n) s.packet (packets_by n said) (packets_in said) all (none_by n said (rest_empty s.packet (packets_in said) all))
+none_by n (s ∷ output) all =
+    if_empty (eqb s.number n) s.packet (packets_by n output) (packets_in output) all (none_by n output (rest_empty s.packet (packets_in output) all))
 
 silent : (running : Bool) (call : Call) → Sending running (Some call) → running ≡ true → may_send call ≡ false
 silent running (OpenUser window packet ticket) may is = refl
@@ -173,8 +173,8 @@ kept_by law quiet (Some call) running n t c legal may found =
       new = after_it.0;
       there = after_it.1;
       keeps =
-          from_moves running c after_it.0 (packets_by n (called call t).said) (part n call c) (plain_part running n call c may)
-          (law n call t c after_it.0 legal found after_it.1) (λ is. none_by n (called call t).said (quiet call t (silent running call may is)));
+          from_moves running c after_it.0 (packets_by n (called call t).output) (part n call c) (plain_part running n call c may)
+          (law n call t c after_it.0 legal found after_it.1) (λ is. none_by n (called call t).output (quiet call t (silent running call may is)));
     }
 
 -- ---- one after another

@@ -3,11 +3,11 @@ use Rattle.std.proofs.Common.{◌≡◌, ◌⊎◌, inl, inr, Bool, true, false,
 use Rattle.std.proofs.lemmas.List.{append-nil}
 use Rattle.std.specs.List.{AllByRecursion}
 use Rattle.sshc_wire.specs.declared.record.Record.{Record}
-use Rattle.sshc_wire.specs.declared.record.Record.TheVariants as said
+use Rattle.sshc_wire.specs.declared.record.Record.TheVariants as output
 use Rattle.sshc_wire.specs.declared.record.Record.TheVariants.{Payload, Resolved}
 use Rattle.sshc_wire.specs.declared.resolution.Resolution.TheVariants.{ChannelOpened, ChannelOpenFailed}
 use Rattle.sshc_auth_event.specs.declared.event.Event.{Event}
-use Rattle.sshc_mux.specs.ChannelTable.{Said, records_of}
+use Rattle.sshc_mux.specs.ChannelTable.{ChannelPacket, records_of}
 use Rattle.sshc_client_table.specs.declared.open_answer.OpenAnswer.{OpenAnswer}
 use Rattle.sshc_client_table.specs.Grown.{May}
 use Rattle.sshc_client_table.specs.Moves as m
@@ -34,10 +34,10 @@ none_there (one ∷ records) (none, all) =
     ap (λ (b : Bool). if b then one ∷ open_answers records else open_answers records) (no_open_answer one none) ∙ none_there records all
 
 report_answers : (record_ : Record) → IsReport record_ → NoOpenAnswer record_
-report_answers (said.KexDone kex) is = tt
-report_answers (said.Channel id happened) is = tt
-report_answers (said.ServerOpened id opened) is = tt
-report_answers (said.HostKeysAnnounced blobs) is = tt
+report_answers (output.KexDone kex) is = tt
+report_answers (output.Channel id happened) is = tt
+report_answers (output.ServerOpened id opened) is = tt
+report_answers (output.HostKeysAnnounced blobs) is = tt
 report_answers record_ never = absurd never
 
 open_kinds : Kinds NoOpenAnswer
@@ -58,14 +58,14 @@ answers_two [] b = refl
 answers_two (one ∷ a) b =
     ap (λ (rs : List Record). if answers_open one then one ∷ rs else rs) (answers_two a b) ∙ if_first (answers_open one) one (open_answers a) (open_answers b)
 
-pub packets_answer : (packets : List Said) → open_answers (records_of packets) ≡ []
+pub packets_answer : (packets : List ChannelPacket) → open_answers (records_of packets) ≡ []
 packets_answer [] = refl
 packets_answer (one ∷ packets) = packets_answer packets
 
 plain_answers : (move : Move) (s : SessionState) → SaysPlainly move → open_answers (added move s) ≡ []
 plain_answers move s plain =
-    answers_two (records_of (did (deed_of move s).call s.table).said) (deed_of move s).says
-    ∙ ap (λ (rs : List Record). rs ++ open_answers (deed_of move s).says) (packets_answer (did (deed_of move s).call s.table).said)
+    answers_two (records_of (did (deed_of move s).call s.table).output) (deed_of move s).says
+    ∙ ap (λ (rs : List Record). rs ++ open_answers (deed_of move s).says) (packets_answer (did (deed_of move s).call s.table).output)
     ∙ none_there (deed_of move s).says (says_hold NoOpenAnswer open_kinds move s plain)
 
 abbrev pub AllPlain : List Move → Type 0

@@ -58,10 +58,10 @@ none_direct ticket (SigAlgs known names) = none_if (eqb ticket.0 0) ticket (SigA
 none_direct ticket HostKeysProved = none_if (eqb ticket.0 0) ticket HostKeysProved tt
 none_direct ticket resolution = tt
 
-none_told : (said : Record) → None_ (m.told said)
+none_told : (output : Record) → None_ (m.told output)
 none_told (Payload packet) = tt
 none_told (Resolved ticket resolution) = tt
-none_told said = (tt, tt)
+none_told output = (tt, tt)
 
 none_begin : (flag : ExchangeFlag) → None_ (m.peer_begin_says flag)
 none_begin Idle = (tt, tt)
@@ -140,7 +140,7 @@ deed_answers (m.Disconnects reason description language) s legal = inl (tt, tt)
 deed_answers (m.Replied resolution) s legal = inl (none_reply s.replies resolution)
 deed_answers (m.Resolves ticket resolution) s legal = inl (none_direct ticket resolution)
 deed_answers (m.DeniesTicket ticket) s legal = inl (none_if (eqb ticket.0 0) ticket Denied tt)
-deed_answers (m.Tells said) s legal = inl (none_told said)
+deed_answers (m.Tells output) s legal = inl (none_told output)
 deed_answers m.Begins s legal = inl (tt, tt)
 deed_answers m.PeerBegins s legal = inl (none_begin s.opening.flag)
 deed_answers move s legal = inl tt

@@ -29,13 +29,13 @@ pub record Kinds (P : Record → Type 0) : Type 0 where
   pub disconnection : (reason : Disconnect) (description language : List ℕ) → P (Payload (disconnect reason description language))
   pub begins : P BeginExchange
   pub answer : (ticket : Ticket) (resolution : Resolution) → NoOpenAnswer (Resolved ticket resolution) → P (Resolved ticket resolution)
-  pub report : (said : Record) → IsReport said → P said
+  pub report : (output : Record) → IsReport output → P output
 
 -- a move that answers no open, and reports only what a row reports
 abbrev pub SaysPlainly : Move → Type 0
 SaysPlainly (m.Confirms c) = ⊥
 SaysPlainly (m.Fails id reason) = ⊥
-SaysPlainly (m.Tells said) = IsReport said
+SaysPlainly (m.Tells output) = IsReport output
 SaysPlainly move = Unit {0}
 
 module _ (P : Record → Type 0) (kinds : Kinds P) where
@@ -79,10 +79,10 @@ module _ (P : Record → Type 0) (kinds : Kinds P) where
   direct_holds ticket HostKeysProved = resolved_holds ticket HostKeysProved tt
   direct_holds ticket resolution = tt
 
-  told_holds : (said : Record) → IsReport said → All (m.told said)
+  told_holds : (output : Record) → IsReport output → All (m.told output)
   told_holds (Payload packet) never = absurd never
   told_holds (Resolved ticket resolution) never = absurd never
-  told_holds said is = (kinds.report said is, tt)
+  told_holds output is = (kinds.report output is, tt)
 
   begin_holds : (flag : ExchangeFlag) → All (m.peer_begin_says flag)
   begin_holds Idle = (kinds.begins, tt)
@@ -91,7 +91,7 @@ module _ (P : Record → Type 0) (kinds : Kinds P) where
   deed_holds : (move : Move) (s : SessionState) → SaysPlainly move → All (deed move s).says
   deed_holds (m.Confirms c) s never = absurd never
   deed_holds (m.Fails id reason) s never = absurd never
-  deed_holds (m.Tells said) s is = told_holds said is
+  deed_holds (m.Tells output) s is = told_holds output is
   deed_holds (m.Opens asked ticket) s plain = open_holds asked _ (m.our_side s)
   deed_holds (m.Accepts id) s plain = accept_holds _ (m.our_side s id)
   deed_holds (m.Rejects id reason) s plain = reject_holds _ reason

@@ -6,7 +6,7 @@ use Rattle.std.specs.List.{AllByRecursion}
 use Rattle.sshc_wire.specs.Outgoing.{listed}
 use Rattle.sshc_wire.specs.declared.disconnect.Disconnect.{Disconnect}
 use Rattle.sshc_wire.specs.declared.record.Record.{Record}
-use Rattle.sshc_wire.specs.declared.record.Record.TheVariants as said
+use Rattle.sshc_wire.specs.declared.record.Record.TheVariants as output
 use Rattle.sshc_wire.specs.declared.record.Record.TheVariants.{Payload, Resolved}
 use Rattle.sshc_wire.specs.declared.resolution.Resolution.{Resolution}
 use Rattle.sshc_wire.specs.declared.resolution.Resolution.TheVariants.{ChannelOpened, ChannelOpenFailed}
@@ -17,7 +17,7 @@ use Rattle.sshc_transport.specs.declared.exchange.ExchangeFlag.TheVariants.{Idle
 use Rattle.sshc_auth_request.specs.RequestTexts.{disconnect}
 use Rattle.sshc_mux.specs.declared.chunk.Stream.TheVariants as streams
 use Rattle.sshc_mux.specs.ChannelState.{TableState}
-use Rattle.sshc_mux.specs.ChannelTable.{Said, records_of}
+use Rattle.sshc_mux.specs.ChannelTable.{ChannelPacket, records_of}
 use Rattle.sshc_mux.specs.ChannelTable.Opens.{awaited}
 use Rattle.sshc_mux.specs.ChannelAccount.{Call, IsNoData as IsNoDataPacket, called, may_send, packets_in}
 use Rattle.sshc_mux.specs.Packets.{Packet, Piece, Eof, Close, Adjust, packet_text}
@@ -80,10 +80,10 @@ unfolding disconnect
 leave_authenticates reason description language = refl
 
 report_authenticates : (record_ : Record) → IsReport record_ → AuthenticatesNone record_
-report_authenticates (said.KexDone kex) is = tt
-report_authenticates (said.Channel id happened) is = tt
-report_authenticates (said.ServerOpened id opened) is = tt
-report_authenticates (said.HostKeysAnnounced blobs) is = tt
+report_authenticates (output.KexDone kex) is = tt
+report_authenticates (output.Channel id happened) is = tt
+report_authenticates (output.ServerOpened id opened) is = tt
+report_authenticates (output.HostKeysAnnounced blobs) is = tt
 report_authenticates record_ never = absurd never
 
 authenticate_none : Kinds AuthenticatesNone
@@ -102,14 +102,14 @@ packet_authenticates recipient Eof = refl
 packet_authenticates recipient Close = refl
 packet_authenticates recipient (Adjust amount) = refl
 
-packets_authenticate : (packets : List Said) → AllByRecursion AuthenticatesNone (records_of packets)
+packets_authenticate : (packets : List ChannelPacket) → AllByRecursion AuthenticatesNone (records_of packets)
 packets_authenticate [] = tt
 packets_authenticate (one ∷ packets) = (packet_authenticates one.recipient one.packet, packets_authenticate packets)
 
 pub authenticates : (event : Event) (moves : List Move) (s : SessionState) → AllFit event moves → AllByRecursion AuthenticatesNone (added_in moves s)
 authenticates event moves s fit =
     all_added AuthenticatesNone (λ t. Unit {0}) event
-    (λ move t fits holds. (packets_authenticate (did (deed_of move t).call t.table).said, says_all AuthenticatesNone authenticate_none (λ ticket resolution. tt) event move t fits, tt))
+    (λ move t fits holds. (packets_authenticate (did (deed_of move t).call t.table).output, says_all AuthenticatesNone authenticate_none (λ ticket resolution. tt) event move t fits, tt))
     moves s fit tt
 
 -- ---- no bytes while keys are exchanged
@@ -131,10 +131,10 @@ unfolding disconnect
 leave_quiet reason description language = (refl, refl)
 
 report_quiet : (record_ : Record) → IsReport record_ → IsNoData record_
-report_quiet (said.KexDone kex) is = tt
-report_quiet (said.Channel id happened) is = tt
-report_quiet (said.ServerOpened id opened) is = tt
-report_quiet (said.HostKeysAnnounced blobs) is = tt
+report_quiet (output.KexDone kex) is = tt
+report_quiet (output.Channel id happened) is = tt
+report_quiet (output.ServerOpened id opened) is = tt
+report_quiet (output.HostKeysAnnounced blobs) is = tt
 report_quiet record_ never = absurd never
 
 quiet_kinds : Kinds IsNoData
@@ -152,7 +152,7 @@ packet_quiet recipient Eof is = (refl, refl)
 packet_quiet recipient Close is = (refl, refl)
 packet_quiet recipient (Adjust amount) is = (refl, refl)
 
-packets_quiet : (packets : List Said) → AllByRecursion IsNoDataPacket (packets_in packets) → AllByRecursion IsNoData (records_of packets)
+packets_quiet : (packets : List ChannelPacket) → AllByRecursion IsNoDataPacket (packets_in packets) → AllByRecursion IsNoData (records_of packets)
 packets_quiet [] all = tt
 packets_quiet (one ∷ packets) (is, all) = (packet_quiet one.recipient one.packet is, packets_quiet packets all)
 
@@ -160,9 +160,9 @@ may_not : (call : Call) (may running : Bool) → may_send call ≡ may → runni
 may_not call true running is runs quiet = let clash : true ≡ false = sym runs ∙ quiet is in absurd cc
 may_not call false running is runs quiet = is
 
-call_quiet : (call : Option Call) (t : TableState) (running : Bool) → running ≡ true → AllIdle running (listed call) → AllByRecursion IsNoData (records_of (did call t).said)
+call_quiet : (call : Option Call) (t : TableState) (running : Bool) → running ≡ true → AllIdle running (listed call) → AllByRecursion IsNoData (records_of (did call t).output)
 call_quiet None t running runs quiet = tt
-call_quiet (Some call) t running runs quiet = packets_quiet (called call t).said (silent call t (may_not call (may_send call) running refl runs quiet.0))
+call_quiet (Some call) t running runs quiet = packets_quiet (called call t).output (silent call t (may_not call (may_send call) running refl runs quiet.0))
 
 begun_runs : (flag : ExchangeFlag) (s : SessionState) → is_running (m.peer_begins flag s.opening).flag ≡ true
 begun_runs Idle s = refl

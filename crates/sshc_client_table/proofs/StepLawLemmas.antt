@@ -58,8 +58,8 @@ answer_is (Some ticket) resolution is = answer_is_one (eqb ticket.0 0) ticket re
 confirms_answer : (c : Confirmation) (t : SessionState) (ticket : Option Ticket) → is_live t ≡ true → awaited c.recipient t.table ≡ Some ticket →
     open_answers (added (m.Confirms c) t) ≡ answer_to ticket (Some (ChannelOpened (record { 0 = c.recipient })))
 confirms_answer c t ticket live waits =
-    answers_two (records_of (did (deed_of (m.Confirms c) t).call t.table).said) (deed_of (m.Confirms c) t).says
-    ∙ ap (λ (rs : List Record). rs ++ open_answers (deed_of (m.Confirms c) t).says) (packets_answer (did (deed_of (m.Confirms c) t).call t.table).said)
+    answers_two (records_of (did (deed_of (m.Confirms c) t).call t.table).output) (deed_of (m.Confirms c) t).says
+    ∙ ap (λ (rs : List Record). rs ++ open_answers (deed_of (m.Confirms c) t).says) (packets_answer (did (deed_of (m.Confirms c) t).call t.table).output)
     ∙ ap (λ (b : Bool). open_answers (done_if b (deed (m.Confirms c) t) t).says) live
     ∙ ap (λ (w : Option (Option Ticket)). open_answers (open_answer w (ChannelOpened (record { 0 = c.recipient })))) waits
     ∙ answer_is ticket (ChannelOpened (record { 0 = c.recipient })) refl
@@ -67,8 +67,8 @@ confirms_answer c t ticket live waits =
 fails_answer : (id : ℕ) (reason : ChannelOpenFailure) (t : SessionState) (ticket : Option Ticket) → is_live t ≡ true → awaited id t.table ≡ Some ticket →
     open_answers (added (m.Fails id reason) t) ≡ answer_to ticket (Some (ChannelOpenFailed reason))
 fails_answer id reason t ticket live waits =
-    answers_two (records_of (did (deed_of (m.Fails id reason) t).call t.table).said) (deed_of (m.Fails id reason) t).says
-    ∙ ap (λ (rs : List Record). rs ++ open_answers (deed_of (m.Fails id reason) t).says) (packets_answer (did (deed_of (m.Fails id reason) t).call t.table).said)
+    answers_two (records_of (did (deed_of (m.Fails id reason) t).call t.table).output) (deed_of (m.Fails id reason) t).says
+    ∙ ap (λ (rs : List Record). rs ++ open_answers (deed_of (m.Fails id reason) t).says) (packets_answer (did (deed_of (m.Fails id reason) t).call t.table).output)
     ∙ ap (λ (b : Bool). open_answers (done_if b (deed (m.Fails id reason) t) t).says) live
     ∙ ap (λ (w : Option (Option Ticket)). open_answers (open_answer w (ChannelOpenFailed reason))) waits
     ∙ answer_is ticket (ChannelOpenFailed reason) refl

@@ -25,7 +25,7 @@ StepFits event (m.Replied resolution) = IsReply event
 StepFits event (m.Confirms c) = IsPacket CHANNEL_OPEN_CONFIRMATION event
 StepFits event (m.Fails id reason) = IsPacket CHANNEL_OPEN_FAILURE event
 StepFits event m.Resumes = IsExchange event
-StepFits event (m.Tells said) = IsReport said
+StepFits event (m.Tells output) = IsReport output
 StepFits event move = Unit {0}
 
 abbrev pub AllFit : Event → List Move → Type 0
@@ -36,7 +36,7 @@ fits_step event (m.Replied resolution) fits = fits
 fits_step event (m.Confirms c) fits = fits
 fits_step event (m.Fails id reason) fits = fits
 fits_step event m.Resumes fits = fits
-fits_step event (m.Tells said) fits = fits
+fits_step event (m.Tells output) fits = fits
 fits_step event move fits = tt
 
 may_step : (event : Event) (move : Move) → May move → StepFits event move
@@ -44,7 +44,7 @@ may_step event (m.Replied resolution) never = absurd never
 may_step event (m.Confirms c) never = absurd never
 may_step event (m.Fails id reason) never = absurd never
 may_step event m.Resumes never = absurd never
-may_step event (m.Tells said) never = absurd never
+may_step event (m.Tells output) never = absurd never
 may_step event move may = tt
 
 pub row_fit : (event : Event) (moves : List Move) → AllByRecursion (λ move. Fits event move) moves → AllFit event moves
@@ -99,7 +99,7 @@ followed_steps event row s new went fronts backs (behind mid answer borrowed cut
 -- ---- the records that moves add
 
 abbrev pub added : Move → SessionState → List Record
-added move s = records_of (did (deed_of move s).call s.table).said ++ (deed_of move s).says
+added move s = records_of (did (deed_of move s).call s.table).output ++ (deed_of move s).says
 
 abbrev pub added_in : List Move → SessionState → List Record
 added_in [] s = []
@@ -107,7 +107,7 @@ added_in (move ∷ moves) s = added move s ++ added_in moves (after move s)
 
 after_adds : (move : Move) (s : SessionState) → (after move s).records ≡ s.records ++ added move s
 unfolding after
-after_adds move s = onto-two s.records (records_of (did (deed_of move s).call s.table).said) (deed_of move s).says
+after_adds move s = onto-two s.records (records_of (did (deed_of move s).call s.table).output) (deed_of move s).says
 
 pub done_adds : (moves : List Move) (s : SessionState) → (done moves s).records ≡ s.records ++ added_in moves s
 done_adds [] s = sym (append-nil s.records)
@@ -126,15 +126,15 @@ added_is before after_ more is = ap (drop (length before)) is ∙ drop_at before
 
 all_two : (P : Record → Type 0) (a b : List Record) → AllByRecursion P a → AllByRecursion P b → AllByRecursion P (a ++ b)
 all_two P [] b one other = other
-all_two P (said ∷ a) b (holds, one) other = (holds, all_two P a b one other)
+all_two P (output ∷ a) b (holds, one) other = (holds, all_two P a b one other)
 
 -- what holds of the records of each move, while something stays true, holds of those of all
 pub all_added : (P : Record → Type 0) (Q : SessionState → Type 0) (event : Event) →
-    ((move : Move) (s : SessionState) → StepFits event move → Q s → AllByRecursion P (records_of (did (deed_of move s).call s.table).said) × AllByRecursion P (deed_of move s).says × Q (after move s)) →
+    ((move : Move) (s : SessionState) → StepFits event move → Q s → AllByRecursion P (records_of (did (deed_of move s).call s.table).output) × AllByRecursion P (deed_of move s).says × Q (after move s)) →
     (moves : List Move) (s : SessionState) → AllFit event moves → Q s → AllByRecursion P (added_in moves s)
 all_added P Q event each [] s fit holds = tt
 all_added P Q event each (move ∷ moves) s (fits, fit) holds =
     let one = each move s fits holds in
     all_two P (added move s) (added_in moves (after move s))
-    (all_two P (records_of (did (deed_of move s).call s.table).said) (deed_of move s).says one.0 one.1)
+    (all_two P (records_of (did (deed_of move s).call s.table).output) (deed_of move s).says one.0 one.1)
     (all_added P Q event each moves (after move s) fit one.2)

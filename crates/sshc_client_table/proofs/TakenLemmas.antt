@@ -29,12 +29,12 @@ same_deed before (m.Disconnects reason description language) s = refl
 same_deed before (m.Replied resolution) s = refl
 same_deed before (m.Resolves ticket resolution) s = refl
 same_deed before (m.DeniesTicket ticket) s = refl
-same_deed before (m.Tells said) s = refl
+same_deed before (m.Tells output) s = refl
 same_deed before move s = refl
 
 same_may : (before : List Record) (move : Move) (s : SessionState) → may_go move (behind before s) ≡ may_go move s
 same_may before (m.DeniesTicket ticket) s = refl
-same_may before (m.Tells said) s = refl
+same_may before (m.Tells output) s = refl
 same_may before m.Begins s = refl
 same_may before m.Leaves s = refl
 same_may before m.Stops s = refl
@@ -52,9 +52,9 @@ same_deed_of before move s =
 
 behind_deed : (before : List Record) (d : Deed) (s : SessionState) → with_deed d (behind before s) ≡ behind before (with_deed d s)
 behind_deed before d s =
-    let said : List Record = records_of (did d.call s.table).said in
+    let output : List Record = records_of (did d.call s.table).output in
     ap (λ (rs : List Record). record (with_deed d s) { records = rs })
-    (ap (λ (rs : List Record). onto rs d.says) (onto-behind before s.records said) ∙ onto-behind before (onto s.records said) d.says)
+    (ap (λ (rs : List Record). onto rs d.says) (onto-behind before s.records output) ∙ onto-behind before (onto s.records output) d.says)
 
 behind_move : (before : List Record) (move : Move) (s : SessionState) → after move (behind before s) ≡ behind before (after move s)
 unfolding after

@@ -10,7 +10,7 @@ use Rattle.sshc_transport.specs.declared.exchange.ExchangeFlag.{ExchangeFlag}
 use Rattle.sshc_transport.specs.declared.exchange.ExchangeFlag.TheVariants.{Idle, Ours, Peer}
 use Rattle.sshc_auth.specs.OpeningState.{OpeningState}
 use Rattle.sshc_mux.specs.ChannelState.{TableState}
-use Rattle.sshc_mux.specs.ChannelTable.{Said, records_of}
+use Rattle.sshc_mux.specs.ChannelTable.{ChannelPacket, records_of}
 use Rattle.sshc_mux.specs.ChannelAccount.{Call}
 use Rattle.sshc_client_packets.specs.declared.channel_open.Sender.{Sender}
 use Rattle.sshc_client_packets.specs.ChannelOpens.{ChannelOpen}
@@ -46,9 +46,9 @@ all-append : (P : Record → Type 0) (a b : List Record) → AllByRecursion P a 
 all-append P [] b first second = second
 all-append P (r ∷ a) b (here, first) second = (here, all-append P a b first second)
 
-all_packets : (said : List Said) → AllByRecursion MayBeAdded (records_of said)
+all_packets : (output : List ChannelPacket) → AllByRecursion MayBeAdded (records_of output)
 all_packets [] = tt
-all_packets (s ∷ said) = (tt, all_packets said)
+all_packets (s ∷ output) = (tt, all_packets output)
 
 denied_if : (b : Bool) (ticket : Ticket) → AllByRecursion IsDenial (if b then [] else Resolved ticket Denied ∷ [])
 denied_if true ticket = tt
@@ -91,15 +91,15 @@ record Good (d : Deed) (s : SessionState) : Type 0 where
 no_call_table : (o : Option Call) (t : TableState) → o ≡ None → (did o t).table ≡ t
 no_call_table o t is = ap (λ (c : Option Call). (did c t).table) is
 
-no_call_said : (o : Option Call) (t : TableState) → o ≡ None → records_of (did o t).said ≡ []
-no_call_said o t is = ap (λ (c : Option Call). records_of (did c t).said) is
+no_call_said : (o : Option Call) (t : TableState) → o ≡ None → records_of (did o t).output ≡ []
+no_call_said o t is = ap (λ (c : Option Call). records_of (did c t).output) is
 
 none_left : (b : Bool) (replies : List ReplyEntry) → b ≡ false → m.left_of b replies ≡ replies
 none_left b replies is = ap (λ (x : Bool). m.left_of x replies) is
 
 keeps_deed : (d : Deed) (s : SessionState) → Good d s → Keeps s (with_deed d s)
 keeps_deed d s good =
-    let said : List Record = records_of (did d.call s.table).said in
+    let output : List Record = records_of (did d.call s.table).output in
     let replies : (with_deed d s).replies ≡ s.replies ++ d.asks =
     onto-append (m.left_of d.answers s.replies) d.asks ∙ ap (λ (ws : List ReplyEntry). ws ++ d.asks) (none_left d.answers s.replies good.answers) in
     record {
@@ -111,9 +111,9 @@ keeps_deed d s good =
       closed = λ e. let c = good.closed e in
           (c.opening, no_call_table d.call s.table c.call, replies ∙ ap (λ (ws : List ReplyEntry). s.replies ++ ws) c.asks ∙ append-nil s.replies);
       records = (
-        said ++ d.says,
-        onto-two s.records said d.says,
-        all-append MayBeAdded said d.says (all_packets (did d.call s.table).said) good.says,
+        output ++ d.says,
+        onto-two s.records output d.says,
+        all-append MayBeAdded output d.says (all_packets (did d.call s.table).output) good.says,
         λ e. let c = good.closed e in
             subst (λ (rs : List Record). AllByRecursion IsDenial (rs ++ d.says)) (sym (no_call_said d.call s.table c.call)) c.says,
       );

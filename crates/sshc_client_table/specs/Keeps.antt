@@ -17,12 +17,12 @@ abbrev pub MayBeAdded : Record → Type 0
 MayBeAdded (Payload packet) = Unit {0}
 MayBeAdded BeginExchange = Unit {0}
 MayBeAdded (Resolved ticket Denied) = Unit {0}
-MayBeAdded said = ⊥
+MayBeAdded output = ⊥
 
 -- a denial
 abbrev pub IsDenial : Record → Type 0
 IsDenial (Resolved ticket Denied) = Unit {0}
-IsDenial said = ⊥
+IsDenial output = ⊥
 
 -- the opening is the same, or an exchange of ours has begun where none ran
 abbrev pub SameOrBegun : OpeningState → OpeningState → Type 0

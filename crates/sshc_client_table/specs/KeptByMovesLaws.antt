@@ -11,7 +11,7 @@ use Rattle.sshc_wire.specs.declared.ticket.Ticket.{Ticket}
 use Rattle.sshc_transport.specs.declared.exchange.ExchangeFlag.{ExchangeFlag}
 use Rattle.sshc_transport.specs.declared.exchange.ExchangeFlag.TheVariants.{Idle, Ours, Peer}
 use Rattle.sshc_auth.specs.OpeningState.{OpeningState}
-use Rattle.sshc_mux.specs.ChannelTable.{Said, records_of}
+use Rattle.sshc_mux.specs.ChannelTable.{ChannelPacket, records_of}
 use Rattle.sshc_mux.specs.ChannelTable.Opens.{awaited, next_number, unsettled_at}
 use Rattle.sshc_client_packets.specs.declared.channel_open.Sender.{Sender}
 use Rattle.sshc_client_packets.specs.ChannelOpens.{ChannelOpen}
@@ -60,7 +60,7 @@ move_says : (m : Move) (s : SessionState) → SaidFirst s.records (after m s).re
 unfolding after
 move_says m s =
     let d : Deed = done_if (may_go m s) (deed m s) s in
-    (records_of (did d.call s.table).said ++ d.says, onto-two s.records (records_of (did d.call s.table).said) d.says)
+    (records_of (did d.call s.table).output ++ d.says, onto-two s.records (records_of (did d.call s.table).output) d.says)
 
 said_before : (a b c : List Record) → SaidFirst a b → SaidFirst b c → SaidFirst a c
 said_before a b c (more, is) (others, same) = (more ++ others, same ∙ ap (λ (rs : List Record). rs ++ others) is ∙ append_assoc a more others)
@@ -73,7 +73,7 @@ moves_say (m ∷ moves) s = said_before s.records (after m s).records (done move
 -- the records after the first of the moves come first in the records after all of them
 pub front_says : (moves : List Move) (old new : SessionState) → Fronts moves old new → SaidFirst new.records (done moves old).records
 front_says [] old new is = ([], ap (λ (s : SessionState). s.records) (sym is) ∙ sym (append-nil new.records))
-front_says (m ∷ moves) old new (inl is) = let said = moves_say (m ∷ moves) old in (said.0, said.1 ∙ ap (λ (s : SessionState). s.records ++ said.0) (sym is))
+front_says (m ∷ moves) old new (inl is) = let output = moves_say (m ∷ moves) old in (output.0, output.1 ∙ ap (λ (s : SessionState). s.records ++ output.0) (sym is))
 front_says (m ∷ moves) old new (inr fronts) = front_says moves (after m old) new fronts
 
 -- the end of a session adds no record
@@ -83,9 +83,9 @@ stop_says s = refl
 
 -- ---- the records are the session's
 
-packets_session : (said : List Said) → AreSessions (records_of said)
+packets_session : (output : List ChannelPacket) → AreSessions (records_of output)
 packets_session [] = tt
-packets_session (packet ∷ said) = (refl, packets_session said)
+packets_session (packet ∷ output) = (refl, packets_session output)
 
 open_session : (asked : ChannelOpen) (number : Option ℕ) (side : ℕ → Sender) → AreSessions (open_packet asked number side)
 open_session asked None side = tt
@@ -121,11 +121,11 @@ direct_session ticket (SigAlgs known names) = resolved_session ticket (SigAlgs k
 direct_session ticket HostKeysProved = resolved_session ticket HostKeysProved
 direct_session ticket resolution = tt
 
-told_session : (said : Record) → KeepsSession (Tells said) → AreSessions (told said)
+told_session : (output : Record) → KeepsSession (Tells output) → AreSessions (told output)
 told_session (Payload packet) keeps = tt
 told_session (Resolved ticket resolution) keeps = tt
 told_session (Agent conn answer) never = absurd never
-told_session said keeps = (refl, tt)
+told_session output keeps = (refl, tt)
 
 begin_session : (flag : ExchangeFlag) → AreSessions (peer_begin_says flag)
 begin_session Idle = (refl, tt)
@@ -145,7 +145,7 @@ deed_session (Disconnects reason description language) s keeps = (refl, tt)
 deed_session (Replied resolution) s keeps = reply_session s.replies resolution
 deed_session (Resolves ticket resolution) s keeps = direct_session ticket resolution
 deed_session (DeniesTicket ticket) s keeps = resolved_session ticket Denied
-deed_session (Tells said) s keeps = told_session said keeps
+deed_session (Tells output) s keeps = told_session output keeps
 deed_session Begins s keeps = (refl, tt)
 deed_session PeerBegins s keeps = begin_session s.opening.flag
 deed_session m s keeps = tt
@@ -158,8 +158,8 @@ after_session : (m : Move) (s : SessionState) → KeepsSession m → SaidSession
 unfolding after
 after_session m s keeps =
     let d : Deed = done_if (may_go m s) (deed m s) s in
-    let packets : List Record = records_of (did d.call s.table).said in
-    (packets ++ d.says, onto-two s.records packets d.says, sessions_on packets d.says (packets_session (did d.call s.table).said) (gated_session (may_go m s) m s keeps))
+    let packets : List Record = records_of (did d.call s.table).output in
+    (packets ++ d.says, onto-two s.records packets d.says, sessions_on packets d.says (packets_session (did d.call s.table).output) (gated_session (may_go m s) m s keeps))
 
 moves_session : (moves : List Move) (s : SessionState) → AllByRecursion KeepsSession moves → SaidSessions s.records (done moves s).records
 moves_session [] s all = ([], sym (append-nil s.records), tt)
@@ -171,5 +171,5 @@ moves_session (m ∷ moves) s (keeps, all) =
 -- the records that such moves add after those before are the session's
 pub said_session : (moves : List Move) (s : SessionState) → AllByRecursion KeepsSession moves → AreSessions (drop (length s.records) (done moves s).records)
 said_session moves s all =
-    let said = moves_session moves s all in
-    subst AreSessions (sym (ap (drop (length s.records)) said.1 ∙ drop_at s.records said.0 (length s.records) refl)) said.2
+    let output = moves_session moves s all in
+    subst AreSessions (sym (ap (drop (length s.records)) output.1 ∙ drop_at s.records output.0 (length s.records) refl)) output.2

@@ -20,11 +20,11 @@ is_done m s is = ap (λ (b : Bool). with_deed (done_if b (deed m s) s) s) is
 -- only a call of the channel table
 pub called_alone : (call : Call) (s : SessionState) →
     with_deed (calls_table call s) s
-    ≡ record s { table = (called call s.table).table; records = s.records ++ records_of (called call s.table).said }
+    ≡ record s { table = (called call s.table).table; records = s.records ++ records_of (called call s.table).output }
 called_alone call s =
     ap (λ (rs : List Record). record s { table = (called call s.table).table; records = rs })
-    (onto-append s.records (records_of (called call s.table).said))
+    (onto-append s.records (records_of (called call s.table).output))
 
 -- only records
-pub said_alone : (said : List Record) (s : SessionState) → with_deed (says_that said s) s ≡ record s { records = s.records ++ said }
-said_alone said s = ap (λ (rs : List Record). record s { records = rs }) (onto-append s.records said)
+pub said_alone : (output : List Record) (s : SessionState) → with_deed (says_that output s) s ≡ record s { records = s.records ++ output }
+said_alone output s = ap (λ (rs : List Record). record s { records = rs }) (onto-append s.records output)

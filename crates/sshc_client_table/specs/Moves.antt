@@ -58,7 +58,7 @@ pub data Move : Type 0 where
   Replied : (resolution : Option Resolution) → Move  -- the oldest request is answered
   Resolves : (ticket : Ticket) → (resolution : Resolution) → Move  -- a resolution that no packet of the peer's brings
   DeniesTicket : (ticket : Ticket) → Move  -- before the session is open
-  Tells : (said : Record) → Move  -- a record that is neither a packet nor an answer to a ticket
+  Tells : (output : Record) → Move  -- a record that is neither a packet nor an answer to a ticket
   -- exchanges
   Begins : Move  -- an exchange of ours, where none runs
   PeerBegins : Move  -- the peer's KEXINIT, which begins an exchange or answers ours
@@ -174,7 +174,7 @@ direct_answer ticket resolution = []
 abbrev pub told : Record → List Record
 told (Payload packet) = []
 told (Resolved ticket resolution) = []
-told said = said ∷ []
+told output = output ∷ []
 
 -- ---- what a move does to the exchange
 
@@ -220,7 +220,7 @@ deed (Disconnects reason description language) s = says_that (disconnection reas
 deed (Replied resolution) s = record (still s) { says = reply_answer s.replies resolution; answers = true }
 deed (Resolves ticket resolution) s = says_that (direct_answer ticket resolution) s
 deed (DeniesTicket ticket) s = says_that (resolved ticket Denied) s
-deed (Tells said) s = says_that (told said) s
+deed (Tells output) s = says_that (told output) s
 deed Begins s = record (still s) { says = BeginExchange ∷ []; opening = with_flag Ours s.opening }
 deed PeerBegins s =
     record (still s) { says = peer_begin_says s.opening.flag; opening = peer_begins s.opening.flag s.opening }
@@ -237,7 +237,7 @@ deed Stops s = record (still s) { life = Over }
 -- called.
 abbrev pub may_go : Move → SessionState → Bool
 may_go (DeniesTicket ticket) s = opens_later s
-may_go (Tells said) s = may_tell s
+may_go (Tells output) s = may_tell s
 may_go Begins s = is_live s && not (exchanging s)
 may_go Leaves s = runs s.life
 may_go Stops s = true
@@ -274,7 +274,7 @@ with_deed d s = record {
   replies = onto (left_of d.answers s.replies) d.asks;
   keepalives = d.keepalives;
   window_target = d.window_target;
-  records = onto (onto s.records (records_of (did d.call s.table).said)) d.says;
+  records = onto (onto s.records (records_of (did d.call s.table).output)) d.says;
   life = d.life;
 }
 

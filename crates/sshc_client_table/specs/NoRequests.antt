@@ -12,7 +12,7 @@ request_with rest = USERAUTH_REQUEST ∷ rest
 
 -- none of these is such a request
 abbrev pub WritesNone : List Record → Type 0
-WritesNone said = (rest : List ℕ) → times_written (request_with rest) said ≡ 0
+WritesNone output = (rest : List ℕ) → times_written (request_with rest) output ≡ 0
 
 -- after the first records there is no such request
 abbrev pub AddsNone : List Record → List Record → Type 0

@@ -15,7 +15,7 @@ use Rattle.sshc_auth_request.specs.RequestTexts.{disconnect}
 use Rattle.sshc_auth.specs.OpeningState.{OpeningState}
 use Rattle.sshc_auth.specs.PasswordLaws.{written_two}
 use Rattle.sshc_auth.specs.Row.{resolved}
-use Rattle.sshc_mux.specs.ChannelTable.{Said, records_of}
+use Rattle.sshc_mux.specs.ChannelTable.{ChannelPacket, records_of}
 use Rattle.sshc_mux.specs.ChannelTable.Opens.{awaited, next_number, unsettled_at}
 use Rattle.sshc_mux.specs.Packets.{Packet, Piece, Eof, Close, Adjust, packet_text}
 use Rattle.sshc_mux.specs.declared.chunk.Stream.TheVariants as streams
@@ -63,9 +63,9 @@ packet_none recipient Eof = λ rest. refl
 packet_none recipient Close = λ rest. refl
 packet_none recipient (Adjust amount) = λ rest. refl
 
-packets_none : (said : List Said) → WritesNone (records_of said)
+packets_none : (output : List ChannelPacket) → WritesNone (records_of output)
 packets_none [] = λ rest. refl
-packets_none (one ∷ said) = none_two (Payload (packet_text one.recipient one.packet) ∷ []) (records_of said) (packet_none one.recipient one.packet) (packets_none said)
+packets_none (one ∷ output) = none_two (Payload (packet_text one.recipient one.packet) ∷ []) (records_of output) (packet_none one.recipient one.packet) (packets_none output)
 
 disconnection_none : (reason : Disconnect) (description language : List ℕ) → WritesNone (disconnection reason description language)
 unfolding disconnect
@@ -105,10 +105,10 @@ direct_none ticket (SigAlgs known names) = none_resolved ticket (SigAlgs known n
 direct_none ticket HostKeysProved = none_resolved ticket HostKeysProved
 direct_none ticket resolution = λ rest. refl
 
-told_none : (said : Record) → WritesNone (told said)
+told_none : (output : Record) → WritesNone (told output)
 told_none (Payload packet) = λ rest. refl
 told_none (Resolved ticket resolution) = λ rest. refl
-told_none said = λ rest. refl
+told_none output = λ rest. refl
 
 begin_none : (flag : ExchangeFlag) → WritesNone (peer_begin_says flag)
 begin_none Idle = λ rest. refl
@@ -130,7 +130,7 @@ deed_none (Disconnects reason description language) s = disconnection_none reaso
 deed_none (Replied resolution) s = reply_none s.replies resolution
 deed_none (Resolves ticket resolution) s = direct_none ticket resolution
 deed_none (DeniesTicket ticket) s = none_resolved ticket Denied
-deed_none (Tells said) s = told_none said
+deed_none (Tells output) s = told_none output
 deed_none Begins s = λ rest. refl
 deed_none PeerBegins s = begin_none s.opening.flag
 deed_none m s = λ rest. refl
@@ -143,8 +143,8 @@ after_none : (m : Move) (s : SessionState) → AddsNone s.records (after m s).re
 unfolding after
 after_none m s =
     let d : Deed = done_if (may_go m s) (deed m s) s in
-    let packets : List Record = records_of (did d.call s.table).said in
-    (packets ++ d.says, onto-two s.records packets d.says, none_two packets d.says (packets_none (did d.call s.table).said) (gated_none (may_go m s) m s))
+    let packets : List Record = records_of (did d.call s.table).output in
+    (packets ++ d.says, onto-two s.records packets d.says, none_two packets d.says (packets_none (did d.call s.table).output) (gated_none (may_go m s) m s))
 
 pub moves_none : (moves : List Move) (s : SessionState) → AddsNone s.records (done moves s).records
 moves_none [] s = ([], sym (append-nil s.records), λ rest. refl)
@@ -156,8 +156,8 @@ moves_none (m ∷ moves) s =
 -- the records that moves add after those before contain no such request
 pub said_none : (moves : List Move) (s : SessionState) → WritesNone (drop (length s.records) (done moves s).records)
 said_none moves s =
-    let said = moves_none moves s in
-    subst WritesNone (sym (ap (drop (length s.records)) said.1 ∙ drop_at s.records said.0 (length s.records) refl)) said.2
+    let output = moves_none moves s in
+    subst WritesNone (sym (ap (drop (length s.records)) output.1 ∙ drop_at s.records output.0 (length s.records) refl)) output.2
 
 unchanged : (o : OpeningState) → IsSameRequest o o
 unchanged o = record { phase = refl; session_id = refl; host_key = refl; user = refl; method = refl; handed = refl }

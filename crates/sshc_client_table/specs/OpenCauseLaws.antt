@@ -146,9 +146,9 @@ wanted_fit F false m fits = tt
 same_number : (n m : ℕ) → (n == m) ≡ true → n ≡ m
 same_number n m is = grind (arith, nat_tests)
 
-reports_holds : (P : RowLaw) (front : List Move) (id : ℕ) (said : ChannelRecord) (back : List Move) → P.fits (Tells (on_channel id said)) → AllByRecursion P.fits front → AllByRecursion P.fits back → RowHolds P (reports front id said back)
+reports_holds : (P : RowLaw) (front : List Move) (id : ℕ) (output : ChannelRecord) (back : List Move) → P.fits (Tells (on_channel id output)) → AllByRecursion P.fits front → AllByRecursion P.fits back → RowHolds P (reports front id output back)
 unfolding asking
-reports_holds P front id said back told all others = record { caused = tt; front = all; back = λ answer. (told, others) }
+reports_holds P front id output back told all others = record { caused = tt; front = all; back = λ answer. (told, others) }
 
 -- a part that can't be read breaks the packet; else what follows it may break it
 part_holds : {A : Type 0} (P : RowLaw) (parts : List Part) (r : Result (A × List ℕ) WireError) (on : A × List ℕ → SessionRow) → (BreaksBehind (λ rest. Breaks parts rest) (rest_of r) → P.refusal errors.SshEncoding) →
@@ -279,8 +279,8 @@ module _ (accepts : Accepts) (o : Opinions) (s : SessionState) (n : ℕ) (body :
   retargets_keep : (id len : ℕ) → AllByRecursion P.fits (retargets o s id len)
   retargets_keep id len = moves_by P.fits (adjusted_at id len (own_window s) s.table && nat_lt 0 o.window_target) _ _ (tt, tt) tt
 
-  received_holds : (id len : ℕ) (said : ChannelRecord) → RowHolds P (received_row o s id len said)
-  received_holds id len said = established_holds P (is_established id s.table) _ (opining_holds P _ _ (reports_holds P _ _ _ _ tt (tt, retargets_keep id len) tt))
+  received_holds : (id len : ℕ) (output : ChannelRecord) → RowHolds P (received_row o s id len output)
+  received_holds id len output = established_holds P (is_established id s.table) _ (opining_holds P _ _ (reports_holds P _ _ _ _ tt (tt, retargets_keep id len) tt))
 
   data_holds : n ≡ CHANNEL_DATA → RowHolds P (channel_data_row o s body)
   unfolding channel_data_row
@@ -290,9 +290,9 @@ module _ (accepts : Accepts) (o : Opinions) (s : SessionState) (n : ℕ) (body :
   unfolding channel_extended_data_row
   extended_holds is = read_holds P (extended_data_of body) _ (λ broken. extended_bytes is broken) (λ d read. received_holds d.id.0 (length d.body) (happened.ExtendedData d.ext d.body))
 
-  report_holds : (said : ChannelRecord) → (Fails (channel_of body) → IsBroken s n body) → RowHolds P (channel_report_row s said body)
+  report_holds : (output : ChannelRecord) → (Fails (channel_of body) → IsBroken s n body) → RowHolds P (channel_report_row s output body)
   unfolding channel_report_row
-  report_holds said breaks = read_holds P (channel_of body) _ breaks (λ id read. established_holds P (is_established id.0 s.table) _ (reports_holds P _ _ _ _ tt tt tt))
+  report_holds output breaks = read_holds P (channel_of body) _ breaks (λ id read. established_holds P (is_established id.0 s.table) _ (reports_holds P _ _ _ _ tt tt tt))
 
   close_holds : n ≡ CHANNEL_CLOSE → RowHolds P (channel_close_row s body)
   unfolding channel_close_row

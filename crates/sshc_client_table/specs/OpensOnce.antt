@@ -24,7 +24,7 @@ pub data AnswersOpen : ℕ → Resolution → Type 0 where
 abbrev pub NoOpenAnswer : Record → Type 0
 NoOpenAnswer (Resolved ticket (ChannelOpened id)) = ⊥
 NoOpenAnswer (Resolved ticket (ChannelOpenFailed reason)) = ⊥
-NoOpenAnswer said = Unit {0}
+NoOpenAnswer output = Unit {0}
 
 -- an open under this number waited, its own ticket is resolved, and it doesn't wait any more
 pub record AnswersOne (s new : SessionState) (says : List Record) : Type 0 where

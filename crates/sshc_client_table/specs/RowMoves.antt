@@ -4,7 +4,7 @@
 use Rattle.std.specs.Prelude.{◌≡◌, ◌⊎◌, ℕ, ◌∷◌}
 use Rattle.sshc_wire.specs.declared.msg.TheConstants.{REQUEST_SUCCESS, REQUEST_FAILURE, CHANNEL_OPEN_CONFIRMATION, CHANNEL_OPEN_FAILURE}
 use Rattle.sshc_wire.specs.declared.record.Record.{Record}
-use Rattle.sshc_wire.specs.declared.record.Record.TheVariants as said
+use Rattle.sshc_wire.specs.declared.record.Record.TheVariants as output
 use Rattle.sshc_auth_event.specs.declared.event.Event.{Event}
 use Rattle.sshc_auth_event.specs.declared.event.Event.TheVariants as events
 use Rattle.sshc_client_table.specs.Moves as m
@@ -22,10 +22,10 @@ IsExchange event = ⊥
 
 -- what a row reports: an exchange, what happened on a channel, an open of the peer's, announced host keys
 abbrev pub IsReport : Record → Type 0
-IsReport (said.KexDone kex) = Unit {0}
-IsReport (said.Channel id happened) = Unit {0}
-IsReport (said.ServerOpened id opened) = Unit {0}
-IsReport (said.HostKeysAnnounced blobs) = Unit {0}
+IsReport (output.KexDone kex) = Unit {0}
+IsReport (output.Channel id happened) = Unit {0}
+IsReport (output.ServerOpened id opened) = Unit {0}
+IsReport (output.HostKeysAnnounced blobs) = Unit {0}
 IsReport other = ⊥
 
 abbrev pub Fits : Event → Move → Type 0

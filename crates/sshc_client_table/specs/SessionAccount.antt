@@ -6,7 +6,7 @@ use Rattle.sshc_wire.specs.declared.record.Record.{Record}
 use Rattle.sshc_wire.specs.declared.record.Record.TheVariants.{Payload}
 use Rattle.sshc_wire.specs.declared.msg.TheConstants.{CHANNEL_WINDOW_ADJUST, CHANNEL_CLOSE}
 use Rattle.sshc_mux.specs.ChannelState.{channel_of}
-use Rattle.sshc_mux.specs.ChannelTable.{Said}
+use Rattle.sshc_mux.specs.ChannelTable.{ChannelPacket}
 use Rattle.sshc_mux.specs.ChannelAccount.{Account, Call, Life, born, called, may_send, no_channels, ran}
 use Rattle.sshc_mux.specs.Packets.{packet_text}
 use Rattle.sshc_client_table.specs.SessionState.{SessionState, exchanging}
@@ -19,17 +19,17 @@ is_of_channel (number ∷ body) = nat_le CHANNEL_WINDOW_ADJUST number && nat_le 
 
 abbrev pub channel_packet : Record → List (List ℕ)
 channel_packet (Payload packet) = if is_of_channel packet then packet ∷ [] else []
-channel_packet said = []
+channel_packet output = []
 
 -- the packets of channels among records
 abbrev pub channel_packets : List Record → List (List ℕ)
 channel_packets [] = []
-channel_packets (said ∷ records) = channel_packet said ++ channel_packets records
+channel_packets (output ∷ records) = channel_packet output ++ channel_packets records
 
 -- what calls of the table wrote, as bytes
-abbrev pub said_packets : List Said → List (List ℕ)
+abbrev pub said_packets : List ChannelPacket → List (List ℕ)
 said_packets [] = []
-said_packets (s ∷ said) = packet_text s.recipient s.packet ∷ said_packets said
+said_packets (s ∷ output) = packet_text s.recipient s.packet ∷ said_packets output
 
 -- Whatever the moves, the table is the table after the calls among them, and the channels' packets are those that these
 -- calls wrote.
@@ -37,7 +37,7 @@ pub record Accounted (moves : List Move) (s : SessionState) : Type 0 where
   pub table : (done moves s).table ≡ (ran (calls_in moves s) s.table).table
   pub packets :
       channel_packets (done moves s).records
-      ≡ channel_packets s.records ++ said_packets (ran (calls_in moves s) s.table).said
+      ≡ channel_packets s.records ++ said_packets (ran (calls_in moves s) s.table).output
 
 abbrev pub ChannelsAreAccounted : Type 0
 ChannelsAreAccounted = (moves : List Move) (s : SessionState) → Accounted moves s

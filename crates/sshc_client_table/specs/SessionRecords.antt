@@ -5,9 +5,9 @@ use Rattle.sshc_wire.specs.declared.record.Record.TheVariants.{Agent}
 
 abbrev pub is_session_record : Record → Bool
 is_session_record (Agent conn answer) = false
-is_session_record said = true
+is_session_record output = true
 
 -- none of these is an agent's
 abbrev pub AreSessions : List Record → Type 0
 AreSessions [] = Unit {0}
-AreSessions (said ∷ records) = (is_session_record said ≡ true) × AreSessions records
+AreSessions (output ∷ records) = (is_session_record output ≡ true) × AreSessions records

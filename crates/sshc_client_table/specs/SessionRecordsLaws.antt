@@ -10,7 +10,7 @@ use Rattle.sshc_client_table.specs.SessionRecords.{AreSessions}
 
 pub sessions_on : (a b : List Record) → AreSessions a → AreSessions b → AreSessions (a ++ b)
 sessions_on [] b one other = other
-sessions_on (said ∷ a) b one other = (one.0, sessions_on a b one.1 other)
+sessions_on (output ∷ a) b one other = (one.0, sessions_on a b one.1 other)
 
 sessions_if : (b : Bool) (x y : List Record) → AreSessions x → AreSessions y → AreSessions (if b then x else y)
 sessions_if true x y one other = one

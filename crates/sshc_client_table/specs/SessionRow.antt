@@ -51,21 +51,21 @@ pub record SessionRow : Type 0 where
 
 -- moves, and no call
 abbrev pub plain_row : List Move → SessionRow
-plain_row moves = record { opinion = None; front = moves; asks = None; back = λ said. []; next = goes }
+plain_row moves = record { opinion = None; front = moves; asks = None; back = λ output. []; next = goes }
 
 abbrev pub passed_over : SessionRow
 passed_over = plain_row []
 
 abbrev pub refused : Error → SessionRow
-refused e = record { opinion = None; front = []; asks = None; back = λ said. []; next = refuses e }
+refused e = record { opinion = None; front = []; asks = None; back = λ output. []; next = refuses e }
 
 -- the session ends after these moves
 abbrev pub ending : List Move → Ended → SessionRow
-ending moves e = record { opinion = None; front = moves; asks = None; back = λ said. []; next = ends e }
+ending moves e = record { opinion = None; front = moves; asks = None; back = λ output. []; next = ends e }
 
 -- moves, a call, and moves after it whatever it returns
 unfoldable pub asking : List Move → Callback → List Move → SessionRow
-asking front callback back = record { opinion = None; front = front; asks = Some callback; back = λ said. back; next = goes }
+asking front callback back = record { opinion = None; front = front; asks = Some callback; back = λ output. back; next = goes }
 
 abbrev pub on_channel : ℕ → ChannelRecord → Record
 on_channel id happened = Channel (record { 0 = id }) happened

@@ -94,11 +94,11 @@ IsReply event = IsPacket REQUEST_SUCCESS event ⊎ IsPacket REQUEST_FAILURE even
 abbrev pub answers_open : Record → Bool
 answers_open (Resolved ticket (told.ChannelOpened id)) = true
 answers_open (Resolved ticket (told.ChannelOpenFailed reason)) = true
-answers_open said = false
+answers_open output = false
 
 abbrev pub open_answers : List Record → List Record
 open_answers [] = []
-open_answers (said ∷ records) = if answers_open said then said ∷ open_answers records else open_answers records
+open_answers (output ∷ records) = if answers_open output then output ∷ open_answers records else open_answers records
 
 -- the answer to the open that waits, if one does
 abbrev pub answer_waiting : Option (Option Ticket) → Resolution → List Record
@@ -133,14 +133,14 @@ OpensAnswered false event was added = (open_answers added ≡ []) ⊎ (open_answ
 -- any record but a packet that carries bytes of a channel
 abbrev pub IsNoData : Record → Type 0
 IsNoData (Payload (n ∷ body)) = ((n == CHANNEL_DATA) ≡ false) × ((n == CHANNEL_EXTENDED_DATA) ≡ false)
-IsNoData said = Unit {0}
+IsNoData output = Unit {0}
 
 -- any record but a request to authenticate, what is asked of the user for one, and that the session is open
 abbrev pub AuthenticatesNone : Record → Type 0
 AuthenticatesNone (Payload (n ∷ body)) = (n == USERAUTH_REQUEST) ≡ false
 AuthenticatesNone (Auth ticket asked) = ⊥
 AuthenticatesNone Opened = ⊥
-AuthenticatesNone said = Unit {0}
+AuthenticatesNone output = Unit {0}
 
 -- ---- a step
 

@@ -15,7 +15,7 @@ use Rattle.sshc_forward_core.specs.PairState.{PairState, new_pair, is_opened}
 use Rattle.sshc_forward_core.specs.PairTurns.{turn}
 use Rattle.sshc_forward_core.specs.Forwards.{Forwards, Effect, no_pairs, effect, is_taken, unmoved, turned, turned_on, joins, given_up, closed, accepted_row, incoming_row, opened_row}
 use Rattle.sshc_forward_core.specs.Served.{Fits}
-use Rattle.sshc_forward_core.specs.PairAccount.{ran, is_own, is_number, own, naming, channel_at, said, read, received, sent, written, has_opened, failed_in, none_given, given_after, IsOrderly, makes, HasThroughout, Life, before_it, after_it, its_outputs, Account, EachLifeHasItsAccount, EachLifeEndsOnce, outputs_by, said_by_own, OutputsAreOwn, EachChannelHasItsPair}
+use Rattle.sshc_forward_core.specs.PairAccount.{ran, is_own, is_number, own, naming, channel_at, outputs_on, read, received, sent, written, has_opened, failed_in, none_given, given_after, IsOrderly, makes, HasThroughout, Life, before_it, after_it, its_outputs, Account, EachLifeHasItsAccount, EachLifeEndsOnce, outputs_by, said_by_own, OutputsAreOwn, EachChannelHasItsPair}
 use Rattle.sshc_forward_core.proofs.PlaceLemmas.{get_here, get_other, gone_other}
 use Rattle.sshc_forward_core.proofs.TurnLaws.{flat, sent-append, written-append}
 use Rattle.sshc_forward_core.proofs.OrderLaws.{given_after-append, orderly-append}
@@ -115,11 +115,11 @@ new_fits channel = record { eof_read = λ _. refl; eof_there = λ _. refl; endin
 
 -- a life with its account, and what is known at its end
 record Told (n : ℕ) (birth : FwdEvent) (events : List FwdEvent) (t : Forwards) : Type 0 where
-  account : Account (own n (birth ∷ events) t) (said n (birth ∷ events) t)
-  owned : said n (birth ∷ events) t ≡ said_by_own n (birth ∷ events) t
+  account : Account (own n (birth ∷ events) t) (outputs_on n (birth ∷ events) t)
+  owned : outputs_on n (birth ∷ events) t ≡ said_by_own n (birth ∷ events) t
   end : PairState
   there : get (ran (birth ∷ events) t).after.pairs n ≡ Some end
-  fits : Fits end (given_after none_given (said n (birth ∷ events) t))
+  fits : Fits end (given_after none_given (outputs_on n (birth ∷ events) t))
 
 -- from the account after the first event
 account_of :
@@ -149,20 +149,20 @@ told n birth events t l makes_it free stands =
     let after = (effect birth t).after in
     let r = lived n events after (new_pair m.channel) (legal_after birth t l) m.born.there stands in
     let mine : own n (birth ∷ events) t ≡ birth ∷ own n events after = if_own (is_own n birth t) birth (own n events after) m.own_is in
-    let gave : said n (birth ∷ events) t ≡ (effect birth t).outputs ++ said n events after = ap (λ (x : List FwdOutput). x ++ said n events after) m.born.said in
-    let all = account_of birth m.channel (effect birth t).outputs (own n events after) (said n events after) r.end m.born.sends m.born.writes m.born.order m.born.marked m.begins r.sound.opened r.account in
+    let gave : outputs_on n (birth ∷ events) t ≡ (effect birth t).outputs ++ outputs_on n events after = ap (λ (x : List FwdOutput). x ++ outputs_on n events after) m.born.said in
+    let all = account_of birth m.channel (effect birth t).outputs (own n events after) (outputs_on n events after) r.end m.born.sends m.born.writes m.born.order m.born.marked m.begins r.sound.opened r.account in
     record {
       account =
-          subst (λ (x : List FwdEvent). Account x (said n (birth ∷ events) t)) (sym mine)
+          subst (λ (x : List FwdEvent). Account x (outputs_on n (birth ∷ events) t)) (sym mine)
           (subst (λ (x : List FwdOutput). Account (birth ∷ own n events after) x) (sym gave) all);
       owned =
-          ap (λ (x : List FwdOutput). x ++ said n events after) (m.born.said ∙ sym (by_own (is_own n birth t) (effect birth t).outputs m.own_is))
+          ap (λ (x : List FwdOutput). x ++ outputs_on n events after) (m.born.said ∙ sym (by_own (is_own n birth t) (effect birth t).outputs m.own_is))
           ∙ ap (λ (x : List FwdOutput). outputs_by n birth t ++ x) r.owned;
       end = r.end;
       there = r.there;
       fits =
           subst (λ (x : List FwdOutput). Fits r.end (given_after none_given x)) (sym gave)
-          (subst (λ g. Fits r.end g) (sym (given_after-append none_given (effect birth t).outputs (said n events after) ∙ ap (λ g. given_after g (said n events after)) m.born.marked))
+          (subst (λ g. Fits r.end g) (sym (given_after-append none_given (effect birth t).outputs (outputs_on n events after) ∙ ap (λ g. given_after g (outputs_on n events after)) m.born.marked))
           (r.account.order none_given (new_fits m.channel)).1);
     }
 

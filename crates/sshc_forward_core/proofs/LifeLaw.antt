@@ -11,7 +11,7 @@ use Rattle.sshc_forward_core.specs.PairState.{PairState, is_opened, is_read, has
 use Rattle.sshc_forward_core.specs.PairTurns.{Turn, turn}
 use Rattle.sshc_forward_core.specs.Forwards.{Forwards, effect}
 use Rattle.sshc_forward_core.specs.Served.{Fits}
-use Rattle.sshc_forward_core.specs.PairAccount.{ran, is_own, own, naming, channel_in, channel_at, said, sent, written, has_opened, failed_in, given_after, HasThroughout, outputs_by, said_by_own}
+use Rattle.sshc_forward_core.specs.PairAccount.{ran, is_own, own, naming, channel_in, channel_at, outputs_on, sent, written, has_opened, failed_in, given_after, HasThroughout, outputs_by, said_by_own}
 use Rattle.sshc_forward_core.proofs.TurnLaws.{flat, IsSound, read_from, received_from, Balanced, balanced, sent-append, written-append}
 use Rattle.sshc_forward_core.proofs.OrderLaws.{given_after-append, orderly-append, IsOrdered, ordered}
 use Rattle.sshc_forward_core.proofs.LegalLemmas.{IsLegal}
@@ -112,8 +112,8 @@ pub record Lived (n : ℕ) (events : List FwdEvent) (t : Forwards) (p : PairStat
   pub end : PairState
   pub there : get (ran events t).after.pairs n ≡ Some end
   pub sound : IsSound end
-  pub account : AccountFrom p (own n events t) (said n events t) end
-  pub owned : said n events t ≡ said_by_own n events t
+  pub account : AccountFrom p (own n events t) (outputs_on n events t) end
+  pub owned : outputs_on n events t ≡ said_by_own n events t
 
 pub if_own : (b : Bool) (event : FwdEvent) (rest : List FwdEvent) → b ≡ true → (if b then event ∷ [] else []) ++ rest ≡ event ∷ rest
 if_own true event rest h = refl
@@ -152,19 +152,19 @@ lived_turn n event events t p q sound at m r =
     let here : naming n (channel_at n after) (effect event t).outputs ≡ (turn n event p).outputs =
     ap (λ (o : Option PairState). naming n (channel_in o) (effect event t).outputs) at ∙ said_is n event p q (is_own n event t) (effect event t).outputs m in
     let mine : own n (event ∷ events) t ≡ event ∷ own n events after = if_own (is_own n event t) event (own n events after) m.own_is in
-    let gave : said n (event ∷ events) t ≡ (turn n event p).outputs ++ said n events after = ap (λ (l : List FwdOutput). l ++ said n events after) here in
-    let from : AccountFrom (turn n event p).pair (own n events after) (said n events after) r.end =
-    subst (λ (x : PairState). AccountFrom x (own n events after) (said n events after) r.end) m.pair r.account in
-    let all = account_turn event p (turn n event p) (own n events after) (said n events after) r.end (balanced n event p sound m.may) (ordered n event p m.may) from in
+    let gave : outputs_on n (event ∷ events) t ≡ (turn n event p).outputs ++ outputs_on n events after = ap (λ (l : List FwdOutput). l ++ outputs_on n events after) here in
+    let from : AccountFrom (turn n event p).pair (own n events after) (outputs_on n events after) r.end =
+    subst (λ (x : PairState). AccountFrom x (own n events after) (outputs_on n events after) r.end) m.pair r.account in
+    let all = account_turn event p (turn n event p) (own n events after) (outputs_on n events after) r.end (balanced n event p sound m.may) (ordered n event p m.may) from in
     record {
       end = r.end;
       there = r.there;
       sound = r.sound;
       account =
-          subst (λ (l : List FwdEvent). AccountFrom p l (said n (event ∷ events) t) r.end) (sym mine)
+          subst (λ (l : List FwdEvent). AccountFrom p l (outputs_on n (event ∷ events) t) r.end) (sym mine)
           (subst (λ (l : List FwdOutput). AccountFrom p (event ∷ own n events after) l r.end) (sym gave) all);
       owned =
-          ap (λ (l : List FwdOutput). l ++ said n events after) (here ∙ sym m.said ∙ sym (by_own (is_own n event t) (effect event t).outputs m.own_is))
+          ap (λ (l : List FwdOutput). l ++ outputs_on n events after) (here ∙ sym m.said ∙ sym (by_own (is_own n event t) (effect event t).outputs m.own_is))
           ∙ ap (λ (l : List FwdOutput). outputs_by n event t ++ l) r.owned;
     }
 
@@ -178,15 +178,15 @@ lived_other n event events t p q at m r =
     let here : naming n (channel_at n after) (effect event t).outputs ≡ [] =
     ap (λ (o : Option PairState). naming n (channel_in o) (effect event t).outputs) at ∙ m.silent in
     let mine : own n (event ∷ events) t ≡ own n events after = if_other (is_own n event t) event (own n events after) m.own_is in
-    let gave : said n (event ∷ events) t ≡ said n events after = ap (λ (l : List FwdOutput). l ++ said n events after) here in
-    let from : AccountFrom p (own n events after) (said n events after) r.end =
-    subst (λ (x : PairState). AccountFrom x (own n events after) (said n events after) r.end) m.pair r.account in
+    let gave : outputs_on n (event ∷ events) t ≡ outputs_on n events after = ap (λ (l : List FwdOutput). l ++ outputs_on n events after) here in
+    let from : AccountFrom p (own n events after) (outputs_on n events after) r.end =
+    subst (λ (x : PairState). AccountFrom x (own n events after) (outputs_on n events after) r.end) m.pair r.account in
     record {
       end = r.end;
       there = r.there;
       sound = r.sound;
       account =
-          subst (λ (l : List FwdEvent). AccountFrom p l (said n (event ∷ events) t) r.end) (sym mine)
+          subst (λ (l : List FwdEvent). AccountFrom p l (outputs_on n (event ∷ events) t) r.end) (sym mine)
           (subst (λ (l : List FwdOutput). AccountFrom p (own n events after) l r.end) (sym gave) from);
       owned =
           gave ∙ r.owned

@@ -71,10 +71,10 @@ abbrev pub channel_at : ℕ → Forwards → Option ℕ
 channel_at n t = channel_in (get t.pairs n)
 
 -- of all outputs for the events those that name the pair of the stream n, with the channel that it has then
-abbrev pub said : ℕ → List FwdEvent → Forwards → List FwdOutput
-said n [] t = []
-said n (event ∷ events) t =
-    naming n (channel_at n (effect event t).after) (effect event t).outputs ++ said n events (effect event t).after
+abbrev pub outputs_on : ℕ → List FwdEvent → Forwards → List FwdOutput
+outputs_on n [] t = []
+outputs_on n (event ∷ events) t =
+    naming n (channel_at n (effect event t).after) (effect event t).outputs ++ outputs_on n events (effect event t).after
 
 -- ---- sums over a life's events, and over its outputs
 
@@ -188,7 +188,7 @@ its_events n l = own n (l.birth ∷ l.events) (before_it n l)
 
 -- the outputs that name the pair
 abbrev pub its_outputs : (n : ℕ) → Life n → List FwdOutput
-its_outputs n l = said n (l.birth ∷ l.events) (before_it n l)
+its_outputs n l = outputs_on n (l.birth ∷ l.events) (before_it n l)
 
 -- the first list is a front of the second
 abbrev pub IsFront : List ℕ → List ℕ → Type 0

@@ -93,8 +93,10 @@ pub fn run_forward<S: Source, K: Sink>(
 ) -> Result<u64, FwdError>
     // What a run guarantees, each a field with its own name: specs/ForwardPromises.antt.
     ensures promises { ForwardPromises
-        (outside (source_state (S.left source.old) (S.faults source.old)) (sink_state (K.contents sink.old) (K.faults sink.old)))
-        (outside (source_state (S.left source.new) (S.faults source.new)) (sink_state (K.contents sink.new) (K.faults sink.new)))
+        (outside (source_state (S.left source.old) (S.faults source.old))
+        (sink_state (K.contents sink.old) (K.faults sink.old)))
+        (outside (source_state (S.left source.new) (S.faults source.new))
+        (sink_state (K.contents sink.new) (K.faults sink.new)))
         result }
 {
     let mut core = ForwardCore::new(alloc);

@@ -15,8 +15,10 @@ const WORDS_STATUS: u8 = 2;
 /// Runs the events of the source and prints the result.
 fn run_told<S: Source, K: Sink>(alloc: Global, source: &mut S, sink: &mut K) -> u8
     ensures { RunsBy
-        (outside (source_state (S.left source.old) (S.faults source.old)) (sink_state (K.contents sink.old) (K.faults sink.old)))
-        (outside (source_state (S.left source.new) (S.faults source.new)) (sink_state (K.contents sink.new) (K.faults sink.new)))
+        (outside (source_state (S.left source.old) (S.faults source.old))
+        (sink_state (K.contents sink.old) (K.faults sink.old)))
+        (outside (source_state (S.left source.new) (S.faults source.new))
+        (sink_state (K.contents sink.new) (K.faults sink.new)))
         result }
 {
     let answer = run_forward(alloc, source, sink);
@@ -35,12 +37,16 @@ pub fn forward_words<S: Source, K: Sink>(
     sink: &mut K,
 ) -> u8
     ensures runs { words.now ≡ [] → RunsBy
-        (outside (source_state (S.left source.old) (S.faults source.old)) (sink_state (K.contents sink.old) (K.faults sink.old)))
-        (outside (source_state (S.left source.new) (S.faults source.new)) (sink_state (K.contents sink.new) (K.faults sink.new)))
+        (outside (source_state (S.left source.old) (S.faults source.old))
+        (sink_state (K.contents sink.old) (K.faults sink.old)))
+        (outside (source_state (S.left source.new) (S.faults source.new))
+        (sink_state (K.contents sink.new) (K.faults sink.new)))
         result }
     ensures refuses { (words.now ≡ [] → ⊥) → RefusesWords
-        (outside (source_state (S.left source.old) (S.faults source.old)) (sink_state (K.contents sink.old) (K.faults sink.old)))
-        (outside (source_state (S.left source.new) (S.faults source.new)) (sink_state (K.contents sink.new) (K.faults sink.new)))
+        (outside (source_state (S.left source.old) (S.faults source.old))
+        (sink_state (K.contents sink.old) (K.faults sink.old)))
+        (outside (source_state (S.left source.new) (S.faults source.new))
+        (sink_state (K.contents sink.new) (K.faults sink.new)))
         result }
     ensures words { result ≡ 2 → words.now ≡ [] → ⊥ }
 {

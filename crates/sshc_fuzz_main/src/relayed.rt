@@ -61,8 +61,8 @@ pub fn relayed(alloc: Global, case: &Case<'_>) -> Result<Outcome, NoMemory> {
     match parse_policy(alloc, text) {
         Ok(policy) => served(alloc, policy, case),
         Err(PolicyError::BadLine { line }) => {
-            let said = format!(in alloc; "error policy {line}\n")?;
-            refused(alloc, BAD_POLICY, said.as_str())
+            let output = format!(in alloc; "error policy {line}\n")?;
+            refused(alloc, BAD_POLICY, output.as_str())
         }
         Err(PolicyError::NoMemory) => Err(NoMemory),
     }

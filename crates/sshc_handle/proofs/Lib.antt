@@ -1,2 +1,3 @@
 pub mod Sending
 mod AnsweringLemmas
+mod Hints

@@ -1,6 +1,6 @@
 //! One channel of a handle. Which message each call submits is a clause of the function of its name in
 //! `sshc_handle_calls`.
-#![tactic(auto, using(sshc_handle_calls::proofs::Answering::declined, sshc_handle_calls::proofs::Answering::declined_at_once))]
+#![tactic(auto, using(crate::proofs::Hints::channel))]
 
 ghost use Rattle.std.specs.Prelude.{◌≡◌, IfErr, IfSome};
 ghost use Rattle.sshc_handle.specs.Answering.{IsReported};

@@ -1,6 +1,6 @@
 //! How channels are opened. Which message each call submits is a clause of the function of its name in
 //! `sshc_handle_calls`.
-#![tactic(auto, using(sshc_handle_calls::proofs::Answering::answers, sshc_handle_calls::proofs::Answering::answers_at_once))]
+#![tactic(auto, using(crate::proofs::Hints::channels))]
 
 ghost use Rattle.sshc_handle_tickets.specs.Answers.{open_answer};
 ghost use Rattle.sshc_handle_calls.specs.Answering.{Answers};

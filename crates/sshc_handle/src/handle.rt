@@ -35,7 +35,7 @@ impl<H: Handler> Handle<H> {
     /// Takes the oldest record that is held for this ticket, if there is one now.
     #[tactic(auto, using(crate::proofs::AnsweringLemmas::first_passes))]
     pub fn poll_ticket<R: Wait>(&self, rt: &R, ticket: Ticket) -> Option<Record>
-        ensures { IfSome result (λ said. is_of ticket.0 said ≡ true) }
+        ensures { IfSome result (λ output. is_of ticket.0 output ≡ true) }
     {
         self.shared.lock(rt).poll(ticket)
     }

@@ -1,6 +1,6 @@
 //! Logins that involve only the server, the local signer and the user. Which message each submits is a clause of the
 //! function of its name in `sshc_handle_calls`.
-#![tactic(auto, using(sshc_handle_calls::proofs::Answering::answers, sshc_handle_calls::proofs::Answering::answers_prompts))]
+#![tactic(auto, using(crate::proofs::Hints::logins))]
 
 ghost use Rattle.sshc_handle_tickets.specs.Answers.{auth_answer, prompt_answer};
 ghost use Rattle.sshc_handle_calls.specs.Answering.{Answers, AnswersPrompts};

@@ -1,6 +1,6 @@
 //! Requests to the server that are of no channel, and bytes for a channel. Which message each call submits is a clause
 //! of the function of its name in `sshc_handle_calls`.
-#![tactic(auto, using(sshc_handle_calls::proofs::Answering::answers, sshc_handle_calls::proofs::Answering::answers_at_once, sshc_handle_calls::proofs::Answering::declined, sshc_handle_calls::proofs::Answering::declined_at_once))]
+#![tactic(auto, using(crate::proofs::Hints::requests))]
 
 ghost use Rattle.std.specs.Prelude.{IfErr};
 ghost use Rattle.sshc_handle_tickets.specs.Answers.{algs_answer, done_answer, port_answer};

@@ -135,10 +135,10 @@ impl<H> Shared<H> {
     }
 
     /// Where those wait that wait for this record; none do for one that names neither.
-    fn place_of(&self, said: &Record) -> Option<&Place> {
-        match ticket_of(said) {
+    fn place_of(&self, output: &Record) -> Option<&Place> {
+        match ticket_of(output) {
             Some(number) => Some(self.place_of_ticket(number)),
-            None => match channel_of(said) {
+            None => match channel_of(output) {
                 Some(number) => Some(self.place_of_channel(number)),
                 None => None,
             },
@@ -150,12 +150,12 @@ impl<H> Shared<H> {
         let fresh = state.held().len().saturating_sub(before);
         let mut last: Option<&Place> = None;
         let mut on_channel = false;
-        for said in state.held().rev().take(fresh) {
+        for output in state.held().rev().take(fresh) {
             if let Some(place) = last {
                 place.call();
             }
-            last = self.place_of(said);
-            on_channel = on_channel || channel_of(said).is_some();
+            last = self.place_of(output);
+            on_channel = on_channel || channel_of(output).is_some();
         }
         drop(state);
         if let Some(place) = last {
@@ -332,14 +332,14 @@ impl<H> Shared<H> {
     {
         let place = self.place_of_ticket(ticket.0);
         let seen = place.calls();
-        if let Some(said) = self.lock(rt).poll(ticket) {
-            return said;
+        if let Some(output) = self.lock(rt).poll(ticket) {
+            return output;
         }
         place.look(&self.patience, seen);
         let mut state = self.lock(rt);
         for _ in rt.forever() {
-            if let Some(said) = state.poll(ticket) {
-                return said;
+            if let Some(output) = state.poll(ticket) {
+                return output;
             }
             if state.is_over() {
                 return Record::Resolved {

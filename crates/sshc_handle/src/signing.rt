@@ -1,6 +1,6 @@
 //! Logins whose signatures or steps the caller's own signer or authenticator makes, in the caller's thread. Which
 //! message each submits, and what the signer is asked, are clauses of the function of its name in `sshc_handle_calls`.
-#![tactic(auto, using(sshc_handle_calls::proofs::SigningAnswers::answers_with, sshc_handle_calls::proofs::SigningAnswers::answers_by_steps))]
+#![tactic(auto, using(crate::proofs::Hints::signing))]
 
 ghost use Rattle.sshc_handle_calls.specs.Answering.{AnswersWith};
 

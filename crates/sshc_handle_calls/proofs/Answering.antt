@@ -20,7 +20,7 @@ read_answers : {A : Type 0} (reads : Record → Option (Result A Error)) (ticket
 read_answers reads ticket old new (Err NoMemory) h = tt
 read_answers reads ticket old new (Err SendError) h = tt
 read_answers reads ticket old new answer h =
-    (ticket, record { said = h.said; of_ticket = h.of_ticket; is_answer = h.is_answer })
+    (ticket, record { output = h.output; of_ticket = h.of_ticket; is_answer = h.is_answer })
 
 declined_answers : {A : Type 0} (reads : Record → Option (Result A Error)) (e : Error) → IsDeclined e → Answers reads (Err e)
 declined_answers reads NoMemory h = tt

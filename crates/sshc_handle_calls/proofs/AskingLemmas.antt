@@ -18,16 +18,16 @@ gains_both (Some before) xs ys = ap Some (append_assoc before xs ys)
 
 pub nothing_passed : {A : Type 0} (reads : Record → Option (Result A Error)) (ticket : Ticket) (calls : Calls)
     → Passes reads ticket calls calls
-nothing_passed reads ticket calls = record { passed = []; unread = All-nil (λ said. reads said ≡ None); calls = gains_none calls }
+nothing_passed reads ticket calls = record { passed = []; unread = All-nil (λ output. reads output ≡ None); calls = gains_none calls }
 
-pub one_more_passed : {A : Type 0} (reads : Record → Option (Result A Error)) (ticket : Ticket) (old mid new : Calls) (said : Record)
-    → Passes reads ticket old mid → reads said ≡ None → new ≡ gains mid (taken ticket said ∷ []) → Passes reads ticket old new
-one_more_passed reads ticket old mid new said before unread told =
+pub one_more_passed : {A : Type 0} (reads : Record → Option (Result A Error)) (ticket : Ticket) (old mid new : Calls) (output : Record)
+    → Passes reads ticket old mid → reads output ≡ None → new ≡ gains mid (taken ticket output ∷ []) → Passes reads ticket old new
+one_more_passed reads ticket old mid new output before unread told =
     let None-of : Record → Type 0 = λ r. reads r ≡ None in
     record {
-      passed = before.passed ++ said ∷ [];
-      unread = All-append None-of before.passed (said ∷ []) before.unread (All-cons None-of said [] unread (All-nil None-of));
-      calls = told ∙ ap (λ c. gains c (taken ticket said ∷ [])) before.calls
-          ∙ gains_both old (takings ticket before.passed) (taken ticket said ∷ [])
-          ∙ ap (gains old) (sym (map-append (taken ticket) before.passed (said ∷ [])));
+      passed = before.passed ++ output ∷ [];
+      unread = All-append None-of before.passed (output ∷ []) before.unread (All-cons None-of output [] unread (All-nil None-of));
+      calls = told ∙ ap (λ c. gains c (taken ticket output ∷ [])) before.calls
+          ∙ gains_both old (takings ticket before.passed) (taken ticket output ∷ [])
+          ∙ ap (gains old) (sym (map-append (taken ticket) before.passed (output ∷ [])));
     }

@@ -47,24 +47,24 @@ declined_with E before now NoMemory h = tt
 declined_with E before now SendError h = tt
 declined_with E before now e h = absurd h
 
-error_read : (E : Type 0) (before now : ℕ) (ticket : Ticket) (said : Record) → is_of ticket.0 said ≡ true → (e : Error) → auth_answer said ≡ Some (Err e)
+error_read : (E : Type 0) (before now : ℕ) (ticket : Ticket) (output : Record) → is_of ticket.0 output ≡ true → (e : Error) → auth_answer output ≡ Some (Err e)
     → AnswersWith {E = E} before now (Err (Session e))
-error_read E before now ticket said of_ticket NoMemory found = tt
-error_read E before now ticket said of_ticket SendError found = tt
-error_read E before now ticket said of_ticket e found = (ticket, record { said = said; of_ticket = of_ticket; is_answer = found })
+error_read E before now ticket output of_ticket NoMemory found = tt
+error_read E before now ticket output of_ticket SendError found = tt
+error_read E before now ticket output of_ticket e found = (ticket, record { output = output; of_ticket = of_ticket; is_answer = found })
 
 -- the result that a reader had of a record
-read_with : {E : Type 0} (before now : ℕ) (ticket : Ticket) (said : Record) → is_of ticket.0 said ≡ true → (read : Option (Result AuthResult Error)) → auth_answer said ≡ read
+read_with : {E : Type 0} (before now : ℕ) (ticket : Ticket) (output : Record) → is_of ticket.0 output ≡ true → (read : Option (Result AuthResult Error)) → auth_answer output ≡ read
     → (result : Result AuthResult (WithError E)) → ended result ≡ read_by read → AnswersWith before now result
-read_with before now ticket said of_ticket None found (Ok answer) is = cc
-read_with before now ticket said of_ticket None found (Err e) is = cc
-read_with before now ticket said of_ticket (Some (Ok answer)) found (Ok other) is =
-    (ticket, record { said = said; of_ticket = of_ticket; is_answer = cc })
-read_with before now ticket said of_ticket (Some (Ok answer)) found (Err e) is = cc
-read_with before now ticket said of_ticket (Some (Err e)) found (Ok answer) is = cc
-read_with {E} before now ticket said of_ticket (Some (Err e)) found (Err other) is =
+read_with before now ticket output of_ticket None found (Ok answer) is = cc
+read_with before now ticket output of_ticket None found (Err e) is = cc
+read_with before now ticket output of_ticket (Some (Ok answer)) found (Ok other) is =
+    (ticket, record { output = output; of_ticket = of_ticket; is_answer = cc })
+read_with before now ticket output of_ticket (Some (Ok answer)) found (Err e) is = cc
+read_with before now ticket output of_ticket (Some (Err e)) found (Ok answer) is = cc
+read_with {E} before now ticket output of_ticket (Some (Err e)) found (Err other) is =
     let same : other ≡ Session e = cc in
-    rw same (error_read E before now ticket said of_ticket e found)
+    rw same (error_read E before now ticket output of_ticket e found)
 
 -- ---- a signer
 
@@ -94,17 +94,17 @@ signs_and_tells key hash bytes was is (Err x) h (Err e) same =
     let equal : e ≡ x = cc in
     told_with h.signs.answer was.signer.refusals is.signer.refusals h.msg h.told h.tells.declined h.signed h.signs.submits e (rw equal h.is_result)
 
-deals_with : {E : Type 0} (key : AgentIdentity) (hash : Option HashAlg) (ticket : Ticket) (said : Record) → is_of ticket.0 said ≡ true
-    → (asked : Option (List ℕ)) (was is : SigningAt) (result : Result AuthResult (WithError E)) → Deals key hash said asked was is (ended result)
+deals_with : {E : Type 0} (key : AgentIdentity) (hash : Option HashAlg) (ticket : Ticket) (output : Record) → is_of ticket.0 output ≡ true
+    → (asked : Option (List ℕ)) (was is : SigningAt) (result : Result AuthResult (WithError E)) → Deals key hash output asked was is (ended result)
     → AnswersWith was.signer.refusals is.signer.refusals result
-deals_with key hash ticket said of_ticket (Some bytes) was is result (signed, h, same) = signs_and_tells key hash bytes was is signed h result same
-deals_with key hash ticket said of_ticket None was is result (same, is_result) =
-    read_with was.signer.refusals is.signer.refusals ticket said of_ticket (auth_answer said) refl result is_result
+deals_with key hash ticket output of_ticket (Some bytes) was is result (signed, h, same) = signs_and_tells key hash bytes was is signed h result same
+deals_with key hash ticket output of_ticket None was is result (same, is_result) =
+    read_with was.signer.refusals is.signer.refusals ticket output of_ticket (auth_answer output) refl result is_result
 
-deals_later : {E : Type 0} (key : AgentIdentity) (hash : Option HashAlg) (said : Record) (asked : Option (List ℕ)) (was is : SigningAt) (result : Result (Option AuthResult) (WithError E))
-    → Deals key hash said asked was is result → was.signer.refusals ≤ is.signer.refusals
-deals_later key hash said (Some bytes) was is result (signed, h, same) = h.signs.later
-deals_later key hash said None was is result (same, is_result) = rw same (omega arith)
+deals_later : {E : Type 0} (key : AgentIdentity) (hash : Option HashAlg) (output : Record) (asked : Option (List ℕ)) (was is : SigningAt) (result : Result (Option AuthResult) (WithError E))
+    → Deals key hash output asked was is result → was.signer.refusals ≤ is.signer.refusals
+deals_later key hash output (Some bytes) was is result (signed, h, same) = h.signs.later
+deals_later key hash output None was is result (same, is_result) = rw same (omega arith)
 
 rounds_later : (E : Type 0) (key : AgentIdentity) (hash : Option HashAlg) (ticket : Ticket) (n : ℕ) (was is : SigningAt)
     → Rounds (λ a b. SigningRound {E = E} key hash ticket a b (Ok None)) n was is → was.signer.refusals ≤ is.signer.refusals
@@ -113,14 +113,14 @@ rounds_later E key hash ticket zero was is same = rw same (omega arith)
 rounds_later E key hash ticket (suc n) was is (mid, before, round) =
     later_by was.signer.refusals mid.signer.refusals is.signer.refusals
     (rounds_later E key hash ticket n was mid before)
-    (deals_later key hash round.said (bytes_to_sign round.said) (record mid { line = round.line }) is (Ok None) round.deals)
+    (deals_later key hash round.output (bytes_to_sign round.output) (record mid { line = round.line }) is (Ok None) round.deals)
 
 until_with : {E : Type 0} (key : AgentIdentity) (hash : Option HashAlg) (ticket : Ticket) (was is : SigningAt) (result : Result AuthResult (WithError E))
     → Until (SigningRound key hash ticket) was is result → AnswersWith was.signer.refusals is.signer.refusals result
 until_with {E} key hash ticket was is result h =
     earlier was.signer.refusals h.mid.signer.refusals is.signer.refusals result
     (rounds_later E key hash ticket h.rounds was h.mid h.before)
-    (deals_with key hash ticket h.last.said h.last.of_ticket (bytes_to_sign h.last.said) (record (h.mid) { line = h.last.line }) is result h.last.deals)
+    (deals_with key hash ticket h.last.output h.last.of_ticket (bytes_to_sign h.last.output) (record (h.mid) { line = h.last.line }) is result h.last.deals)
 
 signs_by : {E : Type 0} (key : AgentIdentity) (hash : Option HashAlg) (given : Result (Option Ticket) Error) (was is : SigningAt) (result : Result AuthResult (WithError E))
     → SignsBy key hash given was is result → AnswersWith was.signer.refusals is.signer.refusals result
@@ -172,17 +172,17 @@ steps_and_tells report was is (Err x) h (Err e) same =
     let equal : e ≡ x = cc in
     rw equal (tells_step report was is h.made h.steps x h.tells)
 
-steps_with : {E : Type 0} (ticket : Ticket) (said : Record) → is_of ticket.0 said ≡ true
-    → (report : Option GssapiRecord) (was is : SteppingAt) (result : Result AuthResult (WithError E)) → DealsBySteps said report was is (ended result)
+steps_with : {E : Type 0} (ticket : Ticket) (output : Record) → is_of ticket.0 output ≡ true
+    → (report : Option GssapiRecord) (was is : SteppingAt) (result : Result AuthResult (WithError E)) → DealsBySteps output report was is (ended result)
     → AnswersWith was.authenticator.refusals is.authenticator.refusals result
-steps_with ticket said of_ticket (Some report) was is result (told, h, same) = steps_and_tells report was is told h result same
-steps_with ticket said of_ticket None was is result (same, is_result) =
-    read_with was.authenticator.refusals is.authenticator.refusals ticket said of_ticket (auth_answer said) refl result is_result
+steps_with ticket output of_ticket (Some report) was is result (told, h, same) = steps_and_tells report was is told h result same
+steps_with ticket output of_ticket None was is result (same, is_result) =
+    read_with was.authenticator.refusals is.authenticator.refusals ticket output of_ticket (auth_answer output) refl result is_result
 
-step_later : {E : Type 0} (said : Record) (report : Option GssapiRecord) (was is : SteppingAt) (result : Result (Option AuthResult) (WithError E))
-    → DealsBySteps said report was is result → was.authenticator.refusals ≤ is.authenticator.refusals
-step_later said (Some report) was is result (told, h, same) = steps_later report was.authenticator is.authenticator h.made h.steps
-step_later said None was is result (same, is_result) = rw same (omega arith)
+step_later : {E : Type 0} (output : Record) (report : Option GssapiRecord) (was is : SteppingAt) (result : Result (Option AuthResult) (WithError E))
+    → DealsBySteps output report was is result → was.authenticator.refusals ≤ is.authenticator.refusals
+step_later output (Some report) was is result (told, h, same) = steps_later report was.authenticator is.authenticator h.made h.steps
+step_later output None was is result (same, is_result) = rw same (omega arith)
 
 all_steps_later : (E : Type 0) (ticket : Ticket) (n : ℕ) (was is : SteppingAt)
     → Rounds (λ a b. SteppingRound {E = E} ticket a b (Ok None)) n was is → was.authenticator.refusals ≤ is.authenticator.refusals
@@ -191,14 +191,14 @@ all_steps_later E ticket zero was is same = rw same (omega arith)
 all_steps_later E ticket (suc n) was is (mid, before, round) =
     later_by was.authenticator.refusals mid.authenticator.refusals is.authenticator.refusals
     (all_steps_later E ticket n was mid before)
-    (step_later round.said (gssapi_said round.said) (record mid { line = round.line }) is (Ok None) round.deals)
+    (step_later round.output (gssapi_said round.output) (record mid { line = round.line }) is (Ok None) round.deals)
 
 steps_until : {E : Type 0} (ticket : Ticket) (was is : SteppingAt) (result : Result AuthResult (WithError E))
     → Until (SteppingRound ticket) was is result → AnswersWith was.authenticator.refusals is.authenticator.refusals result
 steps_until {E} ticket was is result h =
     earlier was.authenticator.refusals h.mid.authenticator.refusals is.authenticator.refusals result
     (all_steps_later E ticket h.rounds was h.mid h.before)
-    (steps_with ticket h.last.said h.last.of_ticket (gssapi_said h.last.said) (record (h.mid) { line = h.last.line }) is result h.last.deals)
+    (steps_with ticket h.last.output h.last.of_ticket (gssapi_said h.last.output) (record (h.mid) { line = h.last.line }) is result h.last.deals)
 
 steps_by : {E : Type 0} (given : Result (Option Ticket) Error) (was is : SteppingAt) (result : Result AuthResult (WithError E))
     → StepsBy given was is result → AnswersWith was.authenticator.refusals is.authenticator.refusals result

@@ -15,9 +15,9 @@ use Rattle.sshc_handle_calls.specs.Lines.{IsDeclined}
 
 -- the answer is what a reader reads from a record that names the ticket
 pub record IsRead {A : Type 0} (reads : Record → Option (Result A Error)) (ticket : Ticket) (answer : Result A Error) : Type 0 where
-  pub said : Record
-  pub of_ticket : is_of ticket.0 said ≡ true
-  pub is_answer : reads said ≡ Some answer
+  pub output : Record
+  pub of_ticket : is_of ticket.0 output ≡ true
+  pub is_answer : reads output ≡ Some answer
 
 -- an answer was read for some ticket, or nothing was submitted
 abbrev pub Answers : {A : Type 0} → (Record → Option (Result A Error)) → Result A Error → Type 0

@@ -18,17 +18,17 @@ use Rattle.sshc_handle_calls.specs.Lines.{Calls, CannotRespond, IsDeclined, Line
 -- records of the ticket were taken that the reader doesn't read
 pub record Passes {A : Type 0} (reads : Record → Option (Result A Error)) (ticket : Ticket) (old new : Calls) : Type 0 where
   pub passed : List Record
-  pub unread : All (λ said. reads said ≡ None) passed
+  pub unread : All (λ output. reads output ≡ None) passed
   pub calls : new ≡ gains old (takings ticket passed)
 
 -- records of the ticket were taken until the reader read one, which is the answer
 pub record Reads {A : Type 0} (reads : Record → Option (Result A Error)) (ticket : Ticket) (old new : Calls) (answer : Result A Error) : Type 0 where
   pub mid : Calls
   pub passes : Passes reads ticket old mid
-  pub said : Record
-  pub call : new ≡ gains mid (taken ticket said ∷ [])
-  pub of_ticket : is_of ticket.0 said ≡ true
-  pub is_answer : reads said ≡ Some answer
+  pub output : Record
+  pub call : new ≡ gains mid (taken ticket output ∷ [])
+  pub of_ticket : is_of ticket.0 output ≡ true
+  pub is_answer : reads output ≡ Some answer
 
 -- ---- a message with an answer
 

@@ -54,7 +54,7 @@ step_in (Err e) = None
 -- what the server said by GSSAPI, if a record says that
 abbrev pub gssapi_said : Record → Option GssapiRecord
 gssapi_said (Auth ticket (asks.Gssapi report)) = Some report
-gssapi_said said = None
+gssapi_said output = None
 
 -- the last token, with a MIC if integrity is available
 abbrev pub completed : Option (List ℕ) → Option (List ℕ) → Msg
@@ -113,17 +113,17 @@ pub record StepsAndTells {E : Type 0} (report : GssapiRecord) (was is : Stepping
 
 -- what the server said goes to the authenticator; another record is the answer, or is passed over
 abbrev pub DealsBySteps : {E : Type 0} → Record → Option GssapiRecord → SteppingAt → SteppingAt → Result (Option AuthResult) (WithError E) → Type 0
-DealsBySteps {E} said (Some report) was is result =
+DealsBySteps {E} output (Some report) was is result =
     (told : Result (Unit {0}) (WithError E)) × StepsAndTells report was is told × (result ≡ going_on told)
-DealsBySteps said None was is result = (is ≡ was) × (result ≡ read_by (auth_answer said))
+DealsBySteps output None was is result = (is ≡ was) × (result ≡ read_by (auth_answer output))
 
 -- one record of the ticket is taken and dealt with
 pub record SteppingRound {E : Type 0} (ticket : Ticket) (was is : SteppingAt) (result : Result (Option AuthResult) (WithError E)) : Type 0 where
-  pub said : Record
-  pub of_ticket : is_of ticket.0 said ≡ true
+  pub output : Record
+  pub of_ticket : is_of ticket.0 output ≡ true
   pub line : Calls
-  pub takes : line ≡ gains was.line (taken ticket said ∷ [])
-  pub deals : DealsBySteps said (gssapi_said said) (record was { line = line }) is result
+  pub takes : line ≡ gains was.line (taken ticket output ∷ [])
+  pub deals : DealsBySteps output (gssapi_said output) (record was { line = line }) is result
 
 -- ---- the login
 

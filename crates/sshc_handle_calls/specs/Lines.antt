@@ -25,7 +25,7 @@ gains calls more = option_map (λ before. before ++ more) calls
 
 -- these records of a ticket were taken, one after the other
 abbrev pub takings : Ticket → List Record → List LineCall
-takings ticket said = map (λ r. taken ticket r) said
+takings ticket output = map (λ r. taken ticket r) output
 
 -- ---- what a submission returns
 

@@ -40,5 +40,5 @@ of_session (Err e) = Err (Session e)
 
 -- what was found in a record, or else the record
 abbrev pub or_record : {A : Type 0} → Option A → Record → Result A Record
-or_record (Some a) said = Ok a
-or_record None said = Err said
+or_record (Some a) output = Ok a
+or_record None output = Err output

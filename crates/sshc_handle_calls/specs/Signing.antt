@@ -53,7 +53,7 @@ signature_in (Err e) = None
 abbrev pub bytes_to_sign : Record → Option (List ℕ)
 bytes_to_sign (Auth ticket (asks.SignRequest key hash_alg body)) = Some body
 bytes_to_sign (Auth ticket (asks.SignRequestCert cert hash_alg body)) = Some body
-bytes_to_sign said = None
+bytes_to_sign output = None
 
 -- the answer is submitted; without one, or without memory for it, the login is given up. The signer's error comes only
 -- with a refusal
@@ -97,17 +97,17 @@ pub record SignsAndTells {E : Type 0} (key : AgentIdentity) (hash : Option HashA
 
 -- bytes to sign are signed; another record is the answer, or is passed over
 abbrev pub Deals : {E : Type 0} → AgentIdentity → Option HashAlg → Record → Option (List ℕ) → SigningAt → SigningAt → Result (Option AuthResult) (WithError E) → Type 0
-Deals {E} key hash said (Some bytes) was is result =
+Deals {E} key hash output (Some bytes) was is result =
     (signed : Result (Unit {0}) (WithError E)) × SignsAndTells key hash bytes was is signed × (result ≡ going_on signed)
-Deals key hash said None was is result = (is ≡ was) × (result ≡ read_by (auth_answer said))
+Deals key hash output None was is result = (is ≡ was) × (result ≡ read_by (auth_answer output))
 
 -- one record of the ticket is taken and dealt with
 pub record SigningRound {E : Type 0} (key : AgentIdentity) (hash : Option HashAlg) (ticket : Ticket) (was is : SigningAt) (result : Result (Option AuthResult) (WithError E)) : Type 0 where
-  pub said : Record
-  pub of_ticket : is_of ticket.0 said ≡ true
+  pub output : Record
+  pub of_ticket : is_of ticket.0 output ≡ true
   pub line : Calls
-  pub takes : line ≡ gains was.line (taken ticket said ∷ [])
-  pub deals : Deals key hash said (bytes_to_sign said) (record was { line = line }) is result
+  pub takes : line ≡ gains was.line (taken ticket output ∷ [])
+  pub deals : Deals key hash output (bytes_to_sign output) (record was { line = line }) is result
 
 -- ---- the login
 

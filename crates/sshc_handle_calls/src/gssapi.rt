@@ -71,14 +71,14 @@ impl<G: GssapiAuthenticator> LoggedAuthenticator for G {
 }
 
 /// What the server said by GSSAPI, or the record if it is of another kind (RFC 4462, section 3).
-fn gssapi_said(said: Record) -> Result<GssapiRecord, Record>
-    ensures { result ≡ or_record (gssapi_said said) said }
+fn gssapi_said(output: Record) -> Result<GssapiRecord, Record>
+    ensures { result ≡ or_record (gssapi_said output) output }
 {
-    match said {
+    match output {
         Record::Auth {
-            asked: AuthRecord::Gssapi(said),
+            asked: AuthRecord::Gssapi(output),
             ..
-        } => Ok(said),
+        } => Ok(output),
         other => Err(other),
     }
 }
@@ -136,13 +136,13 @@ fn report<G: LoggedAuthenticator>(
 /// reported.
 fn authenticated<G: LoggedAuthenticator>(
     authenticator: &mut G,
-    said: GssapiRecord,
+    output: GssapiRecord,
 ) -> Result<Option<Msg>, G::Refusal>
-    ensures { Authenticates said
+    ensures { Authenticates output
         (authenticator_at (G.calls authenticator.old) (G.refusals authenticator.old))
         (authenticator_at (G.calls authenticator.new) (G.refusals authenticator.new)) result }
 {
-    match said {
+    match output {
         GssapiRecord::Response {
             mechanism,
             mic_data,
@@ -168,14 +168,14 @@ fn authenticated<G: LoggedAuthenticator>(
 fn step_and_tell<G: LoggedAuthenticator, L: Line, R: Wait>(
     rt: &R,
     line: &mut L,
-    said: GssapiRecord,
+    output: GssapiRecord,
     authenticator: &mut G,
 ) -> Result<(), WithError<G::Refusal>>
-    ensures { StepsAndTells said
+    ensures { StepsAndTells output
         (stepping_at (L.calls line.old) (G.calls authenticator.old) (G.refusals authenticator.old))
         (stepping_at (L.calls line.new) (G.calls authenticator.new) (G.refusals authenticator.new)) result }
 {
-    match authenticated(authenticator, said) {
+    match authenticated(authenticator, output) {
         Ok(Some(msg)) => match tell(rt, line, msg) {
             Ok(()) => Ok(()),
             Err(e) => Err(WithError::Session(e)),
@@ -197,11 +197,11 @@ fn step_once<G: LoggedAuthenticator, L: Line, R: Wait>(
         (stepping_at (L.calls line.new) (G.calls authenticator.new) (G.refusals authenticator.new)) result }
 {
     match gssapi_said(line.record(rt, ticket)) {
-        Ok(said) => match step_and_tell(rt, line, said, authenticator) {
+        Ok(output) => match step_and_tell(rt, line, output, authenticator) {
             Ok(()) => Ok(None),
             Err(e) => Err(e),
         },
-        Err(said) => read_login(said),
+        Err(output) => read_login(output),
     }
 }
 

@@ -1,7 +1,7 @@
 //! How a call reads its answer, one type per reader.
 
 ghost use Rattle.std.specs.Prelude.{◌≡◌, Option, Result};
-ghost use Rattle.sshc_wire.specs.declared.record.Record.{Record as Said};
+ghost use Rattle.sshc_wire.specs.declared.record.Record.{Record as Output};
 ghost use Rattle.sshc_auth.specs.declared.error.Error.{Error as Refusal};
 
 use sshc_auth::Error;
@@ -15,10 +15,10 @@ use sshc_wire::{ChannelId, HashAlg, Octets, Record};
 pub(crate) trait Reader {
     type Answer;
 
-    ghost reads: { Said → Option (Result Self.Answer Refusal) };
+    ghost reads: { Output → Option (Result Self.Answer Refusal) };
 
-    fn read(said: Record) -> Option<Result<Self::Answer, Error>>
-        ensures { result ≡ reads said };
+    fn read(output: Record) -> Option<Result<Self::Answer, Error>>
+        ensures { result ≡ reads output };
 }
 
 /// The result of a login.
@@ -31,8 +31,8 @@ impl Reader for Login {
 
     ghost reads = { auth_answer };
 
-    fn read(said: Record) -> Option<Result<AuthResult, Error>> {
-        auth_answer(said)
+    fn read(output: Record) -> Option<Result<AuthResult, Error>> {
+        auth_answer(output)
     }
 }
 
@@ -46,8 +46,8 @@ impl Reader for Prompted {
 
     ghost reads = { prompt_answer };
 
-    fn read(said: Record) -> Option<Result<KeyboardInteractiveAuthResponse, Error>> {
-        prompt_answer(said)
+    fn read(output: Record) -> Option<Result<KeyboardInteractiveAuthResponse, Error>> {
+        prompt_answer(output)
     }
 }
 
@@ -61,8 +61,8 @@ impl Reader for Opened {
 
     ghost reads = { open_answer };
 
-    fn read(said: Record) -> Option<Result<ChannelId, Error>> {
-        open_answer(said)
+    fn read(output: Record) -> Option<Result<ChannelId, Error>> {
+        open_answer(output)
     }
 }
 
@@ -76,8 +76,8 @@ impl Reader for Done {
 
     ghost reads = { done_answer };
 
-    fn read(said: Record) -> Option<Result<(), Error>> {
-        done_answer(said)
+    fn read(output: Record) -> Option<Result<(), Error>> {
+        done_answer(output)
     }
 }
 
@@ -91,8 +91,8 @@ impl Reader for Port {
 
     ghost reads = { port_answer };
 
-    fn read(said: Record) -> Option<Result<u32, Error>> {
-        port_answer(said)
+    fn read(output: Record) -> Option<Result<u32, Error>> {
+        port_answer(output)
     }
 }
 
@@ -106,8 +106,8 @@ impl Reader for Reply {
 
     ghost reads = { reply_answer };
 
-    fn read(said: Record) -> Option<Result<Octets, Error>> {
-        reply_answer(said)
+    fn read(output: Record) -> Option<Result<Octets, Error>> {
+        reply_answer(output)
     }
 }
 
@@ -121,7 +121,7 @@ impl Reader for Algs {
 
     ghost reads = { algs_answer };
 
-    fn read(said: Record) -> Option<Result<Option<Option<HashAlg>>, Error>> {
-        algs_answer(said)
+    fn read(output: Record) -> Option<Result<Option<Option<HashAlg>>, Error>> {
+        algs_answer(output)
     }
 }

@@ -65,10 +65,10 @@ impl<S: Signer> LoggedSigner for S {
 }
 
 /// The bytes that a record asks to be signed, or the record if it asks for none (RFC 4252, section 7).
-fn to_sign(said: Record) -> Result<Octets, Record>
-    ensures { result ≡ or_record (bytes_to_sign said) said }
+fn to_sign(output: Record) -> Result<Octets, Record>
+    ensures { result ≡ or_record (bytes_to_sign output) output }
 {
-    match said {
+    match output {
         Record::Auth {
             asked: AuthRecord::SignRequest { body, .. },
             ..
@@ -121,10 +121,10 @@ fn sign_and_tell<S: LoggedSigner, L: Line, R: Wait>(
 }
 
 /// What a record says of a login: its result, or `None` if it goes on.
-pub(crate) fn read_login<E>(said: Record) -> Result<Option<AuthResult>, WithError<E>>
-    ensures { result ≡ read_by (auth_answer said) }
+pub(crate) fn read_login<E>(output: Record) -> Result<Option<AuthResult>, WithError<E>>
+    ensures { result ≡ read_by (auth_answer output) }
 {
-    match auth_answer(said) {
+    match auth_answer(output) {
         Some(Ok(answer)) => Ok(Some(answer)),
         Some(Err(e)) => Err(WithError::Session(e)),
         None => Ok(None),
@@ -149,7 +149,7 @@ fn sign_once<S: LoggedSigner, L: Line, R: Wait>(
             Ok(()) => Ok(None),
             Err(e) => Err(e),
         },
-        Err(said) => read_login(said),
+        Err(output) => read_login(output),
     }
 }
 

@@ -8,12 +8,12 @@ use Rattle.sshc_wire.specs.declared.ticket.Ticket.{Ticket}
 abbrev pub ticket_of : Record → Option ℕ
 ticket_of (Resolved ticket resolution) = Some ticket.0
 ticket_of (Auth ticket asked) = Some ticket.0
-ticket_of said = None
+ticket_of output = None
 
 -- the number of the channel on which something happened
 abbrev pub channel_of : Record → Option ℕ
 channel_of (Channel id happened) = Some id.0
-channel_of said = None
+channel_of output = None
 
 abbrev pub own_number : Ticket → Option ℕ
 own_number ticket = Some ticket.0

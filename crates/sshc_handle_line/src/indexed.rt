@@ -6,7 +6,8 @@ ghost use Rattle.std.specs.List.Sorted.{IsStrictlySortedBy};
 ghost use Rattle.std.specs.Map.{keys_of, remove_entry, values_of};
 ghost use Rattle.std.specs.Ordering.{nat_cmp};
 ghost use Rattle.sshc_handle_line.specs.Lines.{has_number, has_some, number_in};
-ghost use Rattle.sshc_handle_line.specs.Places.{Forgets, ForgetsHappened, IsAt, Keeps, KeepsHappened, Notes, NotesHappened, at_place, passes};
+ghost use Rattle.sshc_handle_line.specs.Places.{Forgets, ForgetsHappened, IsAt, Keeps, KeepsHappened, Notes};
+ghost use Rattle.sshc_handle_line.specs.Places.{NotesHappened, at_place, passes};
 
 use crate::line::Numbered;
 use crate::places::{first_happened, first_place, forget, forget_happened, note, note_happened};
@@ -16,8 +17,8 @@ use std::collections::btree_map::Values;
 use std::collections::{BTreeMap, BTreeSet};
 use std::marker::Model;
 
-/// Things with their places, which contracts see as pairs of a place and a thing, by place; and the places of those that
-/// have a number.
+/// Things with their places, which contracts see as pairs of a place and a thing, by place; and the places of those
+/// that have a number.
 #[derive(Drop)]
 pub(crate) struct Indexed<X: Numbered + Drop> {
     standing: BTreeMap<u64, X>,
@@ -77,7 +78,8 @@ impl<X: Numbered + Drop> Indexed<X> {
 
     /// The first place of this ticket's number.
     pub(crate) fn first_of_ticket(&self, number: u32) -> Option<u64>
-        ensures found { IfSome result (λ place. IsAt (λ p. passes (has_number X.ticket number) (at_place p self.now)) place) }
+        ensures found { IfSome result
+            (λ place. IsAt (λ p. passes (has_number X.ticket number) (at_place p self.now)) place) }
         ensures none { IfNone result ((p : ℕ) → passes (has_number X.ticket number) (at_place p self.now) ≡ false) }
         ensures sorted { IsStrictlySortedBy nat_cmp (keys_of self.now) }
     {
@@ -87,7 +89,8 @@ impl<X: Numbered + Drop> Indexed<X> {
 
     /// The first place of this channel's number.
     pub(crate) fn first_on_channel(&self, number: u32) -> Option<u64>
-        ensures found { IfSome result (λ place. IsAt (λ p. passes (has_number X.channel number) (at_place p self.now)) place) }
+        ensures found { IfSome result
+            (λ place. IsAt (λ p. passes (has_number X.channel number) (at_place p self.now)) place) }
         ensures none { IfNone result ((p : ℕ) → passes (has_number X.channel number) (at_place p self.now) ≡ false) }
         ensures sorted { IsStrictlySortedBy nat_cmp (keys_of self.now) }
     {

@@ -7,10 +7,10 @@ use crate::line::Numbered;
 use sshc_wire::{Record, Ticket};
 
 /// The number of the ticket that a record names.
-pub fn ticket_of(said: &Record) -> Option<u32>
-    ensures { result ≡ ticket_of said.now }
+pub fn ticket_of(output: &Record) -> Option<u32>
+    ensures { result ≡ ticket_of output.now }
 {
-    match said {
+    match output {
         Record::Resolved { ticket, .. } => Some(ticket.0),
         Record::Auth { ticket, .. } => Some(ticket.0),
         _ => None,
@@ -18,10 +18,10 @@ pub fn ticket_of(said: &Record) -> Option<u32>
 }
 
 /// The number of the channel on which something happened.
-pub fn channel_of(said: &Record) -> Option<u32>
-    ensures { result ≡ channel_of said.now }
+pub fn channel_of(output: &Record) -> Option<u32>
+    ensures { result ≡ channel_of output.now }
 {
-    match said {
+    match output {
         Record::Channel { id, .. } => Some(id.0),
         _ => None,
     }

@@ -1,7 +1,8 @@
 //! The places of things by their numbers.
 
 ghost use Rattle.std.specs.Prelude.{◌≡◌, ℕ, false, IfNone, IfSome, OnOk};
-ghost use Rattle.sshc_handle_line.specs.Places.{Forgets, ForgetsHappened, IsAt, Keeps, KeepsHappened, Notes, NotesHappened, is_there, stands};
+ghost use Rattle.sshc_handle_line.specs.Places.{Forgets, ForgetsHappened, IsAt, Keeps, KeepsHappened, Notes};
+ghost use Rattle.sshc_handle_line.specs.Places.{NotesHappened, is_there, stands};
 
 use sshc_wire::NoMemory;
 use std::collections::BTreeSet;

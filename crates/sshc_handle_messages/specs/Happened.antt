@@ -4,19 +4,19 @@ use Rattle.sshc_wire.specs.declared.channel_id.ChannelId.{ChannelId}
 use Rattle.sshc_wire.specs.declared.channel_record.ChannelRecord.{ChannelRecord}
 use Rattle.sshc_wire.specs.declared.channel_record.ChannelRecord.TheVariants as records
 use Rattle.sshc_auth_event.specs.declared.channel_msg.ChannelMsg.{ChannelMsg}
-use Rattle.sshc_auth_event.specs.declared.channel_msg.ChannelMsg.TheVariants as said
+use Rattle.sshc_auth_event.specs.declared.channel_msg.ChannelMsg.TheVariants as output
 
 abbrev pub channel_msg : ChannelId → ChannelRecord → ChannelMsg
-channel_msg id (records.Open max_packet_size window_size) = said.Open id max_packet_size window_size
-channel_msg id records.Success = said.Success
-channel_msg id records.Failure = said.Failure
-channel_msg id records.Close = said.Close
-channel_msg id records.Eof = said.Eof
-channel_msg id (records.OpenFailure reason description language) = said.OpenFailure reason
-channel_msg id (records.Data body) = said.Data body
-channel_msg id (records.ExtendedData ext body) = said.ExtendedData ext body
-channel_msg id (records.XonXoff client_can_do) = said.XonXoff client_can_do
-channel_msg id (records.ExitStatus exit_status) = said.ExitStatus exit_status
+channel_msg id (records.Open max_packet_size window_size) = output.Open id max_packet_size window_size
+channel_msg id records.Success = output.Success
+channel_msg id records.Failure = output.Failure
+channel_msg id records.Close = output.Close
+channel_msg id records.Eof = output.Eof
+channel_msg id (records.OpenFailure reason description language) = output.OpenFailure reason
+channel_msg id (records.Data body) = output.Data body
+channel_msg id (records.ExtendedData ext body) = output.ExtendedData ext body
+channel_msg id (records.XonXoff client_can_do) = output.XonXoff client_can_do
+channel_msg id (records.ExitStatus exit_status) = output.ExitStatus exit_status
 channel_msg id (records.ExitSignal signal_name core_dumped error_message lang_tag) =
-    said.ExitSignal signal_name core_dumped error_message lang_tag
-channel_msg id (records.WindowAdjusted new_size) = said.WindowAdjusted new_size
+    output.ExitSignal signal_name core_dumped error_message lang_tag
+channel_msg id (records.WindowAdjusted new_size) = output.WindowAdjusted new_size

@@ -38,7 +38,8 @@ pub fn terminal(
     pix_height: u32,
     modes: &[(Pty, u32)],
 ) -> Result<ChannelMsg, NoMemory>
-    ensures { IfOk result (λ m. m ≡ msgs.RequestPty want_reply term.now col_width row_height pix_width pix_height modes.now) }
+    ensures { IfOk result
+        (λ m. m ≡ msgs.RequestPty want_reply term.now col_width row_height pix_width pix_height modes.now) }
 {
     Ok(ChannelMsg::RequestPty {
         want_reply,

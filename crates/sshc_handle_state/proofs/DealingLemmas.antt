@@ -91,7 +91,7 @@ hands_more due more first second third a b c one two = record {
 told_more : (records more : List Record) (t : TicketState) → told_all (records ++ more) t ≡ told_all more (told_all records t)
 unfolding told_all
 told_more [] more t = refl
-told_more (said ∷ records) more t = told_more records more (told said t)
+told_more (output ∷ records) more t = told_more records more (told output t)
 
 -- ---- both
 
@@ -103,28 +103,28 @@ pub deals_none : (first second : Bool) (t : TicketState) (was is : LinkAt) → H
 unfolding told_all
 deals_none first second t was is hands = record { tickets = refl; hands = hands }
 
-pub deals_payload : (said : Record) (packet : List ℕ) (first second : Bool) (t : TicketState) (was is : LinkAt) → said ≡ Payload packet
-    → Hands (payload packet ∷ []) first second was is → Deals (said ∷ []) first second t t was is
+pub deals_payload : (output : Record) (packet : List ℕ) (first second : Bool) (t : TicketState) (was is : LinkAt) → output ≡ Payload packet
+    → Hands (payload packet ∷ []) first second was is → Deals (output ∷ []) first second t t was is
 unfolding told_all
-deals_payload said packet first second t was is e hands = rw e (record { tickets = refl; hands = hands })
+deals_payload output packet first second t was is e hands = rw e (record { tickets = refl; hands = hands })
 
-pub deals_exchange : (said : Record) (first second : Bool) (t : TicketState) (was is : LinkAt) → said ≡ BeginExchange
-    → Hands (exchange_begun ∷ []) first second was is → Deals (said ∷ []) first second t t was is
+pub deals_exchange : (output : Record) (first second : Bool) (t : TicketState) (was is : LinkAt) → output ≡ BeginExchange
+    → Hands (exchange_begun ∷ []) first second was is → Deals (output ∷ []) first second t t was is
 unfolding told_all
-deals_exchange said first second t was is e hands = rw e (record { tickets = refl; hands = hands })
+deals_exchange output first second t was is e hands = rw e (record { tickets = refl; hands = hands })
 
-pub deals_told : (said : Record) (failed : Bool) (old new : TicketState) (link : LinkAt) → handing_of said ≡ [] → new ≡ told said old → Deals (said ∷ []) failed failed old new link link
+pub deals_told : (output : Record) (failed : Bool) (old new : TicketState) (link : LinkAt) → handing_of output ≡ [] → new ≡ told output old → Deals (output ∷ []) failed failed old new link link
 unfolding told_all
-deals_told said failed old new link none e = record {
+deals_told output failed old new link none e = record {
   tickets = e;
-  hands = subst (λ (due : List Handing). Hands due failed failed link link) (sym (append-nil (handing_of said) ∙ none)) (hands_nothing failed link);
+  hands = subst (λ (due : List Handing). Hands due failed failed link link) (sym (append-nil (handing_of output) ∙ none)) (hands_nothing failed link);
 }
 
 -- a record that is neither a packet nor an exchange makes no call of the transport
-pub no_handing : (said : Record) → ((packet : List ℕ) → said ≡ Payload packet → ⊥) → (said ≡ BeginExchange → ⊥) → handing_of said ≡ []
+pub no_handing : (output : Record) → ((packet : List ℕ) → output ≡ Payload packet → ⊥) → (output ≡ BeginExchange → ⊥) → handing_of output ≡ []
 no_handing (Payload packet) no_packet no_exchange = absurd (no_packet packet refl)
 no_handing BeginExchange no_packet no_exchange = absurd (no_exchange refl)
-no_handing said no_packet no_exchange = refl
+no_handing output no_packet no_exchange = refl
 
 pub deals_stay : (failed : Bool) (old new : TicketState) (link : LinkAt) → new ≡ old → Deals [] failed failed old new link link
 deals_stay failed old new link e = subst (λ (t : TicketState). Deals [] failed failed old t link link) (sym e) (deals_nothing failed old link)
@@ -146,12 +146,12 @@ pub record DealtSo (all left : List Record) (failed_before failed_now : Bool) (o
 pub dealt_none : (all : List Record) (failed : Bool) (t : TicketState) (link : LinkAt) → DealtSo all all failed failed t t link link
 dealt_none all failed t link = record { front = []; parts = refl; deals = deals_nothing failed t link }
 
-pub dealt_more : (all left later : List Record) (said : Record) (first second third : Bool) (s t u : TicketState) (a b c : LinkAt)
-    → left ≡ said ∷ later → DealtSo all left first second s t a b → Deals (said ∷ []) second third t u b c → DealtSo all later first third s u a c
-dealt_more all left later said first second third s t u a b c taken so deals = record {
-  front = so.front ++ said ∷ [];
-  parts = so.parts ∙ (ap (λ (xs : List Record). so.front ++ xs) taken ∙ sym (append_assoc so.front (said ∷ []) later));
-  deals = deals_more so.front (said ∷ []) first second third s t u a b c so.deals deals;
+pub dealt_more : (all left later : List Record) (output : Record) (first second third : Bool) (s t u : TicketState) (a b c : LinkAt)
+    → left ≡ output ∷ later → DealtSo all left first second s t a b → Deals (output ∷ []) second third t u b c → DealtSo all later first third s u a c
+dealt_more all left later output first second third s t u a b c taken so deals = record {
+  front = so.front ++ output ∷ [];
+  parts = so.parts ∙ (ap (λ (xs : List Record). so.front ++ xs) taken ∙ sym (append_assoc so.front (output ∷ []) later));
+  deals = deals_more so.front (output ∷ []) first second third s t u a b c so.deals deals;
 }
 
 -- memory ran out with these records remaining
@@ -182,7 +182,7 @@ by_err all first second s t a b (Err e) err front = front
 pub packet_first : (records : List Record) (packet : List ℕ) → Some packet ≡ packet_in (slice_get records 0) → records ≡ Payload packet ∷ drop 1 records
 packet_first [] packet lent = absurd cc
 packet_first (Payload p ∷ records) packet lent = let same : packet ≡ p = cc in ap (λ (x : List ℕ). Payload x ∷ records) (sym same)
-packet_first (said ∷ records) packet lent = absurd cc
+packet_first (output ∷ records) packet lent = absurd cc
 
 pub first_packet : (records left : List Record) (packet : List ℕ) (first second : Bool) (t : TicketState) (was is : LinkAt) → Some packet ≡ packet_in (slice_get records 0)
     → left ≡ drop 1 records → Hands (payload packet ∷ []) first second was is → DealsFirst records left first second t t was is (Ok true)
@@ -197,7 +197,7 @@ first_err records left first second s t a b (Err e) err deals = deals
 -- the records so far are dealt with, and the first of the others
 pub dealt_first : (all records left : List Record) (first second third : Bool) (s t u : TicketState) (a b c : LinkAt)
     → DealtSo all records first second s t a b → DealsFirst records left second third t u b c (Ok true) → DealtSo all left first third s u a c
-dealt_first all records left first second third s t u a b c so (said, taken, deals) = dealt_more all records left said first second third s t u a b c taken so deals
+dealt_first all records left first second third s t u a b c so (output, taken, deals) = dealt_more all records left output first second third s t u a b c taken so deals
 
 -- and there is no other
 pub dealt_last : (all records left : List Record) (first second third : Bool) (s t u : TicketState) (a b c : LinkAt)
@@ -209,4 +209,4 @@ dealt_last all records left first second third s t u a b c so (none, deals) =
 
 -- one record is left less
 pub fewer_left : (records left : List Record) (first second : Bool) (s t : TicketState) (a b : LinkAt) → DealsFirst records left first second s t a b (Ok true) → length left < length records
-fewer_left records left first second s t a b (said, taken, deals) = omega (arith, ap (λ (xs : List Record). length xs) taken)
+fewer_left records left first second s t a b (output, taken, deals) = omega (arith, ap (λ (xs : List Record). length xs) taken)

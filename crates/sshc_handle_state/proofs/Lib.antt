@@ -2,3 +2,4 @@ mod DealingLemmas
 mod PickingLemmas
 pub mod Replies
 mod TakingLemmas
+mod Hints

@@ -19,22 +19,22 @@ abbrev pub held_behind : Record → List Record → List Record
 held_behind (Resolved ticket resolution) held = held ++ Resolved ticket resolution ∷ []
 held_behind (Auth ticket asked) held = held ++ Auth ticket asked ∷ []
 held_behind (Channel id happened) held = held ++ Channel id happened ∷ []
-held_behind said held = held
+held_behind output held = held
 
 -- an answer settles its ticket; a channel that opens no longer counts as closed
 abbrev pub told : Record → TicketState → TicketState
-told said t = record t { due = due_behind said t.due; held = held_behind said t.held; closed = closed_behind (opened_by said) t.closed }
+told output t = record t { due = due_behind output t.due; held = held_behind output t.held; closed = closed_behind (opened_by output) t.closed }
 
 unfoldable pub told_all : List Record → TicketState → TicketState
 told_all [] t = t
-told_all (said ∷ records) t = told_all records (told said t)
+told_all (output ∷ records) t = told_all records (told output t)
 
 -- ---- calls of the transport
 
 abbrev pub handing_of : Record → List Handing
 handing_of (Payload packet) = payload packet ∷ []
 handing_of BeginExchange = exchange_begun ∷ []
-handing_of said = []
+handing_of output = []
 
 abbrev pub handings : List Record → List Handing
 handings records = flat_map handing_of records
@@ -79,6 +79,6 @@ DealsBy records failed_before failed_now old new was is (Err e) = DealsFront rec
 -- of the first record, which is let go; nothing where there is none, or where memory ran out
 abbrev pub DealsFirst : List Record → List Record → Bool → Bool → TicketState → TicketState → LinkAt → LinkAt → Result Bool RanOut → Type 0
 DealsFirst records left failed_before failed_now old new was is (Ok true) =
-    (said : Record) × (records ≡ said ∷ left) × Deals (said ∷ []) failed_before failed_now old new was is
+    (output : Record) × (records ≡ output ∷ left) × Deals (output ∷ []) failed_before failed_now old new was is
 DealsFirst records left failed_before failed_now old new was is (Ok false) = (records ≡ []) × Deals [] failed_before failed_now old new was is
 DealsFirst records left failed_before failed_now old new was is (Err e) = Deals [] failed_before failed_now old new was is

@@ -54,17 +54,17 @@ fn begin<T: Transport>(transport: &mut T, failed: &mut bool) -> Result<(), NoMem
 }
 
 /// Holds a record that is an answer or of what happened on a channel; a channel that opens no longer counts as closed.
-fn tell(tickets: &mut Tickets, said: Record) -> Result<(), NoMemory>
-    ensures ok { OnOk result (tickets.new ≡ told said tickets.old) }
+fn tell(tickets: &mut Tickets, output: Record) -> Result<(), NoMemory>
+    ensures ok { OnOk result (tickets.new ≡ told output tickets.old) }
     ensures err { OnErr result (tickets.new ≡ tickets.old) }
 {
-    match said {
+    match output {
         Record::Resolved { .. } | Record::Auth { .. } | Record::Channel { .. } => tickets.hold(
-            said,
+            output,
         ),
         _ => {
-            tickets.reopen(&said);
-            drop(said);
+            tickets.reopen(&output);
+            drop(output);
             Ok(())
         }
     }
@@ -72,19 +72,19 @@ fn tell(tickets: &mut Tickets, said: Record) -> Result<(), NoMemory>
 
 /// What is done with one record.
 fn deal_one<T: Transport>(
-    said: Record,
+    output: Record,
     transport: &mut T,
     tickets: &mut Tickets,
     failed: &mut bool,
 ) -> Result<(), NoMemory>
-    ensures ok { OnOk result (Deals (said ∷ []) failed.old failed.new tickets.old tickets.new
+    ensures ok { OnOk result (Deals (output ∷ []) failed.old failed.new tickets.old tickets.new
         (link_at (T.answers transport.old) (T.handed transport.old) (T.faults transport.old))
         (link_at (T.answers transport.new) (T.handed transport.new) (T.faults transport.new))) }
     ensures err { OnErr result (Deals [] failed.old failed.new tickets.old tickets.new
         (link_at (T.answers transport.old) (T.handed transport.old) (T.faults transport.old))
         (link_at (T.answers transport.new) (T.handed transport.new) (T.faults transport.new))) }
 {
-    match said {
+    match output {
         Record::Payload(packet) => hand(transport, packet.as_slice(), failed),
         Record::BeginExchange => begin(transport, failed),
         other => tell(tickets, other),
@@ -94,21 +94,21 @@ fn deal_one<T: Transport>(
 /// What is done with the first record, which is let go; a packet is lent to the transport where it lies. Returns false
 /// if there is no record.
 fn deal_first<T: Transport>(
-    said: &mut Outbox,
+    output: &mut Outbox,
     transport: &mut T,
     tickets: &mut Tickets,
     failed: &mut bool,
 ) -> Result<bool, NoMemory>
-    ensures { DealsFirst said.old.records said.new.records failed.old failed.new tickets.old tickets.new
+    ensures { DealsFirst output.old.records output.new.records failed.old failed.new tickets.old tickets.new
         (link_at (T.answers transport.old) (T.handed transport.old) (T.faults transport.old))
         (link_at (T.answers transport.new) (T.handed transport.new) (T.faults transport.new)) result }
 {
-    if let Some(packet) = said.packet(0) {
+    if let Some(packet) = output.packet(0) {
         hand(transport, packet, failed)?;
-        said.drop_first();
+        output.drop_first();
         return Ok(true);
     }
-    match said.take_first()? {
+    match output.take_first()? {
         Some(record) => {
             deal_one(record, transport, tickets, failed)?;
             Ok(true)
@@ -119,15 +119,15 @@ fn deal_first<T: Transport>(
 
 /// Passes on and holds each record, in their order.
 pub(crate) fn deal<T: Transport>(
-    said: &mut Outbox,
+    output: &mut Outbox,
     transport: &mut T,
     tickets: &mut Tickets,
     failed: &mut bool,
 ) -> Result<(), NoMemory>
-    ensures { DealsBy said.old.records failed.old failed.new tickets.old tickets.new
+    ensures { DealsBy output.old.records failed.old failed.new tickets.old tickets.new
         (link_at (T.answers transport.old) (T.handed transport.old) (T.faults transport.old))
         (link_at (T.answers transport.new) (T.handed transport.new) (T.faults transport.new)) result }
 {
-    'records: while deal_first(said, transport, tickets, failed)? {}
+    'records: while deal_first(output, transport, tickets, failed)? {}
     Ok(())
 }

@@ -45,7 +45,7 @@ fn is_reply(event: &Event) -> bool
 }
 
 /// Takes the first reply to a channel that the server opens, where there is one.
-#[tactic(auto, using(sshc_handle_tickets::proofs::Firsts::first_found, sshc_handle_tickets::proofs::Firsts::first_cut, sshc_handle_tickets::proofs::Firsts::none_found, sshc_handle_tickets::proofs::Firsts::none_cut, sshc_handle_tickets::proofs::Firsts::passed_on))]
+#[tactic(auto, using(crate::proofs::Hints::first_reply))]
 fn first_reply(events: &mut VecDeque<Event>) -> Option<Event>
     ensures taken { result ≡ first_of is_reply events.old.items }
     ensures rest { events.new.items ≡ without_first is_reply events.old.items }

@@ -141,8 +141,8 @@ impl<H: Handler> HandleState<H> {
             (link_at (T.answers transport.old) (T.handed transport.old) (T.faults transport.old))
             (link_at (T.answers transport.new) (T.handed transport.new) (T.faults transport.new)) result }
     {
-        let mut said = self.session.take_records();
-        deal(&mut said, transport, &mut self.tickets, &mut self.failed)
+        let mut output = self.session.take_records();
+        deal(&mut output, transport, &mut self.tickets, &mut self.failed)
     }
 
     /// One step of the session, and what is done with its records.

@@ -100,8 +100,8 @@ kept_left taken old new closed capacity marks kept rest fewer =
     }
 
 -- a close that is taken was held
-pub any_closed : (taken : Record → Bool) (held : List Record) (said : Option Record) → said ≡ first_of taken held → (id : ChannelId) → said ≡ Some (Channel id Close) → (number : ℕ) → number ≡ id.0 → list_any (is_close number) held ≡ true
-any_closed taken held said found id is number same = any_taken (is_close number) taken held (Channel id Close) (sym found ∙ is) (grind (arith, nat_tests, same))
+pub any_closed : (taken : Record → Bool) (held : List Record) (output : Option Record) → output ≡ first_of taken held → (id : ChannelId) → output ≡ Some (Channel id Close) → (number : ℕ) → number ≡ id.0 → list_any (is_close number) held ≡ true
+any_closed taken held output found id is number same = any_taken (is_close number) taken held (Channel id Close) (sym found ∙ is) (grind (arith, nat_tests, same))
 
 pub marked_put : (marks new : Marks) (closed longer : List ChannelId) (id : ChannelId) → AreMarked marks closed → ((n : ℕ) → is_marked new n ≡ nat_eq id.0 n || is_marked marks n) → longer ≡ closed ++ id ∷ [] → AreMarked new longer
 marked_put marks new closed longer id kept marked put = λ n. marked n ∙ ap (λ b. nat_eq id.0 n || b) (kept n) ∙ sym (ap (list_any (is_channel n)) put ∙ any_put (is_channel n) closed id)

@@ -2,3 +2,4 @@ mod Closing
 pub mod Firsts
 mod Free
 mod Over
+mod Hints

@@ -144,7 +144,7 @@ channel n = record { 0 = n }
 by_number : (o : Option Record) → channel_in o ≡ option_map channel (number_in channel_of o)
 by_number None = refl
 by_number (Some (Channel id happened)) = refl
-by_number (Some said) = refl
+by_number (Some output) = refl
 
 channel_over : (over : Bool) (held : List Record) (due : List Ticket) → channel_in (first_of is_on_some (held_at over held due)) ≡ option_map channel (number_in channel_of (first_of (has_some channel_of) held))
 channel_over over held due = ap channel_in (some_over over held due) ∙ by_number (first_of is_on_some held)
@@ -159,18 +159,18 @@ settle : Option ℕ → List Ticket → List Ticket
 settle None due = due
 settle (Some number) due = without_first (is_ticket number) due
 
-by_answer : (said : Record) (due : List Ticket) → due_behind said due ≡ settle (answered said) due
+by_answer : (output : Record) (due : List Ticket) → due_behind output due ≡ settle (answered output) due
 unfolding settle
 by_answer (Resolved ticket resolution) due = refl
-by_answer said due = refl
+by_answer output due = refl
 
-pub settled : (said : Record) (due : List Ticket) (number : ℕ) → answered said ≡ Some number → due_behind said due ≡ without_first (is_ticket number) due
+pub settled : (output : Record) (due : List Ticket) (number : ℕ) → answered output ≡ Some number → due_behind output due ≡ without_first (is_ticket number) due
 unfolding settle
-settled said due number found = by_answer said due ∙ ap (λ a. settle a due) found
+settled output due number found = by_answer output due ∙ ap (λ a. settle a due) found
 
-pub unsettled : (said : Record) (due : List Ticket) → answered said ≡ None → due_behind said due ≡ due
+pub unsettled : (output : Record) (due : List Ticket) → answered output ≡ None → due_behind output due ≡ due
 unfolding settle
-unsettled said due none = by_answer said due ∙ ap (λ a. settle a due) none
+unsettled output due none = by_answer output due ∙ ap (λ a. settle a due) none
 
 pub all_dropped : (over : Bool) (held : List Record) (due : List Ticket) → held_at true held due ≡ held_at over held due ++ map dropped (left_due over due)
 all_dropped true held due = sym (append-nil (held ++ map dropped due))

@@ -11,7 +11,7 @@ use Rattle.sshc_wire.specs.declared.record.Record.TheVariants.{Resolved, Auth}
 use Rattle.sshc_wire.specs.declared.resolution.HostKeysFault.{HostKeysFault}
 use Rattle.sshc_wire.specs.declared.resolution.HostKeysFault.TheVariants as faults
 use Rattle.sshc_wire.specs.declared.resolution.Resolution.{Resolution}
-use Rattle.sshc_wire.specs.declared.resolution.Resolution.TheVariants as said
+use Rattle.sshc_wire.specs.declared.resolution.Resolution.TheVariants as output
 use Rattle.sshc_auth.specs.declared.error.Error.{Error}
 use Rattle.sshc_auth.specs.declared.error.Error.TheVariants as errors
 use Rattle.sshc_auth.specs.declared.auth_result.AuthResult.{AuthResult}
@@ -39,18 +39,18 @@ resolved read r = read_of read (resolution_in r)
 -- ---- logging in (RFC 4252, section 5.1)
 
 abbrev pub auth_said : Resolution → Answer AuthResult
-auth_said said.AuthSuccess = Some (Ok results.Success)
-auth_said (said.AuthFailure remaining partial) = Some (Ok (results.Failure remaining partial))
-auth_said said.Dropped = Some (Err errors.Disconnect)
+auth_said output.AuthSuccess = Some (Ok results.Success)
+auth_said (output.AuthFailure remaining partial) = Some (Ok (results.Failure remaining partial))
+auth_said output.Dropped = Some (Err errors.Disconnect)
 auth_said resolution = None
 
 abbrev pub auth_answer : Record → Answer AuthResult
 auth_answer r = resolved auth_said r
 
 abbrev pub prompt_said : Resolution → Answer KeyboardInteractiveAuthResponse
-prompt_said said.AuthSuccess = Some (Ok responses.Success)
-prompt_said (said.AuthFailure remaining partial) = Some (Ok (responses.Failure remaining partial))
-prompt_said said.Dropped = Some (Err errors.Disconnect)
+prompt_said output.AuthSuccess = Some (Ok responses.Success)
+prompt_said (output.AuthFailure remaining partial) = Some (Ok (responses.Failure remaining partial))
+prompt_said output.Dropped = Some (Err errors.Disconnect)
 prompt_said resolution = None
 
 -- prompts are an answer too (RFC 4256, section 3.2)
@@ -61,9 +61,9 @@ prompt_answer r = resolved prompt_said r
 -- ---- channels and requests (RFC 4254)
 
 abbrev pub open_said : Resolution → Answer ChannelId
-open_said (said.ChannelOpened id) = Some (Ok id)
-open_said (said.ChannelOpenFailed reason) = Some (Err (errors.ChannelOpenFailure reason))
-open_said said.Dropped = Some (Err errors.Disconnect)
+open_said (output.ChannelOpened id) = Some (Ok id)
+open_said (output.ChannelOpenFailed reason) = Some (Err (errors.ChannelOpenFailure reason))
+open_said output.Dropped = Some (Err errors.Disconnect)
 open_said resolution = None
 
 abbrev pub open_answer : Record → Answer ChannelId
@@ -75,30 +75,30 @@ proof_error faults.SshEncoding = errors.SshEncoding
 proof_error faults.WrongServerSig = errors.WrongServerSig
 
 abbrev pub done_said : Resolution → Answer Unit
-done_said said.Done = Some (Ok tt)
-done_said said.Pong = Some (Ok tt)
-done_said said.HostKeysProved = Some (Ok tt)
-done_said said.Denied = Some (Err errors.RequestDenied)
-done_said (said.HostKeysRefused fault) = Some (Err (proof_error fault))
-done_said said.Dropped = Some (Err errors.Disconnect)
+done_said output.Done = Some (Ok tt)
+done_said output.Pong = Some (Ok tt)
+done_said output.HostKeysProved = Some (Ok tt)
+done_said output.Denied = Some (Err errors.RequestDenied)
+done_said (output.HostKeysRefused fault) = Some (Err (proof_error fault))
+done_said output.Dropped = Some (Err errors.Disconnect)
 done_said resolution = None
 
 abbrev pub done_answer : Record → Answer Unit
 done_answer r = resolved done_said r
 
 abbrev pub port_said : Resolution → Answer ℕ
-port_said (said.ForwardPort port) = Some (Ok port)
-port_said said.Denied = Some (Err errors.RequestDenied)
-port_said said.Dropped = Some (Err errors.Disconnect)
+port_said (output.ForwardPort port) = Some (Ok port)
+port_said output.Denied = Some (Err errors.RequestDenied)
+port_said output.Dropped = Some (Err errors.Disconnect)
 port_said resolution = None
 
 abbrev pub port_answer : Record → Answer ℕ
 port_answer r = resolved port_said r
 
 abbrev pub reply_said : Resolution → Answer (List ℕ)
-reply_said (said.GlobalReply body) = Some (Ok body)
-reply_said said.Denied = Some (Err errors.RequestDenied)
-reply_said said.Dropped = Some (Err errors.Disconnect)
+reply_said (output.GlobalReply body) = Some (Ok body)
+reply_said output.Denied = Some (Err errors.RequestDenied)
+reply_said output.Dropped = Some (Err errors.Disconnect)
 reply_said resolution = None
 
 abbrev pub reply_answer : Record → Answer (List ℕ)
@@ -115,9 +115,9 @@ best_hash names = if has_name (codes "rsa-sha2-512") names then Some hashes.Sha5
 
 -- without a list nothing is known
 abbrev pub algs_said : Resolution → Answer (Option (Option HashAlg))
-algs_said (said.SigAlgs true names) = Some (Ok (Some (best_hash names)))
-algs_said (said.SigAlgs false names) = Some (Ok None)
-algs_said said.Dropped = Some (Err errors.Disconnect)
+algs_said (output.SigAlgs true names) = Some (Ok (Some (best_hash names)))
+algs_said (output.SigAlgs false names) = Some (Ok None)
+algs_said output.Dropped = Some (Err errors.Disconnect)
 algs_said resolution = None
 
 abbrev pub algs_answer : Record → Answer (Option (Option HashAlg))

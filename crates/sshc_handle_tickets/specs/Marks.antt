@@ -19,11 +19,11 @@ has_room marks number = is_some (get nat_cmp marks.of number)
 -- the number of the channel that a record closes
 abbrev pub closed_by : Record → Option ℕ
 closed_by (Channel id Close) = Some id.0
-closed_by said = None
+closed_by output = None
 
 -- whether the record is the close of a channel of this number
 abbrev pub is_close : ℕ → Record → Bool
-is_close number said = is_number number (closed_by said)
+is_close number output = is_number number (closed_by output)
 
 -- the numbers of the closed channels are marked
 abbrev pub AreMarked : Marks → List ChannelId → Type 0

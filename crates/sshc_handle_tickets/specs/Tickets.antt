@@ -24,19 +24,19 @@ pub record TicketState : Type 0 where
 -- ---- which records are a ticket's
 
 abbrev pub is_of : ℕ → Record → Bool
-is_of number said = is_number number (ticket_of said)
+is_of number output = is_number number (ticket_of output)
 
 abbrev pub is_on : ℕ → Record → Bool
-is_on number said = is_number number (channel_of said)
+is_on number output = is_number number (channel_of output)
 
 -- whether the record is of what happened on some channel
 abbrev pub is_on_some : Record → Bool
-is_on_some said = is_some (channel_of said)
+is_on_some output = is_some (channel_of output)
 
 -- the channel on which it happened
 abbrev pub channel_in : Option Record → Option ChannelId
 channel_in (Some (Channel id happened)) = Some id
-channel_in said = None
+channel_in output = None
 
 abbrev pub is_ticket : ℕ → Ticket → Bool
 is_ticket number ticket = nat_eq ticket.0 number
@@ -64,13 +64,13 @@ free_within (suc tries) s number = if is_taken s (number_after number) then free
 -- the tickets whose answer is due after a record: an answer settles its own
 abbrev pub due_behind : Record → List Ticket → List Ticket
 due_behind (Resolved ticket resolution) due = without_first (is_ticket ticket.0) due
-due_behind said due = due
+due_behind output due = due
 
 -- the number of the channel that a record opens
 abbrev pub opened_by : Record → Option ℕ
 opened_by (Channel id (Open max_packet_size window_size)) = Some id.0
 opened_by (ServerOpened id kind) = Some id.0
-opened_by said = None
+opened_by output = None
 
 -- the channels that are still closed after one opens
 abbrev pub closed_behind : Option ℕ → List ChannelId → List ChannelId
@@ -80,7 +80,7 @@ closed_behind (Some number) closed = filter (λ (id : ChannelId). not (is_channe
 -- the channel is closed with the record of its close
 abbrev pub closed_with : Option Record → List ChannelId → List ChannelId
 closed_with (Some (Channel id Close)) closed = closed ++ id ∷ []
-closed_with said closed = closed
+closed_with output closed = closed
 
 abbrev pub dropped : Ticket → Record
 dropped ticket = Resolved ticket Dropped
@@ -100,4 +100,4 @@ held_at false held due = held
 -- the number of the ticket that a record answers
 abbrev pub answered : Record → Option ℕ
 answered (Resolved ticket resolution) = Some ticket.0
-answered said = None
+answered output = None

@@ -2,7 +2,9 @@
 //! `None`; a session that ended first reads as `Disconnect`.
 
 ghost use Rattle.std.specs.Prelude.{◌≡◌};
-ghost use Rattle.sshc_handle_tickets.specs.Answers.{algs_answer, auth_answer, best_hash, done_answer, has_name, open_answer, port_answer, prompt_answer, prompt_said, proof_error, reply_answer, resolution_in};
+ghost use Rattle.sshc_handle_tickets.specs.Answers.{algs_answer, auth_answer, best_hash, done_answer, has_name};
+ghost use Rattle.sshc_handle_tickets.specs.Answers.{open_answer, port_answer, prompt_answer, prompt_said, proof_error};
+ghost use Rattle.sshc_handle_tickets.specs.Answers.{reply_answer, resolution_in};
 
 use sshc_auth::{AuthResult, Error, KeyboardInteractiveAuthResponse};
 use sshc_wire::{AuthRecord, ChannelId, HashAlg, HostKeysFault, Octets, Record, Resolution, Text};

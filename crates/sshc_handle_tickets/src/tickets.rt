@@ -1,11 +1,15 @@
 //! The tickets that are open, and the records that are held until someone asks for them.
 
-ghost use Rattle.std.specs.Prelude.{◌≡◌, ◌+◌, ◌≤◌, ◌++◌, [], ◌∷◌, ℕ, Some, false, true, length, map, filter, not, take, IfOk, IfSome, OnErr, OnOk};
+ghost use Rattle.std.specs.Prelude.{◌≡◌, ◌+◌, ◌≤◌, ◌++◌, [], ◌∷◌, ℕ, Some, false, true, length, map, filter, not, take};
+ghost use Rattle.std.specs.Prelude.{IfOk, IfSome, OnErr, OnOk};
 ghost use Rattle.std.specs.List.{list_any};
 ghost use Rattle.std.specs.Vec.{vec_capacity, vec_len};
 ghost use Rattle.sshc_wire.specs.declared.channel_id.ChannelId.{ChannelId};
 ghost use Rattle.sshc_handle_tickets.specs.Marks.{AreMarked, closed_by, has_room, is_close};
-ghost use Rattle.sshc_handle_tickets.specs.Tickets.{answered, channel_in, closed_behind, closed_with, dropped, due_behind, first_of, free_within, is_channel, is_of, is_on, is_on_some, is_taken, is_ticket, number_after, opened_by, without_first};
+ghost use Rattle.sshc_handle_tickets.specs.Tickets.{answered, channel_in, closed_behind, closed_with, dropped};
+ghost use Rattle.sshc_handle_tickets.specs.Tickets.{due_behind, first_of, free_within, is_channel, is_of, is_on};
+ghost use Rattle.sshc_handle_tickets.specs.Tickets.{is_on_some, is_taken, is_ticket, number_after, opened_by};
+ghost use Rattle.sshc_handle_tickets.specs.Tickets.{without_first};
 
 use crate::marks::Marks;
 use sshc_handle_line::Line;
@@ -14,9 +18,9 @@ use std::alloc::Global;
 use std::collections::btree_map::Values;
 use std::marker::Model;
 
-/// The tickets whose answer is due, and the records that nobody has taken yet, the oldest first. Once the session is over
-/// the tickets that were open stand for their answers, that they were dropped. What is held and what is closed is found by
-/// its number.
+/// The tickets whose answer is due, and the records that nobody has taken yet, the oldest first. Once the session is
+/// over the tickets that were open stand for their answers, that they were dropped. What is held and what is closed is
+/// found by its number.
 #[derive(Drop)]
 pub struct Tickets {
     due: Line<Ticket>,
@@ -35,16 +39,21 @@ impl Model for Tickets {
 
     ghost Value = { TicketState };
 
-    ghost view = { λ t. record { due = left_due t.is_over t.due; held = held_at t.is_over t.held t.due; closed = t.closed.items; last = t.last } };
+    ghost view = { λ t. record {
+      due = left_due t.is_over t.due;
+      held = held_at t.is_over t.held t.due;
+      closed = t.closed.items;
+      last = t.last;
+    } };
 
     ghost invariant = { λ t. IsKept t.held t.closed.items (vec_capacity t.closed) t.marks };
 }
 
 /// The number of the channel that a record opens.
-fn opened_by(said: &Record) -> Option<u32>
-    ensures { result ≡ opened_by said.now }
+fn opened_by(output: &Record) -> Option<u32>
+    ensures { result ≡ opened_by output.now }
 {
-    match said {
+    match output {
         Record::Channel {
             id,
             happened: ChannelRecord::Open { .. },
@@ -55,10 +64,10 @@ fn opened_by(said: &Record) -> Option<u32>
 }
 
 /// The number of the channel that a record closes.
-fn closed_by(said: &Record) -> Option<u32>
-    ensures { result ≡ closed_by said.now }
+fn closed_by(output: &Record) -> Option<u32>
+    ensures { result ≡ closed_by output.now }
 {
-    match said {
+    match output {
         Record::Channel {
             id,
             happened: ChannelRecord::Close,
@@ -68,10 +77,10 @@ fn closed_by(said: &Record) -> Option<u32>
 }
 
 /// The number of the ticket that a record answers.
-fn answered(said: &Record) -> Option<u32>
-    ensures { result ≡ answered said.now }
+fn answered(output: &Record) -> Option<u32>
+    ensures { result ≡ answered output.now }
 {
-    match said {
+    match output {
         Record::Resolved { ticket, .. } => Some(ticket.0),
         _ => None,
     }
@@ -120,7 +129,7 @@ impl Tickets {
         self.is_due(number) || self.is_named(number)
     }
 
-    #[tactic(auto, using(crate::proofs::Free::free_found, crate::proofs::Free::free_later, crate::proofs::Free::free_none, crate::proofs::Over::count_over))]
+    #[tactic(auto, using(crate::proofs::Hints::free))]
     /// The first number after the last one opened that isn't taken.
     fn free(&self) -> Option<u32>
         ensures { result ≡ free_within (length self.now.due + length self.now.held + 1) self.now self.now.last }
@@ -138,8 +147,11 @@ impl Tickets {
     /// Opens a ticket, with the room for its answer. Its number is the first after the last one opened that is neither
     /// open nor named by a held record; if no number is free, it returns `NoMemory`, and so it does behind `drop_open`.
     pub fn open_ticket(&mut self) -> Result<Ticket, NoMemory>
-        ensures number { IfOk result (λ ticket. free_within (length self.old.due + length self.old.held + 1) self.old self.old.last ≡ Some ticket.0) }
-        ensures opened { IfOk result (λ ticket. self.new ≡ record self.old { due = self.old.due ++ ticket ∷ []; last = ticket.0 }) }
+        ensures number { IfOk result
+            (λ ticket. free_within (length self.old.due + length self.old.held + 1) self.old self.old.last
+            ≡ Some ticket.0) }
+        ensures opened { IfOk result
+            (λ ticket. self.new ≡ record self.old { due = self.old.due ++ ticket ∷ []; last = ticket.0 }) }
         ensures err { OnErr result (self.new ≡ self.old) }
     {
         if self.is_over {
@@ -155,7 +167,7 @@ impl Tickets {
 }
 
 /// Takes the answer of a ticket that was dropped.
-#[tactic(auto, using(crate::proofs::Over::first_dropped, crate::proofs::Over::none_dropped, crate::proofs::Over::without_dropped))]
+#[tactic(auto, using(crate::proofs::Hints::take_dropped))]
 fn take_dropped(dropped_tickets: &mut Line<Ticket>, number: u32) -> Option<Record>
     ensures taken { result ≡ first_of (is_of number) (map dropped dropped_tickets.old) }
     ensures rest { map dropped dropped_tickets.new ≡ without_first (is_of number) (map dropped dropped_tickets.old) }
@@ -170,19 +182,20 @@ fn take_dropped(dropped_tickets: &mut Line<Ticket>, number: u32) -> Option<Recor
 }
 
 /// Takes the first record that names a ticket, or else the answer of one that was dropped.
-#[tactic(auto, using(crate::proofs::Over::some_front, crate::proofs::Over::some_cut, crate::proofs::Over::none_front, crate::proofs::Over::none_cut))]
+#[tactic(auto, using(crate::proofs::Hints::take_behind))]
 fn take_behind(
     held: &mut Line<Record>,
     dropped_tickets: &mut Line<Ticket>,
     number: u32,
 ) -> Option<Record>
     ensures taken { result ≡ first_of (is_of number) (held.old ++ map dropped dropped_tickets.old) }
-    ensures rest { held.new ++ map dropped dropped_tickets.new ≡ without_first (is_of number) (held.old ++ map dropped dropped_tickets.old) }
+    ensures rest { held.new ++ map dropped dropped_tickets.new
+        ≡ without_first (is_of number) (held.old ++ map dropped dropped_tickets.old) }
     ensures fewer { length held.new ≤ length held.old }
     ensures closing { (n : ℕ) → list_any (is_close n) held.new ≡ true → list_any (is_close n) held.old ≡ true }
 {
     match held.take_of_ticket(number) {
-        Some(said) => Some(said),
+        Some(output) => Some(output),
         None => take_dropped(dropped_tickets, number),
     }
 }
@@ -228,20 +241,24 @@ impl Tickets {
     #[tactic(auto, using(crate::proofs::Over::on_first, crate::proofs::Over::on_rest))]
     pub fn poll_channel(&mut self, id: ChannelId) -> Option<Record>
         ensures taken { result ≡ first_of (is_on id.0) self.old.held }
-        ensures rest { self.new ≡ record self.old { held = without_first (is_on id.0) self.old.held; closed = closed_with result self.old.closed } }
+        ensures rest { self.new
+            ≡ record self.old {
+              held = without_first (is_on id.0) self.old.held;
+              closed = closed_with result self.old.closed;
+            } }
     {
-        let said = self.held.take_on_channel(id.0);
+        let output = self.held.take_on_channel(id.0);
         if let Some(
             Record::Channel {
                 id,
                 happened: ChannelRecord::Close,
             },
-        ) = &said
+        ) = &output
         {
             self.closed.push_reserved(*id);
             self.marks.mark(id.0);
         }
-        said
+        output
     }
 
     /// Whether a record is held of what happened on this channel.
@@ -268,37 +285,42 @@ impl Tickets {
     }
 
     /// A channel that a record opens no longer counts as closed.
-    pub fn reopen(&mut self, said: &Record)
-        ensures { self.new ≡ record self.old { closed = closed_behind (opened_by said.now) self.old.closed } }
+    pub fn reopen(&mut self, output: &Record)
+        ensures { self.new ≡ record self.old { closed = closed_behind (opened_by output.now) self.old.closed } }
     {
-        if let Some(number) = opened_by(said) {
+        if let Some(number) = opened_by(output) {
             forget(&mut self.closed, &mut self.marks, number);
         }
     }
 
     /// Holds a record; an answer settles its ticket. Behind `drop_open` it returns `NoMemory`.
     #[tactic(auto, using(crate::proofs::Over::settled, crate::proofs::Over::unsettled))]
-    pub fn hold(&mut self, said: Record) -> Result<(), NoMemory>
-        ensures ok { OnOk result (self.new ≡ record self.old { due = due_behind said self.old.due; held = self.old.held ++ said ∷ []; closed = closed_behind (opened_by said) self.old.closed }) }
+    pub fn hold(&mut self, output: Record) -> Result<(), NoMemory>
+        ensures ok { OnOk result
+            (self.new ≡ record self.old {
+              due = due_behind output self.old.due;
+              held = self.old.held ++ output ∷ [];
+              closed = closed_behind (opened_by output) self.old.closed;
+            }) }
         ensures err { OnErr result (self.new ≡ self.old) }
     {
         if self.is_over {
-            drop(said);
+            drop(output);
             return Err(NoMemory);
         }
         if let Err(refused) = self.closed.reserve(self.held.len() + 1) {
-            drop(said);
+            drop(output);
             return Err(refused.into());
         }
-        if let Some(number) = closed_by(&said) {
+        if let Some(number) = closed_by(&output) {
             if let Err(refused) = self.marks.make_room(number) {
-                drop(said);
+                drop(output);
                 return Err(refused);
             }
         }
-        let opened = opened_by(&said);
-        let answered = answered(&said);
-        self.held.push(said)?;
+        let opened = opened_by(&output);
+        let answered = answered(&output);
+        self.held.push(output)?;
         if let Some(number) = opened {
             forget(&mut self.closed, &mut self.marks, number);
         }
@@ -308,7 +330,8 @@ impl Tickets {
         Ok(())
     }
 
-    /// Settles every open ticket as dropped, without taking memory. From then on no ticket is opened and nothing is held.
+    /// Settles every open ticket as dropped, without taking memory. From then on no ticket is opened and nothing is
+    /// held.
     #[tactic(auto, using(crate::proofs::Over::all_dropped))]
     pub fn drop_open(&mut self)
         ensures { self.new ≡ record self.old { due = []; held = self.old.held ++ map dropped self.old.due } }

@@ -52,8 +52,8 @@ IsHomeRefusal e = IsFileRefusal e
 
 -- a function of the path in a home directory, if there is one
 abbrev pub at_home : {Y : Type 0} → Option (List ℕ) → (List ℕ → Told → Result Y Error) → Told → Result Y Error
-at_home None said files = Err NoHomeDir
-at_home (Some home) said files = said (home_path home) files
+at_home None outcome files = Err NoHomeDir
+at_home (Some home) outcome files = outcome (home_path home) files
 
 -- NoHomeDir exactly if there is no home directory
 abbrev pub NeedsHome : {T : Type 0} → Option (List ℕ) → Result T Error → Type 0

@@ -3,13 +3,13 @@ use Rattle.std.proofs.Common.{ℕ, List, Vec, Option, Some, None, Result, Ok, Er
 use Rattle.sshc_key.specs.KeyFiles.{Told, AnswersBy, HasReadCause}
 use Rattle.sshc_key.specs.declared.error.Error.{Error}
 
-pub seen_ok : {A M : Type 0} (v : Vec A M) (files : Option Told) (said : Told → Result (List A) Error) → AnswersBy {X = Vec A M} (λ v. v.items) (Ok v) files said → AnswersBy {X = List A} (λ y. y) (Ok v.items) files said
-seen_ok v None said h = tt
-seen_ok v (Some files) said h = h
+pub seen_ok : {A M : Type 0} (v : Vec A M) (files : Option Told) (outcome : Told → Result (List A) Error) → AnswersBy {X = Vec A M} (λ v. v.items) (Ok v) files outcome → AnswersBy {X = List A} (λ y. y) (Ok v.items) files outcome
+seen_ok v None outcome h = tt
+seen_ok v (Some files) outcome h = h
 
-pub seen_err : {A : Type 0} (M : Type 0) (e : Error) (files : Option Told) (said : Told → Result (List A) Error) → AnswersBy {X = Vec A M} (λ v. v.items) (Err e) files said → AnswersBy {X = List A} (λ y. y) (Err e) files said
-seen_err M e None said h = tt
-seen_err M e (Some files) said h = h
+pub seen_err : {A : Type 0} (M : Type 0) (e : Error) (files : Option Told) (outcome : Told → Result (List A) Error) → AnswersBy {X = Vec A M} (λ v. v.items) (Err e) files outcome → AnswersBy {X = List A} (λ y. y) (Err e) files outcome
+seen_err M e None outcome h = tt
+seen_err M e (Some files) outcome h = h
 
 pub cause_ok : {A M : Type 0} (before now : ℕ) (v : Vec A M) → HasReadCause {T = Vec A M} before now (Ok v) → HasReadCause {T = List A} before now (Ok v.items)
 cause_ok before now v h = record { later = h.later; fault = λ is. absurd cc; same = λ no. h.same (λ is. absurd cc) }

@@ -4,3 +4,4 @@ mod LineLemmas
 mod WrittenLines
 mod StandardFacts
 mod Levels
+mod Hints

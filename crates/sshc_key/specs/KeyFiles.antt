@@ -23,17 +23,17 @@ Told = List (List ℕ × List ℕ)
 
 -- a failed read is returned as such, and each other error is the one that is named
 abbrev pub FailsReading : {Y : Type 0} → Error → Result Y Error → Type 0
-FailsReading ReadFault said = Unit {0}
-FailsReading e said = Fails e said
+FailsReading ReadFault outcome = Unit {0}
+FailsReading e outcome = Fails e outcome
 
 abbrev pub GivesReading : {X Y : Type 0} → (X → Y) → Result X Error → Result Y Error → Type 0
-GivesReading view (Ok x) said = said ≡ Ok (view x)
-GivesReading view (Err e) said = FailsReading e said
+GivesReading view (Ok x) outcome = outcome ≡ Ok (view x)
+GivesReading view (Err e) outcome = FailsReading e outcome
 
 -- where the files are known, the result is the one for these files, or that a read failed
 abbrev pub AnswersBy : {X Y : Type 0} → (X → Y) → Result X Error → Option Told → (Told → Result Y Error) → Type 0
-AnswersBy view result None said = Unit {0}
-AnswersBy view result (Some files) said = GivesReading view result (said files)
+AnswersBy view result None outcome = Unit {0}
+AnswersBy view result (Some files) outcome = GivesReading view result (outcome files)
 
 -- a count never falls; a failed read is returned only where it rose, and with every other result it stays
 pub record HasReadCause {T : Type 0} (before now : ℕ) (result : Result T Error) : Type 0 where

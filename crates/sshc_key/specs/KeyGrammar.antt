@@ -52,9 +52,9 @@ pub record IsCertificate (key : Key) : Type 0 where
   pub is : key ≡ certificate nonce certified says signer signature
 
 -- what a certificate says
-abbrev pub said : Key → Option Statement
-said (plain k) = None
-said (certificate nonce key says signer signature) = Some says
+abbrev pub statement_in : Key → Option Statement
+statement_in (plain k) = None
+statement_in (certificate nonce key says signer signature) = Some says
 
 -- how many certificates are nested
 abbrev pub depth : Key → ℕ

@@ -3,7 +3,8 @@
 ghost use Rattle.std.specs.Prelude.{◌≡◌, ◌↔◌, IsTrue};
 ghost use Rattle.std.specs.Cmp.{partial_equiv_from_equiv, on_equiv};
 ghost use Rattle.sshc_key.specs.View.{view};
-ghost use Rattle.sshc_key.specs.KeyGrammar.{said, dsa, ecdsa, ed25519, rsa, sk_ecdsa, sk_ed25519, opaque, plain};
+ghost use Rattle.sshc_key.specs.KeyGrammar.{statement_in, dsa, ecdsa, ed25519, rsa, sk_ecdsa, sk_ed25519, opaque};
+ghost use Rattle.sshc_key.specs.KeyGrammar.{plain};
 ghost use Rattle.sshc_key.specs.KeyEq.{key_eq, public_eq, key_pair_eq, hashed_pair_eq};
 ghost use Rattle.sshc_key.specs.KeyEq.{key_eq_equiv, public_eq_equiv, key_pair_eq_equiv, hashed_pair_eq_equiv};
 
@@ -155,7 +156,7 @@ impl Certificate {
     }
 
     fn says_same(&self, other: &Certificate) -> bool
-        ensures { IsTrue result ↔ (said self.now ≡ said other.now) }
+        ensures { IsTrue result ↔ (statement_in self.now ≡ statement_in other.now) }
     {
         self.serial == other.serial
             && self.cert_type == other.cert_type

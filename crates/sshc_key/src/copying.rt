@@ -1,7 +1,7 @@
 //! Copies of keys and of what holds them, each of the same value.
 
 ghost use Rattle.std.specs.Prelude.{◌≡◌, IfOk, Ok, Some};
-ghost use Rattle.sshc_key.specs.KeyGrammar.{said, dsa, rsa, sk_ecdsa, sk_ed25519, opaque, plain};
+ghost use Rattle.sshc_key.specs.KeyGrammar.{statement_in, dsa, rsa, sk_ecdsa, sk_ed25519, opaque, plain};
 ghost use Rattle.sshc_key.specs.View.{view};
 
 use crate::algorithm::Algorithm;
@@ -171,7 +171,7 @@ impl Certificate {
     }
 
     fn copied_statement(&self) -> Result<Statement, NoMemory>
-        ensures { IfOk result (λ s. said self.now ≡ Some s) }
+        ensures { IfOk result (λ s. statement_in self.now ≡ Some s) }
     {
         let key_id = self.key_id.copy()?;
         let valid_principals = copied_texts(&self.valid_principals)?;

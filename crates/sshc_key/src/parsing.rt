@@ -65,7 +65,7 @@ pub fn parse_public_key(alloc: Global, blob: &[u8]) -> Result<PublicKey, Error>
 }
 
 /// The key that is the whole blob, with no comment.
-#[tactic(auto, unfolding(crate::specs::Nesting::whole_blob_key), using(crate::specs::KeyLaws::Blobs::fails_whole, crate::specs::KeyLaws::Blobs::more_follows))]
+#[tactic(auto, unfolding(crate::specs::Nesting::whole_blob_key), using(crate::proofs::Hints::parse_whole_public_key))]
 pub fn parse_whole_public_key(alloc: Global, blob: &[u8]) -> Result<PublicKey, Error>
     ensures key { Parses result (key_or_fault (whole_blob_key blob.now)) }
     ensures grammar { (k : Key) → (whole_blob_key blob.now ≡ Some k) ↔ IsBlobOf k blob.now }

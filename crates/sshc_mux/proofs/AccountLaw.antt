@@ -120,9 +120,9 @@ added_within n (call ∷ calls) t = omega (arith, within_in n call (channel_of n
 -- the account over a list of calls
 
 record Lived (n : ℕ) (calls : List Call) (t : TableState) (c c2 : ChannelState) (before : Bool) : Type 0 where
-  balance : bytes_in (packets_by n (ran calls t).said) ++ pending c2.flow.pending ≡ pending c.flow.pending ++ (if takes c.flow then taken n calls else [])
-  window : length (bytes_in (packets_by n (ran calls t).said)) + c2.flow.window ≡ c.flow.window + added n calls t
-  order : Orderly (is_sent c.flow.eof) (is_sent c.flow.close) (packets_by n (ran calls t).said) (is_sent c2.flow.eof) (is_sent c2.flow.close)
+  balance : bytes_in (packets_by n (ran calls t).output) ++ pending c2.flow.pending ≡ pending c.flow.pending ++ (if takes c.flow then taken n calls else [])
+  window : length (bytes_in (packets_by n (ran calls t).output)) + c2.flow.window ≡ c.flow.window + added n calls t
+  order : Orderly (is_sent c.flow.eof) (is_sent c.flow.close) (packets_by n (ran calls t).output) (is_sent c2.flow.eof) (is_sent c2.flow.close)
   eof : is_unasked c2.flow.eof ≡ (is_unasked c.flow.eof && not (asks_eof n calls t))
   close : is_unasked c2.flow.close ≡ (is_unasked c.flow.close && not (asks_close n calls t))
   ends : lets_end before n calls t ≡ true → c2.head.established ≡ true → c2.flow.pending ≡ [] → NoneDue c2.flow
@@ -165,12 +165,12 @@ life n (call ∷ calls) t c c2 before due apart sound here stands there =
     let now = some_there (channel_of n t1.channels) stands.0 in
     let c1 : ChannelState = now.0 in
     let p : Part = part n call c in
-    let step : Moves c c1 (packets_by n (called call t).said) p = step_moves n call t c c1 apart sound here now.1 in
+    let step : Moves c c1 (packets_by n (called call t).output) p = step_moves n call t c c1 apart sound here now.1 in
     let rest : Lived n calls t1 c1 c2 p.ends = life n calls t1 c1 c2 p.ends step.flow.ends (step_apart call t apart) step.sound now.1 stands.1 there in
-    let a : List Packet = packets_by n (called call t).said in
-    let b : List Packet = packets_by n (ran calls t1).said in
-    let packets : packets_by n (ran (call ∷ calls) t).said ≡ a ++ b = packets-append n (called call t).said (ran calls t1).said in
-    let bytes : bytes_in (packets_by n (ran (call ∷ calls) t).said) ≡ bytes_in a ++ bytes_in b = ap bytes_in packets ∙ bytes-append a b in
+    let a : List Packet = packets_by n (called call t).output in
+    let b : List Packet = packets_by n (ran calls t1).output in
+    let packets : packets_by n (ran (call ∷ calls) t).output ≡ a ++ b = packets-append n (called call t).output (ran calls t1).output in
+    let bytes : bytes_in (packets_by n (ran (call ∷ calls) t).output) ≡ bytes_in a ++ bytes_in b = ap bytes_in packets ∙ bytes-append a b in
     let P : List Packet → Type 0 = λ ps. Orderly (is_sent c.flow.eof) (is_sent c.flow.close) ps (is_sent c2.flow.eof) (is_sent c2.flow.close) in
     let Q : Option ChannelState → Type 0 = λ o. lets_end (part_in n call o).ends n calls t1 ≡ true → c2.head.established ≡ true → c2.flow.pending ≡ [] → NoneDue c2.flow in
     let part_is : part_in n call (channel_of n t.channels) ≡ p = ap (λ (o : Option ChannelState). part_in n call o) here in
@@ -283,7 +283,7 @@ made_life n l =
 pub ended_front : (n : ℕ) (l : Life n) (last : Call) → channel_of n (called last (table_after n l)).table.channels ≡ None → IsFront (bytes_in (sent_with n l last)) (taken n l.calls)
 ended_front n l last gone =
     let ps : List Packet = sent n l in
-    let qs : List Packet = packets_by n (called last (table_after n l)).said in (
+    let qs : List Packet = packets_by n (called last (table_after n l)).output in (
       pending l.end.flow.pending,
       ap (λ (ms : List (Stream × ℕ)). ms ++ pending l.end.flow.pending)
           (bytes-append ps qs ∙ ap (λ (ms : List (Stream × ℕ)). bytes_in ps ++ ms) (ended_bytes last (table_after n l) n l.end l.there gone) ∙ append-nil (bytes_in ps))

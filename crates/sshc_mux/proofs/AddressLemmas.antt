@@ -3,14 +3,14 @@ use Rattle.std.proofs.Common.{◌≡◌, ℕ, Bool, true, false, List, [], ◌�
 use Rattle.std.proofs.lemmas.Bool.Decides.{eqb_tells}
 use Rattle.sshc_mux.specs.ChannelState.{ChannelState, TableState, channel_of}
 use Rattle.sshc_mux.specs.Packets.{Packet}
-use Rattle.sshc_mux.specs.ChannelTable.{Said, Effect, said_by, unmoved, turned, removed, taken_away, all_said, recipient_in, Turn, flush_turn}
+use Rattle.sshc_mux.specs.ChannelTable.{ChannelPacket, Effect, said_by, unmoved, turned, removed, taken_away, all_said, recipient_in, Turn, flush_turn}
 use Rattle.sshc_mux.specs.ChannelTable.Opens.{next_number}
 use Rattle.sshc_mux.specs.ChannelAccount.{Call, called, opened, AllAddressed}
 use Rattle.sshc_mux.specs.Places.{numbers, Apart}
 use Rattle.sshc_mux.proofs.NumbersLemmas.{none_has, number_of}
 use Rattle.sshc_mux.proofs.ShapeLemmas.{IsTurn, AreLast, by_shape, silent_flush}
 
-addressed_append : (cs : List ChannelState) (a b : List Said) → AllAddressed cs a → AllAddressed cs b → AllAddressed cs (a ++ b)
+addressed_append : (cs : List ChannelState) (a b : List ChannelPacket) → AllAddressed cs a → AllAddressed cs b → AllAddressed cs (a ++ b)
 addressed_append cs [] b first second = second
 addressed_append cs (s ∷ a) b first second = (first.0, addressed_append cs a b first.1 second)
 
@@ -27,19 +27,19 @@ said_addressed false cs c ps down silent found = let P : List Packet → Type 0 
 own_place : (n : ℕ) (cs : List ChannelState) (c : ChannelState) → channel_of n cs ≡ Some c → channel_of c.head.number cs ≡ Some c
 own_place n cs c found = ap (λ (k : ℕ). channel_of k cs) (number_of n cs c found) ∙ found
 
-turned_addressed : (o : Option ChannelState) (n : ℕ) (turn : ChannelState → Turn) (t : TableState) → IsTurn turn → channel_of n t.channels ≡ o → AllAddressed t.channels (turned n o turn t).said
+turned_addressed : (o : Option ChannelState) (n : ℕ) (turn : ChannelState → Turn) (t : TableState) → IsTurn turn → channel_of n t.channels ≡ o → AllAddressed t.channels (turned n o turn t).output
 turned_addressed None n turn t is found = tt
 turned_addressed (Some c) n turn t is found = said_addressed c.head.established t.channels c (turn c).packets refl (is.silent c) (own_place n t.channels c found)
 
-taken_if_addressed : (b : Bool) (n : ℕ) (c : ChannelState) (last : List Packet) (t : TableState) → (b ≡ true → c.head.established ≡ false → last ≡ []) → channel_of n t.channels ≡ Some c → AllAddressed t.channels (if b then record { table = removed n t; said = said_by c last } else unmoved t).said
+taken_if_addressed : (b : Bool) (n : ℕ) (c : ChannelState) (last : List Packet) (t : TableState) → (b ≡ true → c.head.established ≡ false → last ≡ []) → channel_of n t.channels ≡ Some c → AllAddressed t.channels (if b then record { table = removed n t; output = said_by c last } else unmoved t).output
 taken_if_addressed true n c last t silent found = said_addressed c.head.established t.channels c last refl (silent refl) (own_place n t.channels c found)
 taken_if_addressed false n c last t silent found = tt
 
-taken_addressed : (o : Option ChannelState) (n : ℕ) (goes : ChannelState → Bool) (last : ChannelState → List Packet) (t : TableState) → AreLast goes last → channel_of n t.channels ≡ o → AllAddressed t.channels (taken_away n o goes last t).said
+taken_addressed : (o : Option ChannelState) (n : ℕ) (goes : ChannelState → Bool) (last : ChannelState → List Packet) (t : TableState) → AreLast goes last → channel_of n t.channels ≡ o → AllAddressed t.channels (taken_away n o goes last t).output
 taken_addressed None n goes last t are found = tt
 taken_addressed (Some c) n goes last t are found = taken_if_addressed (goes c) n c (last c) t (are.silent c) found
 
-opened_addressed : (o : Option ℕ) (channel : ℕ → ChannelState) (t : TableState) → AllAddressed t.channels (opened o channel t).said
+opened_addressed : (o : Option ℕ) (channel : ℕ → ChannelState) (t : TableState) → AllAddressed t.channels (opened o channel t).output
 opened_addressed None channel t = tt
 opened_addressed (Some n) channel t = tt
 
@@ -57,9 +57,9 @@ flush_addressed cs (c ∷ rest) finds apart =
     (said_addressed c.head.established cs c (flush_turn c).packets refl (λ down. silent_flush false c.head c.flow down) (finds c (ap (λ (b : Bool). if b then Some c else channel_of c.head.number rest) (eq-eqb c.head.number c.head.number refl))))
     (flush_addressed cs rest (λ d found. finds d (behind c d rest apart found)) apart.1)
 
-pub addressed : (call : Call) (t : TableState) → Apart (numbers t.channels) → AllAddressed t.channels (called call t).said
+pub addressed : (call : Call) (t : TableState) → Apart (numbers t.channels) → AllAddressed t.channels (called call t).output
 addressed call t apart =
-    let P : Effect → Type 0 = λ e. AllAddressed t.channels e.said in
+    let P : Effect → Type 0 = λ e. AllAddressed t.channels e.output in
     by_shape P t (record {
       opens = λ channel makes. opened_addressed (next_number t) channel t;
       turns = λ n turn is. turned_addressed (channel_of n t.channels) n turn t is refl;

@@ -6,14 +6,14 @@ use Rattle.std.proofs.lemmas.Bool.Decides.{eqb_tells}
 use Rattle.std.proofs.Common.{eq-eqb}
 use Rattle.sshc_mux.specs.ChannelState.{ChannelState, TableState, channel_of, with_channel, without}
 use Rattle.sshc_mux.specs.Packets.{Packet}
-use Rattle.sshc_mux.specs.ChannelTable.{Said, said_by, turned, turn_at, unmoved, all_flushed, all_said, flush, removed, taken_away, take_at, Turn, flush_turn}
+use Rattle.sshc_mux.specs.ChannelTable.{ChannelPacket, said_by, turned, turn_at, unmoved, all_flushed, all_said, flush, removed, taken_away, take_at, Turn, flush_turn}
 use Rattle.sshc_mux.specs.ChannelAccount.{packets_by}
 use Rattle.sshc_mux.specs.Places.{numbers, Apart}
 use Rattle.sshc_mux.proofs.NumbersLemmas.{none_has, number_of, with_same, with_other, without_same, without_other, flushed_found}
 
 -- the packets of one channel
 
-pub packets-append : (n : ℕ) (a b : List Said) → packets_by n (a ++ b) ≡ packets_by n a ++ packets_by n b
+pub packets-append : (n : ℕ) (a b : List ChannelPacket) → packets_by n (a ++ b) ≡ packets_by n a ++ packets_by n b
 packets-append n [] b = refl
 packets-append n (s ∷ a) b = elim (eqb_tells s.number n) [
   | inl w ↦
@@ -75,7 +75,7 @@ some_same a b o first second = let same : Some b ≡ Some a = sym second ∙ fir
 
 turn_by : (n id : ℕ) (turn : ChannelState → Turn) (t : TableState) (c c2 : ChannelState) (o : Option ChannelState) → channel_of id t.channels ≡ o → ((x : ChannelState) → (turn x).channel.head.number ≡ x.head.number) →
     channel_of n t.channels ≡ Some c → channel_of n (turned id o turn t).table.channels ≡ Some c2 →
-    Outcome n id c c2 (turn c).channel (packets_by n (turned id o turn t).said) (turn c).packets
+    Outcome n id c c2 (turn c).channel (packets_by n (turned id o turn t).output) (turn c).packets
 turn_by n id turn t c c2 None found number here there = record {
   same = λ e. let no : None ≡ Some c = sym found ∙ ap (λ (k : ℕ). channel_of k t.channels) e ∙ here in absurd (cc);
   other = λ ne. (some_same c c2 (channel_of n t.channels) here there, refl);
@@ -99,7 +99,7 @@ turn_by n id turn t c c2 (Some x) found number here there =
 
 pub turn_outcome : (n id : ℕ) (turn : ChannelState → Turn) (t : TableState) (c c2 : ChannelState) → ((x : ChannelState) → (turn x).channel.head.number ≡ x.head.number) →
     channel_of n t.channels ≡ Some c → channel_of n (turn_at id turn t).table.channels ≡ Some c2 →
-    Outcome n id c c2 (turn c).channel (packets_by n (turn_at id turn t).said) (turn c).packets
+    Outcome n id c c2 (turn c).channel (packets_by n (turn_at id turn t).output) (turn c).packets
 turn_outcome n id turn t c c2 number here there = turn_by n id turn t c c2 (channel_of id t.channels) refl number here there
 
 same_outcome : (n id : ℕ) (t : TableState) (c c2 : ChannelState) → channel_of n t.channels ≡ Some c → channel_of n t.channels ≡ Some c2 → Outcome n id c c2 c [] []
@@ -110,8 +110,8 @@ same_outcome n id t c c2 here there = record {
 
 -- a channel that is still in the table wasn't the one that was removed
 take_if : (b : Bool) (n id : ℕ) (x : ChannelState) (last : List Packet) (t : TableState) (c c2 : ChannelState) → channel_of id t.channels ≡ Some x → Apart (numbers t.channels) → channel_of n t.channels ≡ Some c →
-    channel_of n (if b then record { table = removed id t; said = said_by x last } else unmoved t).table.channels ≡ Some c2 →
-    Outcome n id c c2 c (packets_by n (if b then record { table = removed id t; said = said_by x last } else unmoved t).said) []
+    channel_of n (if b then record { table = removed id t; output = said_by x last } else unmoved t).table.channels ≡ Some c2 →
+    Outcome n id c c2 c (packets_by n (if b then record { table = removed id t; output = said_by x last } else unmoved t).output) []
 take_if true n id x last t c c2 found apart here there = record {
   same = λ e. let no : None ≡ Some c2 = sym (without_same n t.channels apart) ∙ ap (λ (k : ℕ). channel_of n (without k t.channels)) (sym e) ∙ there in absurd (cc);
   other = λ ne. (
@@ -122,15 +122,15 @@ take_if true n id x last t c c2 found apart here there = record {
 take_if false n id x last t c c2 found apart here there = same_outcome n id t c c2 here there
 
 take_by : (o : Option ChannelState) (n id : ℕ) (goes : ChannelState → Bool) (last : ChannelState → List Packet) (t : TableState) (c c2 : ChannelState) → channel_of id t.channels ≡ o → Apart (numbers t.channels) → channel_of n t.channels ≡ Some c →
-    channel_of n (taken_away id o goes last t).table.channels ≡ Some c2 → Outcome n id c c2 c (packets_by n (taken_away id o goes last t).said) []
+    channel_of n (taken_away id o goes last t).table.channels ≡ Some c2 → Outcome n id c c2 c (packets_by n (taken_away id o goes last t).output) []
 take_by None n id goes last t c c2 found apart here there = same_outcome n id t c c2 here there
 take_by (Some x) n id goes last t c c2 found apart here there = take_if (goes x) n id x (last x) t c c2 found apart here there
 
 pub take_outcome : (n id : ℕ) (goes : ChannelState → Bool) (last : ChannelState → List Packet) (t : TableState) (c c2 : ChannelState) → Apart (numbers t.channels) → channel_of n t.channels ≡ Some c →
-    channel_of n (take_at id goes last t).table.channels ≡ Some c2 → Outcome n id c c2 c (packets_by n (take_at id goes last t).said) []
+    channel_of n (take_at id goes last t).table.channels ≡ Some c2 → Outcome n id c c2 c (packets_by n (take_at id goes last t).output) []
 take_outcome n id goes last t c c2 apart here there = take_by (channel_of id t.channels) n id goes last t c c2 refl apart here there
 
 pub flush_outcome : (n : ℕ) (t : TableState) (c c2 : ChannelState) → Apart (numbers t.channels) → channel_of n t.channels ≡ Some c → channel_of n (flush t).table.channels ≡ Some c2 →
-    (c2 ≡ (flush_turn c).channel) × (packets_by n (flush t).said ≡ (flush_turn c).packets)
+    (c2 ≡ (flush_turn c).channel) × (packets_by n (flush t).output ≡ (flush_turn c).packets)
 flush_outcome n t c c2 apart here there =
     (some_same (flush_turn c).channel c2 (channel_of n (all_flushed t.channels)) (flushed_found n t.channels c here) there, flush_packets n t.channels c apart here)

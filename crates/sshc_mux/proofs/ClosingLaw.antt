@@ -22,10 +22,10 @@ closing n l up =
     let end : ChannelState = l.end in
     let t : TableState = table_after n l in
     let ps : List Packet = sent n l in
-    let effect : close_peer n t ≡ record { table = removed n t; said = said_by end (last_packets end) } =
-    ap (λ (o : Option ChannelState). taken_away n o is_up last_packets t) l.there ∙ ap (λ (b : Bool). if b then record { table = removed n t; said = said_by end (last_packets end) } else unmoved t) up in
-    let last : packets_by n (close_peer n t).said ≡ last_packets end =
-    ap (λ (e : Effect). packets_by n e.said) effect ∙ packets-own n end (last_packets end) (number_of n t.channels end l.there) in
+    let effect : close_peer n t ≡ record { table = removed n t; output = said_by end (last_packets end) } =
+    ap (λ (o : Option ChannelState). taken_away n o is_up last_packets t) l.there ∙ ap (λ (b : Bool). if b then record { table = removed n t; output = said_by end (last_packets end) } else unmoved t) up in
+    let last : packets_by n (close_peer n t).output ≡ last_packets end =
+    ap (λ (e : Effect). packets_by n e.output) effect ∙ packets-own n end (last_packets end) (number_of n t.channels end l.there) in
     let P : List Packet → Type 0 = λ qs. Orderly false false (ps ++ qs) (is_sent end.flow.eof) true in
     let free : channel_of n (close_peer n t).table.channels ≡ None = ap (λ (e : Effect). channel_of n e.table.channels) effect ∙ without_same n t.channels life_made.apart in
     record {

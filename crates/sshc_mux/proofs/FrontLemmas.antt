@@ -90,13 +90,13 @@ front_sent stream bytes front rest exchanging h f room count empty taking room_i
     ∙ ap (λ (ps : List Packet). let t : FlowTurn = record { flow = record f { window = f.window - count; pending = waiting_of stream rest }; packets = ps } in t) packets
 
 -- the channel and the outbox after it
-pub front_turned : {A : Type 0} (x : A) (stream : Stream) (bytes front rest : List ℕ) (exchanging : Bool) (c after : ChannelState) (room count : ℕ) (said : List Record) (old new : Outgoing) →
+pub front_turned : {A : Type 0} (x : A) (stream : Stream) (bytes front rest : List ℕ) (exchanging : Bool) (c after : ChannelState) (room count : ℕ) (output : List Record) (old new : Outgoing) →
     c.flow.pending ≡ [] → takes c.flow ≡ true → room ≡ room_of exchanging c.head c.flow → count ≡ min (length bytes) room → front ≡ take count bytes → rest ≡ drop count bytes →
-    said ≡ payloads c.head.recipient (pieces_of stream (cut c.head.packet_size front)) →
+    output ≡ payloads c.head.recipient (pieces_of stream (cut c.head.packet_size front)) →
     after ≡ record c { flow = record c.flow { pending = c.flow.pending ++ waiting_of stream rest; window = c.flow.window - length front } } →
-    new.records ≡ old.records ++ shown old.muted said → new.muted ≡ old.muted →
+    new.records ≡ old.records ++ shown old.muted output → new.muted ≡ old.muted →
     Turned (in_flow (flush_with stream bytes exchanging) c) c after old new (Ok x)
-front_turned x stream bytes front rest exchanging c after room count said old new empty taking room_is count_is front_is rest_is said_is after_is added muted =
+front_turned x stream bytes front rest exchanging c after room count output old new empty taking room_is count_is front_is rest_is said_is after_is added muted =
     let f : Flow = c.flow in
     let alike = front_sent stream bytes front rest exchanging c.head f room count empty taking room_is count_is front_is rest_is in
     let short : length front ≡ count = ap (λ (bs : List ℕ). length bs) front_is ∙ omega (arith, length-take count bytes) in
@@ -104,7 +104,7 @@ front_turned x stream bytes front rest exchanging c after room count said old ne
     after_is
     ∙ ap (λ (n : ℕ). record c { flow = record f { pending = f.pending ++ waiting_of stream rest; window = f.window - n } }) short
     ∙ ap (λ (ws : List Waiting). record c { flow = record f { pending = ws ++ waiting_of stream rest; window = f.window - count } }) empty in
-    let packets : said ≡ payloads c.head.recipient (flush_with stream bytes exchanging c.head f).packets = said_is ∙ ap (λ (t : FlowTurn). payloads c.head.recipient t.packets) (sym alike) in (
+    let packets : output ≡ payloads c.head.recipient (flush_with stream bytes exchanging c.head f).packets = said_is ∙ ap (λ (t : FlowTurn). payloads c.head.recipient t.packets) (sym alike) in (
       channel ∙ ap (λ (t : FlowTurn). record c { flow = t.flow }) (sym alike),
       added ∙ ap (λ (rs : List Record). old.records ++ shown old.muted rs) packets,
       muted,

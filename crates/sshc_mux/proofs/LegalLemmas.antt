@@ -59,7 +59,7 @@ turned_apart (Some x) n turn t number found apart =
     let P : List ℕ → Type 0 = λ ns. Apart ns in
     subst P (sym (numbers-with n (turn x).channel t.channels (number x ∙ number_of n t.channels x found))) apart
 
-taken_if_apart : (b : Bool) (n : ℕ) (x : ChannelState) (last : List Packet) (t : TableState) → Apart (numbers t.channels) → Apart (numbers (if b then record { table = removed n t; said = said_by x last } else unmoved t).table.channels)
+taken_if_apart : (b : Bool) (n : ℕ) (x : ChannelState) (last : List Packet) (t : TableState) → Apart (numbers t.channels) → Apart (numbers (if b then record { table = removed n t; output = said_by x last } else unmoved t).table.channels)
 taken_if_apart true n x last t apart = apart_without n t.channels apart
 taken_if_apart false n x last t apart = apart
 
@@ -113,7 +113,7 @@ turned_numbers : (o : Option ChannelState) (m : ℕ) (turn : ChannelState → Tu
 turned_numbers None m turn t is found = refl
 turned_numbers (Some x) m turn t is found = numbers-with m (turn x).channel t.channels (is.number x ∙ number_of m t.channels x found)
 
-taken_if_none : (b : Bool) (m n : ℕ) (x : ChannelState) (last : List Packet) (t : TableState) → channel_of n t.channels ≡ None → channel_of n (if b then record { table = removed m t; said = said_by x last } else unmoved t).table.channels ≡ None
+taken_if_none : (b : Bool) (m n : ℕ) (x : ChannelState) (last : List Packet) (t : TableState) → channel_of n t.channels ≡ None → channel_of n (if b then record { table = removed m t; output = said_by x last } else unmoved t).table.channels ≡ None
 taken_if_none true m n x last t none = none_has n _ (has_without n m t.channels (has_none n t.channels none))
 taken_if_none false m n x last t none = none
 
@@ -146,21 +146,21 @@ said_none x last n none = elim (eqb_tells x.head.number n) [
   | inr w ↦ ap bytes_in (packets-other n x last w.1)
 ]
 
-taken_if_bytes : (b : Bool) (m n : ℕ) (x : ChannelState) (last : List Packet) (t : TableState) → bytes_in last ≡ [] → bytes_in (packets_by n (if b then record { table = removed m t; said = said_by x last } else unmoved t).said) ≡ []
+taken_if_bytes : (b : Bool) (m n : ℕ) (x : ChannelState) (last : List Packet) (t : TableState) → bytes_in last ≡ [] → bytes_in (packets_by n (if b then record { table = removed m t; output = said_by x last } else unmoved t).output) ≡ []
 taken_if_bytes true m n x last t none = said_none x last n none
 taken_if_bytes false m n x last t none = refl
 
-taken_bytes : (o : Option ChannelState) (m n : ℕ) (goes : ChannelState → Bool) (last : ChannelState → List Packet) (t : TableState) → AreLast goes last → bytes_in (packets_by n (taken_away m o goes last t).said) ≡ []
+taken_bytes : (o : Option ChannelState) (m n : ℕ) (goes : ChannelState → Bool) (last : ChannelState → List Packet) (t : TableState) → AreLast goes last → bytes_in (packets_by n (taken_away m o goes last t).output) ≡ []
 taken_bytes None m n goes last t are = refl
 taken_bytes (Some x) m n goes last t are = taken_if_bytes (goes x) m n x (last x) t (are.bytes x)
 
-opened_bytes : (o : Option ℕ) (channel : ℕ → ChannelState) (t : TableState) (n : ℕ) → bytes_in (packets_by n (opened o channel t).said) ≡ []
+opened_bytes : (o : Option ℕ) (channel : ℕ → ChannelState) (t : TableState) (n : ℕ) → bytes_in (packets_by n (opened o channel t).output) ≡ []
 opened_bytes None channel t n = refl
 opened_bytes (Some m) channel t n = refl
 
-pub ended_bytes : (call : Call) (t : TableState) (n : ℕ) (c : ChannelState) → channel_of n t.channels ≡ Some c → channel_of n (called call t).table.channels ≡ None → bytes_in (packets_by n (called call t).said) ≡ []
+pub ended_bytes : (call : Call) (t : TableState) (n : ℕ) (c : ChannelState) → channel_of n t.channels ≡ Some c → channel_of n (called call t).table.channels ≡ None → bytes_in (packets_by n (called call t).output) ≡ []
 ended_bytes call t n c here =
-    let P : Effect → Type 0 = λ e. channel_of n e.table.channels ≡ None → bytes_in (packets_by n e.said) ≡ [] in
+    let P : Effect → Type 0 = λ e. channel_of n e.table.channels ≡ None → bytes_in (packets_by n e.output) ≡ [] in
     by_shape P t (record {
       opens = λ channel makes gone. opened_bytes (next_number t) channel t n;
       turns = λ m turn is gone. absurd (some_or_none c _ here (none_still n _ t.channels (sym (turned_numbers (channel_of m t.channels) m turn t is refl)) gone));

@@ -53,7 +53,7 @@ quietly n id c c2 after packets own outcome sound moves =
     let P : Part → Type 0 = λ p. Moves c c2 packets p in
     subst P (same_if (eqb id n) no_part) (by_name n id c c2 after packets own no_part outcome sound moves)
 
-opened_moves : (n : ℕ) (o : Option ℕ) (channel : ℕ → ChannelState) (t : TableState) (c c2 : ChannelState) → IsSound c → channel_of n t.channels ≡ Some c → channel_of n (opened o channel t).table.channels ≡ Some c2 → Moves c c2 (packets_by n (opened o channel t).said) no_part
+opened_moves : (n : ℕ) (o : Option ℕ) (channel : ℕ → ChannelState) (t : TableState) (c c2 : ChannelState) → IsSound c → channel_of n t.channels ≡ Some c → channel_of n (opened o channel t).table.channels ≡ Some c2 → Moves c c2 (packets_by n (opened o channel t).output) no_part
 opened_moves n None channel t c c2 sound here there =
     let same : Some c2 ≡ Some c = sym there ∙ here in
     moves_is c c c2 [] [] no_part (cc) refl (still_moves c sound)
@@ -63,36 +63,36 @@ opened_moves n (Some m) channel t c c2 sound here there =
 
 -- each call does its part to a channel that is there after it
 pub step_moves : (n : ℕ) (call : Call) (t : TableState) (c c2 : ChannelState) → Apart (numbers t.channels) → IsSound c → channel_of n t.channels ≡ Some c → channel_of n (called call t).table.channels ≡ Some c2 →
-    Moves c c2 (packets_by n (called call t).said) (part n call c)
+    Moves c c2 (packets_by n (called call t).output) (part n call c)
 step_moves n (OpenUser window packet ticket) t c c2 apart sound here there = opened_moves n (next_number t) (λ m. opened_by_user m window packet ticket) t c c2 sound here there
 step_moves n (ReserveServer recipient window packet own) t c c2 apart sound here there = opened_moves n (next_number t) (λ m. reserved_by_server m recipient window packet own) t c c2 sound here there
 step_moves n (SettleServer id true) t c c2 apart sound here there =
-    by_name n id c c2 (accept_turn c).channel (packets_by n (turn_at id accept_turn t).said) [] (accept_part c) (turn_outcome n id accept_turn t c c2 accept_number here there) sound (λ e. accept_moves c sound)
+    by_name n id c c2 (accept_turn c).channel (packets_by n (turn_at id accept_turn t).output) [] (accept_part c) (turn_outcome n id accept_turn t c c2 accept_number here there) sound (λ e. accept_moves c sound)
 step_moves n (SettleServer id false) t c c2 apart sound here there =
-    quietly n id c c2 c (packets_by n (take_at id is_reserved no_packets_of t).said) [] (take_outcome n id is_reserved no_packets_of t c c2 apart here there) sound (λ e. still_moves c sound)
+    quietly n id c c2 c (packets_by n (take_at id is_reserved no_packets_of t).output) [] (take_outcome n id is_reserved no_packets_of t c c2 apart here there) sound (λ e. still_moves c sound)
 step_moves n (Confirm id recipient window packet) t c c2 apart sound here there =
     let turn : ChannelState → Turn = confirm_turn recipient window packet in
-    by_name n id c c2 (turn c).channel (packets_by n (turn_at id turn t).said) [] (confirm_part recipient window packet c) (turn_outcome n id turn t c c2 (confirm_number recipient window packet) here there) sound
+    by_name n id c c2 (turn c).channel (packets_by n (turn_at id turn t).output) [] (confirm_part recipient window packet c) (turn_outcome n id turn t c c2 (confirm_number recipient window packet) here there) sound
     (λ e. confirm_moves recipient window packet c sound)
 step_moves n (Fail id) t c c2 apart sound here there =
-    quietly n id c c2 c (packets_by n (take_at id is_awaited no_packets_of t).said) [] (take_outcome n id is_awaited no_packets_of t c c2 apart here there) sound (λ e. still_moves c sound)
+    quietly n id c c2 c (packets_by n (take_at id is_awaited no_packets_of t).output) [] (take_outcome n id is_awaited no_packets_of t c c2 apart here there) sound (λ e. still_moves c sound)
 step_moves n (Bytes id stream bytes exchanging) t c c2 apart sound here there =
     let turn : ChannelState → Turn = data_turn stream bytes exchanging in
-    by_name n id c c2 (turn c).channel (packets_by n (turn_at id turn t).said) (turn c).packets (bytes_part stream bytes exchanging c) (turn_outcome n id turn t c c2 (λ x. refl) here there) sound
+    by_name n id c c2 (turn c).channel (packets_by n (turn_at id turn t).output) (turn c).packets (bytes_part stream bytes exchanging c) (turn_outcome n id turn t c c2 (λ x. refl) here there) sound
     (λ e. data_moves stream bytes exchanging c sound)
 step_moves n (AskEof id) t c c2 apart sound here there =
-    by_name n id c c2 (eof_turn c).channel (packets_by n (turn_at id eof_turn t).said) (eof_turn c).packets (eof_part c) (turn_outcome n id eof_turn t c c2 (λ x. refl) here there) sound (λ e. eof_moves c sound)
+    by_name n id c c2 (eof_turn c).channel (packets_by n (turn_at id eof_turn t).output) (eof_turn c).packets (eof_part c) (turn_outcome n id eof_turn t c c2 (λ x. refl) here there) sound (λ e. eof_moves c sound)
 step_moves n (AskClose id) t c c2 apart sound here there =
-    by_name n id c c2 (close_turn c).channel (packets_by n (turn_at id close_turn t).said) (close_turn c).packets close_part (turn_outcome n id close_turn t c c2 (λ x. refl) here there) sound (λ e. close_moves c sound)
+    by_name n id c c2 (close_turn c).channel (packets_by n (turn_at id close_turn t).output) (close_turn c).packets close_part (turn_outcome n id close_turn t c c2 (λ x. refl) here there) sound (λ e. close_moves c sound)
 step_moves n (PeerClose id) t c c2 apart sound here there =
-    quietly n id c c2 c (packets_by n (close_peer id t).said) [] (take_outcome n id is_up last_packets t c c2 apart here there) sound (λ e. still_moves c sound)
+    quietly n id c c2 c (packets_by n (close_peer id t).output) [] (take_outcome n id is_up last_packets t c c2 apart here there) sound (λ e. still_moves c sound)
 step_moves n (Grant id amount exchanging) t c c2 apart sound here there =
     let turn : ChannelState → Turn = grant_turn amount exchanging in
-    by_name n id c c2 (turn c).channel (packets_by n (turn_at id turn t).said) (turn c).packets (grant_part amount exchanging c) (turn_outcome n id turn t c c2 (λ x. refl) here there) sound
+    by_name n id c c2 (turn c).channel (packets_by n (turn_at id turn t).output) (turn c).packets (grant_part amount exchanging c) (turn_outcome n id turn t c c2 (λ x. refl) here there) sound
     (λ e. grant_moves amount exchanging c sound)
 step_moves n FlushAll t c c2 apart sound here there =
     let outcome = flush_outcome n t c c2 apart here there in
-    moves_is c (flush_turn c).channel c2 (flush_turn c).packets (packets_by n (flush t).said) flush_part outcome.0 outcome.1 (flush_turn_moves c sound)
+    moves_is c (flush_turn c).channel c2 (flush_turn c).packets (packets_by n (flush t).output) flush_part outcome.0 outcome.1 (flush_turn_moves c sound)
 step_moves n (Received id len target) t c c2 apart sound here there =
     let turn : ChannelState → Turn = received_turn len target in
-    by_name n id c c2 (turn c).channel (packets_by n (turn_at id turn t).said) (turn c).packets (received_part len target c) (turn_outcome n id turn t c c2 (λ x. refl) here there) sound (λ e. received_moves len target c sound)
+    by_name n id c c2 (turn c).channel (packets_by n (turn_at id turn t).output) (turn c).packets (received_part len target c) (turn_outcome n id turn t c c2 (λ x. refl) here there) sound (λ e. received_moves len target c sound)

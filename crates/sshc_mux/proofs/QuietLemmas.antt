@@ -20,11 +20,11 @@ said_silent : (c : ChannelState) (ps : List Packet) → Silent ps → Silent (pa
 said_silent c [] all = tt
 said_silent c (p ∷ ps) (one, all) = (one, said_silent c ps all)
 
-opened_silent : (o : Option ℕ) (channel : ℕ → ChannelState) (t : TableState) → Silent (packets_in (opened o channel t).said)
+opened_silent : (o : Option ℕ) (channel : ℕ → ChannelState) (t : TableState) → Silent (packets_in (opened o channel t).output)
 opened_silent None channel t = tt
 opened_silent (Some n) channel t = tt
 
-turned_silent : (o : Option ChannelState) (n : ℕ) (turn : ChannelState → Turn) (t : TableState) → ((c : ChannelState) → Silent (turn c).packets) → Silent (packets_in (turned n o turn t).said)
+turned_silent : (o : Option ChannelState) (n : ℕ) (turn : ChannelState → Turn) (t : TableState) → ((c : ChannelState) → Silent (turn c).packets) → Silent (packets_in (turned n o turn t).output)
 turned_silent None n turn t silent_so = tt
 turned_silent (Some c) n turn t silent_so = said_silent c (turn c).packets (silent_so c)
 
@@ -36,11 +36,11 @@ adjusts_silent : (amounts : List ℕ) → Silent (adjust_packets amounts)
 adjusts_silent [] = tt
 adjusts_silent (n ∷ amounts) = (tt, adjusts_silent amounts)
 
-if_taken_silent : (b : Bool) (n : ℕ) (c : ChannelState) (last : List Packet) (t : TableState) → Silent last → Silent (packets_in (if b then record { table = removed n t; said = said_by c last } else unmoved t).said)
+if_taken_silent : (b : Bool) (n : ℕ) (c : ChannelState) (last : List Packet) (t : TableState) → Silent last → Silent (packets_in (if b then record { table = removed n t; output = said_by c last } else unmoved t).output)
 if_taken_silent true n c last t all = said_silent c last all
 if_taken_silent false n c last t all = tt
 
-taken_silent : (o : Option ChannelState) (n : ℕ) (goes : ChannelState → Bool) (last : ChannelState → List Packet) (t : TableState) → ((c : ChannelState) → Silent (last c)) → Silent (packets_in (taken_away n o goes last t).said)
+taken_silent : (o : Option ChannelState) (n : ℕ) (goes : ChannelState → Bool) (last : ChannelState → List Packet) (t : TableState) → ((c : ChannelState) → Silent (last c)) → Silent (packets_in (taken_away n o goes last t).output)
 taken_silent None n goes last t all = tt
 taken_silent (Some c) n goes last t all = if_taken_silent (goes c) n c (last c) t (all c)
 
@@ -82,7 +82,7 @@ grant_silent : (amount : ℕ) (exchanging : Bool) (c : ChannelState) → not exc
 grant_silent amount true c h = silent_if c.head.established (flushed true c.head (raised amount c.flow)) c.flow (flush_silent c.head (raised amount c.flow))
 grant_silent amount false c h = absurd (cc)
 
-pub silent : (call : Call) (t : TableState) → may_send call ≡ false → Silent (packets_in (called call t).said)
+pub silent : (call : Call) (t : TableState) → may_send call ≡ false → Silent (packets_in (called call t).output)
 silent (OpenUser window packet ticket) t h = opened_silent (next_number t) (λ n. opened_by_user n window packet ticket) t
 silent (ReserveServer recipient window packet own) t h = opened_silent (next_number t) (λ n. reserved_by_server n recipient window packet own) t
 silent (SettleServer n true) t h = turned_silent (channel_of n t.channels) n accept_turn t (λ c. tt)
@@ -106,5 +106,5 @@ no_bytes (Eof ∷ ps) all = no_bytes ps all.1
 no_bytes (Close ∷ ps) all = no_bytes ps all.1
 no_bytes (Adjust amount ∷ ps) all = no_bytes ps all.1
 
-pub quiet : (call : Call) (t : TableState) → may_send call ≡ false → bytes_in (packets_in (called call t).said) ≡ []
-quiet call t h = no_bytes (packets_in (called call t).said) (silent call t h)
+pub quiet : (call : Call) (t : TableState) → may_send call ≡ false → bytes_in (packets_in (called call t).output) ≡ []
+quiet call t h = no_bytes (packets_in (called call t).output) (silent call t h)

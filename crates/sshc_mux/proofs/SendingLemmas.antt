@@ -90,10 +90,10 @@ module _ (recipient size room at : ℕ) (stream : Stream) (bytes : List ℕ) (w 
       after ++ payloads recipient (sent_of size (room - length bytes) (drop (at + 1) ws)) ≡ whole
   whole_at before after whole fits pushed so_far =
       let fit : length w.bytes ≤ room = omega (arith, ap length bytes_is) in
-      let said : after ≡ before ++ payloads recipient (pieces_of w.stream (cut size w.bytes)) =
+      let output : after ≡ before ++ payloads recipient (pieces_of w.stream (cut size w.bytes)) =
       pushed ∙ ap (λ (s : Stream). before ++ payloads recipient (pieces_of s (cut size bytes))) stream_is ∙ ap (λ (bs : List ℕ). before ++ payloads recipient (pieces_of w.stream (cut size bs))) bytes_is in
       ap (λ (bs : List ℕ). after ++ payloads recipient (sent_of size (room - length bs) (drop (at + 1) ws))) bytes_is
-      ∙ whole_more recipient size room w (drop at ws) (drop (at + 1) ws) before after whole next fit said so_far
+      ∙ whole_more recipient size room w (drop at ws) (drop (at + 1) ws) before after whole next fit output so_far
 
   pub rest_at : (all : List Waiting) → length bytes ≤ room → left_of room (drop at ws) ≡ all → left_of (room - length bytes) (drop (at + 1) ws) ≡ all
   rest_at all fits is =
@@ -106,9 +106,9 @@ module _ (recipient size room at : ℕ) (stream : Stream) (bytes : List ℕ) (w 
       before ++ payloads recipient (sent_of size room (drop at ws)) ≡ whole → after ≡ whole
   part_at part before after whole short front pushed so_far =
       let shorter : room < length w.bytes = omega (arith, ap length bytes_is) in
-      let said : after ≡ before ++ payloads recipient (pieces_of w.stream (cut size (take room w.bytes))) =
+      let output : after ≡ before ++ payloads recipient (pieces_of w.stream (cut size (take room w.bytes))) =
       pushed ∙ ap (λ (bs : List ℕ). before ++ payloads recipient (pieces_of stream (cut size bs))) front ∙ ap (λ (s : Stream). before ++ payloads recipient (pieces_of s (cut size (take room bytes)))) stream_is ∙ ap (λ (bs : List ℕ). before ++ payloads recipient (pieces_of w.stream (cut size (take room bs)))) bytes_is in
-      part_done recipient size room w (drop at ws) (drop (at + 1) ws) before after whole next shorter said so_far
+      part_done recipient size room w (drop at ws) (drop (at + 1) ws) before after whole next shorter output so_far
 
   pub some_at : (all : List Waiting) → room < length bytes → left_of room (drop at ws) ≡ all → eqb (length all) 0 ≡ false
   some_at all short is =

@@ -96,7 +96,7 @@ abbrev with_closed : TableState
 with_closed = record { channels = (close_turn (opened 4 100)).channel ∷ []; last = 1 }
 
 -- our close is sent once, and the peer's close frees the number
-close_once : close_peer 1 with_closed ≡ record { table = record { channels = []; last = 1 }; said = [] }
+close_once : close_peer 1 with_closed ≡ record { table = record { channels = []; last = 1 }; output = [] }
 unfolding flushed cut
 close_once = refl
 

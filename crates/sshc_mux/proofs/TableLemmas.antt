@@ -8,18 +8,18 @@ use Rattle.sshc_wire.specs.declared.record.Record.TheVariants.{Payload}
 use Rattle.sshc_wire.specs.Outgoing.{Outgoing, shown}
 use Rattle.sshc_mux.specs.ChannelState.{ChannelState, TableState, channel_of, without}
 use Rattle.sshc_mux.specs.Packets.{Packet, packet_text, payloads}
-use Rattle.sshc_mux.specs.ChannelTable.{flush, waits, any_waits, Said, Effect, said_by, records_of, turned, turn_at, removed, taken_away, take_at, no_packets_of, accept_turn, settle, unmoved, all_said, CameAbout, Turned, Turn, flush_turn}
+use Rattle.sshc_mux.specs.ChannelTable.{flush, waits, any_waits, ChannelPacket, Effect, said_by, records_of, turned, turn_at, removed, taken_away, take_at, no_packets_of, accept_turn, settle, unmoved, all_said, CameAbout, Turned, Turn, flush_turn}
 use Rattle.sshc_mux.specs.ChannelTable.Opens.{accepted, is_reserved}
 use Rattle.sshc_mux.specs.Places.{Slots, present, IsPlace, flushed_slot, waiting_of}
 use Rattle.sshc_mux.proofs.PlaceLemmas.{or_none, present-append}
 use Rattle.sshc_mux.proofs.IndexLemmas.{present-flushed}
 
 -- a channel's packets, as records
-pub records-said : (c : ChannelState) (ps : List Packet) → records_of (said_by c ps) ≡ payloads c.head.recipient ps
-records-said c [] = refl
-records-said c (p ∷ ps) = ap (λ (rs : List Record). Payload (packet_text c.head.recipient p) ∷ rs) (records-said c ps)
+pub records-output : (c : ChannelState) (ps : List Packet) → records_of (said_by c ps) ≡ payloads c.head.recipient ps
+records-output c [] = refl
+records-output c (p ∷ ps) = ap (λ (rs : List Record). Payload (packet_text c.head.recipient p) ∷ rs) (records-output c ps)
 
-pub records-append : (a b : List Said) → records_of (a ++ b) ≡ records_of a ++ records_of b
+pub records-append : (a b : List ChannelPacket) → records_of (a ++ b) ≡ records_of a ++ records_of b
 records-append [] b = refl
 records-append (s ∷ a) b = ap (λ (rs : List Record). Payload (packet_text s.recipient s.packet) ∷ rs) (records-append a b)
 
@@ -53,8 +53,8 @@ did_turn n at last turn slots before after old new (Ok x) here (after_is, writte
           ∙ ap (λ (all : List ChannelState). let t : TableState = record { channels = all; last = last } in t) (sym (here.place.put (turn before).channel))
           ∙ ap (λ (e : Effect). e.table) (sym effect),
       written
-          ∙ ap (λ (rs : List Record). old.records ++ shown old.muted rs) (sym (records-said before (turn before).packets))
-          ∙ ap (λ (e : Effect). old.records ++ shown old.muted (records_of e.said)) (sym effect),
+          ∙ ap (λ (rs : List Record). old.records ++ shown old.muted rs) (sym (records-output before (turn before).packets))
+          ∙ ap (λ (e : Effect). old.records ++ shown old.muted (records_of e.output)) (sym effect),
       muted,
     )
 did_turn n at last turn slots before after old new (Err e) here (after_is, written, muted) = (
@@ -66,8 +66,8 @@ did_turn n at last turn slots before after old new (Err e) here (after_is, writt
 slot_said : (slot : Option ChannelState) (slots : Slots) → records_of (all_said (present (slot ∷ []))) ++ records_of (all_said (present slots)) ≡ records_of (all_said (present (slot ∷ slots)))
 slot_said None slots = refl
 slot_said (Some c) slots =
-    let said : List Said = said_by c (flush_turn c).packets in
-    ap (λ (s : List Said). records_of s ++ records_of (all_said (present slots))) (append-nil said) ∙ sym (records-append said (all_said (present slots)))
+    let output : List ChannelPacket = said_by c (flush_turn c).packets in
+    ap (λ (s : List ChannelPacket). records_of s ++ records_of (all_said (present slots))) (append-nil output) ∙ sym (records-append output (all_said (present slots)))
 
 -- a slot's packets were added after the others'
 pub said_more : (at : ℕ) (slots : Slots) (slot : Option ChannelState) (before after whole : List Record) → at < length slots → slot ≡ get_or slots at slot →
@@ -87,7 +87,7 @@ said_none : (c : ChannelState) (ps : List Packet) → said_by c ps ≡ [] → ps
 said_none c [] none = refl
 said_none c (p ∷ ps) none = absurd (cc)
 
-both_none : (a b : List Said) → a ++ b ≡ [] → (a ≡ []) × (b ≡ [])
+both_none : (a b : List ChannelPacket) → a ++ b ≡ [] → (a ≡ []) × (b ≡ [])
 both_none [] b none = (refl, none)
 both_none (s ∷ a) b none = absurd (cc)
 
@@ -106,12 +106,12 @@ pub slot_silent : (c : ChannelState) → all_said (present (Some c ∷ [])) ≡ 
 slot_silent c none = said_none c (flush_turn c).packets (both_none (said_by c (flush_turn c).packets) [] none).0
 
 -- a turn that writes nothing
-pub silent_turn : (n at last : ℕ) (turn : ChannelState → Turn) (slots : Slots) (c : ChannelState) → Held n slots at c → (turn_at n turn (table_of slots last)).said ≡ [] → (turn c).packets ≡ []
-silent_turn n at last turn slots c here none = said_none c (turn c).packets (ap (λ (o : Option ChannelState). (turned n o turn (table_of slots last)).said) (sym here.found) ∙ none)
+pub silent_turn : (n at last : ℕ) (turn : ChannelState → Turn) (slots : Slots) (c : ChannelState) → Held n slots at c → (turn_at n turn (table_of slots last)).output ≡ [] → (turn c).packets ≡ []
+silent_turn n at last turn slots c here none = said_none c (turn c).packets (ap (λ (o : Option ChannelState). (turned n o turn (table_of slots last)).output) (sym here.found) ∙ none)
 
 -- one slot alone
 pub slot_alone : (c : ChannelState) → records_of (all_said (present (Some c ∷ []))) ≡ payloads c.head.recipient (flush_turn c).packets
-slot_alone c = ap records_of (append-nil (said_by c (flush_turn c).packets)) ∙ records-said c (flush_turn c).packets
+slot_alone c = ap records_of (append-nil (said_by c (flush_turn c).packets)) ∙ records-output c (flush_turn c).packets
 
 -- the slots of which the first ones were flushed
 abbrev pub half_flushed : ℕ → Slots → Slots
@@ -172,7 +172,7 @@ did_set n at last turn slots c after here after_is =
 pub did_take : (n at last : ℕ) (goes : ChannelState → Bool) (final : ChannelState → List Packet) (slots slots2 : Slots) (c : ChannelState) → Held n slots at c → goes c ≡ true → present slots2 ≡ without n (present slots) → table_of slots2 last ≡ (take_at n goes final (table_of slots last)).table
 did_take n at last goes final slots slots2 c here goes_so left =
     ap (λ (all : List ChannelState). let t : TableState = record { channels = all; last = last } in t) left
-    ∙ ap (λ (b : Bool). (if b then record { table = removed n (table_of slots last); said = said_by c (final c) } else unmoved (table_of slots last)).table) (sym goes_so)
+    ∙ ap (λ (b : Bool). (if b then record { table = removed n (table_of slots last); output = said_by c (final c) } else unmoved (table_of slots last)).table) (sym goes_so)
     ∙ ap (λ (o : Option ChannelState). (taken_away n o goes final (table_of slots last)).table) (sym here.found)
 
 -- a channel that was only looked at is still in its slot
@@ -192,7 +192,7 @@ turn_nothing n at last turn slots x here still =
 pub take_nothing : (n at last : ℕ) (goes : ChannelState → Bool) (final : ChannelState → List Packet) (slots : Slots) (x : ChannelState) → Held n slots at x → goes x ≡ false →
     table_of slots last ≡ (take_at n goes final (table_of slots last)).table
 take_nothing n at last goes final slots x here stays =
-    ap (λ (b : Bool). (if b then record { table = removed n (table_of slots last); said = said_by x (final x) } else unmoved (table_of slots last)).table) (sym stays)
+    ap (λ (b : Bool). (if b then record { table = removed n (table_of slots last); output = said_by x (final x) } else unmoved (table_of slots last)).table) (sym stays)
     ∙ ap (λ (o : Option ChannelState). (taken_away n o goes final (table_of slots last)).table) (sym here.found)
 
 pub settle_nothing : (accept : Bool) (n at last : ℕ) (slots : Slots) (x : ChannelState) → Held n slots at x → is_reserved x ≡ false →

@@ -9,7 +9,7 @@ use Rattle.sshc_wire.specs.Outgoing.{Outgoing}
 use Rattle.sshc_mux.specs.declared.chunk.Stream.{Stream}
 use Rattle.sshc_mux.specs.ChannelState.{Head, Flow, ChannelState, TableState, Waiting, channel_of}
 use Rattle.sshc_mux.specs.Packets.{Packet, Piece, Eof, Close, Adjust}
-use Rattle.sshc_mux.specs.ChannelTable.{Effect, CameAbout, Said, unmoved, turn_at, take_at, no_packets_of, flush, settle, confirm_turn, is_awaited, close_peer, recipient_in, data_turn, eof_turn, close_turn, grant_turn, received_turn}
+use Rattle.sshc_mux.specs.ChannelTable.{Effect, CameAbout, ChannelPacket, unmoved, turn_at, take_at, no_packets_of, flush, settle, confirm_turn, is_awaited, close_peer, recipient_in, data_turn, eof_turn, close_turn, grant_turn, received_turn}
 use Rattle.sshc_mux.specs.ChannelTable.Opens.{next_number, IsNext, made_in, opened_by_user, reserved_by_server, awaited_by, is_reserved, confirmed_head, accepted_head}
 use Rattle.sshc_mux.specs.ChannelTable.Sending.{left_of, is_due}
 use Rattle.sshc_mux.specs.ChannelTable.Windows.{held, adjust_of}
@@ -34,7 +34,7 @@ pub data Call : Type 0 where
 -- a channel with a number; nothing if no number is free
 abbrev pub opened : Option ℕ → (ℕ → ChannelState) → TableState → Effect
 opened None channel t = unmoved t
-opened (Some n) channel t = record { table = made_in (channel n) t; said = [] }
+opened (Some n) channel t = record { table = made_in (channel n) t; output = [] }
 
 -- what a call does: it opens a channel, runs one channel's turn, removes one, or flushes each
 abbrev pub called : Call → TableState → Effect
@@ -54,7 +54,7 @@ called (Received n len target) t = turn_at n (received_turn len target) t
 
 -- a call has nothing to write
 abbrev pub WritesNothing : Call → TableState → Type 0
-WritesNothing call t = (called call t).said ≡ []
+WritesNothing call t = (called call t).output ≡ []
 
 -- a call did what it does, or ran out of memory and changed nothing
 abbrev pub Did : {A : Type 0} → Call → TableState → TableState → Outgoing → Outgoing → Result A NoMemory → Type 0
@@ -65,7 +65,7 @@ abbrev pub ran : List Call → TableState → Effect
 ran [] t = unmoved t
 ran (call ∷ calls) t = record {
   table = (ran calls (called call t).table).table;
-  said = (called call t).said ++ (ran calls (called call t).table).said;
+  output = (called call t).output ++ (ran calls (called call t).table).output;
 }
 
 -- no channels, where this was the last number that was assigned
@@ -87,9 +87,9 @@ taken n (AskClose id ∷ calls) = if id == n then [] else taken n calls
 taken n (call ∷ calls) = taken n calls
 
 -- the packets that the channel wrote, and the bytes in them
-abbrev pub packets_by : ℕ → List Said → List Packet
+abbrev pub packets_by : ℕ → List ChannelPacket → List Packet
 packets_by n [] = []
-packets_by n (s ∷ said) = if s.number == n then s.packet ∷ packets_by n said else packets_by n said
+packets_by n (s ∷ output) = if s.number == n then s.packet ∷ packets_by n output else packets_by n output
 
 abbrev pub bytes_in : List Packet → List (Stream × ℕ)
 bytes_in [] = []
@@ -356,7 +356,7 @@ table_after n l = (ran l.calls (born n l)).table
 
 -- the channel's packets
 abbrev pub sent : (n : ℕ) → Life n → List Packet
-sent n l = packets_by n (ran l.calls (born n l)).said
+sent n l = packets_by n (ran l.calls (born n l)).output
 
 -- the last of the calls lets EOF and close be sent, and nothing waits before them
 pub record MayEnd (n : ℕ) (l : Life n) : Type 0 where
@@ -384,7 +384,7 @@ IsFront bytes all = (rest : List (Stream × ℕ)) × (bytes ++ rest ≡ all)
 
 -- the packets of a life, and of one more call
 abbrev pub sent_with : (n : ℕ) → Life n → Call → List Packet
-sent_with n l call = sent n l ++ packets_by n (called call (table_after n l)).said
+sent_with n l call = sent n l ++ packets_by n (called call (table_after n l)).output
 
 -- However a life ends, by a refusal of either side or by the peer's close: what was sent is a front of what was taken.
 abbrev pub EachEndLeavesAFront : Type 0
@@ -410,9 +410,9 @@ may_send (Grant id amount exchanging) = not exchanging
 may_send FlushAll = true
 may_send call = false
 
-abbrev pub packets_in : List Said → List Packet
+abbrev pub packets_in : List ChannelPacket → List Packet
 packets_in [] = []
-packets_in (s ∷ said) = s.packet ∷ packets_in said
+packets_in (s ∷ output) = s.packet ∷ packets_in output
 
 -- a packet that isn't one of bytes
 abbrev pub IsNoData : Packet → Type 0
@@ -422,21 +422,21 @@ IsNoData packet = Unit {0}
 -- any other call writes no packet of bytes
 abbrev pub ExchangesWriteNoData : Type 0
 ExchangesWriteNoData =
-    (call : Call) (t : TableState) → may_send call ≡ false → AllByRecursion IsNoData (packets_in (called call t).said)
+    (call : Call) (t : TableState) → may_send call ≡ false → AllByRecursion IsNoData (packets_in (called call t).output)
 
 -- any other call sends no bytes
 abbrev pub ExchangesAreQuiet : Type 0
 ExchangesAreQuiet =
-    (call : Call) (t : TableState) → may_send call ≡ false → bytes_in (packets_in (called call t).said) ≡ []
+    (call : Call) (t : TableState) → may_send call ≡ false → bytes_in (packets_in (called call t).output) ≡ []
 
 -- a new number is the next that is free
 abbrev pub NumbersGoOn : Type 0
 NumbersGoOn = (t : TableState) (n : ℕ) → next_number t ≡ Some n → IsNext t n
 
 -- each packet is addressed to the peer's number of the channel that wrote it, which is established
-abbrev pub AllAddressed : List ChannelState → List Said → Type 0
+abbrev pub AllAddressed : List ChannelState → List ChannelPacket → Type 0
 AllAddressed cs [] = Unit {0}
-AllAddressed cs (s ∷ said) = (recipient_in (channel_of s.number cs) ≡ Some s.recipient) × AllAddressed cs said
+AllAddressed cs (s ∷ output) = (recipient_in (channel_of s.number cs) ≡ Some s.recipient) × AllAddressed cs output
 
 -- a table whose channels have different numbers and are sound, as every list of calls leaves it
 pub record IsLegal (t : TableState) : Type 0 where
@@ -448,10 +448,10 @@ abbrev pub EachCallDoesItsPart : Type 0
 EachCallDoesItsPart =
     (n : ℕ) (call : Call) (t : TableState) (c after : ChannelState) → IsLegal t →
     channel_of n t.channels ≡ Some c → channel_of n (called call t).table.channels ≡ Some after →
-    Moves c after (packets_by n (called call t).said) (part n call c)
+    Moves c after (packets_by n (called call t).output) (part n call c)
 
 abbrev pub PacketsAreAddressed : Type 0
-PacketsAreAddressed = (call : Call) (t : TableState) → IsLegal t → AllAddressed t.channels (called call t).said
+PacketsAreAddressed = (call : Call) (t : TableState) → IsLegal t → AllAddressed t.channels (called call t).output
 
 -- what holds of every call
 pub record EachCallKeepsTheRules : Type 0 where
@@ -468,4 +468,4 @@ LegalStays = ((last : ℕ) → IsLegal (no_channels last)) × ((call : Call) (t 
 pub record DidItsPart (call : Call) (before after : TableState) : Type 0 where
   pub part :
       (n : ℕ) (c d : ChannelState) → channel_of n before.channels ≡ Some c → channel_of n after.channels ≡ Some d →
-      Moves c d (packets_by n (called call before).said) (part n call c)
+      Moves c d (packets_by n (called call before).output) (part n call c)

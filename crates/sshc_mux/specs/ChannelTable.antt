@@ -20,7 +20,7 @@ use Rattle.sshc_mux.specs.ChannelTable.Windows.{grant_flow, used, returned, adju
 use Rattle.sshc_mux.specs.ChannelTable.Ends.{takes, data_flow, eof_flow, close_flow, answer_of, is_sent}
 
 -- a packet, with the number of the channel that wrote it and the peer's number
-pub record Said : Type 0 where
+pub record ChannelPacket : Type 0 where
   pub number : ℕ
   pub recipient : ℕ
   pub packet : Packet
@@ -28,15 +28,15 @@ pub record Said : Type 0 where
 -- the table after a call, and what the call wrote
 pub record Effect : Type 0 where
   pub table : TableState
-  pub said : List Said
+  pub output : List ChannelPacket
 
-abbrev pub said_by : ChannelState → List Packet → List Said
+abbrev pub said_by : ChannelState → List Packet → List ChannelPacket
 said_by c [] = []
 said_by c (p ∷ ps) = record { number = c.head.number; recipient = c.head.recipient; packet = p } ∷ said_by c ps
 
-abbrev pub records_of : List Said → List Record
+abbrev pub records_of : List ChannelPacket → List Record
 records_of [] = []
-records_of (s ∷ said) = Payload (packet_text s.recipient s.packet) ∷ records_of said
+records_of (s ∷ output) = Payload (packet_text s.recipient s.packet) ∷ records_of output
 
 -- a channel after a call, and the packets that it wrote
 pub record Turn : Type 0 where
@@ -74,14 +74,14 @@ received_turn len target c = record {
 
 -- nothing happens
 abbrev pub unmoved : TableState → Effect
-unmoved t = record { table = t; said = [] }
+unmoved t = record { table = t; output = [] }
 
 -- the channel of this number takes its turn
 abbrev pub turned : ℕ → Option ChannelState → (ChannelState → Turn) → TableState → Effect
 turned n None turn t = unmoved t
 turned n (Some c) turn t = record {
   table = record t { channels = with_channel n (turn c).channel t.channels };
-  said = said_by c (turn c).packets;
+  output = said_by c (turn c).packets;
 }
 
 abbrev pub turn_at : ℕ → (ChannelState → Turn) → TableState → Effect
@@ -92,12 +92,12 @@ abbrev pub all_flushed : List ChannelState → List ChannelState
 all_flushed [] = []
 all_flushed (c ∷ cs) = (flush_turn c).channel ∷ all_flushed cs
 
-abbrev pub all_said : List ChannelState → List Said
+abbrev pub all_said : List ChannelState → List ChannelPacket
 all_said [] = []
 all_said (c ∷ cs) = said_by c (flush_turn c).packets ++ all_said cs
 
 abbrev pub flush : TableState → Effect
-flush t = record { table = record t { channels = all_flushed t.channels }; said = all_said t.channels }
+flush t = record { table = record t { channels = all_flushed t.channels }; output = all_said t.channels }
 
 -- the channel of this number is removed with its last packets, if it may be
 abbrev pub removed : ℕ → TableState → TableState
@@ -107,7 +107,7 @@ abbrev pub taken_away :
     ℕ → Option ChannelState → (ChannelState → Bool) → (ChannelState → List Packet) → TableState → Effect
 taken_away n None goes last t = unmoved t
 taken_away n (Some c) goes last t =
-    if goes c then record { table = removed n t; said = said_by c (last c) } else unmoved t
+    if goes c then record { table = removed n t; output = said_by c (last c) } else unmoved t
 
 abbrev pub take_at : ℕ → (ChannelState → Bool) → (ChannelState → List Packet) → TableState → Effect
 take_at n goes last t = taken_away n (channel_of n t.channels) goes last t
@@ -203,7 +203,7 @@ adjusted_at n len target t = adjusted_in (channel_of n t.channels) len target
 abbrev pub CameAbout : {A : Type 0} → Effect → TableState → TableState → Outgoing → Outgoing → Result A NoMemory → Type 0
 CameAbout effect before after old new (Ok x) =
     (after ≡ effect.table)
-    × (new.records ≡ old.records ++ shown old.muted (records_of effect.said))
+    × (new.records ≡ old.records ++ shown old.muted (records_of effect.output))
     × (new.muted ≡ old.muted)
 CameAbout effect before after old new (Err e) = (after ≡ before) × (new.records ≡ old.records) × (new.muted ≡ old.muted)
 

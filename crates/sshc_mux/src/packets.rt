@@ -102,10 +102,10 @@ pub(crate) fn push_pieces(
     size: u32,
     stream: Stream,
     part: &[u8],
-    said: &mut Vec<Record>,
+    output: &mut Vec<Record>,
 ) -> Result<(), NoMemory>
     requires { 0 < length part.now → 0 < size }
-    ensures said { OnOk result (said.new.items ≡ said.old.items
+    ensures output { OnOk result (output.new.items ≡ output.old.items
         ++ payloads recipient (pieces_of stream (cut size part.now))) }
     ensures succeeds { part.now ≡ [] → IsOk result }
 {
@@ -113,7 +113,7 @@ pub(crate) fn push_pieces(
     while rest.len() > 0 {
         let count = rest.len().min(size as usize);
         let (piece, more) = rest.split_at(count);
-        said.push(piece_record(alloc, recipient, stream, piece)?)?;
+        output.push(piece_record(alloc, recipient, stream, piece)?)?;
         rest = more;
     }
     Ok(())

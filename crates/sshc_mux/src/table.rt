@@ -35,7 +35,7 @@ pub struct ChannelTable {
     waiting: usize,
     last: u32,
     /// The records of a call before they go out. Its memory is kept from one call to the next.
-    said: Vec<Record>,
+    output: Vec<Record>,
     alloc: Global,
 }
 
@@ -70,7 +70,7 @@ impl ChannelTable {
             index: HashMap::new(alloc),
             waiting: 0,
             last: last.0,
-            said: Vec::new(alloc),
+            output: Vec::new(alloc),
             alloc,
         }
     }

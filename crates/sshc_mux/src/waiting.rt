@@ -18,10 +18,10 @@ pub(crate) fn push_sent(
     size: u32,
     room: usize,
     pending: &VecDeque<Chunk>,
-    said: &mut Vec<Record>,
+    output: &mut Vec<Record>,
 ) -> Result<bool, NoMemory>
     requires { 0 < room → 0 < size }
-    ensures said { OnOk result (said.new.items ≡ said.old.items
+    ensures output { OnOk result (output.new.items ≡ output.old.items
         ++ payloads recipient (sent_of size room pending.now.items)) }
     ensures succeeds { sent_of size room pending.now.items ≡ [] → IsOk result }
     ensures all { IfOk result (λ all. all ≡ (length (left_of room pending.now.items) == 0)) }
@@ -38,11 +38,11 @@ pub(crate) fn push_sent(
                 size,
                 chunk.stream(),
                 bytes.split_at(left).0,
-                said,
+                output,
             )?;
             return Ok(false);
         }
-        push_pieces(alloc, recipient, size, chunk.stream(), bytes, said)?;
+        push_pieces(alloc, recipient, size, chunk.stream(), bytes, output)?;
         left -= bytes.len();
         at += 1;
     }

@@ -11,3 +11,4 @@ mod RelayLemmas
 mod AskingLemmas
 mod TakingLemmas
 mod ListingLaws
+mod Hints

@@ -80,7 +80,7 @@ fn put_key(out: &mut Vec<u8>, key: &Listed<'_>) -> Result<(), NoMemory>
     put_string(out, key.comment.as_bytes())
 }
 
-#[tactic(auto, unfolding(sshc_wire::specs::Wire::counted_text), using(crate::proofs::ListingLemmas::count_seen, crate::proofs::ListingLemmas::text_seen))]
+#[tactic(auto, unfolding(sshc_wire::specs::Wire::counted_text), using(crate::proofs::Hints::listing_body))]
 fn listing_body(alloc: Global, keys: &[Listed<'_>]) -> Result<Vec<u8>, NoMemory>
     ensures { IfOk result (λ v. v.items ≡ listing (keys_seen keys.now)) }
 {

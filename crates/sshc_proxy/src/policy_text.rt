@@ -95,7 +95,7 @@ fn add_line(
 /// Reads a policy. Lines are separated by line feeds. Empty lines and lines that begin with `#` are dropped; each other
 /// line is `allow`, the padded base64 of a key's blob and that of a host key's blob, with one space between each two.
 /// Each blob is exactly one plain key.
-#[tactic(auto, using(crate::proofs::PolicyLemmas::passed, crate::proofs::PolicyLemmas::added, crate::proofs::PolicyLemmas::stops))]
+#[tactic(auto, using(crate::proofs::Hints::parse_policy))]
 pub fn parse_policy(alloc: Global, text: &str) -> Result<Policy, PolicyError>
     ensures policy { Reads text.now result }
 {

@@ -78,7 +78,7 @@ fn length_in(bytes: &[u8]) -> Result<Option<u32>, Broken>
 }
 
 /// Reads a frame's length. `None` if the bytes had ended before it.
-#[tactic(auto, using(crate::proofs::FrameLemmas::length_read, crate::proofs::FrameLemmas::fault_in_length, crate::proofs::FrameLemmas::no_memory_in_length))]
+#[tactic(auto, using(crate::proofs::Hints::read_length))]
 fn read_length<S: AgentStream>(source: &mut S, bytes: &mut Vec<u8>) -> Result<Option<u32>, Broken>
     ensures read { ReadsLength
         (stream (S.left source.old) (S.contents source.old) (S.Source.faults source.old) (S.Sink.faults source.old))

@@ -88,7 +88,8 @@ impl Relay {
         agent: &mut U,
         verifier: &V,
     ) -> Result<bool, ProxyError>
-        ensures turned { (before : Streams) (policy : List Rule) → Relaying (terms (V.accepts verifier.now) policy) before (streams
+        ensures turned { (before : Streams) (policy : List Rule)
+            → Relaying (terms (V.accepts verifier.now) policy) before (streams
             (stream (S.left client.old) (S.contents client.old) (S.Source.faults client.old) (S.Sink.faults client.old))
             (stream (U.left agent.old) (U.contents agent.old) (U.Source.faults agent.old) (U.Sink.faults agent.old)))
             self.old.core idle → Turned (terms (V.accepts verifier.now) policy) before (streams
@@ -110,7 +111,8 @@ impl Relay {
         agent: &mut U,
         verifier: &V,
     ) -> Result<bool, ProxyError>
-        ensures turned { (before : Streams) (policy : List Rule) → Relaying (terms (V.accepts verifier.now) policy) before (streams
+        ensures turned { (before : Streams) (policy : List Rule)
+            → Relaying (terms (V.accepts verifier.now) policy) before (streams
             (stream (S.left client.old) (S.contents client.old) (S.Source.faults client.old) (S.Sink.faults client.old))
             (stream (U.left agent.old) (U.contents agent.old) (U.Source.faults agent.old) (U.Sink.faults agent.old)))
             self.old.core (framed self.old.frame.items) → Turned (terms (V.accepts verifier.now) policy) before (streams

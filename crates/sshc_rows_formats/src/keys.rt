@@ -31,7 +31,7 @@ fn is_right(alloc: Global, vector: &Vector<'_>, blob: &[u8]) -> bool {
 }
 
 /// What is printed of a blob that behaves as the vector says.
-fn said(alloc: Global, vector: &Vector<'_>, blob: &[u8]) -> anyhow::Result<String> {
+fn output(alloc: Global, vector: &Vector<'_>, blob: &[u8]) -> anyhow::Result<String> {
     match vector.kind {
         "key" | "certificate" => {
             let shape = blobs::shape_of(alloc, blob)?;
@@ -47,12 +47,12 @@ fn said(alloc: Global, vector: &Vector<'_>, blob: &[u8]) -> anyhow::Result<Strin
 fn print_vector(rt: &HostRuntime, vector: &Vector<'_>) -> anyhow::Result<()> {
     let alloc = rt.alloc();
     let blob = blob_of(alloc, vector.base64)?;
-    let said = if is_right(alloc, vector, &blob) {
-        said(alloc, vector, &blob)?
+    let output = if is_right(alloc, vector, &blob) {
+        output(alloc, vector, &blob)?
     } else {
         String::from_str(alloc, "WRONG")?
     };
-    println!(rt; "{} {}: {said}", vector.kind, vector.name)?;
+    println!(rt; "{} {}: {output}", vector.kind, vector.name)?;
     Ok(())
 }
 

@@ -51,11 +51,11 @@ impl EchoServer {
         body: &[u8],
         coming: &mut Coming,
     ) -> Result<(), NoMemory> {
-        let mut said = Vec::new(self.alloc);
-        said.push(number)?;
-        said.extend_from_slice(&channel.to_be_bytes())?;
-        said.extend_from_slice(body)?;
-        coming.packet(said.as_slice())
+        let mut output = Vec::new(self.alloc);
+        output.push(number)?;
+        output.extend_from_slice(&channel.to_be_bytes())?;
+        output.extend_from_slice(body)?;
+        coming.packet(output.as_slice())
     }
 
     /// Opens a channel, with a window of 16 MiB and packets of at most 32 KiB.

@@ -30,21 +30,21 @@ fn input_of(alloc: Global, text: &str) -> Result<ProxyInput, NoMemory> {
 }
 
 /// The kind of an output, and its frame in hexadecimal.
-fn add_frame(said: &mut String, kind: &str, alloc: Global, frame: &Octets) -> anyhow::Result<()> {
-    said.push_str(kind)?;
-    said.push_str(&hex::encode(alloc, frame.as_slice())?)?;
+fn add_frame(shown: &mut String, kind: &str, alloc: Global, frame: &Octets) -> anyhow::Result<()> {
+    shown.push_str(kind)?;
+    shown.push_str(&hex::encode(alloc, frame.as_slice())?)?;
     Ok(())
 }
 
-fn add_output(alloc: Global, said: &mut String, output: &ProxyOutput) -> anyhow::Result<()> {
-    if !said.is_empty() {
-        said.push(' ')?;
+fn add_output(alloc: Global, shown: &mut String, output: &ProxyOutput) -> anyhow::Result<()> {
+    if !shown.is_empty() {
+        shown.push(' ')?;
     }
     match output {
-        ProxyOutput::Forward(frame) => add_frame(said, "forward:", alloc, frame),
-        ProxyOutput::Answer(frame) => add_frame(said, "answer:", alloc, frame),
-        ProxyOutput::Nothing => Ok(said.push_str("nothing")?),
-        ProxyOutput::NoMemory => Ok(said.push_str("no-memory")?),
+        ProxyOutput::Forward(frame) => add_frame(shown, "forward:", alloc, frame),
+        ProxyOutput::Answer(frame) => add_frame(shown, "answer:", alloc, frame),
+        ProxyOutput::Nothing => Ok(shown.push_str("nothing")?),
+        ProxyOutput::NoMemory => Ok(shown.push_str("no-memory")?),
     }
 }
 
@@ -52,20 +52,20 @@ fn add_output(alloc: Global, said: &mut String, output: &ProxyOutput) -> anyhow:
 fn outputs_of(alloc: Global, policy: Policy, inputs: &str) -> anyhow::Result<String> {
     let verifier = ToyVerifier::new(alloc);
     let mut core = ProxyCore::new(policy);
-    let mut said = String::new(alloc);
+    let mut shown = String::new(alloc);
     for text in inputs.split_whitespace() {
         let input = input_of(alloc, text)?;
         let output = core.step(conn_of(text), &input, &verifier);
-        add_output(alloc, &mut said, &output)?;
+        add_output(alloc, &mut shown, &output)?;
     }
-    Ok(said)
+    Ok(shown)
 }
 
 fn is_right(rt: &HostRuntime, line: &str) -> anyhow::Result<bool> {
     match policy_of(rt, field_of(line, 1)) {
         Ok(policy) => {
-            let said = outputs_of(rt.alloc(), policy, field_of(line, 2))?;
-            Ok(said.as_str() == field_of(line, 3))
+            let shown = outputs_of(rt.alloc(), policy, field_of(line, 2))?;
+            Ok(shown.as_str() == field_of(line, 3))
         }
         Err(_) => Ok(false),
     }

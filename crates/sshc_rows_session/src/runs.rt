@@ -10,8 +10,8 @@ pub fn print_rows(rt: &HostRuntime, text: &str) -> anyhow::Result<()> {
     let (_head, rows) = text.split_once(ROW).unwrap_or((text, ""));
     for row in rows.split(ROW) {
         let (name, lines) = first_line(row);
-        let said = verdict(rt.alloc(), name, lines)?;
-        println!(rt; "{said}")?;
+        let output = verdict(rt.alloc(), name, lines)?;
+        println!(rt; "{output}")?;
     }
     Ok(())
 }

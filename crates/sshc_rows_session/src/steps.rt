@@ -20,8 +20,8 @@ pub fn print_rows(rt: &HostRuntime, text: &str) -> anyhow::Result<()> {
     let (fronts, rows) = text.split_once(ROW).unwrap_or((text, ""));
     for row in rows.split(ROW) {
         let (head, lines) = first_line(row);
-        let said = verdict(rt.alloc(), fronts, head, lines)?;
-        println!(rt; "{said}")?;
+        let output = verdict(rt.alloc(), fronts, head, lines)?;
+        println!(rt; "{output}")?;
     }
     Ok(())
 }

@@ -26,7 +26,9 @@ fn exchange_fields() -> &'static [u8]
     ensures short { length result.now ≤ 200 }
     ensures bytes { result.now ≡ exchange_fields }
 {
-    b"\x01\0\0\0\x33\0\0\0\x0bssh-ed25519\0\0\0\x20\x97\x43\xef\x2d\xda\x2e\xae\x39\xe3\x25\x81\x77\x02\xd6\x6e\x27\x94\xd5\xe6\xf3\xf7\xf7\x2e\xef\xf4\x04\x5e\x7f\x4e\x21\xe6\x49\0\0\0\x0asession-id\0\0\0\0\0\0\0\0\0\0\0\0\x11curve25519-sha256\0\0\0\0\0\0\0\0\0\0\0\0\0\0\0\0\0"
+    b"\x01\0\0\0\x33\0\0\0\x0bssh-ed25519\0\0\0\x20\x97\x43\xef\x2d\xda\x2e\xae\x39\xe3\x25\x81\x77\x02\xd6\x6e\x27\
+        \x94\xd5\xe6\xf3\xf7\xf7\x2e\xef\xf4\x04\x5e\x7f\x4e\x21\xe6\x49\0\0\0\x0asession-id\0\0\0\0\0\0\0\0\0\0\0\0\
+        \x11curve25519-sha256\0\0\0\0\0\0\0\0\0\0\0\0\0\0\0\0\0"
 }
 
 /// `alice` asks by the password `pw`, with ticket 1.

@@ -28,7 +28,8 @@ fn run_other_words<F: Files, K: Sink>(
         (outside (F.contents files.new) (F.read_faults files.new) (F.append_faults files.new) (K.contents sink.new)
         (K.faults sink.new)) result }
     ensures other { ((asked : Asked) → Asks words.now asked → ⊥) → (F.contents files.new ≡ F.contents files.old)
-        × Adds (codes "error words" ++ 10 ∷ []) 2 (K.contents sink.old) (K.contents sink.new) (K.faults sink.old) (K.faults sink.new) result }
+        × Adds (codes "error words" ++ 10 ∷ []) 2 (K.contents sink.old) (K.contents sink.new) (K.faults sink.old)
+        (K.faults sink.new) result }
 {
     match run_hosts_words(alloc, words, files, sink) {
         Some(status) => status,
@@ -85,7 +86,8 @@ pub fn run_words<F: Files, S: Source, K: Sink, G: LocalSigner, V: Verifier>(
     ensures other { ((host : List ℕ) (port : ℕ) (path : List ℕ) → IsScriptWords words.now host port path → ⊥) →
         ((seed : ℕ) (count : ℕ) → IsGenWords words.now seed count → ⊥) → ((asked : Asked) → Asks words.now asked → ⊥) →
         (S.left source.new ≡ S.left source.old) × (F.contents files.new ≡ F.contents files.old)
-        × Adds (codes "error words" ++ 10 ∷ []) 2 (K.contents sink.old) (K.contents sink.new) (K.faults sink.old) (K.faults sink.new) result }
+        × Adds (codes "error words" ++ 10 ∷ []) 2 (K.contents sink.old) (K.contents sink.new) (K.faults sink.old)
+        (K.faults sink.new) result }
 {
     match script_words(words) {
         Some(asked) => run_script_words(alloc, &asked, files, signer, verifier, source, sink),

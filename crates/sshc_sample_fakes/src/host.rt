@@ -208,11 +208,11 @@ impl Host {
 
     /// A packet of this number on the channel that was opened last.
     fn on(&self, number: u8, body: &[u8], coming: &mut Coming) -> Result<(), NoMemory> {
-        let mut said = Vec::new(self.alloc);
-        said.push(number)?;
-        said.extend_from_slice(&self.channel.to_be_bytes())?;
-        said.extend_from_slice(body)?;
-        coming.packet(&said)
+        let mut output = Vec::new(self.alloc);
+        output.push(number)?;
+        output.extend_from_slice(&self.channel.to_be_bytes())?;
+        output.extend_from_slice(body)?;
+        coming.packet(&output)
     }
 
     /// A login waits, until there are enough of them; a login that was replaced isn't answered.
@@ -245,10 +245,10 @@ impl Host {
     fn probed(&self, packet: &[u8], coming: &mut Coming) -> Result<(), NoMemory> {
         match probe_of(packet) {
             Ok(Some(key)) => {
-                let mut said = Vec::new(self.alloc);
-                said.push(60)?;
-                said.extend_from_slice(key)?;
-                coming.packet(&said)
+                let mut output = Vec::new(self.alloc);
+                output.push(60)?;
+                output.extend_from_slice(key)?;
+                coming.packet(&output)
             }
             Ok(None) => coming.packet(b"\x34"),
             Err(_) => Ok(()),
@@ -297,15 +297,15 @@ fn answer_open(
     let Ok(id) = channel_of(packet) else {
         return Ok(());
     };
-    let mut said = Vec::new(alloc);
-    said.push(if grants { 91 } else { 92 })?;
-    said.extend_from_slice(&id.to_be_bytes())?;
+    let mut output = Vec::new(alloc);
+    output.push(if grants { 91 } else { 92 })?;
+    output.extend_from_slice(&id.to_be_bytes())?;
     if grants {
-        said.extend_from_slice(&[0, 0, 0, 7, 0, 0, 16, 0, 0, 0, 16, 0])?;
+        output.extend_from_slice(&[0, 0, 0, 7, 0, 0, 16, 0, 0, 0, 16, 0])?;
     } else {
-        said.extend_from_slice(&[0, 0, 0, 1, 0, 0, 0, 0, 0, 0, 0, 0])?;
+        output.extend_from_slice(&[0, 0, 0, 1, 0, 0, 0, 0, 0, 0, 0, 0])?;
     }
-    coming.packet(&said)
+    coming.packet(&output)
 }
 
 fn answer_global(packet: &[u8], grants: bool, coming: &mut Coming) -> Result<(), NoMemory> {

@@ -11,7 +11,8 @@ pub struct Forwarding;
 /// The connection of RFC 4254, section 7.2: to port 8080 of `localhost`, from port 50000 of `203.0.113.7`. Its number
 /// is 7.
 const CONNECTION: &[u8] =
-    b"\x5a\0\0\0\x0fforwarded-tcpip\0\0\0\x07\0\0\x80\0\0\0\x80\0\0\0\0\x09localhost\0\0\x1f\x90\0\0\0\x0b203.0.113.7\0\0\xc3\x50";
+    b"\x5a\0\0\0\x0fforwarded-tcpip\0\0\0\x07\0\0\x80\0\0\0\x80\0\0\0\0\x09localhost\0\0\x1f\x90\0\0\0\x0b203.0.113.7\
+        \0\0\xc3\x50";
 
 /// The number that the client gave the connection (RFC 4254, section 5.1).
 fn number_of(confirmation: &[u8]) -> Result<u32, WireError> {

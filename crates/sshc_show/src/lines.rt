@@ -18,16 +18,16 @@ fn is_last(line: &[u8]) -> bool {
             .all(|byte| byte.is_ascii_graphic() || *byte == b' ')
 }
 
-fn record_line(alloc: Global, asked: &mut Asked, said: &Record) -> Result<Line, Stop> {
+fn record_line(alloc: Global, asked: &mut Asked, output: &Record) -> Result<Line, Stop> {
     let mut line = Line::new(alloc);
-    add_record(&mut line, asked, said)?;
+    add_record(&mut line, asked, output)?;
     Ok(line)
 }
 
 /// The text that is printed for a line; `None` if the line isn't a record's.
 fn shown_line(alloc: Global, asked: &mut Asked, line: &[u8]) -> anyhow::Result<Option<Line>> {
     match read_record(alloc, line) {
-        Ok(said) => Ok(Some(record_line(alloc, asked, &said)?)),
+        Ok(output) => Ok(Some(record_line(alloc, asked, &output)?)),
         Err(RecordError::NotARecord) => Ok(None),
         Err(RecordError::NoMemory) => bail!("out of memory"),
     }

@@ -9,11 +9,11 @@ use sshc_wire::{NoMemory, Record, RecordError, put_record};
 use std::alloc::Global;
 
 /// The record's line, without the line feed.
-fn line_of(alloc: Global, said: &Record) -> Result<String, NoMemory>
-    ensures { IfOk result (λ line. string_bytes line ≡ encode_lower (record_text said.now)) }
+fn line_of(alloc: Global, output: &Record) -> Result<String, NoMemory>
+    ensures { IfOk result (λ line. string_bytes line ≡ encode_lower (record_text output.now)) }
 {
     let mut bytes = Vec::new(alloc);
-    put_record(&mut bytes, said)?;
+    put_record(&mut bytes, output)?;
     Ok(hex::encode(alloc, bytes.as_slice())?)
 }
 
@@ -33,12 +33,12 @@ fn where_same<T: Drop>(value: T, these: &[u8], others: &[u8]) -> Result<T, Recor
 /// `NotARecord`.
 pub fn read_record(alloc: Global, line: &[u8]) -> Result<Record, RecordError>
     // The line is the text of that record and of no other.
-    ensures text { IfOk result (λ said. line.now ≡ encode_lower (record_text said)) }
+    ensures text { IfOk result (λ output. line.now ≡ encode_lower (record_text output)) }
 {
     let Ok(bytes) = hex::decode(alloc, line) else {
         return Err(RecordError::NotARecord);
     };
-    let said = sshc_wire::read_record(alloc, bytes.as_slice())?;
-    let written = line_of(alloc, &said)?;
-    where_same(said, line, written.as_bytes())
+    let output = sshc_wire::read_record(alloc, bytes.as_slice())?;
+    let written = line_of(alloc, &output)?;
+    where_same(output, line, written.as_bytes())
 }

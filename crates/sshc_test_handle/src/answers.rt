@@ -42,8 +42,8 @@ pub(crate) fn ping<R: Wait>(rt: &R, handle: &Handle<Keeper>) -> Ticket {
 }
 
 /// What a ping was answered, where it was.
-pub(crate) fn done(said: Option<Record>) -> Option<Result<(), Error>> {
-    match said {
+pub(crate) fn done(output: Option<Record>) -> Option<Result<(), Error>> {
+    match output {
         Some(record) => done_answer(record),
         None => None,
     }

@@ -33,7 +33,7 @@ const PLAIN: Scene = Scene {
 
 /// What the two pings and the run were answered.
 #[derive(Clone, Copy)]
-struct Said {
+struct Output {
     /// Whether the first ping had an answer before the run.
     early: bool,
     first: Option<Result<(), Error>>,
@@ -61,17 +61,22 @@ fn made(
 }
 
 /// Runs behind two pings.
-fn run_of<R: Wait + Clock>(rt: &R, alloc: Global, host: Host, scene: Scene) -> Result<Said, Error> {
+fn run_of<R: Wait + Clock>(
+    rt: &R,
+    alloc: Global,
+    host: Host,
+    scene: Scene,
+) -> Result<Output, Error> {
     let (handle, runner) = made(alloc, host, scene)?;
     Ok(ran(rt, &handle, runner))
 }
 
-fn ran<R: Wait + Clock>(rt: &R, handle: &Handle<Keeper>, runner: FakeRunner<Host>) -> Said {
+fn ran<R: Wait + Clock>(rt: &R, handle: &Handle<Keeper>, runner: FakeRunner<Host>) -> Output {
     let one = ping(rt, handle);
     let two = ping(rt, handle);
     let early = done(handle.poll_ticket(rt, one)).is_some();
     let run = runner.run(rt);
-    Said {
+    Output {
         early,
         first: done(handle.poll_ticket(rt, one)),
         second: done(handle.poll_ticket(rt, two)),
@@ -145,17 +150,20 @@ const ROWS: &[Row] = &[
 ];
 
 /// Whether that was answered, and nothing before the run.
-fn is_said(said: Said, answers: [Result<(), Error>; 3]) -> bool {
+fn is_said(output: Output, answers: [Result<(), Error>; 3]) -> bool {
     let [first, second, run] = answers;
-    !said.early && said.first == Some(first) && said.second == Some(second) && said.run == run
+    !output.early
+        && output.first == Some(first)
+        && output.second == Some(second)
+        && output.run == run
 }
 
 /// Each kind of end answers the pings and the run as its row says.
 #[test]
 fn ends_as_the_rows_say(rt: HostRuntime) -> Result<(), Fail> {
     for (name, pong, scene, answers) in ROWS {
-        let said = run_of(&rt, rt.alloc(), host_of(rt.alloc(), *pong), *scene)?;
-        assert!(&rt; is_said(said, *answers), "{name}");
+        let output = run_of(&rt, rt.alloc(), host_of(rt.alloc(), *pong), *scene)?;
+        assert!(&rt; is_said(output, *answers), "{name}");
     }
     Ok(())
 }

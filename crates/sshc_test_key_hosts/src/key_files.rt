@@ -36,7 +36,8 @@ const LOADED: &[Loaded] = &[
     },
     Loaded {
         name: "behind a comment line",
-        text: "# a comment line\r\n\r\nssh-ed25519\tAAAAC3NzaC1lZDI1NTE5AAAAIK2pr+Bfus1hvPof4Wb/plZCzSbqadHH0u+/f4ODtKnE  tabs and crlf \r\n",
+        text: "# a comment line\r\n\r\nssh-ed25519\tAAAAC3NzaC1lZDI1NTE5AAAAIK2pr+Bfus1hvPof4Wb/plZCzSbqadHH0u+/f4ODtK\
+            nE  tabs and crlf \r\n",
         comment: "tabs and crlf",
         line: "ssh-ed25519 AAAAC3NzaC1lZDI1NTE5AAAAIK2pr+Bfus1hvPof4Wb/plZCzSbqadHH0u+/f4ODtKnE tabs and crlf",
     },
@@ -54,7 +55,8 @@ const LOADED: &[Loaded] = &[
     },
     Loaded {
         name: "another name",
-        text: "  # no key\nanother-name\u{2003}AAAAC3NzaC1lZDI1NTE5AAAAIK2pr+Bfus1hvPof4Wb/plZCzSbqadHH0u+/f4ODtKnE\u{a0}a # sign\nb",
+        text: "  # no key\nanother-name\u{2003}AAAAC3NzaC1lZDI1NTE5AAAAIK2pr+Bfus1hvPof4Wb/plZCzSbqadHH0u+/f4ODtKnE\
+            \u{a0}a # sign\nb",
         comment: "a # sign",
         line: "ssh-ed25519 AAAAC3NzaC1lZDI1NTE5AAAAIK2pr+Bfus1hvPof4Wb/plZCzSbqadHH0u+/f4ODtKnE a # sign",
     },

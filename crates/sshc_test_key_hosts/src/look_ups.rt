@@ -13,34 +13,57 @@ use std::test::Fail;
 
 /// The base64 of an ECDSA key, from `ssh-keygen -q -t ecdsa -b 256 -N '' -C ecdsa@example -f ec`.
 const ECDSA: &str =
-    "AAAAE2VjZHNhLXNoYTItbmlzdHAyNTYAAAAIbmlzdHAyNTYAAABBBJXJgLseWYIY+wQK10jNvNo5jSM1PCfIHpq++M0AHKZbveuHnm+savTYFofmPC0VxEo4GdMjTVTrgnxhrfApAnE=";
+    "AAAAE2VjZHNhLXNoYTItbmlzdHAyNTYAAAAIbmlzdHAyNTYAAABBBJXJgLseWYIY+wQK10jNvNo5jSM1PCfIHpq++M0AHKZbveuHnm+savTYFofmP\
+        C0VxEo4GdMjTVTrgnxhrfApAnE=";
 
 /// The base64 of an RSA key, from `ssh-keygen -q -t rsa -b 2048 -N '' -C rsa@example -f rsa`.
 const RSA: &str =
-    "AAAAB3NzaC1yc2EAAAADAQABAAABAQDRz6fayHGWh8OHB+QCZeWvFcR+oVY5an6Bh11gb76IpbXYsNXLxWSjoA8cgD13Gjj8CT1g5ce13AODSjmVUlGyzh7QKnXyjZK2Sk4C7Yt8kZVQiGO2o/RRYR8X1E/4ZzTTxe8Hf2Hi70u9eDyR1FwIbtJI63lOKAwgkc/GwhP+4R0FhsVa7ofZgXX8tDWngePdZf2jnHSeVRqB6dVD1mjUulw5x6zFRLd01O/2GW2mAX4PxSWgaq88nOoGh76uUJ+7FH42Em4UtX1p2S8uZBw9izMVulxpNqH78eBJCQ1ChGKWseoNKf5p4vODUJnqQ+lxDQ4/yEJuywz+/u51hbdD";
+    "AAAAB3NzaC1yc2EAAAADAQABAAABAQDRz6fayHGWh8OHB+QCZeWvFcR+oVY5an6Bh11gb76IpbXYsNXLxWSjoA8cgD13Gjj8CT1g5ce13AODSjmVU\
+        lGyzh7QKnXyjZK2Sk4C7Yt8kZVQiGO2o/RRYR8X1E/4ZzTTxe8Hf2Hi70u9eDyR1FwIbtJI63lOKAwgkc/GwhP+4R0FhsVa7ofZgXX8tDWngeP\
+        dZf2jnHSeVRqB6dVD1mjUulw5x6zFRLd01O/2GW2mAX4PxSWgaq88nOoGh76uUJ+7FH42Em4UtX1p2S8uZBw9izMVulxpNqH78eBJCQ1ChGKWs\
+        eoNKf5p4vODUJnqQ+lxDQ4/yEJuywz+/u51hbdD";
 
 /// Written by hand, with several names, ports and algorithms, a blank line, a comment line and comments behind keys.
 const PLAIN: &str =
     "host.example,192.0.2.7 ssh-ed25519 AAAAC3NzaC1lZDI1NTE5AAAAIJdD7y3aLq454yWBdwLWbieU1ebz9/cu7/QEXn9OIeZJ\n\
 \n\
 # a comment\n\
-host.example ecdsa-sha2-nistp256 AAAAE2VjZHNhLXNoYTItbmlzdHAyNTYAAAAIbmlzdHAyNTYAAABBBJXJgLseWYIY+wQK10jNvNo5jSM1PCfIHpq++M0AHKZbveuHnm+savTYFofmPC0VxEo4GdMjTVTrgnxhrfApAnE=\n\
-[host.example]:2222 ssh-ed25519 AAAAC3NzaC1lZDI1NTE5AAAAIA6rWI3G1sz07DnfFlrouTcysQlj2P+jpNSOEWD9OJ3X a comment with spaces\n\
-[192.0.2.7]:2222,[host.example]:2222 ssh-rsa AAAAB3NzaC1yc2EAAAADAQABAAABAQDRz6fayHGWh8OHB+QCZeWvFcR+oVY5an6Bh11gb76IpbXYsNXLxWSjoA8cgD13Gjj8CT1g5ce13AODSjmVUlGyzh7QKnXyjZK2Sk4C7Yt8kZVQiGO2o/RRYR8X1E/4ZzTTxe8Hf2Hi70u9eDyR1FwIbtJI63lOKAwgkc/GwhP+4R0FhsVa7ofZgXX8tDWngePdZf2jnHSeVRqB6dVD1mjUulw5x6zFRLd01O/2GW2mAX4PxSWgaq88nOoGh76uUJ+7FH42Em4UtX1p2S8uZBw9izMVulxpNqH78eBJCQ1ChGKWseoNKf5p4vODUJnqQ+lxDQ4/yEJuywz+/u51hbdD rsa@example\n\
+host.example ecdsa-sha2-nistp256 AAAAE2VjZHNhLXNoYTItbmlzdHAyNTYAAAAIbmlzdHAyNTYAAABBBJXJgLseWYIY+wQK10jNvNo5jSM1PCfIH\
+    pq++M0AHKZbveuHnm+savTYFofmPC0VxEo4GdMjTVTrgnxhrfApAnE=\n\
+[host.example]:2222 ssh-ed25519 AAAAC3NzaC1lZDI1NTE5AAAAIA6rWI3G1sz07DnfFlrouTcysQlj2P+jpNSOEWD9OJ3X a comment with \
+    spaces\n\
+[192.0.2.7]:2222,[host.example]:2222 ssh-rsa \
+    AAAAB3NzaC1yc2EAAAADAQABAAABAQDRz6fayHGWh8OHB+QCZeWvFcR+oVY5an6Bh11gb76IpbXYsNXLxWSjoA8cgD13Gjj8CT1g5ce13AODSjmVUl\
+    Gyzh7QKnXyjZK2Sk4C7Yt8kZVQiGO2o/RRYR8X1E/4ZzTTxe8Hf2Hi70u9eDyR1FwIbtJI63lOKAwgkc/GwhP+4R0FhsVa7ofZgXX8tDWngePdZf2j\
+    nHSeVRqB6dVD1mjUulw5x6zFRLd01O/2GW2mAX4PxSWgaq88nOoGh76uUJ+7FH42Em4UtX1p2S8uZBw9izMVulxpNqH78eBJCQ1ChGKWseoNKf5p4v\
+    ODUJnqQ+lxDQ4/yEJuywz+/u51hbdD rsa@example\n\
 other.example ssh-ed25519 AAAAC3NzaC1lZDI1NTE5AAAAILIG2T/B0l0gaqj3puu510tu9N1OkQ4znY3LYuEm5zCF\n\
 ";
 
 /// The same after `ssh-keygen -q -H -f hashed`, which splits the names of a line.
-const HASHED: &str =
-    "|1|3kLddJMWKVtLlXH5JvZ73aJFz78=|tifuykX9aW8waAUDQcjzGK5C+Nw= ssh-ed25519 AAAAC3NzaC1lZDI1NTE5AAAAIJdD7y3aLq454yWBdwLWbieU1ebz9/cu7/QEXn9OIeZJ\n\
-|1|hLP/YkjmGRODG/HCnbeFWxoOQt4=|bUUmnSq8f/IUU4S6eNfu3nZqNKo= ssh-ed25519 AAAAC3NzaC1lZDI1NTE5AAAAIJdD7y3aLq454yWBdwLWbieU1ebz9/cu7/QEXn9OIeZJ\n\
+const HASHED: &str = "|1|3kLddJMWKVtLlXH5JvZ73aJFz78=|tifuykX9aW8waAUDQcjzGK5C+Nw= ssh-ed25519 \
+        AAAAC3NzaC1lZDI1NTE5AAAAIJdD7y3aLq454yWBdwLWbieU1ebz9/cu7/QEXn9OIeZJ\n\
+|1|hLP/YkjmGRODG/HCnbeFWxoOQt4=|bUUmnSq8f/IUU4S6eNfu3nZqNKo= ssh-ed25519 \
+    AAAAC3NzaC1lZDI1NTE5AAAAIJdD7y3aLq454yWBdwLWbieU1ebz9/cu7/QEXn9OIeZJ\n\
 \n\
 # a comment\n\
-|1|uk64TBqfIwKQVoCw9sSQUUReIWs=|wjaeCw6CAaAH0oa1lppG6jLy7cI= ecdsa-sha2-nistp256 AAAAE2VjZHNhLXNoYTItbmlzdHAyNTYAAAAIbmlzdHAyNTYAAABBBJXJgLseWYIY+wQK10jNvNo5jSM1PCfIHpq++M0AHKZbveuHnm+savTYFofmPC0VxEo4GdMjTVTrgnxhrfApAnE=\n\
-|1|/Fk8nn/mAjaf8qddirAAbCX/djM=|7og8WFUWBPNTGlCf3sUc6ucMXPw= ssh-ed25519 AAAAC3NzaC1lZDI1NTE5AAAAIA6rWI3G1sz07DnfFlrouTcysQlj2P+jpNSOEWD9OJ3X a comment with spaces\n\
-|1|4XYW+3oRnOU3adXO4/vfJ1R0oX0=|y5Y63Vc1FDlh6FTTecZ+5Ib8vDs= ssh-rsa AAAAB3NzaC1yc2EAAAADAQABAAABAQDRz6fayHGWh8OHB+QCZeWvFcR+oVY5an6Bh11gb76IpbXYsNXLxWSjoA8cgD13Gjj8CT1g5ce13AODSjmVUlGyzh7QKnXyjZK2Sk4C7Yt8kZVQiGO2o/RRYR8X1E/4ZzTTxe8Hf2Hi70u9eDyR1FwIbtJI63lOKAwgkc/GwhP+4R0FhsVa7ofZgXX8tDWngePdZf2jnHSeVRqB6dVD1mjUulw5x6zFRLd01O/2GW2mAX4PxSWgaq88nOoGh76uUJ+7FH42Em4UtX1p2S8uZBw9izMVulxpNqH78eBJCQ1ChGKWseoNKf5p4vODUJnqQ+lxDQ4/yEJuywz+/u51hbdD rsa@example\n\
-|1|g5ARLukBON9lg79MN6XC7KVKzXM=|o0R/tVY9UwWVQf0dUMGexYb/M+Q= ssh-rsa AAAAB3NzaC1yc2EAAAADAQABAAABAQDRz6fayHGWh8OHB+QCZeWvFcR+oVY5an6Bh11gb76IpbXYsNXLxWSjoA8cgD13Gjj8CT1g5ce13AODSjmVUlGyzh7QKnXyjZK2Sk4C7Yt8kZVQiGO2o/RRYR8X1E/4ZzTTxe8Hf2Hi70u9eDyR1FwIbtJI63lOKAwgkc/GwhP+4R0FhsVa7ofZgXX8tDWngePdZf2jnHSeVRqB6dVD1mjUulw5x6zFRLd01O/2GW2mAX4PxSWgaq88nOoGh76uUJ+7FH42Em4UtX1p2S8uZBw9izMVulxpNqH78eBJCQ1ChGKWseoNKf5p4vODUJnqQ+lxDQ4/yEJuywz+/u51hbdD rsa@example\n\
-|1|gGwy21BuTwRt6MzWB5bjE++IBnM=|XYkO1PGpYmbPnlQiQ2+lCkpCZkQ= ssh-ed25519 AAAAC3NzaC1lZDI1NTE5AAAAILIG2T/B0l0gaqj3puu510tu9N1OkQ4znY3LYuEm5zCF\n\
+|1|uk64TBqfIwKQVoCw9sSQUUReIWs=|wjaeCw6CAaAH0oa1lppG6jLy7cI= ecdsa-sha2-nistp256 \
+    AAAAE2VjZHNhLXNoYTItbmlzdHAyNTYAAAAIbmlzdHAyNTYAAABBBJXJgLseWYIY+wQK10jNvNo5jSM1PCfIHpq++M0AHKZbveuHnm+savTYFofmPC\
+    0VxEo4GdMjTVTrgnxhrfApAnE=\n\
+|1|/Fk8nn/mAjaf8qddirAAbCX/djM=|7og8WFUWBPNTGlCf3sUc6ucMXPw= ssh-ed25519 \
+    AAAAC3NzaC1lZDI1NTE5AAAAIA6rWI3G1sz07DnfFlrouTcysQlj2P+jpNSOEWD9OJ3X a comment with spaces\n\
+|1|4XYW+3oRnOU3adXO4/vfJ1R0oX0=|y5Y63Vc1FDlh6FTTecZ+5Ib8vDs= ssh-rsa \
+    AAAAB3NzaC1yc2EAAAADAQABAAABAQDRz6fayHGWh8OHB+QCZeWvFcR+oVY5an6Bh11gb76IpbXYsNXLxWSjoA8cgD13Gjj8CT1g5ce13AODSjmVUl\
+    Gyzh7QKnXyjZK2Sk4C7Yt8kZVQiGO2o/RRYR8X1E/4ZzTTxe8Hf2Hi70u9eDyR1FwIbtJI63lOKAwgkc/GwhP+4R0FhsVa7ofZgXX8tDWngePdZf2j\
+    nHSeVRqB6dVD1mjUulw5x6zFRLd01O/2GW2mAX4PxSWgaq88nOoGh76uUJ+7FH42Em4UtX1p2S8uZBw9izMVulxpNqH78eBJCQ1ChGKWseoNKf5p4v\
+    ODUJnqQ+lxDQ4/yEJuywz+/u51hbdD rsa@example\n\
+|1|g5ARLukBON9lg79MN6XC7KVKzXM=|o0R/tVY9UwWVQf0dUMGexYb/M+Q= ssh-rsa \
+    AAAAB3NzaC1yc2EAAAADAQABAAABAQDRz6fayHGWh8OHB+QCZeWvFcR+oVY5an6Bh11gb76IpbXYsNXLxWSjoA8cgD13Gjj8CT1g5ce13AODSjmVUl\
+    Gyzh7QKnXyjZK2Sk4C7Yt8kZVQiGO2o/RRYR8X1E/4ZzTTxe8Hf2Hi70u9eDyR1FwIbtJI63lOKAwgkc/GwhP+4R0FhsVa7ofZgXX8tDWngePdZf2j\
+    nHSeVRqB6dVD1mjUulw5x6zFRLd01O/2GW2mAX4PxSWgaq88nOoGh76uUJ+7FH42Em4UtX1p2S8uZBw9izMVulxpNqH78eBJCQ1ChGKWseoNKf5p4v\
+    ODUJnqQ+lxDQ4/yEJuywz+/u51hbdD rsa@example\n\
+|1|gGwy21BuTwRt6MzWB5bjE++IBnM=|XYkO1PGpYmbPnlQiQ2+lCkpCZkQ= ssh-ed25519 \
+    AAAAC3NzaC1lZDI1NTE5AAAAILIG2T/B0l0gaqj3puu510tu9N1OkQ4znY3LYuEm5zCF\n\
 ";
 
 /// The plain text with CR at each line's end, from `sed 's/$/\r/' plain`. ssh-keygen doesn't hash it.
@@ -48,9 +71,15 @@ const CRLF: &str =
     "host.example,192.0.2.7 ssh-ed25519 AAAAC3NzaC1lZDI1NTE5AAAAIJdD7y3aLq454yWBdwLWbieU1ebz9/cu7/QEXn9OIeZJ\r\n\
 \r\n\
 # a comment\r\n\
-host.example ecdsa-sha2-nistp256 AAAAE2VjZHNhLXNoYTItbmlzdHAyNTYAAAAIbmlzdHAyNTYAAABBBJXJgLseWYIY+wQK10jNvNo5jSM1PCfIHpq++M0AHKZbveuHnm+savTYFofmPC0VxEo4GdMjTVTrgnxhrfApAnE=\r\n\
-[host.example]:2222 ssh-ed25519 AAAAC3NzaC1lZDI1NTE5AAAAIA6rWI3G1sz07DnfFlrouTcysQlj2P+jpNSOEWD9OJ3X a comment with spaces\r\n\
-[192.0.2.7]:2222,[host.example]:2222 ssh-rsa AAAAB3NzaC1yc2EAAAADAQABAAABAQDRz6fayHGWh8OHB+QCZeWvFcR+oVY5an6Bh11gb76IpbXYsNXLxWSjoA8cgD13Gjj8CT1g5ce13AODSjmVUlGyzh7QKnXyjZK2Sk4C7Yt8kZVQiGO2o/RRYR8X1E/4ZzTTxe8Hf2Hi70u9eDyR1FwIbtJI63lOKAwgkc/GwhP+4R0FhsVa7ofZgXX8tDWngePdZf2jnHSeVRqB6dVD1mjUulw5x6zFRLd01O/2GW2mAX4PxSWgaq88nOoGh76uUJ+7FH42Em4UtX1p2S8uZBw9izMVulxpNqH78eBJCQ1ChGKWseoNKf5p4vODUJnqQ+lxDQ4/yEJuywz+/u51hbdD rsa@example\r\n\
+host.example ecdsa-sha2-nistp256 AAAAE2VjZHNhLXNoYTItbmlzdHAyNTYAAAAIbmlzdHAyNTYAAABBBJXJgLseWYIY+wQK10jNvNo5jSM1PCfIH\
+    pq++M0AHKZbveuHnm+savTYFofmPC0VxEo4GdMjTVTrgnxhrfApAnE=\r\n\
+[host.example]:2222 ssh-ed25519 AAAAC3NzaC1lZDI1NTE5AAAAIA6rWI3G1sz07DnfFlrouTcysQlj2P+jpNSOEWD9OJ3X a comment with \
+    spaces\r\n\
+[192.0.2.7]:2222,[host.example]:2222 ssh-rsa \
+    AAAAB3NzaC1yc2EAAAADAQABAAABAQDRz6fayHGWh8OHB+QCZeWvFcR+oVY5an6Bh11gb76IpbXYsNXLxWSjoA8cgD13Gjj8CT1g5ce13AODSjmVUl\
+    Gyzh7QKnXyjZK2Sk4C7Yt8kZVQiGO2o/RRYR8X1E/4ZzTTxe8Hf2Hi70u9eDyR1FwIbtJI63lOKAwgkc/GwhP+4R0FhsVa7ofZgXX8tDWngePdZf2j\
+    nHSeVRqB6dVD1mjUulw5x6zFRLd01O/2GW2mAX4PxSWgaq88nOoGh76uUJ+7FH42Em4UtX1p2S8uZBw9izMVulxpNqH78eBJCQ1ChGKWseoNKf5p4v\
+    ODUJnqQ+lxDQ4/yEJuywz+/u51hbdD rsa@example\r\n\
 other.example ssh-ed25519 AAAAC3NzaC1lZDI1NTE5AAAAILIG2T/B0l0gaqj3puu510tu9N1OkQ4znY3LYuEm5zCF\r\n\
 ";
 
@@ -217,7 +246,8 @@ const FRONTS: &[LookUp] = &[
     LookUp {
         name: "a negated name",
         place: Place::Text(
-            "!host.example,host.example ssh-ed25519 AAAAC3NzaC1lZDI1NTE5AAAAIJdD7y3aLq454yWBdwLWbieU1ebz9/cu7/QEXn9OIeZJ\n",
+            "!host.example,host.example ssh-ed25519 \
+                AAAAC3NzaC1lZDI1NTE5AAAAIJdD7y3aLq454yWBdwLWbieU1ebz9/cu7/QEXn9OIeZJ\n",
         ),
         host: "host.example",
         port: 22,
@@ -235,7 +265,8 @@ const FRONTS: &[LookUp] = &[
     LookUp {
         name: "another marker",
         place: Place::Text(
-            "@cert-authority host.example ssh-ed25519 AAAAC3NzaC1lZDI1NTE5AAAAIJdD7y3aLq454yWBdwLWbieU1ebz9/cu7/QEXn9OIeZJ\n",
+            "@cert-authority host.example ssh-ed25519 \
+                AAAAC3NzaC1lZDI1NTE5AAAAIJdD7y3aLq454yWBdwLWbieU1ebz9/cu7/QEXn9OIeZJ\n",
         ),
         host: "host.example",
         port: 22,
@@ -324,19 +355,24 @@ const MARKS: &[Marks] = &[
     },
     Marks {
         name: "two keys of either mark",
-        text: "@revoked h ssh-ed25519 AAAAC3NzaC1lZDI1NTE5AAAAIJdD7y3aLq454yWBdwLWbieU1ebz9/cu7/QEXn9OIeZJ\nh ssh-ed25519 AAAAC3NzaC1lZDI1NTE5AAAAIA6rWI3G1sz07DnfFlrouTcysQlj2P+jpNSOEWD9OJ3X\n@revoked g,h ssh-ed25519 AAAAC3NzaC1lZDI1NTE5AAAAILIG2T/B0l0gaqj3puu510tu9N1OkQ4znY3LYuEm5zCF\nh x AAAAC3NzaC1lZDI1NTE5AAAAIJdD7y3aLq454yWBdwLWbieU1ebz9/cu7/QEXn9OIeZJ a comment\n",
+        text: "@revoked h ssh-ed25519 AAAAC3NzaC1lZDI1NTE5AAAAIJdD7y3aLq454yWBdwLWbieU1ebz9/cu7/QEXn9OIeZJ\nh \
+            ssh-ed25519 AAAAC3NzaC1lZDI1NTE5AAAAIA6rWI3G1sz07DnfFlrouTcysQlj2P+jpNSOEWD9OJ3X\n@revoked g,h \
+            ssh-ed25519 AAAAC3NzaC1lZDI1NTE5AAAAILIG2T/B0l0gaqj3puu510tu9N1OkQ4znY3LYuEm5zCF\nh x \
+            AAAAC3NzaC1lZDI1NTE5AAAAIJdD7y3aLq454yWBdwLWbieU1ebz9/cu7/QEXn9OIeZJ a comment\n",
         recorded: Ok(&[(2, K2), (4, K1)]),
         revoked: Ok(&[(1, K1), (3, K3)]),
     },
     Marks {
         name: "a revoked line that is no key",
-        text: "h ssh-ed25519 AAAAC3NzaC1lZDI1NTE5AAAAIJdD7y3aLq454yWBdwLWbieU1ebz9/cu7/QEXn9OIeZJ\n@revoked h ssh-ed25519 AAAA\n",
+        text: "h ssh-ed25519 AAAAC3NzaC1lZDI1NTE5AAAAIJdD7y3aLq454yWBdwLWbieU1ebz9/cu7/QEXn9OIeZJ\n@revoked h \
+            ssh-ed25519 AAAA\n",
         recorded: Err(Error::SshKey),
         revoked: Err(Error::SshKey),
     },
     Marks {
         name: "a recorded line that is no base64",
-        text: "h ssh-ed25519 ?\n@revoked h ssh-ed25519 AAAAC3NzaC1lZDI1NTE5AAAAIJdD7y3aLq454yWBdwLWbieU1ebz9/cu7/QEXn9OIeZJ\n",
+        text: "h ssh-ed25519 ?\n@revoked h ssh-ed25519 \
+            AAAAC3NzaC1lZDI1NTE5AAAAIJdD7y3aLq454yWBdwLWbieU1ebz9/cu7/QEXn9OIeZJ\n",
         recorded: Err(Error::Decode),
         revoked: Err(Error::Decode),
     },

@@ -179,7 +179,8 @@ const BY_FILES: &[Row] = &[
         case: "a changed key",
         given: Given {
             known: Known::Holds(
-                "\n[localhost]:13265 ssh-ed25519 AAAAC3NzaC1lZDI1NTE5AAAAIA6rWI3G1sz07DnfFlrouTcysQlj2P+jpNSOEWD9OJ3X\n",
+                "\n[localhost]:13265 ssh-ed25519 \
+                    AAAAC3NzaC1lZDI1NTE5AAAAIA6rWI3G1sz07DnfFlrouTcysQlj2P+jpNSOEWD9OJ3X\n",
             ),
             ..LOGS_IN
         },
@@ -191,7 +192,8 @@ const BY_FILES: &[Row] = &[
         case: "a revoked key",
         given: Given {
             known: Known::Holds(
-                "@revoked [localhost]:13265 ssh-ed25519 AAAAC3NzaC1lZDI1NTE5AAAAIJdD7y3aLq454yWBdwLWbieU1ebz9/cu7/QEXn9OIeZJ\n",
+                "@revoked [localhost]:13265 ssh-ed25519 \
+                    AAAAC3NzaC1lZDI1NTE5AAAAIJdD7y3aLq454yWBdwLWbieU1ebz9/cu7/QEXn9OIeZJ\n",
             ),
             ..LOGS_IN
         },
@@ -446,7 +448,8 @@ const ONE_BLOCK: &[Row] = &[Row {
     given: GENERATED,
     status: 0,
     written: 0,
-    line: "events 8\nrecords 8\npayloads 3\nagent 0\ndigest 5231f7675294e3fbd2af51597eca03218565708d\nended script-end\n",
+    line: "events 8\nrecords 8\npayloads 3\nagent 0\ndigest 5231f7675294e3fbd2af51597eca03218565708d\nended \
+        script-end\n",
 }];
 
 #[test]

@@ -29,7 +29,7 @@ pub(crate) struct Plain {
 }
 
 /// The payloads that were written.
-pub(crate) type Said = Vec<Vec<u8>>;
+pub(crate) type Output = Vec<Vec<u8>>;
 
 fn piece(alloc: Global, recipient: u32, stream: Stream, bytes: &[u8]) -> Result<Vec<u8>, NoMemory> {
     let mut text = Vec::new(alloc);
@@ -106,12 +106,12 @@ impl Plain {
         &mut self,
         alloc: Global,
         exchanging: bool,
-        said: &mut Said,
+        output: &mut Output,
     ) -> Result<(), NoMemory> {
         let mut left = Vec::new(alloc);
         let parts = std::mem::replace(&mut self.parts, Vec::new(alloc));
         for part in parts {
-            let rest = self.send_part(alloc, exchanging, &part, said)?;
+            let rest = self.send_part(alloc, exchanging, &part, output)?;
             if !rest.is_empty() {
                 left.push(Part {
                     stream: part.stream,
@@ -120,7 +120,7 @@ impl Plain {
             }
         }
         self.parts = left;
-        self.send_ends(alloc, said)
+        self.send_ends(alloc, output)
     }
 
     /// Sends what may be sent of one call's bytes, and returns the rest.
@@ -129,7 +129,7 @@ impl Plain {
         alloc: Global,
         exchanging: bool,
         part: &Part,
-        said: &mut Said,
+        output: &mut Output,
     ) -> Result<Vec<u8>, NoMemory> {
         let mut rest = Vec::new(alloc);
         let mut at_hand = Vec::new(alloc);
@@ -141,26 +141,26 @@ impl Plain {
                 rest.push(*byte)?;
             }
             if at_hand.len() >= self.packet_size as usize && !at_hand.is_empty() {
-                said.push(piece(alloc, self.recipient, part.stream, at_hand.as_slice())?)?;
+                output.push(piece(alloc, self.recipient, part.stream, at_hand.as_slice())?)?;
                 at_hand.clear();
             }
         }
         if !at_hand.is_empty() {
-            said.push(piece(alloc, self.recipient, part.stream, at_hand.as_slice())?)?;
+            output.push(piece(alloc, self.recipient, part.stream, at_hand.as_slice())?)?;
         }
         Ok(rest)
     }
 
-    fn send_ends(&mut self, alloc: Global, said: &mut Said) -> Result<(), NoMemory> {
+    fn send_ends(&mut self, alloc: Global, output: &mut Output) -> Result<(), NoMemory> {
         if !self.established || !self.parts.is_empty() {
             return Ok(());
         }
         if self.eof_asked && !self.eof_sent {
-            said.push(short(alloc, 96, self.recipient)?)?;
+            output.push(short(alloc, 96, self.recipient)?)?;
             self.eof_sent = true;
         }
         if self.close_asked && !self.close_sent {
-            said.push(short(alloc, 97, self.recipient)?)?;
+            output.push(short(alloc, 97, self.recipient)?)?;
             self.close_sent = true;
         }
         Ok(())
@@ -172,7 +172,7 @@ impl Plain {
         stream: Stream,
         body: &[u8],
         exchanging: bool,
-        said: &mut Said,
+        output: &mut Output,
     ) -> Result<(), NoMemory> {
         if self.eof_asked || self.close_asked || body.is_empty() {
             return Ok(());
@@ -181,25 +181,29 @@ impl Plain {
             stream,
             bytes: Vec::from_slice(alloc, body)?,
         })?;
-        self.flush(alloc, exchanging, said)
+        self.flush(alloc, exchanging, output)
     }
 
-    pub(crate) fn eof(&mut self, alloc: Global, said: &mut Said) -> Result<(), NoMemory> {
+    pub(crate) fn eof(&mut self, alloc: Global, output: &mut Output) -> Result<(), NoMemory> {
         if !self.close_sent {
             self.eof_asked = true;
         }
-        self.flush(alloc, true, said)
+        self.flush(alloc, true, output)
     }
 
-    pub(crate) fn close(&mut self, alloc: Global, said: &mut Said) -> Result<(), NoMemory> {
+    pub(crate) fn close(&mut self, alloc: Global, output: &mut Output) -> Result<(), NoMemory> {
         self.close_asked = true;
-        self.flush(alloc, true, said)
+        self.flush(alloc, true, output)
     }
 
     /// The answer to the peer's close.
-    pub(crate) fn answer_close(&mut self, alloc: Global, said: &mut Said) -> Result<(), NoMemory> {
+    pub(crate) fn answer_close(
+        &mut self,
+        alloc: Global,
+        output: &mut Output,
+    ) -> Result<(), NoMemory> {
         if !self.close_sent {
-            said.push(short(alloc, 97, self.recipient)?)?;
+            output.push(short(alloc, 97, self.recipient)?)?;
         }
         Ok(())
     }
@@ -209,10 +213,10 @@ impl Plain {
         alloc: Global,
         amount: u32,
         exchanging: bool,
-        said: &mut Said,
+        output: &mut Output,
     ) -> Result<(), NoMemory> {
         self.window = self.window.saturating_add(amount);
-        self.flush(alloc, exchanging, said)
+        self.flush(alloc, exchanging, output)
     }
 
     pub(crate) fn received(
@@ -220,7 +224,7 @@ impl Plain {
         alloc: Global,
         len: u64,
         target: u32,
-        said: &mut Said,
+        output: &mut Output,
     ) -> Result<bool, NoMemory> {
         self.own_window = if len < u64::from(self.own_window) {
             self.own_window - len as u32
@@ -232,7 +236,7 @@ impl Plain {
         }
         let mut text = short(alloc, 93, self.recipient)?;
         put_u32(&mut text, target.saturating_sub(self.own_window))?;
-        said.push(text)?;
+        output.push(text)?;
         self.own_window = target;
         Ok(true)
     }

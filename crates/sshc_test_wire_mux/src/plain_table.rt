@@ -1,7 +1,7 @@
 //! The plain program's channels, in the order of their making.
 
 use crate::let_go;
-use crate::plain::{Plain, Said};
+use crate::plain::{Output, Plain};
 use sshc_mux::Stream;
 use sshc_wire::NoMemory;
 use std::alloc::Global;
@@ -129,12 +129,12 @@ impl PlainTable {
         stream: Stream,
         body: &[u8],
         exchanging: bool,
-        said: &mut Said,
+        output: &mut Output,
     ) -> Result<bool, NoMemory> {
         let Some(channel) = self.named(number) else {
             return Ok(false);
         };
-        channel.data(alloc, stream, body, exchanging, said)?;
+        channel.data(alloc, stream, body, exchanging, output)?;
         Ok(channel.waits())
     }
 
@@ -144,11 +144,11 @@ impl PlainTable {
         alloc: Global,
         number: u32,
         is_eof: bool,
-        said: &mut Said,
+        output: &mut Output,
     ) -> Result<(), NoMemory> {
         match self.named(number) {
-            Some(channel) if is_eof => channel.eof(alloc, said),
-            Some(channel) => channel.close(alloc, said),
+            Some(channel) if is_eof => channel.eof(alloc, output),
+            Some(channel) => channel.close(alloc, output),
             None => Ok(()),
         }
     }
@@ -158,12 +158,12 @@ impl PlainTable {
         &mut self,
         alloc: Global,
         number: u32,
-        said: &mut Said,
+        output: &mut Output,
     ) -> Result<bool, NoMemory> {
         let Some(channel) = self.established(number) else {
             return Ok(false);
         };
-        channel.answer_close(alloc, said)?;
+        channel.answer_close(alloc, output)?;
         if let Some(at) = self.channels.iter().position(|c| c.number == number) {
             self.remove(at);
         }
@@ -177,19 +177,19 @@ impl PlainTable {
         number: u32,
         amount: u32,
         exchanging: bool,
-        said: &mut Said,
+        output: &mut Output,
     ) -> Result<Option<u32>, NoMemory> {
         let Some(channel) = self.established(number) else {
             return Ok(None);
         };
-        channel.grant(alloc, amount, exchanging, said)?;
+        channel.grant(alloc, amount, exchanging, output)?;
         Ok(Some(channel.window))
     }
 
     /// Sends what may be sent on each channel.
-    pub(crate) fn flush(&mut self, alloc: Global, said: &mut Said) -> Result<(), NoMemory> {
+    pub(crate) fn flush(&mut self, alloc: Global, output: &mut Output) -> Result<(), NoMemory> {
         for channel in self.channels.iter_mut() {
-            channel.flush(alloc, false, said)?;
+            channel.flush(alloc, false, output)?;
         }
         Ok(())
     }
@@ -200,10 +200,10 @@ impl PlainTable {
         alloc: Global,
         number: u32,
         len: u64,
-        said: &mut Said,
+        output: &mut Output,
     ) -> Result<bool, NoMemory> {
         match self.established(number) {
-            Some(channel) => channel.received(alloc, len, 20, said),
+            Some(channel) => channel.received(alloc, len, 20, output),
             None => Ok(false),
         }
     }

@@ -1,7 +1,7 @@
 //! Random lists of calls on several channels, with each result and payload compared with the plain program's.
 
 use crate::let_go;
-use crate::plain::Said;
+use crate::plain::Output;
 use crate::plain_table::PlainTable;
 use sshc_mux::{ChannelId, ChannelTable, Stream};
 use sshc_wire::{NoMemory, Outbox};
@@ -41,7 +41,7 @@ struct Both {
     table: ChannelTable,
     plain: PlainTable,
     out: Outbox,
-    said: Said,
+    output: Output,
 }
 
 impl Both {
@@ -53,7 +53,7 @@ impl Both {
             table: ChannelTable::numbered_after(alloc, ChannelId(last)),
             plain: PlainTable::new(alloc, last),
             out: Outbox::new(alloc),
-            said: Vec::new(alloc),
+            output: Vec::new(alloc),
         }
     }
 
@@ -125,9 +125,7 @@ impl Both {
             self.table.data(id, body, exchanging, &mut self.out)?;
             Stream::Data
         };
-        let waits = self
-            .plain
-            .data(self.alloc, id.0, stream, body, exchanging, &mut self.said)?;
+        let waits = self.plain.data(self.alloc, id.0, stream, body, exchanging, &mut self.output)?;
         Ok(self.table.has_pending_data(id) == waits)
     }
 
@@ -137,13 +135,13 @@ impl Both {
         } else {
             self.table.close_own(id, &mut self.out)?;
         }
-        self.plain.end(self.alloc, id.0, is_eof, &mut self.said)?;
+        self.plain.end(self.alloc, id.0, is_eof, &mut self.output)?;
         Ok(true)
     }
 
     fn close(&mut self, id: ChannelId) -> Result<bool, NoMemory> {
         let is_closed = self.table.close_peer(id, &mut self.out)?;
-        let is_plain_closed = self.plain.close(self.alloc, id.0, &mut self.said)?;
+        let is_plain_closed = self.plain.close(self.alloc, id.0, &mut self.output)?;
         Ok(is_closed == is_plain_closed)
     }
 
@@ -151,19 +149,21 @@ impl Both {
         let window = self.table.grant(id, amount, exchanging, &mut self.out)?;
         let plain_window = self
             .plain
-            .grant(self.alloc, id.0, amount, exchanging, &mut self.said)?;
+            .grant(self.alloc, id.0, amount, exchanging, &mut self.output)?;
         Ok(window == plain_window)
     }
 
     fn flush(&mut self) -> Result<bool, NoMemory> {
         self.table.flush_all(&mut self.out)?;
-        self.plain.flush(self.alloc, &mut self.said)?;
+        self.plain.flush(self.alloc, &mut self.output)?;
         Ok(true)
     }
 
     fn received(&mut self, id: ChannelId, len: u64) -> Result<bool, NoMemory> {
         let is_adjusted = self.table.received(id, len, 20, &mut self.out)?;
-        let is_plain_adjusted = self.plain.received(self.alloc, id.0, len, &mut self.said)?;
+        let is_plain_adjusted = self
+            .plain
+            .received(self.alloc, id.0, len, &mut self.output)?;
         Ok(is_adjusted == is_plain_adjusted)
     }
 
@@ -178,8 +178,8 @@ impl Both {
 
     /// Whether the payloads are those of the plain program, in its order.
     fn has_same_payloads(&self) -> bool {
-        let mut are_equal = self.out.len() == self.said.len();
-        for (at, want) in self.said.as_slice().iter().enumerate() {
+        let mut are_equal = self.out.len() == self.output.len();
+        for (at, want) in self.output.as_slice().iter().enumerate() {
             are_equal = are_equal && self.out.packet(at) == Some(want.as_slice());
         }
         are_equal

@@ -37,7 +37,8 @@ impl Model for Calls {
     ghost coded = { Prim.hlevel (codes, key_pair_code) };
 
     ghost view = { λ s. record {
-      calls = map (λ c. record { by = c.by; key = c.key; hash = c.hash; bytes = c.bytes; answer = c.answer }) s.calls.items;
+      calls = map (λ c. record { by = c.by; key = c.key; hash = c.hash; bytes = c.bytes; answer = c.answer })
+          s.calls.items;
       refusals = s.refusals;
     } };
 }

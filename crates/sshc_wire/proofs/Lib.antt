@@ -19,3 +19,4 @@ mod Extended
 mod Ended
 mod StandardFacts
 mod DigitLemmas
+mod Hints

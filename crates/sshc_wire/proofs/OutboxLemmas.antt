@@ -27,12 +27,12 @@ records_len (t ∷ held) = ap suc (records_len held)
 
 records_by : (held : List (List ℕ)) (more : List Record) → AllTold more → records_of (held ++ map record_text more) ≡ records_of held ++ more
 records_by [] [] told = refl
-records_by [] (said ∷ more) told = ap (λ (r : Record). r ∷ records_of (map record_text more)) told.0 ∙ ap (λ (rs : List Record). said ∷ rs) (records_by [] more told.1)
+records_by [] (output ∷ more) told = ap (λ (r : Record). r ∷ records_of (map record_text more)) told.0 ∙ ap (λ (rs : List Record). output ∷ rs) (records_by [] more told.1)
 records_by (t ∷ held) more told = ap (λ (rs : List Record). record_of t ∷ rs) (records_by held more told)
 
 told_by : (held : List (List ℕ)) (more : List Record) → AreTold held → AllTold more → AreTold (held ++ map record_text more)
 told_by [] [] are told = tt
-told_by [] (said ∷ more) are told = (ap record_text told.0, told_by [] more tt told.1)
+told_by [] (output ∷ more) are told = (ap record_text told.0, told_by [] more tt told.1)
 told_by (t ∷ held) more are told = (are.0, told_by held more are.1 told)
 
 pub more_records : (held now : List (List ℕ)) (more : List Record) → now ≡ held ++ map record_text more → AllTold more → records_of now ≡ records_of held ++ more
@@ -45,23 +45,23 @@ pub nothing_more : (held : List (List ℕ)) → held ≡ held ++ []
 nothing_more held = sym (append-nil held)
 
 -- one record, which is shown or not
-pub one_shown : (held now : List (List ℕ)) (muted : Bool) (said : Record) → now ≡ held ++ map record_text (kept muted said) → now ≡ held ++ map record_text (shown muted (said ∷ []))
-one_shown held now muted said is = is ∙ ap (λ (rs : List Record). held ++ map record_text rs) (sym (append-nil (kept muted said)))
+pub one_shown : (held now : List (List ℕ)) (muted : Bool) (output : Record) → now ≡ held ++ map record_text (kept muted output) → now ≡ held ++ map record_text (shown muted (output ∷ []))
+one_shown held now muted output is = is ∙ ap (λ (rs : List Record). held ++ map record_text rs) (sym (append-nil (kept muted output)))
 
-pub one_pushed : (held now : List (List ℕ)) (muted : Bool) (said : Record) → now ≡ held ++ map record_text (kept muted said) → AllTold (kept muted said)
-    → records_of now ≡ records_of held ++ (kept muted said ++ [])
-one_pushed held now muted said is told = more_records held now (kept muted said) is told ∙ ap (λ (rs : List Record). records_of held ++ rs) (sym (append-nil (kept muted said)))
+pub one_pushed : (held now : List (List ℕ)) (muted : Bool) (output : Record) → now ≡ held ++ map record_text (kept muted output) → AllTold (kept muted output)
+    → records_of now ≡ records_of held ++ (kept muted output ++ [])
+one_pushed held now muted output is told = more_records held now (kept muted output) is told ∙ ap (λ (rs : List Record). records_of held ++ rs) (sym (append-nil (kept muted output)))
 
-pub one_told : (muted : Bool) (said : Record) → AllTold (kept muted said) → AllTold (shown muted (said ∷ []))
-one_told muted said told = subst AllTold (sym (append-nil (kept muted said))) told
+pub one_told : (muted : Bool) (output : Record) → AllTold (kept muted output) → AllTold (shown muted (output ∷ []))
+one_told muted output told = subst AllTold (sym (append-nil (kept muted output))) told
 
 -- one record more of a list
-shown_next : (muted : Bool) (said : List Record) (n : ℕ) (one : Record) → slice_get said n ≡ Some one → shown muted (take (n + 1) said) ≡ shown muted (take n said) ++ kept muted one
+shown_next : (muted : Bool) (output : List Record) (n : ℕ) (one : Record) → slice_get output n ≡ Some one → shown muted (take (n + 1) output) ≡ shown muted (take n output) ++ kept muted one
 shown_next muted [] n one there = absurd cc
-shown_next muted (x ∷ said) zero one there = let same : x ≡ one = cc in append-nil (kept muted x) ∙ ap (kept muted) same
-shown_next muted (x ∷ said) (suc n) one there =
+shown_next muted (x ∷ output) zero one there = let same : x ≡ one = cc in append-nil (kept muted x) ∙ ap (kept muted) same
+shown_next muted (x ∷ output) (suc n) one there =
     let count : suc n + 1 ≡ suc (n + 1) = omega arith in
-    ap (λ (k : ℕ). shown muted (take k (x ∷ said))) count ∙ ap (λ (rs : List Record). kept muted x ++ rs) (shown_next muted said n one there) ∙ sym (append_assoc (kept muted x) (shown muted (take n said)) (kept muted one))
+    ap (λ (k : ℕ). shown muted (take k (x ∷ output))) count ∙ ap (λ (rs : List Record). kept muted x ++ rs) (shown_next muted output n one there) ∙ sym (append_assoc (kept muted x) (shown muted (take n output)) (kept muted one))
 
 map_both : (a b : List Record) → map record_text (a ++ b) ≡ map record_text a ++ map record_text b
 map_both [] b = refl
@@ -71,15 +71,15 @@ told_both : (a b : List Record) → AllTold a → AllTold b → AllTold (a ++ b)
 told_both [] b h k = k
 told_both (r ∷ a) b h k = (h.0, told_both a b h.1 k)
 
-pub texts_next : (held mid now : List (List ℕ)) (muted : Bool) (said : List Record) (n : ℕ) (one : Record) → slice_get said n ≡ Some one → mid ≡ held ++ map record_text (shown muted (take n said))
-    → now ≡ mid ++ map record_text (kept muted one) → now ≡ held ++ map record_text (shown muted (take (n + 1) said))
-texts_next held mid now muted said n one there before is =
+pub texts_next : (held mid now : List (List ℕ)) (muted : Bool) (output : List Record) (n : ℕ) (one : Record) → slice_get output n ≡ Some one → mid ≡ held ++ map record_text (shown muted (take n output))
+    → now ≡ mid ++ map record_text (kept muted one) → now ≡ held ++ map record_text (shown muted (take (n + 1) output))
+texts_next held mid now muted output n one there before is =
     is ∙ ap (λ (ts : List (List ℕ)). ts ++ map record_text (kept muted one)) before
-    ∙ append_assoc held (map record_text (shown muted (take n said))) (map record_text (kept muted one))
-    ∙ ap (λ (ts : List (List ℕ)). held ++ ts) (sym (map_both (shown muted (take n said)) (kept muted one)) ∙ ap (map record_text) (sym (shown_next muted said n one there)))
+    ∙ append_assoc held (map record_text (shown muted (take n output))) (map record_text (kept muted one))
+    ∙ ap (λ (ts : List (List ℕ)). held ++ ts) (sym (map_both (shown muted (take n output)) (kept muted one)) ∙ ap (map record_text) (sym (shown_next muted output n one there)))
 
-pub told_next : (muted : Bool) (said : List Record) (n : ℕ) (one : Record) → slice_get said n ≡ Some one → AllTold (shown muted (take n said)) → AllTold (kept muted one) → AllTold (shown muted (take (n + 1) said))
-told_next muted said n one there before told = subst AllTold (sym (shown_next muted said n one there)) (told_both (shown muted (take n said)) (kept muted one) before told)
+pub told_next : (muted : Bool) (output : List Record) (n : ℕ) (one : Record) → slice_get output n ≡ Some one → AllTold (shown muted (take n output)) → AllTold (kept muted one) → AllTold (shown muted (take (n + 1) output))
+told_next muted output n one there before told = subst AllTold (sym (shown_next muted output n one there)) (told_both (shown muted (take n output)) (kept muted one) before told)
 
 pub both_added : (held mid now : List (List ℕ)) (muted : Bool) (a b : List Record) → mid ≡ held ++ map record_text (shown muted a) → now ≡ mid ++ map record_text (shown muted b)
     → now ≡ held ++ map record_text (shown muted (a ++ b))
@@ -145,9 +145,9 @@ packet_told held now packet is are = more_told held now (Payload packet ∷ []) 
 
 -- ---- the first record
 
-pub first_taken : (held : List (List ℕ)) (said : Record) → Some said ≡ option_map record_of (slice_get held 0) → records_of held ≡ said ∷ records_of (drop 1 held)
-first_taken [] said is = absurd cc
-first_taken (t ∷ held) said is = let same : said ≡ record_of t = cc in ap (λ (r : Record). r ∷ records_of held) (sym same)
+pub first_taken : (held : List (List ℕ)) (output : Record) → Some output ≡ option_map record_of (slice_get held 0) → records_of held ≡ output ∷ records_of (drop 1 held)
+first_taken [] output is = absurd cc
+first_taken (t ∷ held) output is = let same : output ≡ record_of t = cc in ap (λ (r : Record). r ∷ records_of held) (sym same)
 
 pub none_taken : (held : List (List ℕ)) → None ≡ option_map record_of (slice_get held 0) → records_of held ≡ []
 none_taken [] is = refl
@@ -169,7 +169,7 @@ none_made make none (Err e) = refl
 
 -- the record isn't a packet
 abbrev IsOther : Record → Type 0
-IsOther said = packet_in (Some said) ≡ None
+IsOther output = packet_in (Some output) ≡ None
 
 -- a record of another number isn't a packet
 pub other_number : (number : ℕ) (body : List ℕ) → eqb number 1 ≡ false → packet_in (Some (record_by number body)) ≡ None

@@ -10,7 +10,7 @@ use Rattle.sshc_wire.proofs.ToldAuth.{asked_told}
 use Rattle.sshc_wire.proofs.ToldChannels.{channel_told}
 use Rattle.sshc_wire.proofs.ToldOpens.{answer_told, opened_told}
 
-pub told : (said : Record) → Fits said → IsTold said
+pub told : (output : Record) → Fits output → IsTold output
 unfolding record_of
 told (Payload packet) fits = refl
 told BeginExchange fits = refl

@@ -92,4 +92,4 @@ Fits (Channel id happened) = IsU32 id.0 × FitsChannel happened
 Fits (ServerOpened id opened) = IsU32 id.0 × FitsOpen opened
 Fits (HostKeysAnnounced keys) = (length keys < 2 ^ 32) × All IsShort keys
 Fits (Agent conn answer) = IsU32 conn × FitsAgent answer
-Fits said = Unit {0}
+Fits output = Unit {0}

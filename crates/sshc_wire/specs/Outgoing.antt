@@ -17,17 +17,17 @@ texts records = flat_map record_text records
 -- the text of a record, if there is one
 abbrev pub text_in : Option Record → List ℕ
 text_in None = []
-text_in (Some said) = record_text said
+text_in (Some output) = record_text output
 
 -- the packet of a record, if it is one
 abbrev pub packet_in : Option Record → Option (List ℕ)
 packet_in (Some (Payload packet)) = Some packet
-packet_in said = None
+packet_in output = None
 
 -- the first record was taken, or there was no record
 abbrev pub Takes : Option Record → List Record → List Record → Type 0
 Takes None old new = (old ≡ []) × (new ≡ [])
-Takes (Some said) old new = old ≡ said ∷ new
+Takes (Some output) old new = old ≡ output ∷ new
 
 -- an optional value as a list
 abbrev pub listed : {A : Type 0} → Option A → List A
@@ -36,11 +36,11 @@ listed (Some x) = x ∷ []
 
 -- what is kept of a record: a muted outbox drops packets
 abbrev pub kept : Bool → Record → List Record
-kept false said = said ∷ []
+kept false output = output ∷ []
 kept true (Payload packet) = []
-kept true said = said ∷ []
+kept true output = output ∷ []
 
 -- what is kept of records
 abbrev pub shown : Bool → List Record → List Record
 shown muted [] = []
-shown muted (said ∷ records) = kept muted said ++ shown muted records
+shown muted (output ∷ records) = kept muted output ++ shown muted records

@@ -141,9 +141,9 @@ record_text (Agent conn answer) = agent_text conn answer
 -- a session payload is a record for the transport
 abbrev pub IsPayload : Record → Type 0
 IsPayload (Payload packet) = Unit {0}
-IsPayload said = ⊥
+IsPayload output = ⊥
 
 -- the answer to a ticket
 abbrev pub IsResolved : Record → Type 0
 IsResolved (Resolved ticket resolution) = Unit {0}
-IsResolved said = ⊥
+IsResolved output = ⊥

@@ -42,9 +42,9 @@ AreTold (t ∷ texts) = (record_text (record_of t) ≡ t) × AreTold texts
 
 -- the record's text tells it
 abbrev pub IsTold : Record → Type 0
-IsTold said = record_of (record_text said) ≡ said
+IsTold output = record_of (record_text output) ≡ output
 
 -- each record's text tells it
 abbrev pub AllTold : List Record → Type 0
 AllTold [] = Unit {0}
-AllTold (said ∷ records) = IsTold said × AllTold records
+AllTold (output ∷ records) = IsTold output × AllTold records

@@ -324,10 +324,10 @@ fn fit_agent(answer: &AgentRecord)
 
 /// Whether the record's text tells it. It does, but for names that no list of names can have, and for a signal of its
 /// own under a standard name. No session reports either.
-pub(crate) fn fits(said: &Record) -> bool
-    ensures { IsTrue result → Fits said.now }
+pub(crate) fn fits(output: &Record) -> bool
+    ensures { IsTrue result → Fits output.now }
 {
-    match said {
+    match output {
         Record::Resolved { ticket, resolution } => {
             let _ticket = ticket.0;
             fits_resolution(resolution)

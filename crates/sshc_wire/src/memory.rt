@@ -34,7 +34,13 @@ impl Model for MemSource {
 
     ghost Value = { HeldSource };
 
-    ghost view = { λ s. record { left = drop s.at s.contents.items; failing = s.failing.items; calls = s.calls; empty = s.empty; faults = s.faults } };
+    ghost view = { λ s. record {
+      left = drop s.at s.contents.items;
+      failing = s.failing.items;
+      calls = s.calls;
+      empty = s.empty;
+      faults = s.faults;
+    } };
 
     ghost invariant = { λ s. s.at ≤ length s.contents.items };
 }
@@ -119,7 +125,13 @@ impl Model for MemSink {
 
     ghost Value = { HeldSink };
 
-    ghost view = { λ s. record { contents = s.contents.items; failing = s.failing.items; calls = s.calls; empty = s.empty; faults = s.faults } };
+    ghost view = { λ s. record {
+      contents = s.contents.items;
+      failing = s.failing.items;
+      calls = s.calls;
+      empty = s.empty;
+      faults = s.faults;
+    } };
 }
 
 impl MemSink {
@@ -201,7 +213,13 @@ impl Model for MemFiles {
 
     ghost Value = { HeldFiles };
 
-    ghost view = { λ s. record { contents = s.contents.items; failing = s.failing.items; calls = s.calls; read_faults = s.read_faults; append_faults = s.append_faults } };
+    ghost view = { λ s. record {
+      contents = s.contents.items;
+      failing = s.failing.items;
+      calls = s.calls;
+      read_faults = s.read_faults;
+      append_faults = s.append_faults;
+    } };
 }
 
 impl MemFiles {

@@ -134,7 +134,7 @@ impl MethodSet {
 
 /// Adds the names of the methods, each behind a comma. Out of memory, a part of them may be added, as with the
 /// functions below.
-#[tactic(auto, using(crate::proofs::Extended::extended, crate::proofs::Extended::extended_on, crate::proofs::Extended::unextended))]
+#[tactic(auto, using(crate::proofs::Hints::extends))]
 fn put_rest(out: &mut Vec<u8>, methods: &[MethodKind]) -> Result<(), NoMemory>
     ensures ok { OnOk result (out.new.items ≡ out.old.items ++ flat_map behind_comma (map method_name methods.now)) }
     ensures err { OnErr result (Extends out.old.items out.new.items) }
@@ -146,7 +146,7 @@ fn put_rest(out: &mut Vec<u8>, methods: &[MethodKind]) -> Result<(), NoMemory>
 }
 
 /// Adds the names of the methods, joined by commas.
-#[tactic(auto, using(crate::proofs::NamesLemmas::joined_on, crate::proofs::Extended::extended_on, crate::proofs::Extended::unextended))]
+#[tactic(auto, using(crate::proofs::Hints::extends_joined))]
 fn put_joined(out: &mut Vec<u8>, methods: &[MethodKind]) -> Result<(), NoMemory>
     ensures ok { OnOk result (out.new.items ≡ out.old.items ++ join_with_byte 44 (map method_name methods.now)) }
     ensures err { OnErr result (Extends out.old.items out.new.items) }
@@ -160,7 +160,7 @@ fn put_joined(out: &mut Vec<u8>, methods: &[MethodKind]) -> Result<(), NoMemory>
     }
 }
 
-#[tactic(auto, unfolding(crate::specs::Wire::names_text), using(crate::specs::NestedLaws::string_ended, crate::proofs::Extended::extended, crate::proofs::Extended::extended_on, crate::proofs::Extended::unextended))]
+#[tactic(auto, unfolding(crate::specs::Wire::names_text), using(crate::proofs::Hints::extends_string))]
 fn put_parts(out: &mut Vec<u8>, methods: &[MethodKind]) -> Result<(), NoMemory>
     ensures ok { OnOk result (out.new.items ≡ out.old.items ++ names_text (map method_name methods.now)) }
     ensures err { OnErr result (Extends out.old.items out.new.items) }

@@ -60,7 +60,7 @@ fn cut(text: &str) -> Option<(&str, &str)>
 }
 
 /// The first name that isn't empty, and the text behind it.
-#[tactic(auto, using(crate::proofs::NamesLemmas::names_first, crate::proofs::NamesLemmas::names_skipped, crate::proofs::NamesLemmas::names_whole, crate::proofs::NamesLemmas::names_none))]
+#[tactic(auto, using(crate::proofs::Hints::first_name))]
 fn first_name(text: &str) -> Option<(&str, &str)>
     ensures { MatchOption result (names_in text.now ≡ []) (λ x. names_in text.now ≡ x.0.now ∷ names_in x.1.now) }
 {
@@ -89,7 +89,7 @@ pub(crate) fn put_behind_comma(out: &mut Vec<u8>, name: &str) -> Result<(), NoMe
 }
 
 /// Adds the names, each behind a comma.
-#[tactic(auto, using(crate::proofs::Extended::extended, crate::proofs::Extended::extended_on, crate::proofs::Extended::unextended))]
+#[tactic(auto, using(crate::proofs::Hints::extends))]
 fn put_rest(out: &mut Vec<u8>, names: &[Text]) -> Result<(), NoMemory>
     ensures ok { OnOk result (out.new.items ≡ out.old.items ++ flat_map behind_comma names.now) }
     ensures err { OnErr result (Extends out.old.items out.new.items) }
@@ -101,7 +101,7 @@ fn put_rest(out: &mut Vec<u8>, names: &[Text]) -> Result<(), NoMemory>
 }
 
 /// Adds the names, joined by commas.
-#[tactic(auto, using(crate::proofs::NamesLemmas::joined_on, crate::proofs::Extended::extended_on, crate::proofs::Extended::unextended))]
+#[tactic(auto, using(crate::proofs::Hints::extends_joined))]
 fn put_joined(out: &mut Vec<u8>, names: &[Text]) -> Result<(), NoMemory>
     ensures ok { OnOk result (out.new.items ≡ out.old.items ++ join_with_byte 44 names.now) }
     ensures err { OnErr result (Extends out.old.items out.new.items) }
@@ -115,7 +115,7 @@ fn put_joined(out: &mut Vec<u8>, names: &[Text]) -> Result<(), NoMemory>
     }
 }
 
-#[tactic(auto, unfolding(crate::specs::Wire::names_text), using(crate::specs::NestedLaws::string_ended, crate::proofs::Extended::extended, crate::proofs::Extended::extended_on, crate::proofs::Extended::unextended))]
+#[tactic(auto, unfolding(crate::specs::Wire::names_text), using(crate::proofs::Hints::extends_string))]
 fn put_parts(out: &mut Vec<u8>, names: &[Text]) -> Result<(), NoMemory>
     ensures ok { OnOk result (out.new.items ≡ out.old.items ++ names_text names.now) }
     ensures err { OnErr result (Extends out.old.items out.new.items) }

@@ -86,13 +86,13 @@ impl Outbox {
 
     /// Adds a record, or changes nothing.
     #[tactic(auto, using(crate::proofs::OutboxLemmas::one_pushed, crate::proofs::OutboxLemmas::more_told))]
-    pub fn push(&mut self, said: Record) -> Result<(), NoMemory>
-        ensures ok { OnOk result (self.new.records ≡ self.old.records ++ shown self.old.muted (said ∷ [])) }
+    pub fn push(&mut self, output: Record) -> Result<(), NoMemory>
+        ensures ok { OnOk result (self.new.records ≡ self.old.records ++ shown self.old.muted (output ∷ [])) }
         ensures err { OnErr result (self.new.records ≡ self.old.records) }
         ensures same { self.new.muted ≡ self.old.muted }
     {
-        let added = add(&mut self.texts, self.is_muted, &said);
-        drop(said);
+        let added = add(&mut self.texts, self.is_muted, &output);
+        drop(output);
         added
     }
 
@@ -134,19 +134,19 @@ impl Outbox {
 
     /// Adds the records, which leave their list and its memory behind, or changes nothing. Adding none takes no memory.
     #[tactic(auto, using(crate::proofs::OutboxLemmas::more_records, crate::proofs::OutboxLemmas::more_told))]
-    pub fn append(&mut self, said: &mut Vec<Record>) -> Result<(), NoMemory>
-        ensures ok { OnOk result (self.new.records ≡ self.old.records ++ shown self.old.muted said.old.items) }
-        ensures taken { OnOk result (said.new.items ≡ []) }
+    pub fn append(&mut self, output: &mut Vec<Record>) -> Result<(), NoMemory>
+        ensures ok { OnOk result (self.new.records ≡ self.old.records ++ shown self.old.muted output.old.items) }
+        ensures taken { OnOk result (output.new.items ≡ []) }
         ensures err { OnErr result (self.new.records ≡ self.old.records) }
-        ensures left { OnErr result (said.new.items ≡ said.old.items) }
+        ensures left { OnErr result (output.new.items ≡ output.old.items) }
         ensures same { self.new.muted ≡ self.old.muted }
-        ensures succeeds { said.old.items ≡ [] → IsOk result }
+        ensures succeeds { output.old.items ≡ [] → IsOk result }
     {
-        if said.len() == 0 {
+        if output.len() == 0 {
             return Ok(());
         }
-        add_all(&mut self.texts, self.is_muted, said.as_slice())?;
-        said.clear();
+        add_all(&mut self.texts, self.is_muted, output.as_slice())?;
+        output.clear();
         Ok(())
     }
 
@@ -191,61 +191,61 @@ impl Outbox {
     }
 
     /// Takes the first record, or changes nothing.
-    #[tactic(auto, using(crate::proofs::OutboxLemmas::first_taken, crate::proofs::OutboxLemmas::none_taken, crate::proofs::OutboxLemmas::rest_told))]
+    #[tactic(auto, using(crate::proofs::Hints::take_first))]
     pub fn take_first(&mut self) -> Result<Option<Record>, NoMemory>
         ensures ok { IfOk result (λ first. Takes first self.old.records self.new.records) }
         ensures err { OnErr result (self.new.records ≡ self.old.records) }
         ensures same { self.new.muted ≡ self.old.muted }
     {
-        let Some(said) = first_of(&self.texts)? else {
+        let Some(output) = first_of(&self.texts)? else {
             return Ok(None);
         };
         self.texts.drop_first();
-        Ok(Some(said))
+        Ok(Some(output))
     }
 }
 
 /// Adds the text of a record that it tells, or changes nothing.
 #[tactic(auto, using(crate::proofs::ToldRecords::told))]
-fn add_told(held: &mut Texts, said: &Record) -> Result<(), NoMemory>
-    ensures ok { OnOk result (held.new ≡ held.old ++ record_text said.now ∷ []) }
-    ensures told { OnOk result (IsTold said.now) }
+fn add_told(held: &mut Texts, output: &Record) -> Result<(), NoMemory>
+    ensures ok { OnOk result (held.new ≡ held.old ++ record_text output.now ∷ []) }
+    ensures told { OnOk result (IsTold output.now) }
     ensures err { OnErr result (held.new ≡ held.old) }
 {
-    if !fits(said) {
+    if !fits(output) {
         return Err(NoMemory);
     }
-    held.push(said)
+    held.push(output)
 }
 
 /// Adds a record's text, but for a packet of a muted outbox, or changes nothing.
 #[tactic(auto, using(crate::proofs::OutboxLemmas::nothing_more))]
-fn add(held: &mut Texts, is_muted: bool, said: &Record) -> Result<(), NoMemory>
-    ensures ok { OnOk result (held.new ≡ held.old ++ map record_text (kept is_muted said.now)) }
-    ensures told { OnOk result (AllTold (kept is_muted said.now)) }
+fn add(held: &mut Texts, is_muted: bool, output: &Record) -> Result<(), NoMemory>
+    ensures ok { OnOk result (held.new ≡ held.old ++ map record_text (kept is_muted output.now)) }
+    ensures told { OnOk result (AllTold (kept is_muted output.now)) }
     ensures err { OnErr result (held.new ≡ held.old) }
 {
-    match said {
+    match output {
         Record::Payload(_) if is_muted => Ok(()),
-        said => add_told(held, said),
+        output => add_told(held, output),
     }
 }
 
 /// Adds a record's text, if there is a record, or changes nothing.
-#[tactic(auto, using(crate::proofs::OutboxLemmas::nothing_more, crate::proofs::OutboxLemmas::one_shown, crate::proofs::OutboxLemmas::one_told))]
-fn add_if_some(held: &mut Texts, is_muted: bool, said: &Option<Record>) -> Result<(), NoMemory>
-    ensures ok { OnOk result (held.new ≡ held.old ++ map record_text (shown is_muted (listed said.now))) }
-    ensures told { OnOk result (AllTold (shown is_muted (listed said.now))) }
+#[tactic(auto, using(crate::proofs::Hints::add_if_some))]
+fn add_if_some(held: &mut Texts, is_muted: bool, output: &Option<Record>) -> Result<(), NoMemory>
+    ensures ok { OnOk result (held.new ≡ held.old ++ map record_text (shown is_muted (listed output.now))) }
+    ensures told { OnOk result (AllTold (shown is_muted (listed output.now))) }
     ensures err { OnErr result (held.new ≡ held.old) }
 {
-    match said {
-        Some(said) => add(held, is_muted, said),
+    match output {
+        Some(output) => add(held, is_muted, output),
         None => Ok(()),
     }
 }
 
 /// Adds the texts of both records, where there are any, or changes nothing.
-#[tactic(auto, using(crate::proofs::OutboxLemmas::both_added, crate::proofs::OutboxLemmas::all_told, crate::proofs::OutboxLemmas::cut_to_old))]
+#[tactic(auto, using(crate::proofs::Hints::add_both))]
 fn add_both(
     held: &mut Texts,
     is_muted: bool,
@@ -267,14 +267,14 @@ fn add_both(
 }
 
 /// Adds the texts of records, or changes nothing.
-#[tactic(auto, using(crate::proofs::OutboxLemmas::texts_next, crate::proofs::OutboxLemmas::told_next, crate::proofs::OutboxLemmas::cut_to_old))]
-fn add_all(held: &mut Texts, is_muted: bool, said: &[Record]) -> Result<(), NoMemory>
-    ensures ok { OnOk result (held.new ≡ held.old ++ map record_text (shown is_muted said.now)) }
-    ensures told { OnOk result (AllTold (shown is_muted said.now)) }
+#[tactic(auto, using(crate::proofs::Hints::add_all))]
+fn add_all(held: &mut Texts, is_muted: bool, output: &[Record]) -> Result<(), NoMemory>
+    ensures ok { OnOk result (held.new ≡ held.old ++ map record_text (shown is_muted output.now)) }
+    ensures told { OnOk result (AllTold (shown is_muted output.now)) }
     ensures err { OnErr result (held.new ≡ held.old) }
 {
     let count = held.len();
-    for one in said {
+    for one in output {
         if add(held, is_muted, one).is_err() {
             held.truncate(count);
             return Err(NoMemory);
@@ -291,7 +291,7 @@ fn first_of(held: &Texts) -> Result<Option<Record>, NoMemory>
         return Ok(None);
     };
     match read_record(held.allocator(), text) {
-        Ok(said) => Ok(Some(said)),
+        Ok(output) => Ok(Some(output)),
         Err(RecordError::NoMemory | RecordError::NotARecord) => Err(NoMemory),
     }
 }

@@ -72,12 +72,12 @@ pub enum Record {
 
 /// Writes the record's number and fields, or nothing.
 #[tactic(auto, using(crate::proofs::Extended::cut_back))]
-pub fn put_record(out: &mut Vec<u8>, said: &Record) -> Result<(), NoMemory>
-    ensures ok { OnOk result (out.new.items ≡ out.old.items ++ record_text said.now) }
+pub fn put_record(out: &mut Vec<u8>, output: &Record) -> Result<(), NoMemory>
+    ensures ok { OnOk result (out.new.items ≡ out.old.items ++ record_text output.now) }
     ensures err { OnErr result (out.new.items ≡ out.old.items) }
 {
     let before = out.len();
-    let written = put_parts(out, said);
+    let written = put_parts(out, output);
     if written.is_err() {
         out.truncate(before);
     }
@@ -85,12 +85,12 @@ pub fn put_record(out: &mut Vec<u8>, said: &Record) -> Result<(), NoMemory>
 }
 
 /// Writes the record's number and fields. Out of memory, a part of them may be written, as with the functions below.
-#[tactic(auto, using(crate::proofs::Extended::extended, crate::proofs::Extended::extended_on, crate::proofs::Extended::unextended))]
-fn put_parts(out: &mut Vec<u8>, said: &Record) -> Result<(), NoMemory>
-    ensures ok { OnOk result (out.new.items ≡ out.old.items ++ record_text said.now) }
+#[tactic(auto, using(crate::proofs::Hints::extends))]
+fn put_parts(out: &mut Vec<u8>, output: &Record) -> Result<(), NoMemory>
+    ensures ok { OnOk result (out.new.items ≡ out.old.items ++ record_text output.now) }
     ensures err { OnErr result (Extends out.old.items out.new.items) }
 {
-    match said {
+    match output {
         Record::Payload(packet) => {
             out.push(0x01)?;
             out.extend_from_slice(packet.as_slice())?;
@@ -125,7 +125,7 @@ fn put_parts(out: &mut Vec<u8>, said: &Record) -> Result<(), NoMemory>
 }
 
 /// The strings' number, and the strings.
-#[tactic(auto, unfolding(crate::specs::Wire::counted_text), using(crate::proofs::Extended::extended, crate::proofs::Extended::extended_on, crate::proofs::Extended::unextended))]
+#[tactic(auto, unfolding(crate::specs::Wire::counted_text), using(crate::proofs::Hints::extends))]
 fn put_strings(out: &mut Vec<u8>, strings: &List<Octets>) -> Result<(), NoMemory>
     ensures ok { OnOk result (out.new.items ≡ out.old.items ++ counted_text string_text strings.now) }
     ensures err { OnErr result (Extends out.old.items out.new.items) }
@@ -147,7 +147,7 @@ fn put_prompt(out: &mut Vec<u8>, prompt: &Prompt) -> Result<(), NoMemory>
     put_bool(out, prompt.echo)
 }
 
-#[tactic(auto, using(crate::proofs::Extended::extended, crate::proofs::Extended::extended_on, crate::proofs::Extended::unextended))]
+#[tactic(auto, using(crate::proofs::Hints::extends))]
 fn put_each_prompt(out: &mut Vec<u8>, prompts: &[Prompt]) -> Result<(), NoMemory>
     ensures ok { OnOk result (out.new.items ≡ out.old.items ++ flat_map prompt_text prompts.now) }
     ensures err { OnErr result (Extends out.old.items out.new.items) }
@@ -159,7 +159,7 @@ fn put_each_prompt(out: &mut Vec<u8>, prompts: &[Prompt]) -> Result<(), NoMemory
 }
 
 /// The prompts' number, and the prompts.
-#[tactic(auto, unfolding(crate::specs::Wire::counted_text), using(crate::proofs::Extended::extended, crate::proofs::Extended::extended_on, crate::proofs::Extended::unextended))]
+#[tactic(auto, unfolding(crate::specs::Wire::counted_text), using(crate::proofs::Hints::extends))]
 fn put_prompts(out: &mut Vec<u8>, prompts: &List<Prompt>) -> Result<(), NoMemory>
     ensures ok { OnOk result (out.new.items ≡ out.old.items ++ counted_text prompt_text prompts.now) }
     ensures err { OnErr result (Extends out.old.items out.new.items) }
@@ -198,7 +198,7 @@ fn put_sign_request(
 }
 
 /// A number with its kind, and a boolean.
-#[tactic(auto, using(crate::proofs::Extended::extended, crate::proofs::Extended::extended_on, crate::proofs::Extended::unextended))]
+#[tactic(auto, using(crate::proofs::Hints::extends))]
 fn put_flag(out: &mut Vec<u8>, kind: u8, n: u32, flag: bool) -> Result<(), NoMemory>
     ensures ok { OnOk result (out.new.items ≡ out.old.items ++ kind ∷ u32_text n ++ bool_text flag) }
     ensures err { OnErr result (Extends out.old.items out.new.items) }
@@ -209,7 +209,7 @@ fn put_flag(out: &mut Vec<u8>, kind: u8, n: u32, flag: bool) -> Result<(), NoMem
 }
 
 /// A number with its kind, and another number.
-#[tactic(auto, using(crate::proofs::Extended::extended, crate::proofs::Extended::extended_on, crate::proofs::Extended::unextended))]
+#[tactic(auto, using(crate::proofs::Hints::extends))]
 fn put_two_numbers(out: &mut Vec<u8>, kind: u8, n: u32, other: u32) -> Result<(), NoMemory>
     ensures ok { OnOk result (out.new.items ≡ out.old.items ++ kind ∷ u32_text n ++ u32_text other) }
     ensures err { OnErr result (Extends out.old.items out.new.items) }
@@ -241,7 +241,7 @@ fn put_two(out: &mut Vec<u8>, first: &[u8], second: &[u8]) -> Result<(), NoMemor
     put_bytes(out, second)
 }
 
-#[tactic(auto, unfolding(crate::specs::Records::auth_text), using(crate::proofs::Extended::extended, crate::proofs::Extended::extended_on, crate::proofs::Extended::unextended))]
+#[tactic(auto, unfolding(crate::specs::Records::auth_text), using(crate::proofs::Hints::extends))]
 fn put_auth(out: &mut Vec<u8>, ticket: Ticket, asked: &AuthRecord) -> Result<(), NoMemory>
     ensures ok { OnOk result (out.new.items ≡ out.old.items ++ auth_text ticket.0 asked.now) }
     ensures err { OnErr result (Extends out.old.items out.new.items) }
@@ -280,7 +280,7 @@ fn put_auth(out: &mut Vec<u8>, ticket: Ticket, asked: &AuthRecord) -> Result<(),
     }
 }
 
-#[tactic(auto, unfolding(crate::specs::Records::gssapi_text), using(crate::proofs::Extended::extended, crate::proofs::Extended::extended_on, crate::proofs::Extended::unextended))]
+#[tactic(auto, unfolding(crate::specs::Records::gssapi_text), using(crate::proofs::Hints::extends))]
 fn put_gssapi(out: &mut Vec<u8>, ticket: Ticket, step: &GssapiRecord) -> Result<(), NoMemory>
     ensures ok { OnOk result (out.new.items ≡ out.old.items ++ gssapi_text ticket.0 step.now) }
     ensures err { OnErr result (Extends out.old.items out.new.items) }
@@ -317,7 +317,7 @@ fn put_gssapi(out: &mut Vec<u8>, ticket: Ticket, step: &GssapiRecord) -> Result<
 }
 
 /// A number with its kind, and bytes.
-#[tactic(auto, using(crate::proofs::Extended::extended, crate::proofs::Extended::extended_on, crate::proofs::Extended::unextended))]
+#[tactic(auto, using(crate::proofs::Hints::extends))]
 fn put_body(out: &mut Vec<u8>, kind: u8, n: u32, body: &Octets) -> Result<(), NoMemory>
     ensures ok { OnOk result (out.new.items ≡ out.old.items ++ kind ∷ u32_text n ++ string_text body.now) }
     ensures err { OnErr result (Extends out.old.items out.new.items) }
@@ -327,7 +327,7 @@ fn put_body(out: &mut Vec<u8>, kind: u8, n: u32, body: &Octets) -> Result<(), No
 }
 
 /// A number with its kind, another number, and two texts.
-#[tactic(auto, using(crate::proofs::Extended::extended, crate::proofs::Extended::extended_on, crate::proofs::Extended::unextended))]
+#[tactic(auto, using(crate::proofs::Hints::extends))]
 fn put_told(
     out: &mut Vec<u8>,
     kind: u8,
@@ -350,7 +350,7 @@ fn put_told(
 }
 
 /// A signal that ended a command: its name, whether it left a core, a message in its language.
-#[tactic(auto, using(crate::proofs::Extended::extended, crate::proofs::Extended::extended_on, crate::proofs::Extended::unextended))]
+#[tactic(auto, using(crate::proofs::Hints::extends))]
 fn put_exit_signal(
     out: &mut Vec<u8>,
     signal: &Sig,
@@ -374,7 +374,7 @@ fn put_exit_signal(
 }
 
 /// What happened on a channel: the record's number, the channel, the fields.
-#[tactic(auto, unfolding(crate::specs::Records::channel_text), using(crate::proofs::Extended::extended, crate::proofs::Extended::extended_on, crate::proofs::Extended::unextended))]
+#[tactic(auto, unfolding(crate::specs::Records::channel_text), using(crate::proofs::Hints::extends))]
 fn put_channel(out: &mut Vec<u8>, id: ChannelId, happened: &ChannelRecord) -> Result<(), NoMemory>
     ensures ok { OnOk result (out.new.items ≡ out.old.items ++ channel_text id.0 happened.now) }
     ensures err { OnErr result (Extends out.old.items out.new.items) }
@@ -419,7 +419,7 @@ fn put_channel(out: &mut Vec<u8>, id: ChannelId, happened: &ChannelRecord) -> Re
 }
 
 /// The number of a type whose one field is a path, and the path.
-#[tactic(auto, using(crate::proofs::Extended::extended, crate::proofs::Extended::extended_on, crate::proofs::Extended::unextended))]
+#[tactic(auto, using(crate::proofs::Hints::extends))]
 fn put_path(out: &mut Vec<u8>, number: u8, path: &Text) -> Result<(), NoMemory>
     ensures ok { OnOk result (out.new.items ≡ out.old.items ++ number ∷ string_text path.now) }
     ensures err { OnErr result (Extends out.old.items out.new.items) }
@@ -429,7 +429,7 @@ fn put_path(out: &mut Vec<u8>, number: u8, path: &Text) -> Result<(), NoMemory>
 }
 
 /// A channel that the server opens: the number of its type, the fields.
-#[tactic(auto, unfolding(crate::specs::Records::open_text), using(crate::proofs::Extended::extended, crate::proofs::Extended::extended_on, crate::proofs::Extended::unextended))]
+#[tactic(auto, unfolding(crate::specs::Records::open_text), using(crate::proofs::Hints::extends))]
 fn put_open(out: &mut Vec<u8>, opened: &ServerOpen) -> Result<(), NoMemory>
     ensures ok { OnOk result (out.new.items ≡ out.old.items ++ open_text opened.now) }
     ensures err { OnErr result (Extends out.old.items out.new.items) }
@@ -470,7 +470,7 @@ fn put_open(out: &mut Vec<u8>, opened: &ServerOpen) -> Result<(), NoMemory>
     }
 }
 
-#[tactic(auto, unfolding(crate::specs::Records::agent_text), using(crate::proofs::Extended::extended, crate::proofs::Extended::extended_on, crate::proofs::Extended::unextended))]
+#[tactic(auto, unfolding(crate::specs::Records::agent_text), using(crate::proofs::Hints::extends))]
 fn put_agent(out: &mut Vec<u8>, conn: u32, answer: &AgentRecord) -> Result<(), NoMemory>
     ensures ok { OnOk result (out.new.items ≡ out.old.items ++ agent_text conn answer.now) }
     ensures err { OnErr result (Extends out.old.items out.new.items) }

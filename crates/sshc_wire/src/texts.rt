@@ -113,14 +113,14 @@ impl Texts {
     }
 
     /// Adds the record's text, or changes nothing.
-    #[tactic(auto, using(crate::proofs::PackingLemmas::pushed_packed, crate::proofs::PackingLemmas::pushed_texts, crate::proofs::PackingLemmas::still_within))]
-    pub(crate) fn push(&mut self, said: &Record) -> Result<(), NoMemory>
-        ensures ok { OnOk result (self.new ≡ self.old ++ record_text said.now ∷ []) }
+    #[tactic(auto, using(crate::proofs::Hints::pushes))]
+    pub(crate) fn push(&mut self, output: &Record) -> Result<(), NoMemory>
+        ensures ok { OnOk result (self.new ≡ self.old ++ record_text output.now ∷ []) }
         ensures err { OnErr result (self.new ≡ self.old) }
     {
         self.places.reserve(1)?;
         let start = self.bytes.len();
-        put_record(&mut self.bytes, said)?;
+        put_record(&mut self.bytes, output)?;
         self.places.push_reserved(Place {
             start,
             stop: self.bytes.len(),
@@ -129,7 +129,7 @@ impl Texts {
     }
 
     /// Adds the text of a packet of these two parts, or changes nothing. Each part is copied once.
-    #[tactic(auto, using(crate::proofs::PackingLemmas::pushed_packed, crate::proofs::PackingLemmas::pushed_texts, crate::proofs::PackingLemmas::still_within))]
+    #[tactic(auto, using(crate::proofs::Hints::pushes))]
     pub(crate) fn push_packet(&mut self, head: &[u8], body: &[u8]) -> Result<(), NoMemory>
         ensures ok { OnOk result (self.new ≡ self.old ++ (0x01 ∷ head.now ++ body.now) ∷ []) }
         ensures err { OnErr result (self.new ≡ self.old) }
@@ -173,7 +173,7 @@ fn put_packet_parts(out: &mut Vec<u8>, head: &[u8], body: &[u8]) -> Result<(), N
 }
 
 /// Lets the texts from this place on go.
-#[tactic(auto, using(crate::proofs::PackingLemmas::cut_packed, crate::proofs::PackingLemmas::cut_texts, crate::proofs::PackingLemmas::cut_within))]
+#[tactic(auto, using(crate::proofs::Hints::cut_back))]
 fn cut_back(bytes: &mut Vec<u8>, places: &mut Vec<Place>, first: usize, keep: usize)
     requires packed { IsPacked bytes.old.items places.old.items }
     requires held { first ≤ keep }
@@ -230,7 +230,7 @@ fn text_at<'a>(bytes: &'a [u8], places: &[Place], first: usize, at: usize) -> Op
 }
 
 /// The bytes from the first text on that is held.
-#[tactic(auto, using(crate::proofs::PackingLemmas::start_within, crate::proofs::PackingLemmas::joined_from, crate::proofs::PackingLemmas::joined_none))]
+#[tactic(auto, using(crate::proofs::Hints::bytes_from))]
 fn bytes_from<'a>(bytes: &'a [u8], places: &[Place], first: usize) -> &'a [u8]
     requires packed { IsPacked bytes.now places.now }
     requires within { first ≤ length places.now }

@@ -63,7 +63,7 @@ fn with_one(held: Constraints, one: Option<u32>) -> Option<Constraints>
 }
 
 /// Reads the next constraint and adds it to `held`; `None` if it can't be read or is a second lifetime.
-#[tactic(auto, using(crate::proofs::Constrained::kept_fails, crate::proofs::Constrained::kept_no_more, crate::proofs::Constrained::kept_next, crate::proofs::Constrained::shorter))]
+#[tactic(auto, using(crate::proofs::Hints::next_held))]
 fn next_held(c: &mut Cursor<'_>, held: Constraints) -> Option<Constraints>
     requires { 0 < length c.old }
     ensures kept { MatchOption result (kept_in (all_at constraint_at c.old) held ≡ None)

@@ -14,7 +14,7 @@ use super::AgentCore;
 use crate::connections::Standing;
 use crate::input::AgentInput;
 use crate::key_list::HeldKey;
-use crate::signing::{Asked, Taken};
+use crate::signing::{SignQuestion, Taken};
 use sshc_key::KeyData;
 use sshc_key::agent_msg::{SIGN_REQUEST, SSH_AGENT_RSA_SHA2_256, SSH_AGENT_RSA_SHA2_512};
 use sshc_wire::{Cursor, HashAlg};
@@ -47,13 +47,13 @@ fn hash_of(key: &KeyData, flags: u32) -> Option<HashAlg>
 }
 
 /// What is asked of a key that signs; `rest` is what follows its blob in the request.
-fn rest_asks<'a>(_conn: u32, key: &'a HeldKey, rest: &'a [u8]) -> Option<Asked<'a>>
+fn rest_asks<'a>(_conn: u32, key: &'a HeldKey, rest: &'a [u8]) -> Option<SignQuestion<'a>>
     ensures { request_by _conn result ≡ rest_asks _conn key.now rest.now }
 {
     let mut c = Cursor::new(rest);
     let bytes = c.bytes().ok()?;
     let flags = c.u32().ok()?;
-    Some(Asked {
+    Some(SignQuestion {
         key: &key.pair,
         hash: hash_of(&key.pair.public.key, flags),
         bytes,
@@ -66,7 +66,7 @@ fn key_asks<'a>(
     is_confirmed: bool,
     key: Option<&'a HeldKey>,
     rest: &'a [u8],
-) -> Option<Asked<'a>>
+) -> Option<SignQuestion<'a>>
     ensures { request_by conn result ≡ key_asks conn is_confirmed (option_copied key.entry) rest.now }
 {
     let key = key?;
@@ -99,7 +99,7 @@ impl AgentCore {
         conn: u32,
         is_confirmed: bool,
         body: &'a [u8],
-    ) -> Option<Asked<'a>>
+    ) -> Option<SignQuestion<'a>>
         ensures { request_by conn result ≡ body_asks conn is_confirmed (aged now self.now).keys (string_at body.now) }
     {
         let mut c = Cursor::new(body);
@@ -115,7 +115,7 @@ impl AgentCore {
         conn: u32,
         is_confirmed: bool,
         whole: &'a [u8],
-    ) -> Option<Asked<'a>>
+    ) -> Option<SignQuestion<'a>>
         ensures { request_by conn result ≡ frame_asks conn is_confirmed (aged now self.now) whole.now }
     {
         match whole {
@@ -162,8 +162,13 @@ impl AgentCore {
 
     /// What a step with this input, at a moment in milliseconds, asks to be signed; `None` if it asks nothing. Nothing
     /// changes: whoever has the answer hands it to `apply`.
-    #[tactic(auto, using(crate::proofs::AskedLemmas::asked_now, crate::proofs::AskedLemmas::none_now, crate::proofs::AskedLemmas::none_other))]
-    pub fn asks<'a>(&'a self, now: u64, conn: u32, input: &'a AgentInput) -> Option<Asked<'a>>
+    #[tactic(auto, using(crate::proofs::Hints::asks))]
+    pub fn asks<'a>(
+        &'a self,
+        now: u64,
+        conn: u32,
+        input: &'a AgentInput,
+    ) -> Option<SignQuestion<'a>>
         ensures { request_by conn result ≡ asked_of now conn input.now self.now }
     {
         if !may_ask(input) {

@@ -9,7 +9,7 @@ use sshc_key::agent_msg::{FAILURE, SUCCESS};
 use sshc_wire::{Cursor, NoMemory};
 
 impl AgentCore {
-    #[tactic(auto, unfolding(crate::specs::AgentTable::Remove::remove_turn), using(crate::proofs::Listable::without_listable))]
+    #[tactic(auto, unfolding(crate::specs::AgentTable::Remove::remove_turn), using(crate::proofs::Hints::remove))]
     pub(super) fn remove<'a>(&mut self, body: &'a [u8]) -> Result<Turn<'a>, NoMemory>
         ensures row { Follows (remove_turn body.now self.old) self.old self.new result }
     {

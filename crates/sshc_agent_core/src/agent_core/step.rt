@@ -110,7 +110,7 @@ impl AgentCore {
     }
 
     /// Does the step of the table's row for this input, or closes the connection because memory ran out.
-    #[tactic(auto, using(crate::proofs::Stepped::goes, crate::proofs::Stepped::starves, crate::proofs::Stepped::starves_new))]
+    #[tactic(auto, using(crate::proofs::Hints::row))]
     fn row(&mut self, now: u64, conn: u32, input: &AgentInput, told: Told<'_>) -> AgentOutput
         ensures row { Steps now conn input.now
             self.old self.new (told_calls (asked_of now conn input.now self.old) (told_of told.entry)) result }

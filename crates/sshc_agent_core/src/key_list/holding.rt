@@ -40,7 +40,7 @@ pub(super) fn is_past(deadline: Option<u64>, now: u64) -> bool
 }
 
 /// The index of the key with this blob, which is the key that `held` finds.
-#[tactic(auto, using(crate::proofs::StoredLemmas::held_stored, crate::proofs::StoredLemmas::placed_by, crate::proofs::StoredLemmas::place_stored))]
+#[tactic(auto, using(crate::proofs::Hints::find_place))]
 pub(super) fn find_place(keys: &IndexMap<Vec<u8>, HeldKey>, blob: &[u8]) -> Option<usize>
     requires { AreKeyed keys.now.entries }
     ensures found { MatchOption result (held (values keys.now) blob.now ≡ None)
@@ -285,7 +285,7 @@ pub(super) fn drop_key(
 
 /// Drops the key at this index, whose blob this is, and its deadline; or changes nothing. The list of its deadline
 /// first.
-#[tactic(auto, using(crate::proofs::DueLemmas::removed_agree, crate::proofs::DueLemmas::kept_apart, crate::proofs::DueLemmas::same_agree))]
+#[tactic(auto, using(crate::proofs::Hints::drop_found))]
 fn drop_found(
     alloc: Global,
     keys: &mut IndexMap<Vec<u8>, HeldKey>,
@@ -311,7 +311,7 @@ fn drop_found(
 }
 
 /// Puts a key in the place of the one with its blob, or changes nothing. Its deadline first.
-#[tactic(auto, using(crate::proofs::DueLemmas::moved_agree, crate::proofs::DueLemmas::set_agree, crate::proofs::DueLemmas::set_apart, crate::proofs::DueLemmas::same_agree))]
+#[tactic(auto, using(crate::proofs::Hints::replace))]
 fn replace(
     alloc: Global,
     keys: &mut IndexMap<Vec<u8>, HeldKey>,
@@ -348,7 +348,7 @@ fn replace(
 }
 
 /// Replaces the key with the same blob, or appends the key; or changes nothing.
-#[tactic(auto, using(crate::proofs::DueLemmas::appended_agree, crate::proofs::DueLemmas::appended_apart, crate::proofs::DueLemmas::same_agree, crate::proofs::StoredLemmas::with_held, crate::proofs::StoredLemmas::with_none, crate::proofs::StoredLemmas::held_blob))]
+#[tactic(auto, using(crate::proofs::Hints::put_key))]
 pub(super) fn put_key(
     alloc: Global,
     keys: &mut IndexMap<Vec<u8>, HeldKey>,

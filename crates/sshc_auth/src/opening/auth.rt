@@ -3,7 +3,8 @@
 ghost use Rattle.std.specs.Prelude.{◌≡◌, [], IfOk};
 ghost use Rattle.sshc_wire.specs.Names.{names_in};
 ghost use Rattle.sshc_auth.specs.OpeningTable.{auth_row, answer_row, gssapi_row};
-ghost use Rattle.sshc_auth.specs.OpeningTable.Auth.{userauth_failure_row, userauth_success_row, userauth_banner_row, authenticate_again_row, answered, known_behind};
+ghost use Rattle.sshc_auth.specs.OpeningTable.Auth.{userauth_failure_row, userauth_success_row, userauth_banner_row};
+ghost use Rattle.sshc_auth.specs.OpeningTable.Auth.{authenticate_again_row, answered, known_behind};
 ghost use Rattle.sshc_auth.specs.OpeningTable.AuthKey.{taken};
 ghost use Rattle.sshc_auth.specs.Row.{Follows, span};
 

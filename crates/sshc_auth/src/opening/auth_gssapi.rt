@@ -2,7 +2,10 @@
 
 ghost use Rattle.std.specs.Prelude.{◌≡◌, IfOk, Option, option_copied};
 ghost use Rattle.sshc_wire.specs.Outgoing.{listed};
-ghost use Rattle.sshc_auth.specs.OpeningTable.AuthGssapi.{gssapi_step, gssapi_response_row, gssapi_token_row, gssapi_error_row, gssapi_errtok_row, gssapi_user_row, is_gssapi, last_token, user_token_row, user_mic_row, user_complete_row};
+ghost use Rattle.sshc_auth.specs.OpeningTable.AuthGssapi.{gssapi_step, gssapi_response_row, gssapi_token_row};
+ghost use Rattle.sshc_auth.specs.OpeningTable.AuthGssapi.{gssapi_error_row, gssapi_errtok_row, gssapi_user_row};
+ghost use Rattle.sshc_auth.specs.OpeningTable.AuthGssapi.{is_gssapi, last_token, user_token_row, user_mic_row};
+ghost use Rattle.sshc_auth.specs.OpeningTable.AuthGssapi.{user_complete_row};
 ghost use Rattle.sshc_auth.specs.Row.{Follows, span};
 ghost use Rattle.sshc_auth_request.specs.RequestTexts.{mic};
 

@@ -4,7 +4,8 @@ ghost use Rattle.std.specs.Prelude.{◌≡◌, Option, Some};
 ghost use Rattle.sshc_wire.specs.declared.hash_alg.HashAlg.{HashAlg as Hash};
 ghost use Rattle.sshc_key.specs.KeyGrammar.{Key};
 ghost use Rattle.sshc_auth_request.specs.KeyParts.{IsKeyPart};
-ghost use Rattle.sshc_auth.specs.OpeningTable.AuthKey.{pk_ok_row, is_pk_ok_body, key_row, sign_row, ask_key_row, ask_certificate_row};
+ghost use Rattle.sshc_auth.specs.OpeningTable.AuthKey.{pk_ok_row, is_pk_ok_body, key_row, sign_row, ask_key_row};
+ghost use Rattle.sshc_auth.specs.OpeningTable.AuthKey.{ask_certificate_row};
 ghost use Rattle.sshc_auth.specs.Row.{Follows, FollowsAsking, signer_at, span};
 ghost use Rattle.sshc_auth.specs.Signing.{SignedBy, Handed, flow_of, signing_span};
 

@@ -1,7 +1,8 @@
 //! Prompts of phase Auth, and their answers (RFC 4256).
 
 ghost use Rattle.sshc_auth.specs.Reading.{ReadsOr};
-ghost use Rattle.sshc_auth.specs.OpeningTable.AuthPrompts.{info_request_row, info_response_row, prompt_at, prompts_at, prompts_row};
+ghost use Rattle.sshc_auth.specs.OpeningTable.AuthPrompts.{info_request_row, info_response_row, prompt_at, prompts_at};
+ghost use Rattle.sshc_auth.specs.OpeningTable.AuthPrompts.{prompts_row};
 ghost use Rattle.sshc_auth.specs.Row.{Follows, span};
 
 use super::{Opening, Phase};

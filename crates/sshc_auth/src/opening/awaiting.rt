@@ -1,7 +1,8 @@
 //! Rows while an answer of the user is awaited.
 
 ghost use Rattle.std.specs.Prelude.{◌≡◌};
-ghost use Rattle.sshc_auth.specs.OpeningTable.Awaiting.{awaiting_row, answer_row_in, responses_row, signature_row, signed_row, unsigned_row, is_signed};
+ghost use Rattle.sshc_auth.specs.OpeningTable.Awaiting.{awaiting_row, answer_row_in, responses_row, signature_row};
+ghost use Rattle.sshc_auth.specs.OpeningTable.Awaiting.{signed_row, unsigned_row, is_signed};
 ghost use Rattle.sshc_auth.specs.Row.{Follows, span};
 
 use super::{Opening, Phase, resolved};

@@ -1,7 +1,8 @@
 //! The order of the table's tests: out of turn; the answers that are awaited; then by kind.
 
 ghost use Rattle.std.specs.Prelude.{◌≡◌};
-ghost use Rattle.sshc_auth.specs.OpeningTable.{open_row, turn_row, event_row, plain_row, user_row, unopened_row, authenticate_row_in};
+ghost use Rattle.sshc_auth.specs.OpeningTable.{open_row, turn_row, event_row, plain_row, user_row, unopened_row};
+ghost use Rattle.sshc_auth.specs.OpeningTable.{authenticate_row_in};
 ghost use Rattle.sshc_auth.specs.OpeningTable.Order.{is_early_at, is_out_of_turn, packet_in};
 ghost use Rattle.sshc_auth.specs.OpeningTable.Transport.{inactivity_timer_row};
 ghost use Rattle.sshc_auth.specs.Row.{Follows, FollowsAsking, signer_at, span};

@@ -2,7 +2,8 @@
 
 ghost use Rattle.std.specs.Prelude.{◌≡◌};
 ghost use Rattle.sshc_auth.specs.Row.{Follows, span};
-ghost use Rattle.sshc_auth.specs.OpeningTable.Exchange.{peer_kexinit_row, exchange_done_row, exchanged, first_exchange_row, later_exchange_row};
+ghost use Rattle.sshc_auth.specs.OpeningTable.Exchange.{peer_kexinit_row, exchange_done_row, exchanged};
+ghost use Rattle.sshc_auth.specs.OpeningTable.Exchange.{first_exchange_row, later_exchange_row};
 
 use super::{Opening, Phase};
 use crate::error::Error;

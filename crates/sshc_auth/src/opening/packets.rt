@@ -1,8 +1,10 @@
 //! The tests of a packet before its phase's row (RFC 4253, sections 7 and 11).
 
 ghost use Rattle.std.specs.Prelude.{◌≡◌, Some};
-ghost use Rattle.sshc_auth.specs.OpeningTable.{payload_row, numbered_row, held_packet_row, phase_packet_row, auth_packet_row};
-ghost use Rattle.sshc_auth.specs.OpeningTable.Packets.{disconnect_row, disconnect_reason_row, is_too_much, counted_with};
+ghost use Rattle.sshc_auth.specs.OpeningTable.{payload_row, numbered_row, held_packet_row, phase_packet_row};
+ghost use Rattle.sshc_auth.specs.OpeningTable.{auth_packet_row};
+ghost use Rattle.sshc_auth.specs.OpeningTable.Packets.{disconnect_row, disconnect_reason_row, is_too_much};
+ghost use Rattle.sshc_auth.specs.OpeningTable.Packets.{counted_with};
 ghost use Rattle.sshc_auth.specs.Row.{Follows, FollowsAsking, signer_at, span};
 
 use super::{Class, Opening, Phase};

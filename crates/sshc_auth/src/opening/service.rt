@@ -4,7 +4,8 @@ ghost use Rattle.std.specs.Prelude.{◌≡◌, IfOk, OnOk, OnErr};
 ghost use Rattle.std.specs.Option.{unwrap_or};
 ghost use Rattle.sshc_wire.specs.Outgoing.{listed};
 ghost use Rattle.sshc_auth.specs.OpeningState.{class_of};
-ghost use Rattle.sshc_auth.specs.OpeningTable.Service.{service_packet_row, service_accept_row, authenticate_first_row, stored_request, asked_for_service, as_records, asked_by};
+ghost use Rattle.sshc_auth.specs.OpeningTable.Service.{service_packet_row, service_accept_row, authenticate_first_row};
+ghost use Rattle.sshc_auth.specs.OpeningTable.Service.{stored_request, asked_for_service, as_records, asked_by};
 ghost use Rattle.sshc_auth.specs.Row.{Follows, span};
 
 use super::{Class, Opening, Phase, resolved};

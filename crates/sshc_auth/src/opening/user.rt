@@ -1,7 +1,9 @@
 //! Rows of the user's other events before the session is open.
 
 ghost use Rattle.std.specs.Prelude.{◌≡◌, IfOk};
-ghost use Rattle.sshc_auth.specs.OpeningTable.User.{answered_row, rekey_row, await_extension_info_row, get_server_sig_algs_row, sig_algs_answer, host_keys_answer, user_disconnect_row};
+ghost use Rattle.sshc_auth.specs.OpeningTable.User.{answered_row, rekey_row, await_extension_info_row};
+ghost use Rattle.sshc_auth.specs.OpeningTable.User.{get_server_sig_algs_row, sig_algs_answer, host_keys_answer};
+ghost use Rattle.sshc_auth.specs.OpeningTable.User.{user_disconnect_row};
 ghost use Rattle.sshc_auth.specs.Row.{Follows, span};
 
 use super::{Opening, Waiter, resolved};

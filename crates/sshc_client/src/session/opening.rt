@@ -32,7 +32,7 @@ fn exchange_of(event: &Event) -> Option<&ExchangeResult>
 
 impl Session {
     /// Asks the handler about the host key, and calls it for the exchange if it accepts the key.
-    #[tactic(auto, using(crate::proofs::AskedLemmas::key_said_no, crate::proofs::AskedLemmas::key_refused, crate::proofs::AskedLemmas::key_told, crate::proofs::AskedLemmas::key_told_refused))]
+    #[tactic(auto, using(crate::proofs::Hints::judge))]
     fn judge<H: Handler>(
         &mut self,
         key: &PublicKeyOrCertificate,
@@ -52,7 +52,7 @@ impl Session {
     }
 
     /// Calls the handler as the opening's row asks. Returns whether a host key was accepted.
-    #[tactic(auto, using(crate::proofs::AskedLemmas::not_asked, crate::proofs::AskedLemmas::told_exchange, crate::proofs::AskedLemmas::told_banner, crate::proofs::AskedLemmas::refused_exchange, crate::proofs::AskedLemmas::refused_banner, crate::proofs::AskedLemmas::judged_in))]
+    #[tactic(auto, using(crate::proofs::Hints::ask_handler))]
     fn ask_handler<H: Handler>(
         &mut self,
         asks: &Asks,
@@ -186,7 +186,7 @@ impl Session {
     }
 
     /// The same, once it is known what the row asks of the handler.
-    #[tactic(auto, using(crate::proofs::BeforeLemmas::exchange_there, crate::proofs::BeforeLemmas::steps_behind, crate::proofs::BeforeLemmas::refused_before))]
+    #[tactic(auto, using(crate::proofs::Hints::step_asking))]
     fn step_asking<H: Handler, S: LocalSigner>(
         &mut self,
         asks: &Asks,

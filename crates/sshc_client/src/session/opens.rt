@@ -28,7 +28,7 @@ use sshc_wire::{ChannelId, ChannelOpenFailure, ChannelRecord, NoMemory, Record, 
 
 impl Session {
     /// CHANNEL_OPEN_CONFIRMATION.
-    #[tactic(auto, using(crate::proofs::HandlerLemmas::ran_out_with, crate::proofs::HandlerLemmas::passed_with, crate::proofs::HandlerLemmas::refused_with), unfolding(sshc_client_table::specs::SessionTable::Opens::open_confirmation_row))]
+    #[tactic(auto, using(crate::proofs::Hints::handed_on), unfolding(crate::proofs::Hints::open_confirmation_row))]
     pub(super) fn open_confirmation<H: Handler>(
         &mut self,
         body: &[u8],
@@ -45,7 +45,7 @@ impl Session {
     }
 
     /// An open of ours that waits is confirmed, and then the bytes that wait on the channel are sent.
-    #[tactic(auto, using(crate::proofs::HandlerLemmas::ran_out_with, crate::proofs::HandlerLemmas::passed_with, crate::proofs::HandlerLemmas::refused_with, crate::proofs::HandlerLemmas::confirmed_one, crate::proofs::HandlerLemmas::none_confirmed))]
+    #[tactic(auto, using(crate::proofs::Hints::confirmed))]
     fn confirmed<H: Handler>(
         &mut self,
         c: Confirmation,
@@ -71,7 +71,7 @@ impl Session {
     }
 
     /// CHANNEL_OPEN_FAILURE.
-    #[tactic(auto, using(crate::proofs::HandlerLemmas::ran_out_with, crate::proofs::HandlerLemmas::passed_with, crate::proofs::HandlerLemmas::refused_with), unfolding(sshc_client_table::specs::SessionTable::Opens::open_failure_row))]
+    #[tactic(auto, using(crate::proofs::Hints::handed_on), unfolding(crate::proofs::Hints::open_failure_row))]
     pub(super) fn open_failure<H: Handler>(
         &mut self,
         body: &[u8],
@@ -87,7 +87,7 @@ impl Session {
         self.failed_open(&refusal, handler)
     }
 
-    #[tactic(auto, using(crate::proofs::HandlerLemmas::ran_out_with, crate::proofs::HandlerLemmas::passed_with, crate::proofs::HandlerLemmas::refused_with, crate::proofs::HandlerLemmas::failed_one, crate::proofs::HandlerLemmas::none_failed))]
+    #[tactic(auto, using(crate::proofs::Hints::failed_open))]
     fn failed_open<H: Handler>(
         &mut self,
         refusal: &OpenRefusal<'_>,
@@ -116,7 +116,7 @@ impl Session {
     }
 
     /// CHANNEL_OPEN. If no number is free, it is out of memory.
-    #[tactic(auto, using(crate::proofs::HandlerLemmas::ran_out_with, crate::proofs::HandlerLemmas::passed_with, crate::proofs::HandlerLemmas::refused_with), unfolding(sshc_client_table::specs::SessionTable::Opens::channel_open_row))]
+    #[tactic(auto, using(crate::proofs::Hints::handed_on), unfolding(crate::proofs::Hints::channel_open_row))]
     pub(super) fn channel_open<H: Handler>(
         &mut self,
         body: &[u8],
@@ -137,7 +137,7 @@ impl Session {
     }
 
     /// An open of a type that is known.
-    #[tactic(auto, using(crate::proofs::HandlerLemmas::ran_out_with, crate::proofs::HandlerLemmas::known_open, crate::proofs::HandlerLemmas::known_accepts))]
+    #[tactic(auto, using(crate::proofs::Hints::known_opens))]
     fn known_open<H: Handler>(
         &mut self,
         sender: Sender,
@@ -156,7 +156,7 @@ impl Session {
     }
 
     /// An open of an unknown type is refused, unless the handler takes the type.
-    #[tactic(auto, using(crate::proofs::HandlerLemmas::ran_out_with, crate::proofs::HandlerLemmas::passed_with, crate::proofs::HandlerLemmas::refused_with, crate::proofs::HandlerLemmas::taken_open, crate::proofs::HandlerLemmas::not_taken_open, crate::proofs::HandlerLemmas::not_taken_ran_out, crate::proofs::HandlerLemmas::taken_accepts))]
+    #[tactic(auto, using(crate::proofs::Hints::unknown_open))]
     fn unknown_open<H: Handler>(
         &mut self,
         sender: Sender,

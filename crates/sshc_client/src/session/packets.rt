@@ -26,7 +26,7 @@ fn is_ignored(number: u8) -> bool
 
 impl Session {
     /// An empty packet is passed over, and doesn't count as heard from the peer.
-    #[tactic(auto, using(crate::proofs::HandlerLemmas::passed_with, crate::proofs::HandlerLemmas::own_with), unfolding(sshc_client_table::specs::SessionTable::payload_row))]
+    #[tactic(auto, using(crate::proofs::Hints::passed), unfolding(sshc_client_table::specs::SessionTable::payload_row))]
     pub(super) fn payload<V: Verifier, H: Handler>(
         &mut self,
         packet: &Octets,
@@ -46,7 +46,7 @@ impl Session {
     }
 
     /// A packet by its first byte. A disconnection and a global request don't count as heard from the peer.
-    #[tactic(auto, using(crate::proofs::RowLemmas::disconnect_first, crate::proofs::RowLemmas::global_first, crate::proofs::RowLemmas::other_first))]
+    #[tactic(auto, using(crate::proofs::Hints::first))]
     fn first<V: Verifier, H: Handler>(
         &mut self,
         packet: &Octets,
@@ -150,7 +150,7 @@ impl Session {
     }
 
     /// A packet by its number; one that isn't known is passed over.
-    #[tactic(auto, using(crate::proofs::HandlerLemmas::passed_with, crate::proofs::HandlerLemmas::own_with), unfolding(sshc_client_table::specs::SessionTable::numbered_row))]
+    #[tactic(auto, using(crate::proofs::Hints::passed), unfolding(crate::proofs::Hints::numbered_row))]
     fn numbered<V: Verifier, H: Handler>(
         &mut self,
         number: u8,

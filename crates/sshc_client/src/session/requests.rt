@@ -23,7 +23,7 @@ use sshc_wire::{ChannelId, ChannelRecord, List, NoMemory, Octets, Record};
 
 impl Session {
     /// CHANNEL_REQUEST: number and name are read first; on a channel that isn't established the rest isn't.
-    #[tactic(auto, using(crate::proofs::HandlerLemmas::ran_out_with, crate::proofs::HandlerLemmas::passed_with, crate::proofs::HandlerLemmas::refused_with), unfolding(sshc_client_table::specs::SessionTable::Requests::channel_request_row))]
+    #[tactic(auto, using(crate::proofs::Hints::handed_on), unfolding(crate::proofs::Hints::channel_request_row))]
     pub(super) fn channel_request<H: Handler>(
         &mut self,
         body: &[u8],
@@ -88,7 +88,7 @@ impl Session {
     }
 
     /// GLOBAL_REQUEST.
-    #[tactic(auto, using(crate::proofs::HandlerLemmas::ran_out_with, crate::proofs::HandlerLemmas::passed_with, crate::proofs::HandlerLemmas::refused_with), unfolding(sshc_client_table::specs::SessionTable::Requests::global_request_row))]
+    #[tactic(auto, using(crate::proofs::Hints::handed_on), unfolding(crate::proofs::Hints::global_request_row))]
     pub(super) fn global_request<H: Handler>(
         &mut self,
         body: &[u8],
@@ -128,7 +128,7 @@ impl Session {
     }
 
     /// Announced host keys count as heard and are passed to the handler; they get no answer.
-    #[tactic(auto, using(crate::proofs::HandlerLemmas::ran_out_with, crate::proofs::HandlerLemmas::refused_with, crate::proofs::HandlerLemmas::asked_front))]
+    #[tactic(auto, using(crate::proofs::Hints::announced))]
     fn announced<H: Handler>(
         &mut self,
         keys: List<PublicKey>,
@@ -144,7 +144,7 @@ impl Session {
         self.announce(keys, blobs, handler)
     }
 
-    #[tactic(auto, using(crate::proofs::HandlerLemmas::called, crate::proofs::HandlerLemmas::refused_call, crate::proofs::HandlerLemmas::let_go_call))]
+    #[tactic(auto, using(crate::proofs::Hints::announce))]
     fn announce<H: Handler>(
         &mut self,
         keys: List<PublicKey>,

@@ -47,7 +47,7 @@ impl Session {
         self.step_with(event, handler, signer, verifier)
     }
 
-    #[tactic(auto, using(crate::proofs::StepLemmas::over_steps, crate::proofs::StepLemmas::left_steps, crate::proofs::StepLemmas::live_steps, crate::proofs::StepLemmas::before_steps, crate::proofs::BeforeLemmas::not_live_early))]
+    #[tactic(auto, using(crate::proofs::Hints::step_with))]
     fn step_with<H: Handler, S: LocalSigner, V: Verifier>(
         &mut self,
         event: &Event,
@@ -123,7 +123,7 @@ impl Session {
     }
 
     /// The row of an event in an open session.
-    #[tactic(auto, using(crate::proofs::HandlerLemmas::refused_with, crate::proofs::HandlerLemmas::own_with), unfolding(sshc_client_table::specs::SessionTable::session_row))]
+    #[tactic(auto, using(crate::proofs::Hints::row), unfolding(sshc_client_table::specs::SessionTable::session_row))]
     fn row<H: Handler, V: Verifier>(
         &mut self,
         event: &Event,

@@ -28,7 +28,7 @@ impl Session {
     }
 
     /// CHANNEL_WINDOW_ADJUST.
-    #[tactic(auto, using(crate::proofs::HandlerLemmas::ran_out_with, crate::proofs::HandlerLemmas::passed_with, crate::proofs::HandlerLemmas::refused_with, crate::proofs::HandlerLemmas::reports_front), unfolding(sshc_client_table::specs::SessionTable::Streams::window_adjust_row))]
+    #[tactic(auto, using(crate::proofs::Hints::reports), unfolding(crate::proofs::Hints::window_adjust_row))]
     pub(super) fn window_adjust<H: Handler>(
         &mut self,
         body: &[u8],
@@ -69,30 +69,30 @@ impl Session {
     }
 
     /// Bytes of the peer use up our window; if the window is refilled, the handler is called for the next target.
-    #[tactic(auto, using(crate::proofs::HandlerLemmas::kept_window, crate::proofs::HandlerLemmas::brought_back, crate::proofs::HandlerLemmas::ran_out_with))]
+    #[tactic(auto, using(crate::proofs::Hints::received))]
     fn received<H: Handler>(
         &mut self,
         id: ChannelId,
         len: u64,
-        said: ChannelRecord,
+        output: ChannelRecord,
         handler: &mut H,
     ) -> Result<Flow, Stop<H::Error>>
         requires { is_live self.old ≡ true }
         ensures row { FollowsWith H.keeps_defaults
             (handler_at (H.refusals handler.old) (H.setting handler.old) (H.heard handler.old))
             (handler_at (H.refusals handler.new) (H.setting handler.new) (H.heard handler.new))
-            (λ o. bytes_row o self.old id.0 len said) self.old self.new result }
+            (λ o. bytes_row o self.old id.0 len output) self.old self.new result }
     {
         let target = self.connection.window_target();
         if !self.connection.receive(id, len)? {
-            return self.report(id, said, handler);
+            return self.report(id, output, handler);
         }
         self.retarget(id, target, handler);
-        self.report(id, said, handler)
+        self.report(id, output, handler)
     }
 
     /// CHANNEL_DATA. The bytes are copied once, into the record.
-    #[tactic(auto, using(crate::proofs::HandlerLemmas::ran_out_with, crate::proofs::HandlerLemmas::passed_with, crate::proofs::HandlerLemmas::refused_with), unfolding(sshc_client_table::specs::SessionTable::Streams::channel_data_row))]
+    #[tactic(auto, using(crate::proofs::Hints::handed_on), unfolding(crate::proofs::Hints::channel_data_row))]
     pub(super) fn channel_data<H: Handler>(
         &mut self,
         body: &[u8],
@@ -114,7 +114,7 @@ impl Session {
     }
 
     /// CHANNEL_EXTENDED_DATA. The bytes are copied once, into the record.
-    #[tactic(auto, using(crate::proofs::HandlerLemmas::ran_out_with, crate::proofs::HandlerLemmas::passed_with, crate::proofs::HandlerLemmas::refused_with), unfolding(sshc_client_table::specs::SessionTable::Streams::channel_extended_data_row))]
+    #[tactic(auto, using(crate::proofs::Hints::handed_on), unfolding(crate::proofs::Hints::channel_extended_data_row))]
     pub(super) fn channel_extended_data<H: Handler>(
         &mut self,
         body: &[u8],
@@ -142,7 +142,7 @@ impl Session {
     }
 
     /// CHANNEL_EOF, CHANNEL_SUCCESS and CHANNEL_FAILURE.
-    #[tactic(auto, using(crate::proofs::HandlerLemmas::ran_out_with, crate::proofs::HandlerLemmas::passed_with, crate::proofs::HandlerLemmas::refused_with), unfolding(sshc_client_table::specs::SessionTable::Streams::channel_report_row))]
+    #[tactic(auto, using(crate::proofs::Hints::handed_on), unfolding(crate::proofs::Hints::channel_report_row))]
     pub(super) fn channel_report<H: Handler>(
         &mut self,
         happened: ChannelRecord,
@@ -162,7 +162,7 @@ impl Session {
     }
 
     /// CHANNEL_CLOSE: the channel is removed.
-    #[tactic(auto, using(crate::proofs::HandlerLemmas::ran_out_with, crate::proofs::HandlerLemmas::passed_with, crate::proofs::HandlerLemmas::refused_with, crate::proofs::HandlerLemmas::reports_front), unfolding(sshc_client_table::specs::SessionTable::Streams::channel_close_row))]
+    #[tactic(auto, using(crate::proofs::Hints::reports), unfolding(crate::proofs::Hints::channel_close_row))]
     pub(super) fn channel_close<H: Handler>(
         &mut self,
         body: &[u8],

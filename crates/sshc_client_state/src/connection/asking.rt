@@ -47,15 +47,15 @@ impl Connection {
 
     /// The oldest request is answered: its ticket is resolved, if the answer is for the user. No reply answers an open
     /// of a channel.
-    #[tactic(auto, using(crate::proofs::LiveLemmas::live_runs, crate::proofs::MoveLemmas::after_replied, sshc_client_table::specs::MoveLaws::not_done))]
+    #[tactic(auto, using(crate::proofs::Hints::reply))]
     pub fn reply(&mut self, resolution: Option<Resolution>) -> Result<(), NoMemory>
         ensures { Moved (Replied resolution) self.old self.new result }
     {
         if !self.is_live() {
             return Ok(());
         }
-        let said = self.reply_record(resolution);
-        self.push_if(said)?;
+        let output = self.reply_record(resolution);
+        self.push_if(output)?;
         drop_first(&mut self.replies);
         Ok(())
     }

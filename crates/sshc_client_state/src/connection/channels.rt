@@ -14,7 +14,7 @@ use sshc_wire::{ChannelId, NoMemory};
 
 impl Connection {
     /// Bytes of ours, which are copied once into a packet or into what waits.
-    #[tactic(auto, using(crate::proofs::LiveLemmas::live_unmuted, crate::proofs::LiveLemmas::shown_open, crate::proofs::MoveLemmas::after_sends, sshc_client_table::specs::MoveLaws::not_done))]
+    #[tactic(auto, using(crate::proofs::Hints::send))]
     pub fn send(&mut self, id: ChannelId, stream: Stream, bytes: &[u8]) -> Result<(), NoMemory>
         ensures { Moved (Sends id.0 stream bytes.now) self.old self.new result }
     {
@@ -32,7 +32,7 @@ impl Connection {
     }
 
     /// EOF of ours, after all bytes that were taken.
-    #[tactic(auto, using(crate::proofs::LiveLemmas::live_unmuted, crate::proofs::LiveLemmas::shown_open, crate::proofs::MoveLemmas::after_ends_bytes, sshc_client_table::specs::MoveLaws::not_done))]
+    #[tactic(auto, using(crate::proofs::Hints::end_bytes))]
     pub fn end_bytes(&mut self, id: ChannelId) -> Result<(), NoMemory>
         ensures { Moved (EndsBytes id.0) self.old self.new result }
     {
@@ -43,7 +43,7 @@ impl Connection {
     }
 
     /// Our close, after all bytes that were taken and EOF.
-    #[tactic(auto, using(crate::proofs::LiveLemmas::live_unmuted, crate::proofs::LiveLemmas::shown_open, crate::proofs::MoveLemmas::after_closes, sshc_client_table::specs::MoveLaws::not_done))]
+    #[tactic(auto, using(crate::proofs::Hints::close))]
     pub fn close(&mut self, id: ChannelId) -> Result<(), NoMemory>
         ensures { Moved (Closes id.0) self.old self.new result }
     {
@@ -54,7 +54,7 @@ impl Connection {
     }
 
     /// The peer's close, which removes the channel.
-    #[tactic(auto, using(crate::proofs::LiveLemmas::live_unmuted, crate::proofs::LiveLemmas::shown_open, crate::proofs::MoveLemmas::after_peer_closes, sshc_client_table::specs::MoveLaws::not_done))]
+    #[tactic(auto, using(crate::proofs::Hints::close_by_peer))]
     pub fn close_by_peer(&mut self, id: ChannelId) -> Result<(), NoMemory>
         ensures { Moved (PeerCloses id.0) self.old self.new result }
     {
@@ -67,7 +67,7 @@ impl Connection {
 
     /// A grant of the peer's, in bytes. Returns the window after it, if the channel is established and the session is
     /// live.
-    #[tactic(auto, using(crate::proofs::LiveLemmas::live_unmuted, crate::proofs::LiveLemmas::shown_open, crate::proofs::MoveLemmas::after_grants, sshc_client_table::specs::MoveLaws::not_done))]
+    #[tactic(auto, using(crate::proofs::Hints::grant))]
     pub fn grant(&mut self, id: ChannelId, amount: u32) -> Result<Option<u32>, NoMemory>
         ensures moved { Moved (Grants id.0 amount) self.old self.new result }
         ensures left { is_live self.old ≡ true
@@ -81,7 +81,7 @@ impl Connection {
     }
 
     /// `len` bytes of the peer's, which use up our window. Returns whether our window was raised in a live session.
-    #[tactic(auto, using(crate::proofs::LiveLemmas::live_unmuted, crate::proofs::LiveLemmas::shown_open, crate::proofs::MoveLemmas::after_receives, sshc_client_table::specs::MoveLaws::not_done))]
+    #[tactic(auto, using(crate::proofs::Hints::receive))]
     pub fn receive(&mut self, id: ChannelId, len: u64) -> Result<bool, NoMemory>
         ensures moved { Moved (Receives id.0 len) self.old self.new result }
         ensures adjusted { is_live self.old ≡ true

@@ -9,7 +9,7 @@ use sshc_wire::{NoMemory, Record};
 
 impl Connection {
     /// Begins an exchange of ours, if the session is live and no exchange runs.
-    #[tactic(auto, using(crate::proofs::LiveLemmas::live_unmuted, crate::proofs::LiveLemmas::shown_open, sshc_client_table::specs::MoveLaws::is_done, sshc_client_table::specs::MoveLaws::not_done))]
+    #[tactic(auto, using(crate::proofs::Hints::moves_on))]
     pub fn begin_exchange(&mut self) -> Result<(), NoMemory>
         ensures { Moved Begins self.old self.new result }
     {
@@ -22,7 +22,7 @@ impl Connection {
     }
 
     /// The peer's KEXINIT, which begins an exchange or answers ours.
-    #[tactic(auto, using(crate::proofs::LiveLemmas::live_unmuted, crate::proofs::LiveLemmas::shown_open, sshc_client_table::specs::MoveLaws::is_done, sshc_client_table::specs::MoveLaws::not_done))]
+    #[tactic(auto, using(crate::proofs::Hints::moves_on))]
     pub fn peer_begins(&mut self) -> Result<(), NoMemory>
         ensures { Moved PeerBegins self.old self.new result }
     {
@@ -39,7 +39,7 @@ impl Connection {
     }
 
     /// No exchange runs any more, and what waits on the channels is sent.
-    #[tactic(auto, using(crate::proofs::LiveLemmas::live_unmuted, crate::proofs::LiveLemmas::shown_open, crate::proofs::MoveLemmas::after_resumes, sshc_client_table::specs::MoveLaws::not_done))]
+    #[tactic(auto, using(crate::proofs::Hints::resume))]
     pub fn resume(&mut self) -> Result<(), NoMemory>
         ensures { Moved Resumes self.old self.new result }
     {

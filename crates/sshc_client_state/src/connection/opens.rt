@@ -30,7 +30,7 @@ impl Connection {
     }
 
     /// An open of ours, with its packet. Returns its number, or `NoMemory` also if every number is taken.
-    #[tactic(auto, using(crate::proofs::LiveLemmas::live_unmuted, crate::proofs::LiveLemmas::shown_open, crate::proofs::MoveLemmas::after_opens, crate::proofs::MoveLemmas::same_number))]
+    #[tactic(auto, using(crate::proofs::Hints::opens))]
     pub fn open(
         &mut self,
         asked: &ChannelOpen<'_>,
@@ -57,7 +57,7 @@ impl Connection {
 
     /// The peer confirms an open of ours that waits, whose ticket is resolved. Returns false if none waits under the
     /// number, and changes nothing then.
-    #[tactic(auto, using(crate::proofs::LiveLemmas::live_runs, crate::proofs::LiveLemmas::nothing_more, crate::proofs::MoveLemmas::after_confirms, crate::proofs::UnknownLemmas::none_confirmed))]
+    #[tactic(auto, using(crate::proofs::Hints::confirm))]
     pub fn confirm(&mut self, c: Confirmation) -> Result<bool, NoMemory>
         requires { is_live self.old ≡ true }
         ensures moved { Moved (Confirms c) self.old self.new result }
@@ -81,7 +81,7 @@ impl Connection {
 
     /// The peer refuses an open of ours that waits, whose ticket is resolved. Returns false if none waits under the
     /// number, and changes nothing then.
-    #[tactic(auto, using(crate::proofs::LiveLemmas::live_runs, crate::proofs::LiveLemmas::nothing_more, crate::proofs::MoveLemmas::after_fails, crate::proofs::UnknownLemmas::none_failed))]
+    #[tactic(auto, using(crate::proofs::Hints::fail))]
     pub fn fail(&mut self, id: ChannelId, reason: ChannelOpenFailure) -> Result<bool, NoMemory>
         requires { is_live self.old ≡ true }
         ensures moved { Moved (Fails id.0 reason) self.old self.new result }
@@ -101,7 +101,7 @@ impl Connection {
     }
 
     /// Accepts an open of the peer's that waits, with the packet. Any other number is ignored.
-    #[tactic(auto, using(crate::proofs::LiveLemmas::live_unmuted, crate::proofs::LiveLemmas::shown_open, crate::proofs::MoveLemmas::after_accepts, sshc_client_table::specs::MoveLaws::not_done))]
+    #[tactic(auto, using(crate::proofs::Hints::accept))]
     pub fn accept(&mut self, id: ChannelId) -> Result<(), NoMemory>
         ensures { Moved (Accepts id.0) self.old self.new result }
     {
@@ -113,10 +113,14 @@ impl Connection {
         Ok(())
     }
 
-    #[tactic(auto, using(crate::proofs::LiveLemmas::live_unmuted, crate::proofs::LiveLemmas::shown_open, crate::proofs::LiveLemmas::nothing_more))]
+    #[tactic(auto, using(crate::proofs::Hints::opens_nothing))]
     fn push_accepted(&mut self, id: ChannelId) -> Result<(), NoMemory>
         requires { is_live self.old ≡ true }
-        ensures ok { OnOk result (self.new ≡ record self.old { records = self.old.records ++ accept_packet (unsettled_at id.0 self.old.table) (our_side self.old id.0) }) }
+        ensures ok { OnOk result
+            (self.new ≡ record self.old {
+              records = self.old.records
+                  ++ accept_packet (unsettled_at id.0 self.old.table) (our_side self.old id.0);
+            }) }
         ensures err { OnErr result (self.new ≡ self.old) }
     {
         let Some(recipient) = self.table.unsettled(id) else {
@@ -128,7 +132,7 @@ impl Connection {
     }
 
     /// Refuses an open of the peer's that waits, with the packet, and removes it. Any other number is ignored.
-    #[tactic(auto, using(crate::proofs::LiveLemmas::live_unmuted, crate::proofs::LiveLemmas::shown_open, crate::proofs::MoveLemmas::after_rejects, sshc_client_table::specs::MoveLaws::not_done))]
+    #[tactic(auto, using(crate::proofs::Hints::reject))]
     pub fn reject(&mut self, id: ChannelId, reason: ChannelOpenFailure) -> Result<(), NoMemory>
         ensures { Moved (Rejects id.0 reason) self.old self.new result }
     {
@@ -140,10 +144,12 @@ impl Connection {
         Ok(())
     }
 
-    #[tactic(auto, using(crate::proofs::LiveLemmas::live_unmuted, crate::proofs::LiveLemmas::shown_open, crate::proofs::LiveLemmas::nothing_more))]
+    #[tactic(auto, using(crate::proofs::Hints::opens_nothing))]
     fn push_rejected(&mut self, id: ChannelId, reason: ChannelOpenFailure) -> Result<(), NoMemory>
         requires { is_live self.old ≡ true }
-        ensures ok { OnOk result (self.new ≡ record self.old { records = self.old.records ++ reject_packet (unsettled_at id.0 self.old.table) reason }) }
+        ensures ok { OnOk result
+            (self.new ≡ record self.old
+            { records = self.old.records ++ reject_packet (unsettled_at id.0 self.old.table) reason }) }
         ensures err { OnErr result (self.new ≡ self.old) }
     {
         let Some(recipient) = self.table.unsettled(id) else {

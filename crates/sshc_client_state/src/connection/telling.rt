@@ -23,55 +23,55 @@ fn direct_record(ticket: Ticket, resolution: Resolution) -> Option<Record>
 }
 
 /// A record that may be reported: neither a packet nor an answer to a ticket.
-fn told_record(said: Record) -> Option<Record>
-    ensures { listed result ≡ told said }
+fn told_record(output: Record) -> Option<Record>
+    ensures { listed result ≡ told output }
 {
-    match said {
+    match output {
         Record::Payload(_) | Record::Resolved { .. } => None,
-        said => Some(said),
+        output => Some(output),
     }
 }
 
 impl Connection {
     /// Adds the record, if there is one; the session runs.
     #[tactic(auto, using(crate::proofs::LiveLemmas::shown_open, crate::proofs::LiveLemmas::nothing_more))]
-    pub(super) fn push_if(&mut self, said: Option<Record>) -> Result<(), NoMemory>
+    pub(super) fn push_if(&mut self, output: Option<Record>) -> Result<(), NoMemory>
         requires { runs self.old.life ≡ true }
-        ensures ok { OnOk result (self.new ≡ record self.old { records = self.old.records ++ listed said }) }
+        ensures ok { OnOk result (self.new ≡ record self.old { records = self.old.records ++ listed output }) }
         ensures err { OnErr result (self.new ≡ self.old) }
     {
-        match said {
-            Some(said) => self.outbox.push(said),
+        match output {
+            Some(output) => self.outbox.push(output),
             None => Ok(()),
         }
     }
 
     /// Reports a record. A packet or an answer to a ticket is ignored.
-    #[tactic(auto, using(crate::proofs::LiveLemmas::shown_told, crate::proofs::MoveLemmas::after_tells, sshc_client_table::specs::MoveLaws::not_done))]
-    pub fn tell(&mut self, said: Record) -> Result<(), NoMemory>
-        ensures { Moved (Tells said) self.old self.new result }
+    #[tactic(auto, using(crate::proofs::Hints::tell))]
+    pub fn tell(&mut self, output: Record) -> Result<(), NoMemory>
+        ensures { Moved (Tells output) self.old self.new result }
     {
         if self.may_tell() {
-            self.push_told(said)
+            self.push_told(output)
         } else {
-            drop(said);
+            drop(output);
             Ok(())
         }
     }
 
     #[tactic(auto, using(crate::proofs::LiveLemmas::shown_told, crate::proofs::LiveLemmas::nothing_more))]
-    fn push_told(&mut self, said: Record) -> Result<(), NoMemory>
-        ensures ok { OnOk result (self.new ≡ record self.old { records = self.old.records ++ told said }) }
+    fn push_told(&mut self, output: Record) -> Result<(), NoMemory>
+        ensures ok { OnOk result (self.new ≡ record self.old { records = self.old.records ++ told output }) }
         ensures err { OnErr result (self.new ≡ self.old) }
     {
-        match told_record(said) {
-            Some(said) => self.outbox.push(said),
+        match told_record(output) {
+            Some(output) => self.outbox.push(output),
             None => Ok(()),
         }
     }
 
     /// Resolves a ticket as Dropped, ExtInfoSeen, SigAlgs or HostKeysProved; any other resolution is ignored.
-    #[tactic(auto, using(crate::proofs::LiveLemmas::live_runs, crate::proofs::MoveLemmas::after_resolves, sshc_client_table::specs::MoveLaws::not_done))]
+    #[tactic(auto, using(crate::proofs::Hints::resolve))]
     pub fn resolve(&mut self, ticket: Ticket, resolution: Resolution) -> Result<(), NoMemory>
         ensures { Moved (Resolves ticket resolution) self.old self.new result }
     {
@@ -84,7 +84,7 @@ impl Connection {
     }
 
     /// Denies a ticket before the session is open.
-    #[tactic(auto, using(crate::proofs::LiveLemmas::later_runs, crate::proofs::MoveLemmas::after_denies, sshc_client_table::specs::MoveLaws::not_done))]
+    #[tactic(auto, using(crate::proofs::Hints::deny))]
     pub fn deny(&mut self, ticket: Ticket) -> Result<(), NoMemory>
         ensures { Moved (DeniesTicket ticket) self.old self.new result }
     {

@@ -32,10 +32,10 @@ abbrev pub refilled : SessionState → ℕ → ℕ → Option Callback
 refilled s id len = if adjusted_at id len (own_window s) s.table then Some (WindowRefilled id s.window_target) else None
 
 abbrev pub bytes_row : Opinions → SessionState → ℕ → ℕ → ChannelRecord → SessionRow
-bytes_row o s id len said = opining (refilled s id len) (reports (Receives id len ∷ retargets o s id len) id said [])
+bytes_row o s id len output = opining (refilled s id len) (reports (Receives id len ∷ retargets o s id len) id output [])
 
 abbrev pub received_row : Opinions → SessionState → ℕ → ℕ → ChannelRecord → SessionRow
-received_row o s id len said = established_row (is_established id s.table) (bytes_row o s id len said)
+received_row o s id len output = established_row (is_established id s.table) (bytes_row o s id len output)
 
 -- 94 and 95: bytes of the peer's use up our window
 unfoldable pub channel_data_row : Opinions → SessionState → List ℕ → SessionRow
@@ -48,8 +48,8 @@ channel_extended_data_row o s body =
 
 -- 96, 99 and 100: the handler is called
 unfoldable pub channel_report_row : SessionState → ChannelRecord → List ℕ → SessionRow
-channel_report_row s said body =
-    with_read (channel_of body) (λ id. established_row (is_established id.0 s.table) (reports [] id.0 said []))
+channel_report_row s output body =
+    with_read (channel_of body) (λ id. established_row (is_established id.0 s.table) (reports [] id.0 output []))
 
 -- 97: the channel is removed
 unfoldable pub channel_close_row : SessionState → List ℕ → SessionRow

@@ -29,7 +29,7 @@ impl Channel {
         stream: Stream,
         body: &[u8],
         exchanging: bool,
-        said: &mut Vec<Record>,
+        output: &mut Vec<Record>,
         out: &mut Outbox,
     ) -> Result<(), NoMemory>
         ensures turn { Turned (data_turn stream body.now exchanging self.old) self.old self.new out.old out.new result }
@@ -39,9 +39,9 @@ impl Channel {
             return Ok(());
         }
         if self.pending.len() == 0 {
-            self.send_front(alloc, stream, body, exchanging, said, out)
+            self.send_front(alloc, stream, body, exchanging, output, out)
         } else {
-            self.send_behind(alloc, stream, body, exchanging, said, out)
+            self.send_behind(alloc, stream, body, exchanging, output, out)
         }
     }
 
@@ -52,7 +52,7 @@ impl Channel {
         stream: Stream,
         body: &[u8],
         exchanging: bool,
-        said: &mut Vec<Record>,
+        output: &mut Vec<Record>,
         out: &mut Outbox,
     ) -> Result<(), NoMemory>
         requires taken { takes self.old.flow ≡ true }
@@ -62,11 +62,18 @@ impl Channel {
     {
         let room = self.room(exchanging);
         let (front, rest) = body.split_at(body.len().min(room as usize));
-        said.clear();
-        push_pieces(alloc, self.recipient, self.packet_size, stream, front, said)?;
+        output.clear();
+        push_pieces(
+            alloc,
+            self.recipient,
+            self.packet_size,
+            stream,
+            front,
+            output,
+        )?;
         let waiting = waiting_of(alloc, stream, rest)?;
         self.pending.reserve(1)?;
-        out.append(said)?;
+        out.append(output)?;
         keep(&mut self.pending, waiting);
         self.window -= front.len() as u32;
         Ok(())
@@ -79,14 +86,14 @@ impl Channel {
         stream: Stream,
         body: &[u8],
         exchanging: bool,
-        said: &mut Vec<Record>,
+        output: &mut Vec<Record>,
         out: &mut Outbox,
     ) -> Result<(), NoMemory>
         ensures { Turned (in_flow (flush_with stream body.now exchanging) self.old)
             self.old self.new out.old out.new result }
     {
         self.pending.push_back(Chunk::new(alloc, stream, body)?)?;
-        match self.flush(alloc, exchanging, said, out) {
+        match self.flush(alloc, exchanging, output, out) {
             Ok(()) => Ok(()),
             Err(error) => {
                 let _ = self.pending.pop_back();
@@ -99,7 +106,7 @@ impl Channel {
     pub(crate) fn ask_eof(
         &mut self,
         alloc: Global,
-        said: &mut Vec<Record>,
+        output: &mut Vec<Record>,
         out: &mut Outbox,
     ) -> Result<(), NoMemory>
         ensures turn { Turned (eof_turn self.old) self.old self.new out.old out.new result }
@@ -109,7 +116,7 @@ impl Channel {
         if !self.close.is_sent() {
             self.eof = before.asked();
         }
-        match self.flush(alloc, true, said, out) {
+        match self.flush(alloc, true, output, out) {
             Ok(()) => Ok(()),
             Err(error) => {
                 self.eof = before;
@@ -122,7 +129,7 @@ impl Channel {
     pub(crate) fn ask_close(
         &mut self,
         alloc: Global,
-        said: &mut Vec<Record>,
+        output: &mut Vec<Record>,
         out: &mut Outbox,
     ) -> Result<(), NoMemory>
         ensures turn { Turned (close_turn self.old) self.old self.new out.old out.new result }
@@ -130,7 +137,7 @@ impl Channel {
     {
         let before = self.close;
         self.close = before.asked();
-        match self.flush(alloc, true, said, out) {
+        match self.flush(alloc, true, output, out) {
             Ok(()) => Ok(()),
             Err(error) => {
                 self.close = before;

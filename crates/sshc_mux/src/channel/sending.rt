@@ -30,9 +30,9 @@ impl Channel {
         &self,
         alloc: Global,
         is_empty: bool,
-        said: &mut Vec<Record>,
+        output: &mut Vec<Record>,
     ) -> Result<(), NoMemory>
-        ensures said { OnOk result (said.new.items ≡ said.old.items ++ payloads self.now.head.recipient
+        ensures output { OnOk result (output.new.items ≡ output.old.items ++ payloads self.now.head.recipient
             (if self.now.head.established && is_empty then due_of self.now.flow else [])) }
         ensures succeeds { (if self.now.head.established && is_empty then due_of self.now.flow else []) ≡ []
             → IsOk result }
@@ -41,10 +41,10 @@ impl Channel {
             return Ok(());
         }
         if self.eof.is_due() {
-            said.push(eof_record(alloc, self.recipient)?)?;
+            output.push(eof_record(alloc, self.recipient)?)?;
         }
         if self.close.is_due() {
-            said.push(close_record(alloc, self.recipient)?)?;
+            output.push(close_record(alloc, self.recipient)?)?;
         }
         Ok(())
     }
@@ -54,9 +54,9 @@ impl Channel {
         &self,
         alloc: Global,
         exchanging: bool,
-        said: &mut Vec<Record>,
+        output: &mut Vec<Record>,
     ) -> Result<(), NoMemory>
-        ensures said { OnOk result (said.new.items ≡ said.old.items
+        ensures output { OnOk result (output.new.items ≡ output.old.items
             ++ payloads self.now.head.recipient (flushed exchanging self.now.head self.now.flow).packets) }
         ensures succeeds { (flushed exchanging self.now.head self.now.flow).packets ≡ [] → IsOk result }
     {
@@ -67,9 +67,9 @@ impl Channel {
             self.packet_size,
             room as usize,
             &self.pending,
-            said,
+            output,
         )?;
-        self.push_ends(alloc, is_empty, said)?;
+        self.push_ends(alloc, is_empty, output)?;
         Ok(())
     }
 
@@ -102,20 +102,20 @@ impl Channel {
         self.end();
     }
 
-    /// Sends what the channel may send now, or changes nothing. `said` lends its memory.
+    /// Sends what the channel may send now, or changes nothing. `output` lends its memory.
     pub(crate) fn flush(
         &mut self,
         alloc: Global,
         exchanging: bool,
-        said: &mut Vec<Record>,
+        output: &mut Vec<Record>,
         out: &mut Outbox,
     ) -> Result<(), NoMemory>
         ensures turn { Turned (in_flow (flushed exchanging) self.old) self.old self.new out.old out.new result }
         ensures succeeds { (flushed exchanging self.old.head self.old.flow).packets ≡ [] → IsOk result }
     {
-        said.clear();
-        self.push_flushed(alloc, exchanging, said)?;
-        out.append(said)?;
+        output.clear();
+        self.push_flushed(alloc, exchanging, output)?;
+        out.append(output)?;
         self.count_flushed(exchanging);
         Ok(())
     }

@@ -17,7 +17,7 @@ impl Channel {
         alloc: Global,
         amount: u32,
         exchanging: bool,
-        said: &mut Vec<Record>,
+        output: &mut Vec<Record>,
         out: &mut Outbox,
     ) -> Result<Option<u32>, NoMemory>
         ensures turn { Turned (grant_turn amount exchanging self.old) self.old self.new out.old out.new result }
@@ -29,7 +29,7 @@ impl Channel {
         }
         let before = self.window;
         self.window = before.saturating_add(amount);
-        match self.flush(alloc, exchanging, said, out) {
+        match self.flush(alloc, exchanging, output, out) {
             Ok(()) => Ok(Some(self.window)),
             Err(error) => {
                 self.window = before;

@@ -24,7 +24,7 @@ impl ChannelTable {
             return Ok(());
         };
         let waited = channel.waits();
-        let result = channel.ask_eof(alloc, &mut self.said, out);
+        let result = channel.ask_eof(alloc, &mut self.output, out);
         self.waiting = recounted(self.waiting, waited, channel.waits());
         result
     }
@@ -44,7 +44,7 @@ impl ChannelTable {
             return Ok(());
         };
         let waited = channel.waits();
-        let result = channel.ask_close(alloc, &mut self.said, out);
+        let result = channel.ask_close(alloc, &mut self.output, out);
         self.waiting = recounted(self.waiting, waited, channel.waits());
         result
     }

@@ -67,7 +67,7 @@ impl ChannelTable {
             return Ok(());
         };
         let waited = channel.waits();
-        let result = channel.data(alloc, stream, body, exchanging, &mut self.said, out);
+        let result = channel.data(alloc, stream, body, exchanging, &mut self.output, out);
         self.waiting = recounted(self.waiting, waited, channel.waits());
         result
     }
@@ -79,17 +79,17 @@ impl ChannelTable {
         ensures part { OnOk result (DidItsPart FlushAll self.old self.new) }
         ensures succeeds { WritesNothing FlushAll self.old → IsOk result }
     {
-        say_flushed(self.alloc, self.slots.as_slice(), &mut self.said, out)?;
+        say_flushed(self.alloc, self.slots.as_slice(), &mut self.output, out)?;
         self.waiting = count_all_flushed(&mut self.slots);
         Ok(())
     }
 }
 
-/// Says what each channel may send now, or nothing. `said` lends its memory.
+/// Says what each channel may send now, or nothing. `output` lends its memory.
 fn say_flushed(
     alloc: Global,
     slots: &[Option<Channel>],
-    said: &mut Vec<Record>,
+    output: &mut Vec<Record>,
     out: &mut Outbox,
 ) -> Result<(), NoMemory>
     ensures ok { OnOk result (out.new.records ≡ out.old.records
@@ -98,32 +98,37 @@ fn say_flushed(
     ensures same { out.new.muted ≡ out.old.muted }
     ensures succeeds { all_said (present slots.now) ≡ [] → IsOk result }
 {
-    said.clear();
-    push_flushed(alloc, slots, said)?;
-    out.append(said)
+    output.clear();
+    push_flushed(alloc, slots, output)?;
+    out.append(output)
 }
 
 /// Adds what each channel may send now.
 fn push_flushed(
     alloc: Global,
     slots: &[Option<Channel>],
-    said: &mut Vec<Record>,
+    output: &mut Vec<Record>,
 ) -> Result<(), NoMemory>
-    ensures said { OnOk result (said.new.items ≡ said.old.items ++ records_of (all_said (present slots.now))) }
+    ensures output { OnOk result (output.new.items ≡ output.old.items ++ records_of (all_said (present slots.now))) }
     ensures succeeds { all_said (present slots.now) ≡ [] → IsOk result }
 {
     for slot in slots {
-        push_slot(alloc, slot, said)?;
+        push_slot(alloc, slot, output)?;
     }
     Ok(())
 }
 
-fn push_slot(alloc: Global, slot: &Option<Channel>, said: &mut Vec<Record>) -> Result<(), NoMemory>
-    ensures said { OnOk result (said.new.items ≡ said.old.items ++ records_of (all_said (present (slot.now ∷ [])))) }
+fn push_slot(
+    alloc: Global,
+    slot: &Option<Channel>,
+    output: &mut Vec<Record>,
+) -> Result<(), NoMemory>
+    ensures output { OnOk result
+        (output.new.items ≡ output.old.items ++ records_of (all_said (present (slot.now ∷ [])))) }
     ensures succeeds { all_said (present (slot.now ∷ [])) ≡ [] → IsOk result }
 {
     match slot {
-        Some(channel) => channel.push_flushed(alloc, false, said),
+        Some(channel) => channel.push_flushed(alloc, false, output),
         None => Ok(()),
     }
 }

@@ -30,7 +30,7 @@ impl ChannelTable {
             return Ok(None);
         };
         let waited = channel.waits();
-        let left = channel.grant(alloc, amount, exchanging, &mut self.said, out);
+        let left = channel.grant(alloc, amount, exchanging, &mut self.output, out);
         self.waiting = recounted(self.waiting, waited, channel.waits());
         left
     }

@@ -43,7 +43,8 @@ impl ProxyCore {
     /// IDENTITIES_ANSWER (draft-miller-ssh-agent, section 3.5).
     #[tactic(auto, unfolding(crate::specs::ProxyTable::listing_row))]
     fn listing(&self, conn: u32, answer: &[u8]) -> Result<ProxyOutput, NoMemory>
-        ensures { IfOk result (λ output. output ≡ listing_row self.now.policy (bound_at self.now.bound conn) answer.now) }
+        ensures { IfOk result
+            (λ output. output ≡ listing_row self.now.policy (bound_at self.now.bound conn) answer.now) }
     {
         match answer {
             [agent_msg::IDENTITIES_ANSWER, body @ ..] => self.allowed_listing(conn, body),

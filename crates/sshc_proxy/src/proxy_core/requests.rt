@@ -28,7 +28,8 @@ impl ProxyCore {
         whole: &[u8],
         verifier: &V,
     ) -> Result<ProxyOutput, NoMemory>
-        ensures row { Follows (frame_row (V.accepts verifier.now) self.old.policy (bound_at self.old.bound conn) whole.now)
+        ensures row { Follows
+            (frame_row (V.accepts verifier.now) self.old.policy (bound_at self.old.bound conn) whole.now)
             conn (Frame whole.now) self.old self.new result }
     {
         match whole {

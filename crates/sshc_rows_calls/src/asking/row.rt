@@ -92,7 +92,7 @@ fn client_of(alloc: Global, row: &Row<'_>) -> Result<Client, NoMemory> {
 /// Whether a call's result, or its error by name, is the text.
 fn is_said(alloc: Global, answer: Result<String, Error>, text: &str) -> bool {
     match answer {
-        Ok(said) => said.as_str() == text,
+        Ok(output) => output.as_str() == text,
         Err(error) => match format!(in alloc; "{error}") {
             Ok(name) => name.as_str() == text,
             Err(_) => false,

@@ -36,7 +36,7 @@ struct Tally {
 }
 
 impl Tally {
-    fn said(&self, alloc: Global) -> anyhow::Result<String> {
+    fn output(&self, alloc: Global) -> anyhow::Result<String> {
         let some = if self.keys > 0 && self.keys < self.alike {
             "some are keys and some are none"
         } else {
@@ -107,7 +107,7 @@ pub fn random_agree(alloc: Global, rounds: u32) -> anyhow::Result<String> {
         };
         tally.count(alloc, &blob)?;
     }
-    tally.said(alloc)
+    tally.output(alloc)
 }
 
 /// Changes a byte, removes one, or puts one in between.
@@ -139,5 +139,5 @@ pub fn damaged_agree(alloc: Global, keys: &[Vec<u8>], rounds: u32) -> anyhow::Re
         damage(&mut random, &mut blob)?;
         tally.count(alloc, &blob)?;
     }
-    tally.said(alloc)
+    tally.output(alloc)
 }

@@ -28,7 +28,7 @@ pub enum Refused {
 
 impl Refused {
     /// The words of a refusal.
-    pub fn said(&self, alloc: Global) -> Result<String, AllocError> {
+    pub fn output(&self, alloc: Global) -> Result<String, AllocError> {
         match self {
             Refused::Client(error) => format!(in alloc; "session {error}"),
             Refused::Planned => String::from_str(alloc, "handler"),

@@ -20,8 +20,8 @@ fn ended_line(alloc: Global, ended: &Ended) -> Result<String, AllocError> {
 }
 
 fn refused_line(alloc: Global, refused: &Refused) -> Result<String, AllocError> {
-    let said = refused.said(alloc)?;
-    format!(in alloc; "step refused {said}")
+    let output = refused.output(alloc)?;
+    format!(in alloc; "step refused {output}")
 }
 
 /// The line of a step; `None` if the session continues and wasn't opened by the step.

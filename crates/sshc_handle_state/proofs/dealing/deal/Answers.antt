@@ -13,4 +13,4 @@ returns-in_err-deal_first g c =
     (dealt_front _ _ _ _ _ _ _ _ _ _ _ c.records.invariant c.in_err-deal_first.ensures)
 
 pub returns : goal.returns
-returns g c = dealt_last _ _ c.deal_first.new.said.records _ _ _ _ _ _ _ _ _ c.records.invariant (rw c.if-branch.false at c.in_ok-deal_first.ensures)
+returns g c = dealt_last _ _ c.deal_first.new.output.records _ _ _ _ _ _ _ _ _ c.records.invariant (rw c.if-branch.false at c.in_ok-deal_first.ensures)

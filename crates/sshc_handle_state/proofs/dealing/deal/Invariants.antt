@@ -6,9 +6,9 @@ use Rattle.sshc_handle_state.proofs.dealing.deal.Given as goal
 -- the records so far are dealt with
 abbrev pub invariant-records : goal.invariant-records
 invariant-records g l =
-    DealtSo l.initial.said.records l.said.records l.initial.failed l.failed l.initial.tickets l.tickets
+    DealtSo l.initial.output.records l.output.records l.initial.failed l.failed l.initial.tickets l.tickets
     (link_at (g.T.Transport.answers l.initial.transport) (g.T.Transport.handed l.initial.transport) (g.T.Transport.faults l.initial.transport))
     (link_at (g.T.Transport.answers l.transport) (g.T.Transport.handed l.transport) (g.T.Transport.faults l.transport))
 
 abbrev pub decreases-records : goal.decreases-records
-decreases-records g l = length l.said.records
+decreases-records g l = length l.output.records

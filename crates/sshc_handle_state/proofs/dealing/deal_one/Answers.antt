@@ -17,7 +17,7 @@ returns-in-BeginExchange-clause-err g c = on_err _ (deals_none _ _ _ _ _) c.begi
 
 pub returns-in_default : goal.returns-in_default
 returns-in_default g c =
-    let none = no_handing c.args.said c.in_default.not-Payload c.in_default.not-BeginExchange in
+    let none = no_handing c.args.output c.in_default.not-Payload c.in_default.not-BeginExchange in
     record {
       ok = on_ok c.tell.result (deals_told _ _ _ _ _ none) c.tell.ensures.ok;
       err = on_err c.tell.result (deals_stay _ _ _ _) c.tell.ensures.err;

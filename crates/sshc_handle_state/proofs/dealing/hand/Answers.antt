@@ -3,5 +3,5 @@ use Rattle.sshc_handle_state.proofs.dealing.hand.Goals as goal
 
 pub returns-in-Err-Fault-clause-ok : goal.returns-in-Err-Fault-clause-ok
 returns-in-Err-Fault-clause-ok g c =
-    let said = c.in-Err-Fault.ensures in
-    hands_fault _ _ _ _ _ c.if-failed.false said.handed said.answered c.in-Err-Fault.field-0-is said.cause
+    let output = c.in-Err-Fault.ensures in
+    hands_fault _ _ _ _ _ c.if-failed.false output.handed output.answered c.in-Err-Fault.field-0-is output.cause

@@ -8,7 +8,7 @@ loop-rest-preserved c =
     record {
       size = λ _. c.loop-rest.invariant.size more;
       none = λ empty. absurd (omega (arith, more, ap length (c.loop-rest.invariant.none empty)));
-      said = piece_more _ _ _ _ _ _ _ _ _ _ more c.loop-rest.invariant.size (search rules) c.split_at.ensures.front c.split_at.ensures.back (search rules) c.loop-rest.invariant.said;
+      output = piece_more _ _ _ _ _ _ _ _ _ _ more c.loop-rest.invariant.size (search rules) c.split_at.ensures.front c.split_at.ensures.back (search rules) c.loop-rest.invariant.output;
     }
 
 pub returns-in_err-piece_record-clause-succeeds : goal.returns-in_err-piece_record-clause-succeeds
@@ -17,5 +17,5 @@ returns-in_err-piece_record-clause-succeeds c = λ empty. absurd (omega (arith, 
 pub returns-in_err-push-clause-succeeds : goal.returns-in_err-push-clause-succeeds
 returns-in_err-push-clause-succeeds c = λ empty. absurd (omega (arith, c.loop-rest-test.true, ap length (c.loop-rest.invariant.none empty)))
 
-pub returns-clause-said : goal.returns-clause-said
-returns-clause-said c = pieces_done _ _ _ _ _ _ (omega arith) c.loop-rest.invariant.said
+pub returns-clause-output : goal.returns-clause-output
+returns-clause-output c = pieces_done _ _ _ _ _ _ (omega arith) c.loop-rest.invariant.output

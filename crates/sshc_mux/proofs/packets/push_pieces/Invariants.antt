@@ -8,7 +8,7 @@ invariant-loop-rest l =
     record {
       size : 0 < length l.rest → 0 < l.size;
       none : l.part ≡ [] → l.rest ≡ [];
-      said : l.said.items ++ payloads l.recipient (pieces_of l.stream (cut l.size l.rest)) ≡ l.initial.said.items ++ payloads l.recipient (pieces_of l.stream (cut l.size l.part));
+      output : l.output.items ++ payloads l.recipient (pieces_of l.stream (cut l.size l.rest)) ≡ l.initial.output.items ++ payloads l.recipient (pieces_of l.stream (cut l.size l.part));
     }
 
 abbrev pub decreases-loop-rest : goal.decreases-loop-rest

@@ -2,10 +2,10 @@ use Rattle.std.proofs.Common.{◌≡◌, true, false, arith, ◌<◌, ◌≤◌,
 use Rattle.sshc_mux.proofs.SendingLemmas.{whole_at, rest_at, part_at, whole_none, part_none}
 use Rattle.sshc_mux.proofs.waiting.push_sent.Goals as goal
 
-pub returns-then-bytes-left-clause-said : goal.returns-then-bytes-left-clause-said
-returns-then-bytes-left-clause-said c =
+pub returns-then-bytes-left-clause-output : goal.returns-then-bytes-left-clause-output
+returns-then-bytes-left-clause-output c =
     let within : c.loop-at.at < length c.args.pending.now.items = omega arith in
-    part_at _ _ _ _ _ _ _ _ within c.index-chunk.ensures c.stream.ensures c.bytes-bytes.ensures _ _ _ _ (omega arith) c.split_at.ensures.front c.in_ok-push_pieces.ensures.said c.loop-at.invariant.said
+    part_at _ _ _ _ _ _ _ _ within c.index-chunk.ensures c.stream.ensures c.bytes-bytes.ensures _ _ _ _ (omega arith) c.split_at.ensures.front c.in_ok-push_pieces.ensures.output c.loop-at.invariant.output
 
 pub loop-at-preserved : goal.loop-at-preserved
 loop-at-preserved c =
@@ -15,7 +15,7 @@ loop-at-preserved c =
       size = omega arith;
       none = λ nothing. (whole_none 0 _ _ _ _ _ _ _ within c.index-chunk.ensures c.stream-in-loop-at.ensures c.bytes-bytes.ensures fits (c.loop-at.invariant.none nothing)).1;
       within = omega arith;
-      said = whole_at _ _ _ _ _ _ _ _ within c.index-chunk.ensures c.stream-in-loop-at.ensures c.bytes-bytes.ensures _ _ _ fits c.in_ok-push_pieces-2.ensures.said c.loop-at.invariant.said;
+      output = whole_at _ _ _ _ _ _ _ _ within c.index-chunk.ensures c.stream-in-loop-at.ensures c.bytes-bytes.ensures _ _ _ fits c.in_ok-push_pieces-2.ensures.output c.loop-at.invariant.output;
       rest = rest_at 0 0 _ _ _ _ _ _ within c.index-chunk.ensures c.stream-in-loop-at.ensures c.bytes-bytes.ensures _ fits c.loop-at.invariant.rest;
     }
 

@@ -9,7 +9,7 @@ invariant-loop-at l =
       size : 0 < l.left → 0 < l.size;
       none : sent_of l.size l.room l.pending.items ≡ [] → sent_of l.size l.left (drop l.at l.pending.items) ≡ [];
       within : l.at ≤ length l.pending.items;
-      said : l.said.items ++ payloads l.recipient (sent_of l.size l.left (drop l.at l.pending.items)) ≡ l.initial.said.items ++ payloads l.recipient (sent_of l.size l.room l.pending.items);
+      output : l.output.items ++ payloads l.recipient (sent_of l.size l.left (drop l.at l.pending.items)) ≡ l.initial.output.items ++ payloads l.recipient (sent_of l.size l.room l.pending.items);
       rest : left_of l.left (drop l.at l.pending.items) ≡ left_of l.room l.pending.items;
     }
 

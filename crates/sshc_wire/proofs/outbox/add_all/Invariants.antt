@@ -8,6 +8,6 @@ abbrev pub invariant-loop-one : goal.invariant-loop-one
 invariant-loop-one l =
     record {
       count : l.count ≡ length l.initial.held;
-      texts : l.held ≡ l.initial.held ++ map record_text (shown l.is_muted (take l.one-index l.said));
-      told : AllTold (shown l.is_muted (take l.one-index l.said));
+      texts : l.held ≡ l.initial.held ++ map record_text (shown l.is_muted (take l.one-index l.output));
+      told : AllTold (shown l.is_muted (take l.one-index l.output));
     }

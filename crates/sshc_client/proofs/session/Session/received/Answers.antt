@@ -10,7 +10,7 @@ use Rattle.sshc_client.proofs.HandlerLemmas.{brought_back, kept_window}
 use Rattle.sshc_client.proofs.session.Session.received.Goals as goal
 
 pub returns-then-not-branch : goal.returns-then-not-branch
-returns-then-not-branch g c = record { row = rw (← c.self.view_is) (kept_window _ _ _ c.args.id.0 c.args.len c.args.said c.self.inside.connection _ _ (search (rules)) (rw c.in_ok-receive.ensures.moved at c.report.ensures.row)) }
+returns-then-not-branch g c = record { row = rw (← c.self.view_is) (kept_window _ _ _ c.args.id.0 c.args.len c.args.output c.self.inside.connection _ _ (search (rules)) (rw c.in_ok-receive.ensures.moved at c.report.ensures.row)) }
 
 pub returns : goal.returns
-returns g c = record { row = rw (← c.self.view_is) (brought_back _ _ _ _ c.args.id.0 c.args.len c.args.said c.self.inside.connection _ _ _ (search (rules)) (rw (c.window_target-target.ensures, c.in_ok-receive.ensures.moved) at c.retarget.ensures) c.report-2.ensures.row) }
+returns g c = record { row = rw (← c.self.view_is) (brought_back _ _ _ _ c.args.id.0 c.args.len c.args.output c.self.inside.connection _ _ _ (search (rules)) (rw (c.window_target-target.ensures, c.in_ok-receive.ensures.moved) at c.retarget.ensures) c.report-2.ensures.row) }

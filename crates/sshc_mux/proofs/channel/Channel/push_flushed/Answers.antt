@@ -2,9 +2,9 @@ use Rattle.std.proofs.Common.{◌≡◌, true, false}
 use Rattle.sshc_mux.proofs.FlushLemmas.{flushed_said, no_bytes_go, no_ends_go}
 use Rattle.sshc_mux.proofs.channel.Channel.push_flushed.Goals as goal
 
-pub returns-clause-said : goal.returns-clause-said
-returns-clause-said c =
-    flushed_said _ _ _ _ _ _ _ _ c.room-room.ensures.room (rw (← c.self.view_is) c.in_ok-is_empty.ensures.said) (rw (← c.self.view_is) c.in_ok-is_empty.ensures.all) c.in_ok-push_ends.ensures.said
+pub returns-clause-output : goal.returns-clause-output
+returns-clause-output c =
+    flushed_said _ _ _ _ _ _ _ _ c.room-room.ensures.room (rw (← c.self.view_is) c.in_ok-is_empty.ensures.output) (rw (← c.self.view_is) c.in_ok-is_empty.ensures.all) c.in_ok-push_ends.ensures.output
 
 pub returns-in_err-is_empty-clause-succeeds : goal.returns-in_err-is_empty-clause-succeeds
 returns-in_err-is_empty-clause-succeeds c =

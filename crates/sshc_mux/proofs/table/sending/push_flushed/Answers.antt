@@ -4,7 +4,7 @@ use Rattle.sshc_mux.proofs.table.sending.push_flushed.Goals as goal
 
 pub loop-slot-preserved : goal.loop-slot-preserved
 loop-slot-preserved c = record {
-  said = said_more _ _ _ _ _ _ c.loop-slot-test.true c.slot-item.is c.in_ok-push_slot.ensures.said c.loop-slot.invariant.said;
+  output = said_more _ _ _ _ _ _ c.loop-slot-test.true c.slot-item.is c.in_ok-push_slot.ensures.output c.loop-slot.invariant.output;
   none = λ nothing. (none_more _ _ _ c.loop-slot-test.true c.slot-item.is (c.loop-slot.invariant.none nothing)).1;
 }
 
