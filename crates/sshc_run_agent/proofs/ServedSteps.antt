@@ -11,8 +11,8 @@ use Rattle.sshc_agent_core.specs.AgentFrames.{FrameBytes, next_in, pushed}
 use Rattle.sshc_agent_core.specs.AgentList.{AgentList}
 use Rattle.sshc_run_agent.specs.declared.event.AgentEvent.{AgentEvent}
 use Rattle.sshc_run_agent.specs.declared.event.AgentEvent.TheVariants as events
-use Rattle.sshc_run_agent.specs.AgentTurns.{Said, SaysInput, Served, agent_turn, behind, bytes_at, conn_of, each_turn, event_bytes, event_inputs, input_turn, inputs_of, kept_with, rest_of, with_bytes}
-use Rattle.sshc_run_agent.specs.InputLaws.{inputs_more, inputs_none}
+use Rattle.sshc_run_agent.specs.AgentTurns.{AfterInput, SaysInput, Served, agent_turn, behind, bytes_at, conn_of, each_turn, event_bytes, event_inputs, input_turn, inputs_of, kept_with, rest_of, with_bytes}
+use Rattle.sshc_run_agent.specs.InputLaws.{no_more, one_more}
 
 -- ---- the signer's list
 
@@ -38,11 +38,11 @@ gained_two a b c one two = gained_on a b c one two ∙ ap (λ (x : List SignCall
 -- with these calls and records the inputs have been taken so far: these come before the calls and records of the
 -- remaining inputs
 pub record GoesOn (now conn : ℕ) (all : List AgentInput) (before : AgentList) (gained : List SignCall) (records : List Record) (left : List AgentInput) (l : AgentList) : Type 0 where
-  pub makes : (later : List SignCall) (t : Said) → Makes (each_turn now conn left l) later t → Makes (each_turn now conn all before) (gained ++ later) (behind records t)
+  pub makes : (later : List SignCall) (t : AfterInput) → Makes (each_turn now conn left l) later t → Makes (each_turn now conn all before) (gained ++ later) (behind records t)
   pub first : (later : List SignCall) → MakesFirst (each_turn now conn left l) later → MakesFirst (each_turn now conn all before) (gained ++ later)
 
 module _ (now conn : ℕ) where
-  each_made : (input : AgentInput) (left : List AgentInput) (l l' : AgentList) (g later : List SignCall) (records : List Record) (t : Said) → Makes (input_turn now conn input l) g (record { records = records; list = l' })
+  each_made : (input : AgentInput) (left : List AgentInput) (l l' : AgentList) (g later : List SignCall) (records : List Record) (t : AfterInput) → Makes (input_turn now conn input l) g (record { records = records; list = l' })
       → Makes (each_turn now conn left l') later t → Makes (each_turn now conn (input ∷ left) l) (g ++ later) (behind records t)
   unfolding each_turn
   each_made input left l l' g later records t made makes =
@@ -97,11 +97,13 @@ module _ (now conn : ℕ) where
 module _ (now conn : ℕ) (all : List AgentInput) (before : AgentList) (frames next : FrameBytes) (input : AgentInput) (is : next_in frames ≡ Some (input, next)) (a b c : List SignCall)
     (grew : b ≡ a ++ since a b) (more : c ≡ b ++ since b c) (records : List Record) (l : AgentList) (on : GoesOn now conn all before (since a b) records (inputs_of frames) l) where
   on_first : GoesOn now conn all before (since a b) records (input ∷ inputs_of next) l
-  on_first = subst (λ (left : List AgentInput). GoesOn now conn all before (since a b) records left l) (inputs_more frames (input, next) is) on
+  on_first =
+      subst (λ (left : List AgentInput). GoesOn now conn all before (since a b) records left l)
+      (one_more frames (input, next) is).0 on
 
   pub goes_more : (l' : AgentList) (records' : List Record) → SaysInput now conn input l (since b c) l' records records' → GoesOn now conn all before (since a c) records' (inputs_of next) l'
-  goes_more l' records' (said, added, made) =
-      rw (since_on a b c grew more, added) (one_on now conn all before (since a b) (since b c) records said input (inputs_of next) l l' on_first made)
+  goes_more l' records' (sent, added, made) =
+      rw (since_on a b c grew more, added) (one_on now conn all before (since a b) (since b c) records sent input (inputs_of next) l l' on_first made)
 
   pub goes_cut : MakesFirst (input_turn now conn input l) (since b c) → MakesFirst (each_turn now conn all before) (since a c)
   goes_cut first = rw (since_on a b c grew more) (cut_in now conn all before (since a b) (since b c) records input (inputs_of next) l on_first first)
@@ -110,19 +112,20 @@ module _ (now conn : ℕ) (all : List AgentInput) (before : AgentList) (frames n
 pub goes_none : (now conn : ℕ) (all : List AgentInput) (before : AgentList) (frames : FrameBytes) (gained : List SignCall) (records : List Record) (l : AgentList) → next_in frames ≡ None
     → GoesOn now conn all before gained records (inputs_of frames) l → Makes (each_turn now conn all before) gained (record { records = records; list = l })
 goes_none now conn all before frames gained records l none on =
-    all_on now conn all before gained records l (subst (λ (left : List AgentInput). GoesOn now conn all before gained records left l) (inputs_none frames none) on)
+    all_on now conn all before gained records l
+    (subst (λ (left : List AgentInput). GoesOn now conn all before gained records left l) (no_more frames none).0 on)
 
 -- ---- one input
 
 -- an input's record is added, if it has one
-pub said_of : (now conn : ℕ) (input : AgentInput) (before after : AgentList) (gained : List SignCall) (held held' : List Record) (said : Option Record)
-    → Makes (input_turn now conn input before) gained (record { records = listed said; list = after }) → held' ≡ held ++ listed said → SaysInput now conn input before gained after held held'
-said_of now conn input before after gained held held' said made added = (listed said, added, made)
+pub said_of : (now conn : ℕ) (input : AgentInput) (before after : AgentList) (gained : List SignCall) (held held' : List Record) (sent : Option Record)
+    → Makes (input_turn now conn input before) gained (record { records = listed sent; list = after }) → held' ≡ held ++ listed sent → SaysInput now conn input before gained after held held'
+said_of now conn input before after gained held held' sent made added = (listed sent, added, made)
 
 -- its calls are a prefix of those that its turn makes
-pub cut_of : (now conn : ℕ) (input : AgentInput) (before after : AgentList) (gained : List SignCall) (said : Option Record)
-    → Makes (input_turn now conn input before) gained (record { records = listed said; list = after }) → MakesFirst (input_turn now conn input before) gained
-cut_of now conn input before after gained said made = all_first (input_turn now conn input before) gained (record { records = listed said; list = after }) made
+pub cut_of : (now conn : ℕ) (input : AgentInput) (before after : AgentList) (gained : List SignCall) (sent : Option Record)
+    → Makes (input_turn now conn input before) gained (record { records = listed sent; list = after }) → MakesFirst (input_turn now conn input before) gained
+cut_of now conn input before after gained sent made = all_first (input_turn now conn input before) gained (record { records = listed sent; list = after }) made
 
 -- one input alone
 alone_made : (now conn : ℕ) (input : AgentInput) (l l' : AgentList) (g : List SignCall) (records : List Record) → Makes (input_turn now conn input l) g (record { records = records; list = l' })
@@ -133,12 +136,12 @@ alone_made now conn input l l' g records made =
 -- ---- events
 
 module _ (now : ℕ) (event : AgentEvent) (s : Served) (gained : List SignCall) where
-  abbrev Inputs : Asking Said
+  abbrev Inputs : Asking AfterInput
   Inputs = each_turn now (conn_of event) (event_inputs event s.bytes) s.list
 
-  event_made : (said : Said) → Makes Inputs gained said → Makes (agent_turn now event s) gained (kept_with (event_bytes event s.bytes) said)
+  event_made : (sent : AfterInput) → Makes Inputs gained sent → Makes (agent_turn now event s) gained (kept_with (event_bytes event s.bytes) sent)
   unfolding agent_turn
-  event_made said makes = makes_on (kept_with (event_bytes event s.bytes)) Inputs gained said makes
+  event_made sent makes = makes_on (kept_with (event_bytes event s.bytes)) Inputs gained sent makes
 
   event_first : MakesFirst Inputs gained → MakesFirst (agent_turn now event s) gained
   unfolding agent_turn
@@ -151,14 +154,14 @@ event_none now event s calls = rw (none_since calls) (none_first (agent_turn now
 module _ (now conn : ℕ) (input : AgentInput) (s : Served) (gained : List SignCall) where
   pub input_event_made : (after : AgentList) (held records : List Record) → held ≡ [] → SaysInput now conn input s.list gained after held records
       → Makes (agent_turn now (events.Input conn input) s) gained (record { records = records; state = record { list = after; bytes = s.bytes } })
-  input_event_made after held records empty (said, added, made) =
-      rw (added, empty) (event_made now (events.Input conn input) s gained (record { records = said; list = after }) (alone_made now conn input s.list after gained said made))
+  input_event_made after held records empty (sent, added, made) =
+      rw (added, empty) (event_made now (events.Input conn input) s gained (record { records = sent; list = after }) (alone_made now conn input s.list after gained sent made))
 
   pub input_event_first : MakesFirst (input_turn now conn input s.list) gained → MakesFirst (agent_turn now (events.Input conn input) s) gained
   input_event_first first = event_first now (events.Input conn input) s gained (each_cut now conn input [] s.list gained first)
 
 module _ (now conn : ℕ) (piece : List ℕ) (s : Served) (frames : FrameBytes) (is : frames ≡ pushed (bytes_at s.bytes conn) piece) (gained : List SignCall) where
-  abbrev FrameInputs : Asking Said
+  abbrev FrameInputs : Asking AfterInput
   FrameInputs = each_turn now conn (inputs_of frames) s.list
 
   pub bytes_event_made : (left : FrameBytes) (after : AgentList) (records : List Record) → left ≡ rest_of frames → Makes FrameInputs gained (record { records = records; list = after })

@@ -14,12 +14,12 @@ use Rattle.sshc_agent_core.specs.AgentTable.{Steps, agent_row}
 use Rattle.sshc_run_agent.specs.AgentTurns.{input_turn, records_of, said_on}
 
 -- a step that had enough memory is its row
-pub input_made : (now conn : ℕ) (input : AgentInput) (before after : AgentList) (gained : List SignCall) (output : AgentOutput) (said : Option Record) → Steps now conn input before after gained output
-    → (output ≡ outputs.Closed causes.NoMemory → ⊥) → listed said ≡ records_of conn output → Makes (input_turn now conn input before) gained (record { records = listed said; list = after })
-input_made now conn input before after gained output said (inl makes) told is =
+pub input_made : (now conn : ℕ) (input : AgentInput) (before after : AgentList) (gained : List SignCall) (output : AgentOutput) (sent : Option Record) → Steps now conn input before after gained output
+    → (output ≡ outputs.Closed causes.NoMemory → ⊥) → listed sent ≡ records_of conn output → Makes (input_turn now conn input before) gained (record { records = listed sent; list = after })
+input_made now conn input before after gained output sent (inl makes) told is =
     subst (λ (rs : List Record). Makes (input_turn now conn input before) gained (record { records = rs; list = after })) (sym is)
     (makes_on (said_on conn) (agent_row now conn input before) gained (record { next = after; output = output }) makes)
-input_made now conn input before after gained output said (inr starves) told is = absurd (told starves.closed)
+input_made now conn input before after gained output sent (inr starves) told is = absurd (told starves.closed)
 
 -- the calls are a prefix of those that its row makes
 pub input_cut : (now conn : ℕ) (input : AgentInput) (before after : AgentList) (gained : List SignCall) (output : AgentOutput) → Steps now conn input before after gained output → MakesFirst (input_turn now conn input before) gained

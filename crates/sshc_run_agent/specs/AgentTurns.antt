@@ -91,27 +91,27 @@ records_of conn (outputs.Closed causes.NoMemory) = []
 -- ---- inputs
 
 -- records, and the agent's state after them
-pub record Said : Type 0 where
+pub record AfterInput : Type 0 where
   pub records : List Record
   pub list : AgentList
 
-abbrev pub said_on : ℕ → Outcome → Said
+abbrev pub said_on : ℕ → Outcome → AfterInput
 said_on conn o = record { records = records_of conn o.output; list = o.next }
 
 -- the row of the input, with its record
-abbrev pub input_turn : ℕ → ℕ → AgentInput → AgentList → Asking Said
+abbrev pub input_turn : ℕ → ℕ → AgentInput → AgentList → Asking AfterInput
 input_turn now conn input l = asked_on (said_on conn) (agent_row now conn input l)
 
 -- the turn of an input, with these calls, ends in this state, and its record is appended to those before it
 abbrev pub SaysInput : ℕ → ℕ → AgentInput → AgentList → List SignCall → AgentList → List Record → List Record → Type 0
-SaysInput now conn input before gained after held held' = (said : List Record) × (held' ≡ held ++ said) × Makes (input_turn now conn input before) gained (record { records = said; list = after })
+SaysInput now conn input before gained after held held' = (sent : List Record) × (held' ≡ held ++ sent) × Makes (input_turn now conn input before) gained (record { records = sent; list = after })
 
 -- these records, and then those
-abbrev pub behind : List Record → Said → Said
+abbrev pub behind : List Record → AfterInput → AfterInput
 behind records t = record t { records = records ++ t.records }
 
 -- each input by its row, in order
-unfoldable pub each_turn : ℕ → ℕ → List AgentInput → AgentList → Asking Said
+unfoldable pub each_turn : ℕ → ℕ → List AgentInput → AgentList → Asking AfterInput
 each_turn now conn [] l = done (record { records = []; list = l })
 each_turn now conn (input ∷ inputs) l = then_asks (input_turn now conn input l) (λ t. asked_on (behind t.records) (each_turn now conn inputs t.list))
 
@@ -135,7 +135,7 @@ abbrev pub event_bytes : AgentEvent → List (ℕ × FrameBytes) → List (ℕ �
 event_bytes (events.Bytes conn piece) all = with_bytes all conn (rest_of (pushed (bytes_at all conn) piece))
 event_bytes (events.Input conn input) all = all
 
-abbrev pub kept_with : List (ℕ × FrameBytes) → Said → AgentTurn
+abbrev pub kept_with : List (ℕ × FrameBytes) → AfterInput → AgentTurn
 kept_with bytes t = record { records = t.records; state = record { list = t.list; bytes = bytes } }
 
 -- the turn of an event at a moment

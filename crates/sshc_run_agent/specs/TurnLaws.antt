@@ -11,7 +11,7 @@ use Rattle.sshc_agent_core.specs.AgentList.{AgentList}
 use Rattle.sshc_agent_core.specs.AgentTable.{agent_row}
 use Rattle.sshc_agent_core.specs.Turn.{Outcome}
 use Rattle.sshc_run_agent.specs.declared.event.AgentEvent.{AgentEvent}
-use Rattle.sshc_run_agent.specs.AgentTurns.{AgentTurn, Said, Served, agent_turn, behind, conn_of, each_turn, event_bytes, event_inputs, input_turn, kept_with, records_of, said_on}
+use Rattle.sshc_run_agent.specs.AgentTurns.{AgentTurn, AfterInput, Served, agent_turn, behind, conn_of, each_turn, event_bytes, event_inputs, input_turn, kept_with, records_of, said_on}
 
 -- ---- requests to the signer, taken apart
 
@@ -70,10 +70,10 @@ module _ (now conn : ℕ) where
   is_entry earlier input l gained o makes = record { gained = gained; step = inl makes; signature = refl }
 
   -- the turn of inputs is a piece of the history
-  pub each_piece : (inputs : List AgentInput) (earlier : List Entry) (l : AgentList) (gained : List SignCall) (t : Said) → Makes (each_turn now conn inputs l) gained t → IsPiece now conn inputs earlier l t.records t.list
+  pub each_piece : (inputs : List AgentInput) (earlier : List Entry) (l : AgentList) (gained : List SignCall) (t : AfterInput) → Makes (each_turn now conn inputs l) gained t → IsPiece now conn inputs earlier l t.records t.list
   unfolding each_turn
   each_piece [] earlier l [] t is =
-      subst (λ (x : Said). IsPiece now conn [] earlier l x.records x.list) is (record { entries = []; leads = refl; numbers = tt; inputs_are = tt; reports = refl })
+      subst (λ (x : AfterInput). IsPiece now conn [] earlier l x.records x.list) is (record { entries = []; leads = refl; numbers = tt; inputs_are = tt; reports = refl })
   each_piece [] earlier l (call ∷ gained) t never = absurd never
   each_piece (input ∷ inputs) earlier l gained t makes =
       let parts = two_made (input_turn now conn input l) (λ x. asked_on (behind x.records) (each_turn now conn inputs x.list)) gained t makes in
@@ -81,9 +81,9 @@ module _ (now conn : ℕ) where
       let later = on_made (behind parts.mid.records) (each_turn now conn inputs parts.mid.list) parts.second t parts.two in
       let e : Entry = entry_of earlier input parts.first row.0 in
       let piece = each_piece inputs (earlier ++ e ∷ []) parts.mid.list parts.second later.0 later.1 in
-      let list : row.0.next ≡ parts.mid.list = ap (λ (x : Said). x.list) row.2 in
-      let says : records_of conn row.0.output ≡ parts.mid.records = ap (λ (x : Said). x.records) row.2 in
-      subst (λ (x : Said). IsPiece now conn (input ∷ inputs) earlier l x.records x.list) later.2
+      let list : row.0.next ≡ parts.mid.list = ap (λ (x : AfterInput). x.list) row.2 in
+      let says : records_of conn row.0.output ≡ parts.mid.records = ap (λ (x : AfterInput). x.records) row.2 in
+      subst (λ (x : AfterInput). IsPiece now conn (input ∷ inputs) earlier l x.records x.list) later.2
       (record {
         entries = e ∷ piece.entries;
         leads = (parts.mid.list, subst (λ (x : AgentList). IsEntry l e x) list (is_entry earlier input l parts.first row.0 row.1), piece.leads);

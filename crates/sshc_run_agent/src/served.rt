@@ -37,13 +37,13 @@ impl Model for ServedAgent {
 }
 
 /// Adds the record, if there is one.
-fn add(out: &mut Outbox, said: Option<Record>) -> Result<(), NoMemory>
+fn add(out: &mut Outbox, sent: Option<Record>) -> Result<(), NoMemory>
     requires open { out.old.muted ≡ false }
-    ensures ok { OnOk result (out.new.records ≡ out.old.records ++ listed said) }
+    ensures ok { OnOk result (out.new.records ≡ out.old.records ++ listed sent) }
     ensures open { out.new.muted ≡ false }
 {
-    match said {
-        Some(said) => out.push(said),
+    match sent {
+        Some(sent) => out.push(sent),
         None => Ok(()),
     }
 }
@@ -68,8 +68,8 @@ fn take_one<G: LocalSigner>(
     ensures later { G.refusals signer.old ≤ G.refusals signer.new }
     ensures open { out.new.muted ≡ false }
 {
-    let said = step_input(core, now, conn, input, signer)?;
-    add(out, said)
+    let sent = step_input(core, now, conn, input, signer)?;
+    add(out, sent)
 }
 
 /// The same for an input passed by value.
@@ -148,7 +148,7 @@ impl ServedAgent {
     }
 
     /// Takes an event of bytes.
-    #[tactic(auto, using(crate::proofs::ServedSteps::bytes_event_made, crate::proofs::ServedSteps::bytes_event_first, crate::proofs::ServedSteps::bytes_event_all, crate::proofs::ServedSteps::event_none, crate::proofs::ServedSteps::none_gained))]
+    #[tactic(auto, using(crate::proofs::Hints::take_bytes))]
     fn take_bytes<G: LocalSigner>(
         &mut self,
         now: u64,
@@ -161,7 +161,8 @@ impl ServedAgent {
         requires open { out.old.muted ≡ false }
         ensures ok { OnOk result
             (Makes (agent_turn now (AgentEvent.Bytes conn piece.now) self.old)
-            (since (G.calls signer.old) (G.calls signer.new)) (record { records = out.new.records; state = self.new })) }
+            (since (G.calls signer.old) (G.calls signer.new))
+            (record { records = out.new.records; state = self.new })) }
         ensures err { OnErr result
             (MakesFirst (agent_turn now (AgentEvent.Bytes conn piece.now) self.old)
             (since (G.calls signer.old) (G.calls signer.new))) }
@@ -189,7 +190,8 @@ impl ServedAgent {
         requires open { out.old.muted ≡ false }
         ensures ok { OnOk result
             (Makes (agent_turn now (AgentEvent.Input conn input.now) self.old)
-            (since (G.calls signer.old) (G.calls signer.new)) (record { records = out.new.records; state = self.new })) }
+            (since (G.calls signer.old) (G.calls signer.new))
+            (record { records = out.new.records; state = self.new })) }
         ensures err { OnErr result
             (MakesFirst (agent_turn now (AgentEvent.Input conn input.now) self.old)
             (since (G.calls signer.old) (G.calls signer.new))) }

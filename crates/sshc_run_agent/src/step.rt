@@ -12,7 +12,7 @@ use sshc_wire::{AgentFault, AgentRecord, NoMemory, Record};
 
 /// The record of an output; `None` for no output, and `NoMemory` if the agent closed the connection for lack of memory.
 fn record_of(conn: u32, output: AgentOutput) -> Result<Option<Record>, NoMemory>
-    ensures ok { IfOk result (λ said. listed said ≡ records_of conn output) }
+    ensures ok { IfOk result (λ sent. listed sent ≡ records_of conn output) }
     ensures told { OnOk result (output ≡ AgentOutput.Closed Cause.NoMemory → ⊥) }
 {
     let answer = match output {
@@ -39,8 +39,8 @@ pub fn step_input<G: LocalSigner>(
 ) -> Result<Option<Record>, NoMemory>
     // The record and the new state are those of the input's turn, with the calls that were added to the signer's list.
     ensures turn { IfOk result
-        (λ said. Makes (input_turn now conn input.now core.old) (since (G.calls signer.old) (G.calls signer.new))
-        (record { records = listed said; list = core.new })) }
+        (λ sent. Makes (input_turn now conn input.now core.old) (since (G.calls signer.old) (G.calls signer.new))
+        (record { records = listed sent; list = core.new })) }
     // The signer's list only grows.
     ensures gained { G.calls signer.new ≡ G.calls signer.old ++ since (G.calls signer.old) (G.calls signer.new) }
     ensures later { G.refusals signer.old ≤ G.refusals signer.new }

@@ -1,6 +1,5 @@
 -- Reading the parts of a list one at a time: the parts read so far, and then the rest.
 use Rattle.std.proofs.Common.{◌≡◌, ℕ, suc, ◌+◌, ◌-◌, ◌<◌, List, [], ◌∷◌, ◌++◌, Result, Ok, Err, refl, ap, sym, ◌∙◌, arith, append_assoc}
-use Rattle.std.proofs.lemmas.List.{append-nil}
 use Rattle.sshc_wire.specs.Reads.{Reader, ◌>>=◌}
 use Rattle.sshc_wire.specs.Format.{done}
 use Rattle.sshc_wire.specs.Counted.{times_at}
@@ -21,18 +20,3 @@ next_is f n i c h = let k : n - i ≡ suc (n - (i + 1)) = omega arith in ap (λ 
 pub took : {E A : Type 0} (f : Reader E A) (n i : ℕ) (xs : List A) (c later : List ℕ) (x : A) → i < n → f c ≡ Ok (x, later) → behind xs (times_at (n - i) f c) ≡ behind (xs ++ x ∷ []) (times_at (n - (i + 1)) f later)
 took {E} {A} f n i xs c later x h e =
     ap (behind xs) (next_is f n i c h) ∙ ap (λ (r : Result (A × List ℕ) E). behind xs (r >>= λ y. times_at (n - (i + 1)) f y.1 >>= λ ys. Ok (y.0 ∷ ys.0, ys.1))) e ∙ one_more xs x (times_at (n - (i + 1)) f later)
-
--- a part that can't be read
-pub stuck : {E A : Type 0} (f : Reader E A) (n i : ℕ) (xs : List A) (c : List ℕ) (d : E) → i < n → f c ≡ Err d → behind xs (times_at (n - i) f c) ≡ Err d
-stuck {E} {A} f n i xs c d h e =
-    ap (behind xs) (next_is f n i c h) ∙ ap (λ (r : Result (A × List ℕ) E). behind xs (r >>= λ y. times_at (n - (i + 1)) f y.1 >>= λ ys. Ok (y.0 ∷ ys.0, ys.1))) e
-
-none_before : {E A : Type 0} (r : Result (List A × List ℕ) E) → behind [] r ≡ r
-none_before (Ok ys) = refl
-none_before (Err e) = refl
-
-pub none_taken : {E A : Type 0} (f : Reader E A) (n : ℕ) (c : List ℕ) → behind [] (times_at (n - 0) f c) ≡ times_at n f c
-none_taken {E} {A} f n c = let k : n - 0 ≡ n = omega arith in ap (λ (m : ℕ). behind [] (times_at m f c)) k ∙ none_before (times_at n f c)
-
-pub all_taken : {E A : Type 0} (f : Reader E A) (n i : ℕ) (xs : List A) (c : List ℕ) → i ≡ n → behind xs (times_at (n - i) f c) ≡ Ok (xs, c)
-all_taken {E} {A} f n i xs c h = let k : n - i ≡ 0 = omega arith in ap (λ (m : ℕ). behind xs (times_at m f c)) k ∙ ap (λ (l : List A). done {E = E} (l, c)) (append-nil xs)

@@ -1,5 +1,5 @@
 -- Laws of the definitions in specs/EventKinds.antt.
-use Rattle.std.proofs.Common.{◌≡◌, ℕ, Some, refl, arith}
+use Rattle.std.proofs.Common.{◌≡◌, ℕ, Option, Some, refl, arith}
 use Rattle.std.proofs.lemmas.Bool.Decides.{nat_tests}
 use Rattle.sshc_run_reader.specs.declared.event_kind.EventKind.{EventKind}
 use Rattle.sshc_run_reader.specs.declared.event_kind.EventKind.TheVariants.{PeerKexinit}
@@ -12,30 +12,24 @@ pub number_again : (k : EventKind) → kind_numbered (kind_number k) ≡ Some k
 number_again PeerKexinit = refl
 number_again k = refl
 
-transport_is : (n : ℕ) (k : EventKind) → transport_kind n ≡ Some k → kind_number k ≡ n
-transport_is n k h = grind (arith, nat_tests)
+abbrev Names : (ℕ → Option EventKind) → Type 0
+Names kinds = (n : ℕ) (k : EventKind) → kinds n ≡ Some k → kind_number k ≡ n
 
-timer_is : (n : ℕ) (k : EventKind) → timer_kind n ≡ Some k → kind_number k ≡ n
-timer_is n k h = grind (arith, nat_tests)
-
-authentication_is : (n : ℕ) (k : EventKind) → authentication_kind n ≡ Some k → kind_number k ≡ n
-authentication_is n k h = grind (arith, nat_tests)
-
-open_is : (n : ℕ) (k : EventKind) → open_kind n ≡ Some k → kind_number k ≡ n
-open_is n k h = grind (arith, nat_tests)
-
-forward_is : (n : ℕ) (k : EventKind) → forward_kind n ≡ Some k → kind_number k ≡ n
-forward_is n k h = grind (arith, nat_tests)
-
-channel_is : (n : ℕ) (k : EventKind) → channel_kind n ≡ Some k → kind_number k ≡ n
-channel_is n k h = grind (arith, nat_tests)
-
-request_is : (n : ℕ) (k : EventKind) → request_kind n ≡ Some k → kind_number k ≡ n
-request_is n k h = grind (arith, nat_tests)
-
-agent_is : (n : ℕ) (k : EventKind) → agent_kind n ≡ Some k → kind_number k ≡ n
-agent_is n k h = grind (arith, nat_tests)
+groups_name : Names transport_kind × Names timer_kind × Names authentication_kind × Names open_kind × Names forward_kind
+    × Names channel_kind × Names request_kind × Names agent_kind
+groups_name = (
+  λ n k h. grind (arith, nat_tests),
+  λ n k h. grind (arith, nat_tests),
+  λ n k h. grind (arith, nat_tests),
+  λ n k h. grind (arith, nat_tests),
+  λ n k h. grind (arith, nat_tests),
+  λ n k h. grind (arith, nat_tests),
+  λ n k h. grind (arith, nat_tests),
+  λ n k h. grind (arith, nat_tests),
+)
 
 -- a kind that is found has the number
 pub numbered_is : (n : ℕ) (k : EventKind) → kind_numbered n ≡ Some k → kind_number k ≡ n
-numbered_is n k h = grind (arith, nat_tests, transport_is n k, timer_is n k, authentication_is n k, open_is n k, forward_is n k, channel_is n k, request_is n k, agent_is n k)
+numbered_is n k h =
+    let g = groups_name in
+    grind (arith, nat_tests, g.0 n k, g.1 n k, g.2 n k, g.3 n k, g.4 n k, g.5 n k, g.6 n k, g.7 n k)

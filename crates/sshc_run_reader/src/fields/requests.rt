@@ -50,7 +50,7 @@ pub fn open_x11(alloc: Global, c: &mut Cursor<'_>) -> Result<Event, EventError>
     })
 }
 
-#[tactic(auto, unfolding(crate::specs::EventReading::open_direct_tcpip_of, crate::specs::EventReading::direct_tcpip_at))]
+#[tactic(auto, unfolding(crate::proofs::Hints::open_direct_tcpip_of, crate::proofs::Hints::direct_tcpip_at))]
 pub fn open_direct_tcpip(alloc: Global, c: &mut Cursor<'_>) -> Result<Event, EventError>
     ensures { GivesAll (λ e. e) result (open_direct_tcpip_of c.old) }
 {
@@ -180,7 +180,7 @@ fn open_reply(c: &mut Cursor<'_>) -> Result<Result<(), ChannelOpenFailure>, Even
     Ok(reply_by(accept, reason))
 }
 
-#[tactic(auto, unfolding(crate::specs::EventReading::server_open_reply_of, crate::specs::EventReading::server_open_reply_at))]
+#[tactic(auto, unfolding(crate::proofs::Hints::server_open_reply_of, crate::proofs::Hints::server_open_reply_at))]
 fn server_open_reply(c: &mut Cursor<'_>) -> Result<Event, EventError>
     ensures { GivesAll (λ e. e) result (server_open_reply_of c.old) }
 {
