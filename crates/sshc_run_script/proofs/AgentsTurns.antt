@@ -13,7 +13,7 @@ use Rattle.sshc_agent_core.specs.AgentTable.{agent_row}
 use Rattle.sshc_agent_core.specs.AskerLaws.{AsksAs, row_asks}
 use Rattle.sshc_run_agent.specs.declared.event.AgentEvent.{AgentEvent}
 use Rattle.sshc_run_agent.specs.AgentEvents.{agent_event_of}
-use Rattle.sshc_run_agent.specs.AgentTurns.{AgentTurn, Said, Served, agent_turn, behind, conn_of, each_turn, event_bytes, event_inputs, input_turn, kept_with, records_of, said_on}
+use Rattle.sshc_run_agent.specs.AgentTurns.{AgentTurn, AfterInput, Served, agent_turn, behind, conn_of, each_turn, event_bytes, event_inputs, input_turn, kept_with, records_of, said_on}
 use Rattle.sshc_client_table.specs.SessionRecords.{is_session_record}
 use Rattle.sshc_run_script.specs.ReachedStates.{StopsFor}
 use Rattle.sshc_run_script.specs.declared.error.RunError.TheVariants as errors
@@ -34,7 +34,7 @@ asks_then test is (asks asked on) f (here, by) each = (here, λ answer. asks_the
 
 pub says_two : (test : Record → Bool) (is : Bool) (a b : List Record) → SaysBy test is a → SaysBy test is b → SaysBy test is (a ++ b)
 says_two test is [] b one other = other
-says_two test is (said ∷ a) b one other = (one.0, says_two test is a b one.1 other)
+says_two test is (output ∷ a) b one other = (one.0, says_two test is a b one.1 other)
 
 -- an answer is reported as an agent's record
 output_says : (conn : ℕ) (output : AgentOutput) → SaysBy is_session_record false (records_of conn output)
@@ -42,18 +42,16 @@ output_says conn outputs.Nothing = tt
 output_says conn (outputs.Closed causes.NoMemory) = tt
 output_says conn output = (refl, tt)
 
-abbrev SaysAgents : Said → Type 0
+abbrev SaysAgents : AfterInput → Type 0
 SaysAgents t = SaysBy is_session_record false t.records
 
 module _ (now conn : ℕ) where
-  input_says : (input : AgentInput) (l : AgentList) → Always SaysAgents (input_turn now conn input l)
-  input_says input l = always_any SaysAgents (said_on conn) (agent_row now conn input l) (λ o. output_says conn o.output)
-
   each_says : (inputs : List AgentInput) (l : AgentList) → Always SaysAgents (each_turn now conn inputs l)
   unfolding each_turn
   each_says [] l = tt
   each_says (input ∷ inputs) l =
-      always_then SaysAgents SaysAgents (input_turn now conn input l) (λ t. asked_on (behind t.records) (each_turn now conn inputs t.list)) (input_says input l)
+      always_then SaysAgents SaysAgents (input_turn now conn input l) (λ t. asked_on (behind t.records) (each_turn now conn inputs t.list))
+      (always_any SaysAgents (said_on conn) (agent_row now conn input l) (λ o. output_says conn o.output))
       (λ t says. always_on SaysAgents SaysAgents (behind t.records) (each_turn now conn inputs t.list) (λ later more. says_two is_session_record false t.records later.records says more) (each_says inputs t.list))
 
   -- ---- who asks

@@ -11,11 +11,10 @@ answers_two (call ∷ a) b = ap (λ (answers : List Answer). call.answer ∷ ans
 pub asked_made : {A : Type 0} {E : Type 0} (wanting : E) (asking : Asking A) (gained : List SignCall) (x : A) (answers : List Answer) (later : A → List Answer → RunOf E) → Makes asking gained x →
     asked_run wanting asking (answers_of gained ++ answers) later ≡ after [] gained (later x answers)
 asked_made {A = A} wanting (done y) [] x answers later is = ap (λ (z : A). later z answers) is
-asked_made wanting (done y) (call ∷ gained) x answers later never = absurd never
-asked_made wanting (asks asked on) [] x answers later never = absurd never
 asked_made {E = E} wanting (asks asked on) (call ∷ gained) x answers later (is, makes) =
     ap (λ (r : RunOf E). after [] (call_of asked call.answer ∷ []) r) (asked_made wanting (on call.answer) gained x answers later makes)
     ∙ ap (λ (c : SignCall). after [] (c ∷ gained) (later x answers)) (sym is)
+asked_made wanting asking gained x answers later never = absurd never
 
 -- if only the first calls were made, no others are kept
 pub asked_first : {A : Type 0} {E : Type 0} (wanting : E) (asking : Asking A) (gained : List SignCall) (later : A → List Answer → RunOf E) → ((x : A) → (later x []).calls ≡ []) → MakesFirst asking gained →

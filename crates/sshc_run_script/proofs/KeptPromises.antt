@@ -12,10 +12,9 @@ use Rattle.sshc_run_script.proofs.OpenedKeys.{opened_by_accepted}
 use Rattle.sshc_run_script.proofs.OpeningFirsts.{opening_first_of, opening_done_of, opening_complete_of}
 use Rattle.sshc_run_script.proofs.Promises.{none_ran, gate_of, prefix_of, done_of, kept_of, complete_of}
 use Rattle.sshc_run_script.proofs.RunCalls.{calls_counted}
-use Rattle.sshc_run_script.proofs.RunChannels.{accounted}
+use Rattle.sshc_run_script.proofs.RunChannels.{accounted, opens_answered}
 use Rattle.sshc_run_script.proofs.RunHistories.{one_history}
 use Rattle.sshc_run_script.proofs.RunOpenCounts.{counted}
-use Rattle.sshc_run_script.proofs.RunOpens.{opens_answered}
 use Rattle.sshc_run_script.proofs.RunPasswords.{passwords_asked}
 use Rattle.sshc_run_script.proofs.RunReplies.{replies_in_order}
 use Rattle.sshc_run_script.proofs.RunSigned.{signed_along}
@@ -41,7 +40,9 @@ module _ (laws : SessionLaws) (asked : RunAsked) (before now : RunOutside) (a : 
     replies = replies_in_order laws.replies asked.hosts asked.accepts asked.settings asked.max_events (session_answers before now) before.source.left;
     channels = accounted laws.accounted asked.hosts asked.accepts laws.account laws.fronts asked.settings asked.max_events (session_answers before now) before.source.left;
     opens = opens_answered laws.opens laws.accounted laws.legal asked.accepts asked.hosts asked.settings asked.max_events (session_answers before now) before.source.left;
-    opens_once = counted laws.opens laws.legal asked.hosts asked.accepts asked.settings asked.max_events (session_answers before now) before.source.left;
+    opens_once = counted asked.hosts asked.accepts asked.settings asked.max_events (session_answers before now) before.source.left
+        (opens_answered laws.opens laws.accounted laws.legal asked.accepts asked.hosts asked.settings asked.max_events
+        (session_answers before now) before.source.left);
     signed = signed_along asked.hosts asked.accepts asked.settings asked.max_events (session_answers before now) before.source.left;
     calls = calls_counted asked.hosts asked.accepts asked.settings asked.max_events (answers_of (calls_since before now)) before.source.left;
     passwords = passwords_asked asked.hosts asked.accepts asked.settings asked.max_events (answers_of (calls_since before now)) before.source.left;
@@ -62,11 +63,8 @@ no_fault was a read write = record {
   write_told = λ no. refl;
 }
 
--- if nothing was touched, no count moved
-pub still : (before : RunOutside) → CountsMoved before before (Err errors.NoMemory)
-still before = record { last_read = omega arith; last_write = omega arith; writes = moved_for _ _ _ _ (no_writes _ _); faults = no_fault (faults_of before) (Err errors.NoMemory) (λ e. cc) (λ e. cc) }
-
 -- a run that was out of memory before its first event
 pub none_promised : SessionLaws → (asked : RunAsked) (before : RunOutside) → RunPromises asked before before (Err errors.NoMemory)
 none_promised laws asked before =
-    promised laws asked before before (Err errors.NoMemory) (none_ran (run_machine asked.hosts asked.accepts asked.settings) asked.max_events (streams_of before)) (still before)
+    promised laws asked before before (Err errors.NoMemory) (none_ran (run_machine asked.hosts asked.accepts asked.settings) asked.max_events (streams_of before))
+    (record { last_read = omega arith; last_write = omega arith; writes = moved_for _ _ _ _ (no_writes _ _); faults = no_fault (faults_of before) (Err errors.NoMemory) (λ e. cc) (λ e. cc) })

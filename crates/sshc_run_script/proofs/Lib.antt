@@ -8,11 +8,9 @@ pub mod OpeningCauses
 pub mod ReadyTurns
 pub mod SessionSteps
 pub mod SignerFaults
-pub mod SettingsKept
 pub mod RunReplies
 pub mod RunChannels
 pub mod RunOpenCounts
-pub mod RunOpens
 pub mod RunUnfold
 pub mod RunLoop
 pub mod OpeningContinues

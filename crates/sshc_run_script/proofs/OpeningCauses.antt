@@ -23,7 +23,7 @@ use Rattle.sshc_run_script.specs.declared.known_hosts_handler.HandlerError.TheVa
 use Rattle.sshc_run_script.specs.Causes.{IsEventCause, IsSessionStop, SaysNo}
 use Rattle.sshc_run_script.specs.ReachedStates.{StopsFor}
 use Rattle.sshc_run_script.specs.Headline.{said_of_key}
-use Rattle.sshc_run_script.proofs.RunNames.{Asking, asked_on, Always, always_on, Event, OpeningState, open_row, asked_of, Row, Next, stays, opens, refuses, SessionState, is_open, event_of, Frame, HandlerError, Hosts, verdict, as_handler, stopped, ended, IsNoEnd, Turn, error_of, handler_error_of, next_turn, row_turn, asked_turn}
+use Rattle.sshc_run_script.proofs.RunNames.{Asking, asked_on, Always, always_on, Event, OpeningState, open_row, asked_of, Row, Next, refuses, SessionState, is_open, event_of, Frame, HandlerError, Hosts, verdict, as_handler, stopped, ended, IsNoEnd, Turn, error_of, handler_error_of, next_turn, row_turn, asked_turn}
 use Rattle.sshc_run_script.proofs.OpeningTurns.{event_case, WasTold}
 
 -- a turn that stops the run has its cause
@@ -32,12 +32,12 @@ TurnShows hosts w frame asking = Always (λ (t : Turn). StopsFor (IsSessionStop 
 
 -- ---- a refusal of the known hosts text
 
-is_key_error : (e : HandlerError) (said : Result Bool KeyError) → as_handler said ≡ Err e → IfErr said IsRefusal → (x : KeyError) × (e ≡ Key x) × IsRefusal x
+is_key_error : (e : HandlerError) (output : Result Bool KeyError) → as_handler output ≡ Err e → IfErr output IsRefusal → (x : KeyError) × (e ≡ Key x) × IsRefusal x
 is_key_error e (Ok accepted) is refusal = absurd cc
 is_key_error e (Err x) is refusal = let same : e ≡ Key x = cc in (x, same, refusal)
 
 -- it refuses a key by an error of its judgement
-verdict_refuses : (hosts : Hosts) (key : PublicKeyOrCertificate) (e : HandlerError) → verdict hosts key ≡ Err e → (x : KeyError) × (e ≡ Key x) × IsRefusal x
+pub verdict_refuses : (hosts : Hosts) (key : PublicKeyOrCertificate) (e : HandlerError) → verdict hosts key ≡ Err e → (x : KeyError) × (e ≡ Key x) × IsRefusal x
 unfolding verdict
 verdict_refuses hosts (identities.PublicKey key hash) e is = is_key_error e (judged hosts.known hosts.host key.0) is (judged-refuses hosts.known hosts.host key.0)
 verdict_refuses hosts (identities.Certificate key) e is = absurd cc
@@ -75,10 +75,9 @@ module _ (hosts : Hosts) (w : SessionState) (frame : Frame) (event : Event) (rea
   -- ---- rows
 
   next_shows : (row : Row) (next : Next) → Caused (why (SaysNo hosts) s event) next → StopsFor (IsSessionStop hosts w frame) (next_turn frame.place s row next).next
-  next_shows row (stays to) cause = tt
-  next_shows row (opens to) cause = tt
   next_shows row (ends_with e) cause = (event, read, cause)
   next_shows row (refuses e) cause = refusal_shows hosts w frame event read false e unopened cause
+  next_shows row next cause = tt
 
   -- the rest of a row, where a verdict that isn't yes is the verdict of the known hosts text
   told_shows : (told : Told) → SaysAlso (WasToldNo told) (SaysNo hosts) s event → TurnShows hosts w frame (asked_on (row_turn frame.place s) (open_row s event told))
@@ -98,22 +97,18 @@ module _ (hosts : Hosts) (w : SessionState) (frame : Frame) (event : Event) (rea
   -- a verdict that isn't yes is that of the known hosts text on the first exchange
   told_also : (told : Told) → WasTold hosts s event told → s.closed ≡ false → SaysAlso (WasToldNo told) (SaysNo hosts) s event
   told_also telling.NotAsked asked fresh = λ x is peer first denied. none_asked (host_key x.key) (sym (first_asks s event x fresh is peer first) ∙ asked)
-  told_also telling.No (key, asked, said) fresh = λ x is peer first denied. said_of_asked key (host_key x.key) (sym (first_asks s event x fresh is peer first) ∙ asked) ∙ said
+  told_also telling.No (key, asked, output) fresh = λ x is peer first denied. said_of_asked key (host_key x.key) (sym (first_asks s event x fresh is peer first) ∙ asked) ∙ output
   told_also telling.Went was fresh = λ x is peer first denied. absurd (denied refl)
 
   -- ---- the known hosts text refuses
 
   key_shows : (key : PublicKeyOrCertificate) (k : KeyError) → AsksFor s event key → verdict hosts key ≡ Err (Key k) → IsRefusal k → IsEventCause hosts w frame (handler_error_of frame.place (Key k))
-  key_shows key (key_errors.KeyChanged line) for said refusal = (for.first, (event, read, rw (for.is) (ap Some (ap (said_of_key hosts) for.has ∙ said))))
-  key_shows key (key_errors.Revoked line) for said refusal = (for.first, (event, read, rw (for.is) (ap Some (ap (said_of_key hosts) for.has ∙ said))))
-  key_shows key key_errors.Decode for said refusal = (for.first, (event, read, rw (for.is) (ap Some (ap (said_of_key hosts) for.has ∙ said))))
-  key_shows key key_errors.SshKey for said refusal = (for.first, (event, read, rw (for.is) (ap Some (ap (said_of_key hosts) for.has ∙ said))))
-  key_shows key key_errors.NoMemory for said refusal = tt
-  key_shows key k for said refusal = absurd refusal
-
-  refused_key_shows : (key : PublicKeyOrCertificate) (e : HandlerError) → AsksFor s event key → verdict hosts key ≡ Err e → (k : KeyError) × (e ≡ Key k) × IsRefusal k → IsEventCause hosts w frame (handler_error_of frame.place e)
-  refused_key_shows key e for said (k, is, refusal) =
-      subst (λ (x : HandlerError). IsEventCause hosts w frame (handler_error_of frame.place x)) (sym is) (key_shows key k for (said ∙ ap Err is) refusal)
+  key_shows key (key_errors.KeyChanged line) for output refusal = (for.first, (event, read, rw (for.is) (ap Some (ap (said_of_key hosts) for.has ∙ output))))
+  key_shows key (key_errors.Revoked line) for output refusal = (for.first, (event, read, rw (for.is) (ap Some (ap (said_of_key hosts) for.has ∙ output))))
+  key_shows key key_errors.Decode for output refusal = (for.first, (event, read, rw (for.is) (ap Some (ap (said_of_key hosts) for.has ∙ output))))
+  key_shows key key_errors.SshKey for output refusal = (for.first, (event, read, rw (for.is) (ap Some (ap (said_of_key hosts) for.has ∙ output))))
+  key_shows key key_errors.NoMemory for output refusal = tt
+  key_shows key k for output refusal = absurd refusal
 
 -- ---- every turn of the opening
 
@@ -123,7 +118,11 @@ pub event_shows : (hosts : Hosts) (w : SessionState) (frame : Frame) (event : Ev
 event_shows hosts w frame event is unopened fresh =
     event_case hosts frame.place w.opening event (TurnShows hosts w frame)
     (λ told was. told_shows hosts w frame event is unopened told (told_also hosts w frame event is unopened told was fresh))
-    (λ key e asked said. refused_key_shows hosts w frame event is unopened key e (asks_for w.opening event key asked) said (verdict_refuses hosts key e said))
+    (λ key e asked output.
+    let (k, of_key, refusal) = verdict_refuses hosts key e output in
+    subst (λ (x : HandlerError). IsEventCause hosts w frame (handler_error_of frame.place x)) (sym of_key)
+    (key_shows hosts w frame event is unopened key k (asks_for w.opening event key asked)
+    (output ∙ ap Err of_key) refusal))
 
 -- ---- no turn ends with the script's end
 
@@ -137,4 +136,4 @@ asked_never hosts place s event =
     (λ told was.
     always_on (λ (row : Row). Caused (why (WasToldNo told) s event) row.next) IsNoEnd (row_turn place s) (open_row s event told) (λ row cause. next_never s event told place row row.next cause)
     (open_cause s event told))
-    (λ key e asked said is. cc)
+    (λ key e asked output is. cc)

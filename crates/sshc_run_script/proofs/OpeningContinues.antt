@@ -1,15 +1,14 @@
 -- The session begins as the opening: its run writes the opening's records first.
 use Rattle.std.proofs.Common.{◌≡◌, List, [], ◌∷◌, refl, ap}
-use Rattle.sshc_run_script.specs.OpeningRun.{OpeningRun, OpeningStop, opens_before, stops_with, through, opening, by_turn, Prefixed}
+use Rattle.sshc_run_script.specs.OpeningRun.{OpeningRun, OpeningStop, opens_before, stops_with, opening, by_turn, Prefixed}
 use Rattle.sshc_run_script.proofs.RunNames.{Record, SignCall, Always, Answer, Asking, done, asks, call_of, unanswered_stop, Onward, goes_on, opened, stopped, Frame, ScriptStop, Run, events_run, run_on, asked_run, after, Hosts, Accepts, RunSettings, session_turn, opening_turn, in_session, Turn, OpeningState}
 use Rattle.sshc_run_script.proofs.SessionPart.{kept_in, IsUnopened, same_turn, stays_unopened}
 use Rattle.sshc_run_script.proofs.AnsweredQuestions.{asked_mapped, front_before}
 
 -- records and calls before both
 prefixed_after : {A : Type 0} (st : ScriptStop) (records : List Record) (calls : List SignCall) (o : OpeningRun A) (x : OpeningStop A) (r : Run) → Prefixed st o x r → Prefixed st (after records calls o) x (after records calls r)
-prefixed_after st records calls o (opens_before s frames left) r (said, asked, end) = (front_before records o.records r.records said, front_before calls o.calls r.calls asked, end)
-prefixed_after st records calls o (stops_with stop) r is = ap (λ (y : Run). after records calls y) is
-prefixed_after st records calls o through r is = ap (λ (y : Run). after records calls y) is
+prefixed_after st records calls o (opens_before s frames left) r (output, asked, end) = (front_before records o.records r.records output, front_before calls o.calls r.calls asked, end)
+prefixed_after st records calls o x r is = ap (λ (y : Run). after records calls y) is
 
 module _ (hosts : Hosts) (accepts : Accepts) (settings : RunSettings) (st : ScriptStop) where
   -- the session's run, once its opening is in this state

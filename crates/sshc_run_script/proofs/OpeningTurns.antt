@@ -36,7 +36,7 @@ module _ (hosts : Hosts) (place : ℕ) (s : OpeningState) (event : Event) where
   module _ (P : Asking Turn → Type 0)
       (table : (told : Told) → WasTold hosts s event told → P (asked_on (row_turn place s) (open_row s event told)))
       (refused : (key : PublicKeyOrCertificate) (e : HandlerError) → asked_of s event ≡ asking.HostKey key → verdict hosts key ≡ Err e → P (done (stops (shut s) (handler_error_of place e)))) where
-    judged_case : (key : PublicKeyOrCertificate) (said : Result Bool HandlerError) → asked_of s event ≡ asking.HostKey key → verdict hosts key ≡ said → P (judged_turn place s event said)
+    judged_case : (key : PublicKeyOrCertificate) (output : Result Bool HandlerError) → asked_of s event ≡ asking.HostKey key → verdict hosts key ≡ output → P (judged_turn place s event output)
     judged_case key (Ok true) asked is = table telling.Went (inl (key, asked, is))
     judged_case key (Ok false) asked is = table telling.No (key, asked, is)
     judged_case key (Err e) asked is = refused key e asked is
@@ -44,8 +44,7 @@ module _ (hosts : Hosts) (place : ℕ) (s : OpeningState) (event : Event) where
     asked_case : (wanted : Asks) → asked_of s event ≡ wanted → P (asked_turn hosts place s event wanted)
     asked_case asking.Nothing asked = table telling.NotAsked asked
     asked_case (asking.HostKey key) asked = judged_case key (verdict hosts key) asked refl
-    asked_case asking.Exchange asked = table telling.Went (inr (λ most. subst IsKeyAtMost asked most))
-    asked_case (asking.Banner text) asked = table telling.Went (inr (λ most. subst IsKeyAtMost asked most))
+    asked_case wanted asked = table telling.Went (inr (λ most. subst IsKeyAtMost asked most))
 
     -- what holds of each row and of the gate's error holds of the turn
     pub event_case : P (asked_turn hosts place s event (asked_of s event))

@@ -1,22 +1,22 @@
 -- A run whose events come one at a time: one call more, and what it guarantees at each pause and at its end.
-use Rattle.std.proofs.Common.{◌≡◌, ℕ, zero, suc, ◌+◌, ◌-◌, List, [], ◌++◌, length, drop, Option, Some, true, false, Result, Ok, Err, refl, ap, sym, ◌∙◌, subst, arith}
+use Rattle.std.proofs.Common.{◌≡◌, ℕ, ◌+◌, ◌-◌, List, [], ◌++◌, length, drop, Option, Some, true, false, Result, Ok, Err, refl, ap, sym, ◌∙◌, subst, arith}
 use Rattle.std.proofs.Math.Seq.{drop-append_seam}
 use Rattle.std.proofs.lemmas.List.Concat.{flat_map-append}
 use Rattle.sshc_auth.specs.declared.ended.Ended.TheVariants.{ScriptEnd}
 use Rattle.sshc_client.specs.declared.config.Config.{Config}
 use Rattle.sshc_hosts.specs.HostText.{host_text}
-use Rattle.sshc_run_script.specs.LoopInvariant.{BringsTo, IsAlong, Pauses}
+use Rattle.sshc_run_script.specs.LoopInvariant.{BringsTo, Pauses}
+use Rattle.sshc_run_script.specs.Outcome.{Moved}
 use Rattle.sshc_run_script.specs.Paused.{Paused, is_stopped, spot_of, started, table_from}
 use Rattle.sshc_run_script.specs.PausedRuns.{History, nothing_yet, followed_by, text_since, outside_of, step_of, HasRun, IsRun, Stopped, Takes}
 use Rattle.sshc_run_script.specs.RunFaults.{fault_counts, FaultsAnswered}
-use Rattle.sshc_run_script.specs.RunOutside.{CountsMoved}
 use Rattle.sshc_run_script.specs.RunPromises.{RunAsked, run_asked}
 use Rattle.sshc_run_script.specs.SessionLaws.{SessionLaws}
 use Rattle.sshc_run_script.proofs.RunNames.{append-nil, append, Record, SignCall, since, Answer, Ended, Accepts, RunError, Machine, Streams, streams, Ending, told, cut, unread, ending_of, EndsAs, Ends, line, lines, RunState, run_machine, run_turn, Run, Spot, Table, at_first, run}
 use Rattle.sshc_run_script.proofs.KeptPromises.{promised, no_fault}
 use Rattle.sshc_run_script.proofs.Promises.{since_is, by_events}
 use Rattle.sshc_run_script.proofs.RunLoop.{brings_none, brings_two, along_ends}
-use Rattle.sshc_run_script.proofs.RunUnfold.{end_ends, limit_ends}
+use Rattle.sshc_run_script.proofs.RunUnfold.{ends_at_end}
 
 -- ---- the same after another text and other calls
 
@@ -62,14 +62,6 @@ module _ (left left' : Option (List ℕ)) (b n x : List ℕ) (reads reads' : ℕ
 
 -- ---- what a history guarantees
 
--- no count of the outside moved
-uncounted : (script left text : List ℕ) (calls : List SignCall) (a : Result Ended RunError) → FaultsAnswered (fault_counts 0 0) (fault_counts 0 0) a → CountsMoved (outside_of script [] []) (outside_of left text calls) a
-uncounted script left text calls a faults = record { last_read = omega arith; last_write = omega arith; writes = (text, refl, omega arith); faults = faults }
-
--- at a pause no read and no write has failed
-unfailed : FaultsAnswered (fault_counts 0 0) (fault_counts 0 0) (Ok ScriptEnd)
-unfailed = no_fault (fault_counts 0 0) (Ok ScriptEnd) (λ e. cc) (λ e. cc)
-
 module _ (laws : SessionLaws) (asked : RunAsked) where
   abbrev machine : Machine RunState
   machine = run_machine asked.hosts asked.accepts asked.settings
@@ -80,11 +72,6 @@ module _ (laws : SessionLaws) (asked : RunAsked) where
   abbrev table : Table RunState
   table = run (run_turn asked.hosts asked.accepts)
 
-  -- the bytes of a history, and then more
-  along : (h : History) (turns : ℕ) (at : Spot RunState) (records : List Record) (more : List ℕ) → h.text ≡ lines records → BringsTo table first asked.max_events turns at h.script h.calls records →
-      IsAlong table first asked.max_events turns at (streams (Some (h.script ++ more)) (Some []) 0 []) (streams (Some more) (Some h.text) 0 h.calls)
-  along h turns at records more text brings = (h.script, h.calls, records, record { read = refl; asked = refl; wrote = ap Some text; count = omega arith }, brings)
-
   -- it ends so
   run_ended : (h : History) (turns n : ℕ) (at : Spot RunState) (records : List Record) (events left text : List ℕ) (calls : List SignCall) (a : Result Ended RunError) → turns + n ≡ asked.max_events → h.text ≡ lines records →
       BringsTo table first asked.max_events turns at h.script h.calls records → Ends n at.place at.last (table n at) (streams (Some events) (Some h.text) 0 h.calls) (streams (Some left) (Some (h.text ++ text)) 0 (h.calls ++ calls)) a →
@@ -92,36 +79,29 @@ module _ (laws : SessionLaws) (asked : RunAsked) where
   run_ended h turns n at records events left text calls a count is brings ends faults =
       let remain : n ≡ asked.max_events - turns = omega (arith, count) in
       let here = subst (λ (k : ℕ). Ends k at.place at.last (table k at) (streams (Some events) (Some h.text) 0 h.calls) (streams (Some left) (Some (h.text ++ text)) 0 (h.calls ++ calls)) a) remain ends in
-      let whole = along_ends table first asked.max_events turns at _ _ (streams (Some left) (Some (h.text ++ text)) 0 (h.calls ++ calls)) a (omega (arith, count)) (along h turns at records events is brings) here in
+      let moved : Moved (streams (Some (h.script ++ events)) (Some []) 0 []) (streams (Some events) (Some h.text) 0 h.calls) h.script h.calls (lines records) =
+      record { read = refl; asked = refl; wrote = ap Some is; count = omega arith }
+      in
+      let whole = along_ends table first asked.max_events turns at _ _ (streams (Some left) (Some (h.text ++ text)) 0 (h.calls ++ calls)) a (omega (arith, count))
+      (h.script, h.calls, records, moved, brings) here
+      in
       promised laws asked (outside_of (h.script ++ events) [] []) (outside_of left (h.text ++ text) (h.calls ++ calls)) a (by_events machine asked.max_events _ _ a whole)
-      (uncounted (h.script ++ events) left (h.text ++ text) (h.calls ++ calls) a faults)
-
-  -- at a pause the script may end
-  end_here : (n : ℕ) (at : Spot RunState) (text : List ℕ) (calls : List SignCall) → Ends n at.place at.last (table n at) (streams (Some []) (Some text) 0 calls) (streams (Some []) (Some text) 0 calls) (Ok ScriptEnd)
-  end_here zero at text calls = limit_ends (run_turn asked.hosts asked.accepts) at (streams (Some []) (Some text) 0 calls) (Some []) 0 (Ok ScriptEnd) (refl, refl) (omega arith)
-  end_here (suc n) at text calls = end_ends (run_turn asked.hosts asked.accepts) at (streams (Some []) (Some text) 0 calls) (Some []) 0 refl refl (omega arith) n
+      (record {
+        last_read = omega arith;
+        last_write = omega arith;
+        writes = (h.text ++ text, refl, omega arith);
+        faults = faults;
+      })
 
   paused_promised : (h : History) (turns n : ℕ) (at : Spot RunState) (records : List Record) → turns + n ≡ asked.max_events → h.text ≡ lines records → BringsTo table first asked.max_events turns at h.script h.calls records →
       HasRun asked h [] (Ok ScriptEnd)
   paused_promised h turns n at records count is brings =
       rw (append-nil h.script, append-nil h.text, append-nil h.calls) at
-      (run_ended h turns n at records [] [] [] [] (Ok ScriptEnd) count is brings (rw (append-nil h.text, append-nil h.calls) (end_here n at h.text h.calls)) unfailed)
-
-  -- ---- at the start
-
-  is_started : (p : Paused) → p.hosts ≡ asked.hosts → p.over ≡ false → p.remaining ≡ asked.max_events → spot_of p ≡ first → IsRun asked nothing_yet p
-  is_started p hosts going most at =
-      let none : BringsTo table first asked.max_events 0 (spot_of p) [] [] [] = brings_none table first asked.max_events (spot_of p) at in
-      record {
-        promised = paused_promised nothing_yet 0 p.remaining (spot_of p) [] (omega (arith, most)) refl none;
-        hosts = hosts;
-        going = going;
-        turns = 0;
-        count = omega (arith, most);
-        records = [];
-        text = refl;
-        brings = none;
-      }
+      (run_ended h turns n at records [] [] [] [] (Ok ScriptEnd) count is brings
+      -- at a pause the script may end
+      (rw (append-nil h.text, append-nil h.calls)
+      (ends_at_end (run_turn asked.hosts asked.accepts) at (streams (Some []) (Some h.text) 0 h.calls) (Some []) 0 refl refl (omega arith) n))
+      (no_fault (fault_counts 0 0) (Ok ScriptEnd) (λ e. cc) (λ e. cc)))
 
   -- ---- one call
 
@@ -143,7 +123,7 @@ module _ (laws : SessionLaws) (asked : RunAsked) where
         let remain : old.remaining ≡ asked.max_events - is.turns = omega (arith, is.count) in
         let event : events ≡ given = (let whole : events ≡ given ++ left = cc in whole ∙ ap (λ (rest : List ℕ). given ++ rest) none ∙ append-nil given) in
         let asked_now : since calls calls' ≡ gained = since_is calls calls' gained moved.asked in
-        let said : text_since b n ≡ lines records = added_is b n (lines records) moved.wrote in
+        let output : text_since b n ≡ lines records = added_is b n (lines records) moved.wrote in
         let then_on : BringsTo table (spot_of old) (asked.max_events - is.turns) (old.remaining - new.remaining) (spot_of new) given gained records = rw is.hosts at (subst (λ (k : ℕ). BringsTo (table_from old asked.accepts) (spot_of old) k (old.remaining - new.remaining) (spot_of new) given gained records) remain brings) in
         let turns : ℕ = is.turns + (old.remaining - new.remaining) in
         let whole : BringsTo table first asked.max_events turns (spot_of new) (h.script ++ given) (h.calls ++ gained) (is.records ++ records) =
@@ -151,7 +131,7 @@ module _ (laws : SessionLaws) (asked : RunAsked) where
         in
         let count : turns + new.remaining ≡ asked.max_events = omega (arith, is.count, le) in
         let text : h.text ++ lines records ≡ lines (is.records ++ records) = ap (λ (t : List ℕ). t ++ lines records) is.text ∙ sym (flat_map-append line is.records records) in
-        rw (event, asked_now, said)
+        rw (event, asked_now, output)
         (record {
           promised = paused_promised (followed_by h given gained (lines records)) turns new.remaining (spot_of new) (is.records ++ records) count text whole;
           hosts = hosts ∙ is.hosts;
@@ -165,7 +145,19 @@ module _ (laws : SessionLaws) (asked : RunAsked) where
 
 -- before its first event, by its arguments
 pub started_run : (laws : SessionLaws) (host : List ℕ) (port : ℕ) (known : List ℕ) (accepts : Accepts) (config : Config) → IsRun (run_asked host port known accepts config) nothing_yet (started (host_text host port) known config)
-started_run laws host port known accepts config = is_started laws (run_asked host port known accepts config) (started (host_text host port) known config) refl refl refl refl
+started_run laws host port known accepts config =
+    let asked = run_asked host port known accepts config in
+    let none = brings_none (table laws asked) (first laws asked) asked.max_events (first laws asked) refl in
+    record {
+      promised = paused_promised laws asked nothing_yet 0 asked.max_events (first laws asked) [] (omega arith) refl none;
+      hosts = refl;
+      going = refl;
+      turns = 0;
+      count = omega arith;
+      records = [];
+      text = refl;
+      brings = none;
+    }
 
 -- ---- what became of the events
 

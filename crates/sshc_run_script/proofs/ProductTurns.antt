@@ -1,7 +1,7 @@
 -- What taking an event does, by a part's turn and by the turn of the whole: the code of each part is proved alone.
 use Rattle.std.proofs.Common.{◌≡◌, inl, inr, ℕ, true, false, List, Option, Some, None, Result, refl, ap, sym, ◌∙◌, subst}
 use Rattle.sshc_run_script.specs.Product.{Both, in_one, in_other, both_turn}
-use Rattle.sshc_run_script.proofs.RunNames.{append, WroteFront, Record, SignCall, Ended, Asking, asked_on, makes_on, first_on, RunError, TurnOf, Turns, stop_next, Ending, told, cut, unread, ending_of, Own, lines, Frame, StopsBy, CutBy, TakeAs, TakeGives}
+use Rattle.sshc_run_script.proofs.RunNames.{append, WroteFront, Record, SignCall, Ended, Asking, asked_on, makes_on, first_on, RunError, TurnOf, Turns, stop_next, Ending, cut, ending_of, Own, lines, Frame, StopsBy, CutBy, TakeAs, TakeGives}
 
 module _ {A : Type 0} {B : Type 0} (f : TurnOf A → TurnOf B) (g : A → B) (keeps : (t : TurnOf A) → ((f t).records ≡ t.records) × ((f t).next ≡ t.next) × ((f t).state ≡ g t.state)) where
   stops_on : (asking : Asking (TurnOf A)) (gained : List SignCall) (held now : Option (List ℕ)) (answer : Result Ended RunError) → StopsBy asking gained held now answer → StopsBy (asked_on f asking) gained held now answer
@@ -13,9 +13,8 @@ module _ {A : Type 0} {B : Type 0} (f : TurnOf A → TurnOf B) (g : A → B) (ke
   cut_on asking gained held now (inr (t, makes, wrote)) = inr (f t, makes_on f asking gained t makes, subst (λ (rs : List Record). WroteFront held now (lines rs)) (sym (keeps t).0) wrote)
 
   takes_as : (ending : Ending) (asking : Asking (TurnOf A)) (gained : List SignCall) (held now : Option (List ℕ)) (answer : Result Ended RunError) → TakeAs ending asking gained held now answer → TakeAs ending (asked_on f asking) gained held now answer
-  takes_as told asking gained held now answer gives = stops_on asking gained held now answer gives
   takes_as cut asking gained held now answer gives = cut_on asking gained held now gives
-  takes_as unread asking gained held now answer gives = stops_on asking gained held now answer gives
+  takes_as ending asking gained held now answer gives = stops_on asking gained held now answer gives
 
   -- what taking an event does by one turn, it does by the same turn in the state of the whole
   pub takes_on : (asking : Asking (TurnOf A)) (gained : List SignCall) (a : A) (held now : Option (List ℕ)) (answer : Option (Result Ended RunError)) → TakeGives asking gained a held now answer → TakeGives (asked_on f asking) gained (g a) held now answer

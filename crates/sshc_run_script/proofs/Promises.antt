@@ -49,28 +49,23 @@ module _ {S : Type 0} (m : Machine S) (max : ℕ) where
     },
   )
 
-  -- a longer script with more answers begins in the same way
-  pub begins_so : (answers later : List Answer) (given more : List ℕ) → Begins (script_run m max answers given) (script_run m max (answers ++ later) (given ++ more))
+  -- a longer script begins in the same way
+  pub begins_so : (answers : List Answer) (given more : List ℕ) → Begins (script_run m max answers given) (script_run m max answers (given ++ more))
   unfolding run
-  begins_so answers later given more = begins m.turn max (at_first m.first) answers later given more
+  begins_so answers given more = begins m.turn max (at_first m.first) answers given more
 
-  prefix_by : (given bytes : List ℕ) (answers later : List Answer) (left held written : Option (List ℕ)) → prepend given left ≡ Some bytes → WroteFront held written (lines (script_run m max answers given).records) →
-      WroteFront held written (lines (script_run m max (answers ++ later) bytes).records)
-  prefix_by given bytes answers later None held written read wrote = absurd cc
-  prefix_by given bytes answers later (Some more) held written read wrote =
+  prefix_by : (given bytes : List ℕ) (answers : List Answer) (left held written : Option (List ℕ)) → prepend given left ≡ Some bytes → WroteFront held written (lines (script_run m max answers given).records) →
+      WroteFront held written (lines (script_run m max answers bytes).records)
+  prefix_by given bytes answers None held written read wrote = absurd cc
+  prefix_by given bytes answers (Some more) held written read wrote =
       let same : given ++ more ≡ bytes = cc in
-      rw (sym same) (wrote_longer held written _ _ (begins_so answers later given more).0 wrote)
+      rw (sym same) (wrote_longer held written _ _ (begins_so answers given more).0 wrote)
 
-  -- the bytes that were written are a prefix of the whole script's records' lines, whatever the signer would answer
-  -- then
-  pub prefix_later : (before now : Streams) (a : Result Ended RunError) → Ends max 0 0 (script_run m max) before now a → (later : List Answer) → IsPrefix (script_run m max (answers_since before.calls now.calls ++ later)) before now
-  prefix_later before now a (given, gained, end) later = λ bytes said.
-      with_answers (λ (answers : List Answer). WroteFront before.held now.held (lines (script_run m max (answers ++ later) bytes).records)) before now gained end.asked
-      (prefix_by given bytes (answers_of gained) later now.left before.held now.held (sym end.read ∙ said) (wrote_some (ending_of a) (script_run m max) given gained before now a end.by))
-
+  -- the bytes that were written are a prefix of the whole script's records' lines
   pub prefix_of : (before now : Streams) (a : Result Ended RunError) → Ends max 0 0 (script_run m max) before now a → IsPrefix (script_run m max (answers_since before.calls now.calls)) before now
-  prefix_of before now a ends =
-      subst (λ (answers : List Answer). IsPrefix (script_run m max answers) before now) (append-nil (answers_since before.calls now.calls)) (prefix_later before now a ends [])
+  prefix_of before now a (given, gained, end) = λ bytes output.
+      with_answers (λ (answers : List Answer). WroteFront before.held now.held (lines (script_run m max answers bytes).records)) before now gained end.asked
+      (prefix_by given bytes (answers_of gained) now.left before.held now.held (sym end.read ∙ output) (wrote_some (ending_of a) (script_run m max) given gained before now a end.by))
 
 pub gate_of : (hosts : Hosts) (accepts : Accepts) (settings : RunSettings) (max : ℕ) (before now : Streams) (a : Result Ended RunError) → Ends max 0 0 (script_run (run_machine hosts accepts settings) max) before now a → IsGated hosts max before now
 gate_of hosts accepts settings max before now a (given, gained, end) = (
@@ -95,15 +90,15 @@ same_by table given bytes gained before now (Some more) a is read exact =
 
 pub same_table : (table : List Answer → List ℕ → Run) (given bytes : List ℕ) (gained : List SignCall) (before now : Streams) (a : Result Ended RunError) → before.left ≡ prepend given now.left → before.left ≡ Some bytes → IsExact table given gained before now a →
     table (answers_of gained) bytes ≡ table (answers_of gained) given
-same_table table given bytes gained before now a read said exact = same_by table given bytes gained before now now.left a refl (sym read ∙ said) exact
+same_table table given bytes gained before now a read output exact = same_by table given bytes gained before now now.left a refl (sym read ∙ output) exact
 
 pub done_of : (max : ℕ) (table : List Answer → List ℕ → Run) (before now : Streams) (a : Result Ended RunError) → Ends max 0 0 table before now a → IsDone (table (answers_since before.calls now.calls)) before now a
 done_of max table before now (Err e) ends = tt
 done_of max table before now (Ok e) (given, gained, end) =
     with_answers (λ (answers : List Answer). IsDone (table answers) before now (Ok e)) before now gained end.asked (
       λ last. end.by.whole (ap Ok last),
-      λ bytes said.
-          (let same : table (answers_of gained) bytes ≡ table (answers_of gained) given = same_table table given bytes gained before now (Ok e) end.read said end.by in
+      λ bytes output.
+          (let same : table (answers_of gained) bytes ≡ table (answers_of gained) given = same_table table given bytes gained before now (Ok e) end.read output end.by in
           (ap (λ (r : Run). r.stop) same ∙ end.by.stop, end.by.all ∙ ap (λ (r : Run). append before.held (lines r.records)) (sym same))),
     )
 
@@ -126,20 +121,20 @@ IsTold answers table bytes a = (a ≡ Err errors.NoMemory) ⊎ ((table answers b
 
 told_exact : (table : List Answer → List ℕ → Run) (given bytes : List ℕ) (gained : List SignCall) (before now : Streams) (a : Result Ended RunError) → before.left ≡ prepend given now.left → before.left ≡ Some bytes → IsExact table given gained before now a →
     IsTold (answers_of gained) table bytes a
-told_exact table given bytes gained before now a read said exact = inr (ap (λ (r : Run). r.stop) (same_table table given bytes gained before now a read said exact) ∙ exact.stop)
+told_exact table given bytes gained before now a read output exact = inr (ap (λ (r : Run). r.stop) (same_table table given bytes gained before now a read output exact) ∙ exact.stop)
 
 told_by : (max : ℕ) (table : List Answer → List ℕ → Run) (before now : Streams) (reads reads' writes writes' : ℕ) (a : Result Ended RunError) (given bytes : List ℕ) (gained : List SignCall) → EndsBy max 0 0 table before now a given gained → before.left ≡ Some bytes →
     (a ≡ Err errors.ReadFault → Rose reads reads') → (a ≡ Err errors.WriteFault → Rose writes writes') → (Rose reads reads' → ⊥) → (Rose writes writes' → ⊥) → IsTold (answers_of gained) table bytes a
-told_by max table before now reads reads' writes writes' (Ok x) given bytes gained end said r w quiet still = told_exact table given bytes gained before now (Ok x) end.read said end.by
-told_by max table before now reads reads' writes writes' (Err errors.NoMemory) given bytes gained end said r w quiet still = inl refl
-told_by max table before now reads reads' writes writes' (Err errors.ReadFault) given bytes gained end said r w quiet still = absurd (quiet (r refl))
-told_by max table before now reads reads' writes writes' (Err errors.WriteFault) given bytes gained end said r w quiet still = absurd (still (w refl))
-told_by max table before now reads reads' writes writes' (Err x) given bytes gained end said r w quiet still = told_exact table given bytes gained before now (Err x) end.read said end.by
+told_by max table before now reads reads' writes writes' (Ok x) given bytes gained end output r w quiet still = told_exact table given bytes gained before now (Ok x) end.read output end.by
+told_by max table before now reads reads' writes writes' (Err errors.NoMemory) given bytes gained end output r w quiet still = inl refl
+told_by max table before now reads reads' writes writes' (Err errors.ReadFault) given bytes gained end output r w quiet still = absurd (quiet (r refl))
+told_by max table before now reads reads' writes writes' (Err errors.WriteFault) given bytes gained end output r w quiet still = absurd (still (w refl))
+told_by max table before now reads reads' writes writes' (Err x) given bytes gained end output r w quiet still = told_exact table given bytes gained before now (Err x) end.read output end.by
 
 pub told_of : (max : ℕ) (table : List Answer → List ℕ → Run) (before now : Streams) (reads reads' writes writes' : ℕ) (a : Result Ended RunError) → Ends max 0 0 table before now a → (bytes : List ℕ) → before.left ≡ Some bytes →
     (a ≡ Err errors.ReadFault → Rose reads reads') → (a ≡ Err errors.WriteFault → Rose writes writes') → (Rose reads reads' → ⊥) → (Rose writes writes' → ⊥) → IsTold (answers_since before.calls now.calls) table bytes a
-told_of max table before now reads reads' writes writes' a (given, gained, end) bytes said r w quiet still =
-    with_answers (λ (answers : List Answer). IsTold answers table bytes a) before now gained end.asked (told_by max table before now reads reads' writes writes' a given bytes gained end said r w quiet still)
+told_of max table before now reads reads' writes writes' a (given, gained, end) bytes output r w quiet still =
+    with_answers (λ (answers : List Answer). IsTold answers table bytes a) before now gained end.asked (told_by max table before now reads reads' writes writes' a given bytes gained end output r w quiet still)
 
 pub answered : (a : Result Ended RunError) → stop_as a ≡ unanswered_stop → ⊥
 answered (Ok e) is = cc
@@ -151,7 +146,7 @@ answer_is (Err x) e is = absurd cc
 
 pub complete_of : (max : ℕ) (table : List Answer → List ℕ → Run) (before now : Streams) (reads reads' writes writes' : ℕ) (a : Result Ended RunError) → Ends max 0 0 table before now a →
     (a ≡ Err errors.ReadFault → Rose reads reads') → (a ≡ Err errors.WriteFault → Rose writes writes') → IsComplete (table (answers_since before.calls now.calls)) before (fault_counts reads writes) (fault_counts reads' writes') a
-complete_of max table before now reads reads' writes writes' a ends r w = λ bytes e said good quiet still. by e good (told_of max table before now reads reads' writes writes' a ends bytes said r w quiet still)
+complete_of max table before now reads reads' writes writes' a ends r w = λ bytes e output good quiet still. by e good (told_of max table before now reads reads' writes writes' a ends bytes output r w quiet still)
   where
     by : {bytes : List ℕ} (e : Ended) → (table (answers_since before.calls now.calls) bytes).stop ≡ ended e → IsTold (answers_since before.calls now.calls) table bytes a → (a ≡ Ok e) ⊎ (a ≡ Err errors.NoMemory)
     by e good (inl memory) = inr memory

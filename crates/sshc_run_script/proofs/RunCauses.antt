@@ -1,6 +1,6 @@
 -- Each turn of a run that stops it has its cause, stated by the script, and so has each end and each refusal of a whole
 -- run. No turn ends with the script's end.
-use Rattle.std.proofs.Common.{◌≡◌, inl, inr, ℕ, true, Ok, Err, refl, subst, List, None, ◌⊎◌, ◌++◌, Some, Result, ap, sym, ◌∙◌, ◌∷◌}
+use Rattle.std.proofs.Common.{◌≡◌, inl, inr, ℕ, true, Ok, Err, refl, subst, List, None, ◌⊎◌, ◌++◌, Some, Result, ap, sym, ◌∙◌}
 use Rattle.sshc_auth.specs.declared.ended.Ended.TheVariants.{ScriptEnd}
 use Rattle.sshc_client_table.specs.SessionRow.{Next, ends, refuses}
 use Rattle.sshc_client_table.specs.OpenCauseLaws.{NextCaused, open_why, session_holds}
@@ -85,40 +85,40 @@ module _ (hosts : Hosts) (accepts : Accepts) (st : ScriptStop) where
   abbrev Told : RunState → List Frame → List Answer → RunStop → Type 0
   Told s frames answers stop = (stop ≡ unanswered_stop) ⊎ CausedBy (run_turn hosts accepts) s (IsStopCause hosts) frames st answers stop
 
-  told_behind : (s : RunState) (frame : Frame) (frames : List Frame) (gained : List SignCall) (left : List Answer) (t : TurnOf RunState) (stop : RunStop) → Makes (run_turn hosts accepts s frame) gained t → stop_next t.next ≡ None →
-      Told t.state frames left stop → Told s (frame ∷ frames) (answers_of gained ++ left) stop
-  told_behind s frame frames gained left t stop makes on (inl none) = inl none
-  told_behind s frame frames gained left t stop makes on (inr (inl (end, through))) = inr (inl (end, (t, gained, left, makes, refl, on, through)))
-  told_behind s frame frames gained left t stop makes on (inr (inr (s', frame', comes, cause))) = inr (inr (s', frame', inr (t, gained, left, makes, refl, on, comes), cause))
-
   -- a run comes to a state and an event that are the cause of its stop
   stops_caused : (frames : List Frame) (s : RunState) (answers : List Answer) → IsReady s.one → Told s frames answers (events_run (run_turn hosts accepts) s frames st answers).stop
   stops_caused =
       run_law (run_turn hosts accepts) st (λ s frames answers r. IsReady s.one → Told s frames answers r.stop) (λ s answers ready. inr (inl (refl, tt))) (λ s frame frames gained first ready. inl refl)
       (λ s frame frames gained left t stop makes is ready. inr (inr (s, frame, inl (refl, refl), (run_shows hosts accepts s frame gained t ready makes).0 stop is)))
-      (λ s frame frames gained left t r makes on later ready. told_behind s frame frames gained left t r.stop makes on (later ((run_shows hosts accepts s frame gained t ready makes).1 on)))
+      (λ s frame frames gained left t r makes on later ready.
+      elim (later ((run_shows hosts accepts s frame gained t ready makes).1 on)) [
+        | inl none ↦ inl none
+        | inr told ↦ inr (elim told [
+          | inl (end, through) ↦ inl (end, (t, gained, left, makes, refl, on, through))
+          | inr (s', frame', comes, cause) ↦ inr (s', frame', inr (t, gained, left, makes, refl, on, comes), cause)
+        ])
+      ])
 
 module _ (hosts : Hosts) (accepts : Accepts) (settings : RunSettings) (max : ℕ) where
   -- a stop of the table that is a result has its cause
   abbrev Caused : List Answer → List ℕ → RunStop → Type 0
   Caused answers bytes stop = CausedBy (run_turn hosts accepts) (run_machine hosts accepts settings).first (IsStopCause hosts) (taken max bytes) (stop_of max bytes) answers stop
 
-  stop_caused : (answers : List Answer) (bytes : List ℕ) (stop : RunStop) (a : Result Ended RunError) → stop ≡ stop_as a → ((stop ≡ unanswered_stop) ⊎ Caused answers bytes stop) → Caused answers bytes (stop_as a)
-  stop_caused answers bytes stop a is (inl none) = absurd (answered a (sym is ∙ none))
-  stop_caused answers bytes stop a is (inr caused) = subst (λ (x : RunStop). Caused answers bytes x) is caused
-
   caused_exact : (bytes : List ℕ) (before now : Streams) (given : List ℕ) (gained : List SignCall) (a : Result Ended RunError) → before.left ≡ prepend given now.left → now.calls ≡ before.calls ++ gained → before.left ≡ Some bytes →
       IsExact (script_run (run_machine hosts accepts settings) max) given gained before now a → Caused (answers_since before.calls now.calls) bytes (stop_as a)
-  caused_exact bytes before now given gained a read asked said exact =
-      let same = same_table (script_run (run_machine hosts accepts settings) max) given bytes gained before now a read said exact in
+  caused_exact bytes before now given gained a read asked output exact =
+      let same = same_table (script_run (run_machine hosts accepts settings) max) given bytes gained before now a read output exact in
       with_answers (λ (answers : List Answer). Caused answers bytes (stop_as a)) before now gained asked
-      (stop_caused (answers_of gained) bytes (script_run (run_machine hosts accepts settings) max (answers_of gained) bytes).stop a (ap (λ (r : Run). r.stop) same ∙ exact.stop)
-      (stops_caused hosts accepts (stop_of max bytes) (taken max bytes) (run_machine hosts accepts settings).first (answers_of gained) (record { runs = refl; taken = refl; unclosed = λ un. refl })))
+      (elim (stops_caused hosts accepts (stop_of max bytes) (taken max bytes) (run_machine hosts accepts settings).first (answers_of gained) (record { runs = refl; taken = refl; unclosed = λ un. refl })) [
+        | inl none ↦ absurd (answered a (sym exact.stop ∙ ap (λ (r : Run). r.stop) (sym same) ∙ none))
+        | inr caused ↦ subst (λ (stop : RunStop). Caused (answers_of gained) bytes stop)
+            (ap (λ (r : Run). r.stop) same ∙ exact.stop) caused
+      ])
 
   -- each result has its cause
   pub caused_of : (before now : Streams) (a : Result Ended RunError) → Ends max 0 0 (script_run (run_machine hosts accepts settings) max) before now a → IsCaused hosts accepts settings max (answers_since before.calls now.calls) before.left a
-  caused_of before now (Ok e) (given, gained, end) = λ bytes said. caused_exact bytes before now given gained (Ok e) end.read end.asked said end.by
-  caused_of before now (Err errors.NoMemory) ran = λ bytes said. tt
-  caused_of before now (Err errors.ReadFault) ran = λ bytes said. tt
-  caused_of before now (Err errors.WriteFault) ran = λ bytes said. tt
-  caused_of before now (Err e) (given, gained, end) = λ bytes said. caused_exact bytes before now given gained (Err e) end.read end.asked said end.by
+  caused_of before now (Ok e) (given, gained, end) = λ bytes output. caused_exact bytes before now given gained (Ok e) end.read end.asked output end.by
+  caused_of before now (Err errors.NoMemory) ran = λ bytes output. tt
+  caused_of before now (Err errors.ReadFault) ran = λ bytes output. tt
+  caused_of before now (Err errors.WriteFault) ran = λ bytes output. tt
+  caused_of before now (Err e) (given, gained, end) = λ bytes output. caused_exact bytes before now given gained (Err e) end.read end.asked output end.by

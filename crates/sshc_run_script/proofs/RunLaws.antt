@@ -1,7 +1,7 @@
 -- A law of every run of any machine, by its first turn: no answer is left, the turn stops the run, or the run
 -- continues.
 use Rattle.std.proofs.Common.{◌≡◌, List, [], ◌∷◌, ◌++◌, None, refl, ap}
-use Rattle.sshc_run_script.proofs.RunNames.{SignCall, Answer, Asking, done, asks, call_of, Makes, MakesFirst, Frame, ScriptStop, RunStop, unanswered_stop, Onward, goes_on, opened, stopped, TurnOf, Turns, stop_next, Run, RunOf, after, answers_of, asked_run, at_end, events_run, run_on, stopped_with}
+use Rattle.sshc_run_script.proofs.RunNames.{SignCall, Answer, Asking, done, asks, call_of, Makes, MakesFirst, Frame, ScriptStop, RunStop, unanswered_stop, Onward, stopped, TurnOf, Turns, stop_next, Run, RunOf, after, answers_of, asked_run, at_end, events_run, run_on, stopped_with}
 
 -- the run stopped at a call without an answer, after these calls
 abbrev pub wanting_after : {E : Type 0} → E → List SignCall → RunOf E
@@ -26,9 +26,8 @@ module _ {S : Type 0} (turn : Turns S) (st : ScriptStop) (P : S → List Frame �
     P t.state frames left r → P s (frame ∷ frames) (answers_of gained ++ left) (after t.records gained r)) where
   by_next : (s : S) (frame : Frame) (frames : List Frame) (gained : List SignCall) (left : List Answer) (t : TurnOf S) (next : Onward) (r : Run) → Makes (turn s frame) gained t → t.next ≡ next → P t.state frames left r →
       P s (frame ∷ frames) (answers_of gained ++ left) (after [] gained (run_on t next r))
-  by_next s frame frames gained left t goes_on r makes is later = goes s frame frames gained left t r makes (ap stop_next is) later
-  by_next s frame frames gained left t opened r makes is later = goes s frame frames gained left t r makes (ap stop_next is) later
   by_next s frame frames gained left t (stopped stop) r makes is later = stops s frame frames gained left t stop makes is
+  by_next s frame frames gained left t next r makes is later = goes s frame frames gained left t r makes (ap stop_next is) later
 
   -- so it holds of every run
   pub run_law : (frames : List Frame) (s : S) (answers : List Answer) → P s frames answers (events_run turn s frames st answers)

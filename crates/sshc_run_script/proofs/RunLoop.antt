@@ -5,8 +5,8 @@ use Rattle.sshc_wire.specs.ContentsLaws.{prepend-prepend}
 use Rattle.sshc_run_script.specs.LoopInvariant.{BringsTo, IsAlong, Pauses, Stays}
 use Rattle.sshc_run_script.specs.Prefixes.{IsFront}
 use Rattle.sshc_run_script.specs.Outcome.{Moved}
-use Rattle.sshc_run_script.proofs.RunNames.{append-nil, prepend, append, WroteFront, append-nothing, prepend-nothing, append-append, Record, SignCall, Answer, Ended, events, RunError, RunStop, Streams, Ending, told, cut, unread, ending_of, IsCut, IsExact, EndsAs, EndsBy, HasEarlier, HasWritten, HoldsAtMost, Ends, line, lines, Run, Spot, Table, after, answers_of, BringsOn}
-use Rattle.sshc_run_script.proofs.AnsweredQuestions.{answers_two}
+use Rattle.sshc_run_script.proofs.RunNames.{append-nil, prepend, append, WroteFront, append-nothing, prepend-nothing, append-append, Record, SignCall, Answer, Ended, events, RunError, Streams, Ending, told, cut, unread, ending_of, IsCut, IsExact, EndsAs, EndsBy, HasEarlier, HasWritten, HoldsAtMost, Ends, line, lines, Run, Spot, Table, after, answers_of, BringsOn}
+use Rattle.sshc_run_script.proofs.AnsweredQuestions.{answers_two, front_before}
 use Rattle.sshc_run_script.proofs.RunUnfold.{not_nothing}
 
 -- ---- prefixes of two lists in sequence
@@ -15,17 +15,16 @@ use Rattle.sshc_run_script.proofs.RunUnfold.{not_nothing}
 abbrev FrontOfTwo : List ℕ → List ℕ → List ℕ → ℕ → List ℕ → Type 0
 FrontOfTwo a b front c more = ((d : ℕ) × (rest : List ℕ) × (a ≡ front ++ d ∷ rest)) ⊎ ((part : List ℕ) × (front ≡ a ++ part) × (b ≡ part ++ c ∷ more))
 
-longer_front : (x : ℕ) (a b front : List ℕ) (c : ℕ) (more : List ℕ) → FrontOfTwo a b front c more → FrontOfTwo (x ∷ a) b (x ∷ front) c more
-longer_front x a b front c more (inl (d, rest, is)) = inl (d, rest, ap (λ (bytes : List ℕ). x ∷ bytes) is)
-longer_front x a b front c more (inr (part, is, behind)) = inr (part, ap (λ (bytes : List ℕ). x ∷ bytes) is, behind)
-
 front_of_two : (a b front : List ℕ) (c : ℕ) (more : List ℕ) → a ++ b ≡ front ++ c ∷ more → FrontOfTwo a b front c more
 front_of_two [] b front c more is = inr (front, refl, is)
 front_of_two (x ∷ a) b [] c more is = inl (x, a, refl)
 front_of_two (x ∷ a) b (y ∷ front) c more is =
     let same : x ≡ y = cc in
     let tails : a ++ b ≡ front ++ c ∷ more = cc in
-    subst (λ (z : ℕ). FrontOfTwo (x ∷ a) b (z ∷ front) c more) same (longer_front x a b front c more (front_of_two a b front c more tails))
+    elim (front_of_two a b front c more tails) [
+      | inl early ↦ inl (early.0, early.1, rw same (ap (λ (bytes : List ℕ). y ∷ bytes) early.2))
+      | inr late ↦ inr (late.0, rw same (ap (λ (bytes : List ℕ). y ∷ bytes) late.1), late.2)
+    ]
 
 -- ---- records and calls
 
@@ -34,9 +33,7 @@ lines_two a b held mid now first second =
     second ∙ ap (λ o. append o (lines b)) first ∙ append-append held (lines a) (lines b) ∙ ap (append held) (sym (flat_map-append line a b))
 
 after_two : (a b : List Record) (p q : List SignCall) (r : Run) → after a p (after b q r) ≡ after (a ++ b) (p ++ q) r
-after_two a b p q r =
-    ap (λ (x : List Record). record { records = x; calls = p ++ (q ++ r.calls); stop = r.stop }) (sym (append_assoc a b r.records))
-    ∙ ap (λ (x : List SignCall). record { records = (a ++ b) ++ r.records; calls = x; stop = r.stop }) (sym (append_assoc p q r.calls))
+after_two a b p q r = rw (append_assoc a b r.records, append_assoc p q r.calls) refl
 
 -- the answers of two lists of calls, and those that follow
 answers_three : (a b : List SignCall) (later : List Answer) → answers_of (a ++ b) ++ later ≡ answers_of a ++ (answers_of b ++ later)
@@ -60,10 +57,7 @@ brings_one table at at' n given gained records brings =
     let one : n ≡ suc n - 1 = omega arith in
     record {
       on = λ later more. brings.on n later more ∙ ap (λ (m : ℕ). after records gained (table m at' later more)) one;
-      counts = λ m more.
-          (let turn : length (events (1 + m) at.place at.last (given ++ more)) ≡ length (events (suc m) at.place at.last (given ++ more)) = ap (λ (k : ℕ). length (events k at.place at.last (given ++ more))) (omega arith) in
-          let here = brings.counts m more in
-          omega (arith, turn, here));
+      counts = λ m more. (let first : 1 + m ≡ suc m = omega arith in rw first (omega (arith, brings.counts m more)));
       early = λ later front b more is. (records, ap (λ (x : List Record). x ++ records) (sym (brings.quiet n (answers_of gained ++ later) front b more is)));
       just = λ later front b more is. brings.just n (answers_of gained ++ later) front b more is;
     }
@@ -72,12 +66,8 @@ module _ {S : Type 0} (table : Table S) (first : Spot S) (max : ℕ) where
   -- at the start
   pub brings_none : (at : Spot S) → at ≡ first → BringsTo table first max 0 at [] [] []
   brings_none at is = record {
-    on = λ later more. let m : max ≡ max - 0 = omega arith in ap (λ (n : ℕ). table n first later more) m ∙ ap (λ (x : Spot S). table (max - 0) x later more) (sym is);
-    counts = λ n more.
-        (let none : 0 + n ≡ n = omega arith in
-        let same : length (events (0 + n) first.place first.last more) ≡ length (events n first.place first.last more) = ap (λ (m : ℕ). length (events m first.place first.last more)) none in
-        let here : length (events n first.place first.last more) ≡ length (events n at.place at.last more) = ap (λ (x : Spot S). length (events n x.place x.last more)) (sym is) in
-        omega (arith, same, here));
+    on = λ later more. (let all : max - 0 ≡ max = omega arith in rw (all, is) refl);
+    counts = λ n more. (let none : 0 + n ≡ n = omega arith in rw (none, is) (omega arith));
     early = λ later front c more none. absurd (not_nothing front c more none);
     just = λ later front c more none. absurd (not_nothing front c more none);
   }
@@ -92,30 +82,39 @@ module _ {S : Type 0} (table : Table S) (first : Spot S) (max : ℕ) where
   )
 
   module _ (turns : ℕ) (at : Spot S) (given : List ℕ) (gained : List SignCall) (records : List Record) (so_far : BringsTo table first max turns at given gained records) where
-    -- on a shorter prefix of the bytes from before and of more bytes the run comes to its end
-    cut_more : (given' : List ℕ) (later : List Answer) (front : List ℕ) (c : ℕ) (more : List ℕ) → ((part : List ℕ) (b : ℕ) (rest : List ℕ) → given' ≡ part ++ b ∷ rest → IsCut (table (max - turns) at later part).stop) →
-        FrontOfTwo given given' front c more → IsCut (table max first (answers_of gained ++ later) front).stop
-    cut_more given' later front c more just (inl (d, rest, is)) = so_far.just later front d rest is
-    cut_more given' later front c more just (inr (part, is, behind)) =
-        let here : (table max first (answers_of gained ++ later) front).stop ≡ (table (max - turns) at later part).stop =
-        ap (λ (bytes : List ℕ). (table max first (answers_of gained ++ later) bytes).stop) is ∙ ap (λ (r : Run). r.stop) (so_far.on later part)
-        in
-        subst (λ (x : RunStop). IsCut x) (sym here) (just part c more behind)
+    -- on a shorter prefix of these bytes and others the run comes to its end, with no more than these records; or it is
+    -- that of a shorter prefix of the others
+    abbrev Meets : Run → List Answer → List ℕ → ℕ → List ℕ → Type 0
+    Meets r later given' c more =
+        (IsCut r.stop × IsFront r.records records)
+        ⊎ ((part : List ℕ) × (given' ≡ part ++ c ∷ more)
+        × (r ≡ after records gained (table (max - turns) at later part)))
 
-    -- and has no more records than both
-    early_more : (given' : List ℕ) (records' : List Record) (later : List Answer) (front : List ℕ) (c : ℕ) (more : List ℕ) →
-        ((part : List ℕ) (b : ℕ) (rest : List ℕ) → given' ≡ part ++ b ∷ rest → IsFront (table (max - turns) at later part).records records') →
-        FrontOfTwo given given' front c more → IsFront (table max first (answers_of gained ++ later) front).records (records ++ records')
-    early_more given' records' later front c more early (inl (d, rest, is)) =
-        let earlier = so_far.early later front d rest is in
-        (earlier.0 ++ records', ap (λ (x : List Record). x ++ records') earlier.1 ∙ append_assoc (table max first (answers_of gained ++ later) front).records earlier.0 records')
-    early_more given' records' later front c more early (inr (part, is, behind)) =
-        let said : List Record = (table (max - turns) at later part).records in
-        let here : (table max first (answers_of gained ++ later) front).records ≡ records ++ said =
-        ap (λ (bytes : List ℕ). (table max first (answers_of gained ++ later) bytes).records) is ∙ ap (λ (r : Run). r.records) (so_far.on later part)
-        in
-        let own = early part c more behind in
-        (own.0, ap (λ (x : List Record). records ++ x) own.1 ∙ sym (append_assoc records said own.0) ∙ ap (λ (x : List Record). x ++ own.0) (sym here))
+    front_run : (given' : List ℕ) (later : List Answer) (front : List ℕ) (c : ℕ) (more : List ℕ) →
+        given ++ given' ≡ front ++ c ∷ more →
+        Meets (table max first (answers_of gained ++ later) front) later given' c more
+    front_run given' later front c more is = elim (front_of_two given given' front c more is) [
+      | inl early ↦ inl (
+        so_far.just later front early.0 early.1 early.2,
+        so_far.early later front early.0 early.1 early.2,
+      )
+      | inr late ↦ inr (
+        late.0,
+        late.2,
+        ap (table max first (answers_of gained ++ later)) late.1
+            ∙ so_far.on later late.0,
+      )
+    ]
+
+    -- it comes to its end there, if it does on each shorter prefix of the others
+    cut_more : (given' : List ℕ) (later : List Answer) (front : List ℕ) (c : ℕ) (more : List ℕ) →
+        given ++ given' ≡ front ++ c ∷ more →
+        ((part : List ℕ) (b : ℕ) (rest : List ℕ) → given' ≡ part ++ b ∷ rest → IsCut (table (max - turns) at later part).stop) →
+        IsCut (table max first (answers_of gained ++ later) front).stop
+    cut_more given' later front c more is just = elim (front_run given' later front c more is) [
+      | inl early ↦ early.0
+      | inr late ↦ subst (λ (r : Run). IsCut r.stop) (sym late.2) (just late.0 c more late.1)
+    ]
 
     -- after some turns more
     pub brings_two : (k : ℕ) (at' : Spot S) (given' : List ℕ) (gained' : List SignCall) (records' : List Record) → BringsTo table at (max - turns) k at' given' gained' records' →
@@ -124,23 +123,34 @@ module _ {S : Type 0} (table : Table S) (first : Spot S) (max : ℕ) where
         let left : max - turns - k ≡ max - (turns + k) = omega arith in
         record {
           on = λ later more.
-              ap (λ (answers : List Answer). table max first answers ((given ++ given') ++ more)) (answers_three gained gained' later)
-              ∙ ap (table max first (answers_of gained ++ (answers_of gained' ++ later))) (append_assoc given given' more) ∙ so_far.on (answers_of gained' ++ later) (given' ++ more)
-              ∙ ap (λ (r : Run). after records gained r) (then_on.on later more) ∙ after_two records records' gained gained' (table (max - turns - k) at' later more)
-              ∙ ap (λ (n : ℕ). after (records ++ records') (gained ++ gained') (table n at' later more)) left;
+              rw (
+                answers_three gained gained' later,
+                append_assoc given given' more,
+                so_far.on (answers_of gained' ++ later) (given' ++ more),
+                then_on.on later more,
+                left,
+              )
+              (after_two records records' gained gained' _);
           counts = λ n more.
-              (let parts : length (events (turns + k + n) first.place first.last ((given ++ given') ++ more)) ≡ length (events (turns + (k + n)) first.place first.last (given ++ (given' ++ more))) =
-              ap (λ (bytes : List ℕ). length (events (turns + k + n) first.place first.last bytes)) (append_assoc given given' more) ∙ ap (λ (m : ℕ). length (events m first.place first.last (given ++ (given' ++ more)))) (omega arith)
-              in
-              let earlier = so_far.counts (k + n) (given' ++ more) in
-              let last_ones = then_on.counts n more in
-              omega (arith, parts, earlier, last_ones));
+              (let sum : turns + k + n ≡ turns + (k + n) = omega arith in
+              rw (append_assoc given given' more, sum)
+              (omega (arith, so_far.counts (k + n) (given' ++ more), then_on.counts n more)));
           early = λ later front c more is.
-              subst (λ (answers : List Answer). IsFront (table max first answers front).records (records ++ records')) (sym (answers_three gained gained' later))
-              (early_more given' records' (answers_of gained' ++ later) front c more (λ part b rest parts. then_on.early later part b rest parts) (front_of_two given given' front c more is));
+              rw (answers_three gained gained' later)
+              (elim (front_run given' (answers_of gained' ++ later) front c more is) [
+                | inl early ↦ (
+                  early.1.0 ++ records',
+                  ap (λ (x : List Record). x ++ records') early.1.1
+                      ∙ append_assoc _ early.1.0 records',
+                )
+                | inr late ↦
+                    subst (λ (r : Run). IsFront r.records (records ++ records')) (sym late.2)
+                    (front_before records _ records' (then_on.early later late.0 c more late.1))
+              ]);
           just = λ later front c more is.
-              subst (λ (answers : List Answer). IsCut (table max first answers front).stop) (sym (answers_three gained gained' later))
-              (cut_more given' (answers_of gained' ++ later) front c more (λ part b rest parts. then_on.just later part b rest parts) (front_of_two given given' front c more is));
+              rw (answers_three gained gained' later)
+              (cut_more given' (answers_of gained' ++ later) front c more is
+              (λ part b rest parts. then_on.just later part b rest parts));
         }
 
   -- after one turn more
@@ -182,12 +192,15 @@ module _ {S : Type 0} (table : Table S) (first : Spot S) (max : ℕ) where
       all = rw whole_on (lines_two records last.records before.held now.held now'.held moved.wrote exact.all);
       stop = ap (λ (x : Run). x.stop) whole_on ∙ exact.stop;
       rest = λ later more e.
-          ap (λ (answers : List Answer). table max first answers ((given ++ given') ++ more)) (answers_three gained gained' later)
-          ∙ ap (table max first (answers_of gained ++ (answers_of gained' ++ later))) (append_assoc given given' more) ∙ so_far.on (answers_of gained' ++ later) (given' ++ more)
-          ∙ ap (λ (x : Run). after records gained x) (exact.rest later more e) ∙ sym whole_on;
+          rw (
+            answers_three gained gained' later,
+            append_assoc given given' more,
+            so_far.on (answers_of gained' ++ later) (given' ++ more),
+            exact.rest later more e,
+          ) (sym whole_on);
       just = λ later front c more is.
-          subst (λ (answers : List Answer). IsCut (table max first answers front).stop) (sym (answers_three gained gained' later))
-          (cut_more turns at given gained records so_far given' (answers_of gained' ++ later) front c more (λ part b rest parts. exact.just later part b rest parts) (front_of_two given given' front c more is));
+          rw (answers_three gained gained' later)
+          (cut_more turns at given gained records so_far given' (answers_of gained' ++ later) front c more is (λ part b rest parts. exact.just later part b rest parts));
       whole = exact.whole;
     }
 
@@ -199,13 +212,10 @@ module _ {S : Type 0} (table : Table S) (first : Spot S) (max : ℕ) where
       wrote ∙ ap (λ o. append o part) moved.wrote ∙ append-append before.held (lines records) part,
     )
 
-    unread_end : now'.held ≡ append now.held (lines last.records) → now'.held ≡ append before.held (lines (table max first (answers_of (gained ++ gained')) (given ++ given')).records)
-    unread_end wrote = lines_two records last.records before.held now.held now'.held moved.wrote wrote ∙ ap (λ (x : Run). append before.held (lines x.records)) (sym whole_on)
-
     ends_as : (ending : Ending) (a : Result Ended RunError) → EndsAs ending (table (max - turns) at) given' gained' now now' a → EndsAs ending (table max first) (given ++ given') (gained ++ gained') before now' a
     ends_as told a by = exact_end a by
     ends_as cut a by = cut_end by
-    ends_as unread a by = unread_end by
+    ends_as unread a by = rw whole_on (lines_two records last.records before.held now.held now'.held moved.wrote by)
 
     -- after what was written before, more was
     held_more : (ending : Ending) (a : Result Ended RunError) → EndsAs ending (table (max - turns) at) given' gained' now now' a → (part : List ℕ) × (now'.held ≡ append now.held part)
@@ -215,24 +225,30 @@ module _ {S : Type 0} (table : Table S) (first : Spot S) (max : ℕ) where
 
     -- all records are written on a shorter prefix of what came before and of what ends it
     early_end : (later : List Answer) (front : List ℕ) (c : ℕ) (more : List ℕ) → HasEarlier (table (max - turns) at) given' gained' now.held now'.held → ((part : List ℕ) × (now'.held ≡ append now.held part)) →
-        FrontOfTwo given given' front c more → HasWritten before.held now'.held (lines (table max first (answers_of gained ++ (answers_of gained' ++ later)) front).records)
-    early_end later front c more early (part, wrote) (inl (d, rest, is)) =
-        let all : List Answer = answers_of gained ++ (answers_of gained' ++ later) in
-        let earlier = so_far.early (answers_of gained' ++ later) front d rest is in
-        let first_ones : List ℕ = lines (table max first all front).records in (
-          lines earlier.0 ++ part,
-          wrote ∙ ap (λ o. append o part) (moved.wrote ∙ ap (λ (r : List Record). append before.held (lines r)) earlier.1 ∙ ap (append before.held) (flat_map-append line (table max first all front).records earlier.0))
-              ∙ append-append before.held (first_ones ++ lines earlier.0) part ∙ ap (append before.held) (append_assoc first_ones (lines earlier.0) part),
-        )
-    early_end later front c more early wrote (inr (part, is, behind)) =
-        let all : List Answer = answers_of gained ++ (answers_of gained' ++ later) in
-        let r : List Record = (table (max - turns) at (answers_of gained' ++ later) part).records in
-        let here : (table max first all front).records ≡ records ++ r = ap (λ (bytes : List ℕ). (table max first all bytes).records) is ∙ ap (λ (x : Run). x.records) (so_far.on (answers_of gained' ++ later) part) in
-        let own = early later part c more behind in (
-          own.0,
-          own.1 ∙ ap (λ o. append o (lines r ++ own.0)) moved.wrote ∙ append-append before.held (lines records) (lines r ++ own.0)
-              ∙ ap (append before.held) (sym (append_assoc (lines records) (lines r) own.0) ∙ ap (λ (t : List ℕ). t ++ own.0) (sym (flat_map-append line records r) ∙ ap lines (sym here))),
-        )
+        given ++ given' ≡ front ++ c ∷ more → HasWritten before.held now'.held (lines (table max first (answers_of gained ++ (answers_of gained' ++ later)) front).records)
+    early_end later front c more early (part, wrote) is =
+        elim (front_run turns at given gained records so_far given' (answers_of gained' ++ later) front c more is) [
+          | inl short ↦ (
+            lines short.1.0 ++ part,
+            wrote ∙ ap (λ o. append o part)
+                (moved.wrote ∙ ap (λ (rs : List Record). append before.held (lines rs)) short.1.1)
+                ∙ append-append before.held (lines (_ ++ short.1.0)) part
+                ∙ ap (append before.held)
+                (ap (λ (text : List ℕ). text ++ part) (flat_map-append line _ short.1.0)
+                ∙ append_assoc (lines _) (lines short.1.0) part),
+          )
+          | inr late ↦
+              let (rest, own) = early later late.0 c more late.1 in
+              let output : List Record = (table (max - turns) at (answers_of gained' ++ later) late.0).records in
+              subst (λ (r : Run). HasWritten before.held now'.held (lines r.records)) (sym late.2) (
+                rest,
+                own ∙ ap (λ o. append o (lines output ++ rest)) moved.wrote
+                    ∙ append-append before.held (lines records) (lines output ++ rest)
+                    ∙ ap (append before.held)
+                    (sym (append_assoc (lines records) (lines output) rest)
+                    ∙ ap (λ (text : List ℕ). text ++ rest) (sym (flat_map-append line records output))),
+              )
+        ]
 
     -- a turn's bytes hold at most as many events as remained
     holds_more : turns ≤ max → HoldsAtMost (max - turns) at.place at.last given' → HoldsAtMost max first.place first.last (given ++ given')
@@ -251,8 +267,8 @@ module _ {S : Type 0} (table : Table S) (first : Spot S) (max : ℕ) where
       made = ap (λ (r : Run). r.calls) whole_on ∙ ap (λ (x : List SignCall). gained ++ x) end.made;
       by = ends_as (ending_of a) a end.by;
       early = λ later front c more is.
-          subst (λ (answers : List Answer). HasWritten before.held now'.held (lines (table max first answers front).records)) (sym (answers_three gained gained' later))
-          (early_end later front c more end.early (held_more (ending_of a) a end.by) (front_of_two given given' front c more is));
+          rw (answers_three gained gained' later)
+          (early_end later front c more end.early (held_more (ending_of a) a end.by) is);
       count = omega (arith, moved.count, end.count, length-append given given');
       few = holds_more le end.few;
     }

@@ -1,70 +1,56 @@
 -- Over a whole run no more opens are answered than were asked for. The count along the way is that of the answers and
--- of the opens that still wait, below a number that is above all those that are answered.
-use Rattle.std.proofs.Common.{◌≡◌, ◌⊎◌, inl, inr, ℕ, zero, suc, ◌+◌, ◌<◌, ◌≤◌, Bool, true, false, if◌then◌else◌, ◌==◌, List, [], ◌∷◌, ◌++◌, length, drop, Option, Some, None, is_some, refl, ap, sym, subst, arith, lt-ltb}
-use Rattle.std.specs.Prelude.{nat_lt}
+-- of a list of numbers that has each one under which an open still waits.
+use Rattle.std.proofs.Common.{◌≡◌, ◌⊎◌, inl, inr, ℕ, suc, ◌+◌, ◌≤◌, Bool, true, false, if◌then◌else◌, List, [], ◌∷◌, ◌++◌, length, drop, Option, Some, None, refl, ap, sym, ◌∙◌, subst, arith}
 use Rattle.std.specs.List.{AllByRecursion}
 use Rattle.std.proofs.lemmas.Bool.{eqb-true}
-use Rattle.std.proofs.lemmas.Bool.Decides.{nat_tests}
 use Rattle.sshc_wire.specs.declared.record.Record.TheVariants.{Resolved}
 use Rattle.sshc_wire.specs.declared.resolution.Resolution.{Resolution}
 use Rattle.sshc_wire.specs.declared.resolution.Resolution.TheVariants.{ChannelOpened, ChannelOpenFailed}
 use Rattle.sshc_wire.specs.declared.ticket.Ticket.{Ticket}
 use Rattle.sshc_wire.specs.Outgoing.{listed}
 use Rattle.sshc_mux.specs.ChannelState.{TableState}
-use Rattle.sshc_mux.specs.ChannelTable.{Said, records_of}
+use Rattle.sshc_mux.specs.ChannelTable.{ChannelPacket, records_of}
 use Rattle.sshc_mux.specs.ChannelTable.Opens.{awaited, next_number}
-use Rattle.sshc_mux.specs.ChannelAccount.{Call, IsLegal, LegalStays, OpenUser, no_channels}
+use Rattle.sshc_mux.specs.ChannelAccount.{Call, OpenUser}
 use Rattle.sshc_client_table.specs.Moves.{Move, after, calls_in, calls_of, deed_of, did, onto, done as when_done}
-use Rattle.sshc_client_table.specs.OpensOnce.{AnswersOne, NoOpenAnswer, OpensAreAnsweredOnce, call_opens, is_number}
+use Rattle.sshc_client_table.specs.OpensOnce.{AnswersOne, NoOpenAnswer, call_opens, is_number}
 use Rattle.sshc_run_script.specs.ChannelRuns.{calls_along, calls_at, calls_by, said_along, said_open}
+use Rattle.sshc_run_script.specs.OpenAnswers.{AnswersOnce, AnswersOpens, OpensAreAnswered, moves_by}
 use Rattle.sshc_run_script.specs.OpenCounts.{OpensAreCounted, is_open_answer, opens_answered, opens_asked}
-use Rattle.sshc_run_script.proofs.RunNames.{Record, SignCall, Answer, Makes, Accepts, SessionState, is_open, all_moves, Frame, RunSettings, Hosts, SessionTurn, said_by, session_turn}
+use Rattle.sshc_run_script.proofs.RunNames.{Record, SignCall, Answer, Makes, Accepts, SessionState, is_open, all_moves, event_of, Frame, RunSettings, Hosts, SessionTurn, said_by, session_turn}
 use Rattle.sshc_run_script.proofs.RunSteps.{session_along}
 use Rattle.sshc_run_script.proofs.SessionTurns.{turn_by, default_row}
 
--- ---- sums below a number
+-- ---- a list of numbers
 
-abbrev sum : (ℕ → ℕ) → ℕ → ℕ
-sum f zero = 0
-sum f (suc n) = f n + sum f n
+-- the number is in the list
+abbrev IsIn : ℕ → List ℕ → Type 0
+IsIn n [] = ⊥
+IsIn n (m ∷ numbers) = (m ≡ n) ⊎ IsIn n numbers
 
-sum_le : (f a g o : ℕ → ℕ) → ((n : ℕ) → f n + a n ≤ g n + o n) → (m : ℕ) → sum f m + sum a m ≤ sum g m + sum o m
-sum_le f a g o each zero = omega arith
-sum_le f a g o each (suc n) = let here = each n in let rest = sum_le f a g o each n in omega (arith, here, rest)
+-- a list without one number that is in it
+record Without (id : ℕ) (numbers : List ℕ) : Type 0 where
+  others : List ℕ
+  size : length numbers ≡ suc (length others)
+  rest : (n : ℕ) → IsIn n numbers → (n ≡ id) ⊎ IsIn n others
 
-sum_zero : (m : ℕ) → sum (λ n. 0) m ≡ 0
-sum_zero zero = refl
-sum_zero (suc n) = let rest = sum_zero n in omega (arith, rest)
-
--- 1 if a test succeeds
-abbrev bit : Bool → ℕ
-bit true = 1
-bit false = 0
-
--- 1 at one number
-abbrev one_at : ℕ → ℕ → ℕ
-one_at id n = bit (id == n)
-
-bit_most : (b : Bool) → bit b ≤ 1
-bit_most true = omega arith
-bit_most false = omega arith
-
-one_step : (id n : ℕ) (same less : Bool) → (id == n) ≡ same → nat_lt id n ≡ less → bit same + bit less ≡ bit (nat_lt id (suc n))
-one_step id n true true is lt = absurd (grind (arith, nat_tests, is, lt))
-one_step id n true false is lt = let below : nat_lt id (suc n) ≡ true = grind (arith, nat_tests, is, lt) in rw below refl
-one_step id n false true is lt = let below : nat_lt id (suc n) ≡ true = grind (arith, nat_tests, is, lt) in rw below refl
-one_step id n false false is lt = let above : nat_lt id (suc n) ≡ false = grind (arith, nat_tests, is, lt) in rw above refl
-
--- of all numbers below m it is one, or above them
-one_sum : (id m : ℕ) → sum (one_at id) m ≡ bit (nat_lt id m)
-one_sum id zero = let above : nat_lt id 0 ≡ false = grind (arith, nat_tests) in rw above refl
-one_sum id (suc n) = let rest = one_sum id n in let step = one_step id n (id == n) (nat_lt id n) refl refl in omega (arith, rest, step)
-
-one_most : (id m : ℕ) → sum (one_at id) m ≤ 1
-one_most id m = let most = bit_most (nat_lt id m) in omega (arith, one_sum id m, most)
-
-one_there : (id m : ℕ) → id < m → 1 ≤ sum (one_at id) m
-one_there id m lt = let there : bit (nat_lt id m) ≡ 1 = ap bit (lt-ltb id m lt) in omega (arith, one_sum id m, there)
+without : (id : ℕ) (numbers : List ℕ) → IsIn id numbers → Without id numbers
+without id [] never = absurd never
+without id (m ∷ numbers) (inl is) = record {
+  others = numbers;
+  size = refl;
+  rest = λ n there. elim there [ inl same ↦ inl (sym same ∙ is) | inr more ↦ inr more ];
+}
+without id (m ∷ numbers) (inr there) =
+    let less = without id numbers there in
+    record {
+      others = m ∷ less.others;
+      size = ap suc less.size;
+      rest = λ n more. elim more [
+        | inl same ↦ inr (inl same)
+        | inr later ↦ elim (less.rest n later) [ inl is ↦ inl is | inr other ↦ inr (inr other) ]
+      ];
+    }
 
 -- ---- answers among records
 
@@ -85,190 +71,195 @@ silent : (rs : List Record) → AllByRecursion NoOpenAnswer rs → opens_answere
 silent [] none = refl
 silent (r ∷ rs) (here, rest) = let one : is_open_answer r ≡ false = silent_one r here in let more = silent rs rest in rw one (omega (arith, more))
 
-packets_silent : (said : List Said) → opens_answered (records_of said) ≡ 0
+packets_silent : (output : List ChannelPacket) → opens_answered (records_of output) ≡ 0
 packets_silent [] = refl
-packets_silent (s ∷ said) = let rest = packets_silent said in omega (arith, rest)
-
-one_answer : (b : Bool) → (if b then 1 else 0) + 0 ≤ 1
-one_answer true = omega arith
-one_answer false = omega arith
+packets_silent (s ∷ output) = let rest = packets_silent output in omega (arith, rest)
 
 resolved_most : (b : Bool) (ticket : Ticket) (resolution : Resolution) → opens_answered (if b then [] else Resolved ticket resolution ∷ []) ≤ 1
 resolved_most true ticket resolution = omega arith
-resolved_most false ticket resolution = one_answer (is_open_answer (Resolved ticket resolution))
+resolved_most false ticket resolution =
+    elim (is_open_answer (Resolved ticket resolution)) as (λ b. (if b then 1 else 0) + 0 ≤ 1)
+    [ true ↦ omega arith | false ↦ omega arith ]
 
 -- ---- opens that wait
 
-abbrev waits : TableState → ℕ → ℕ
-waits t n = bit (is_some (awaited n t))
+-- each number under which an open waits is in the list
+abbrev Covers : TableState → List ℕ → Type 0
+Covers t numbers = (n : ℕ) → (awaited n t ≡ None) ⊎ IsIn n numbers
 
-abbrev waiting : ℕ → TableState → ℕ
-waiting m t = sum (waits t) m
+abbrev or_one : Option ℕ → List ℕ → List ℕ
+or_one None numbers = numbers
+or_one (Some id) numbers = id ∷ numbers
 
-abbrev opens_at : Option Call → TableState → ℕ → ℕ
-opens_at call t n = bit (call_opens n call t)
+or_there : (o : Option ℕ) (numbers : List ℕ) (n : ℕ) → IsIn n numbers ⊎ (is_number n o ≡ true) →
+    IsIn n (or_one o numbers)
+or_there None numbers n (inl there) = there
+or_there None numbers n (inr is) = absurd cc
+or_there (Some id) numbers n (inl there) = inr there
+or_there (Some id) numbers n (inr is) = inl (eqb-true id n is)
 
-opened_at : (m : ℕ) (number : Option ℕ) → sum (λ n. bit (is_number n number)) m ≤ 1
-opened_at m None = let none = sum_zero m in omega (arith, none)
-opened_at m (Some id) = one_most id m
+-- with the number that a call opens
+abbrev with_opened : Option Call → TableState → List ℕ → List ℕ
+with_opened (Some (OpenUser window packet ticket)) t numbers = or_one (next_number t) numbers
+with_opened call t numbers = numbers
+
+opened_there : (call : Option Call) (t : TableState) (numbers : List ℕ) (n : ℕ) →
+    IsIn n numbers ⊎ (call_opens n call t ≡ true) →
+    IsIn n (with_opened call t numbers)
+opened_there (Some (OpenUser window packet ticket)) t numbers n either = or_there (next_number t) numbers n either
+opened_there call t numbers n (inl there) = there
+opened_there call t numbers n (inr is) = absurd cc
 
 -- a call opens at most one
-opened_most : (m : ℕ) (call : Option Call) (t : TableState) → sum (opens_at call t) m ≤ opens_asked (listed call)
-opened_most m None t = let none = sum_zero m in omega (arith, none)
-opened_most m (Some (OpenUser window packet ticket)) t = let most = opened_at m (next_number t) in omega (arith, most)
-opened_most m (Some call) t = let none = sum_zero m in omega (arith, none)
+opened_size : (call : Option Call) (t : TableState) (numbers : List ℕ) →
+    length (with_opened call t numbers) ≤ length numbers + opens_asked (listed call)
+opened_size None t numbers = omega arith
+opened_size (Some (OpenUser window packet ticket)) t numbers =
+    elim (next_number t) as (λ o. length (or_one o numbers) ≤ length numbers + (1 + 0))
+    [ None ↦ omega arith | Some id ↦ omega arith ]
+opened_size (Some call) t numbers = omega arith
+
+-- with these answers, a list of the opens that wait is no longer than one from before and these requests
+record Counted (answered asked : ℕ) (numbers : List ℕ) (t : TableState) : Type 0 where
+  waiting : List ℕ
+  covers : Covers t waiting
+  most : answered + length waiting ≤ length numbers + asked
 
 -- ---- one move
 
-none_waits : (t : TableState) (n : ℕ) → awaited n t ≡ None → waits t n ≡ 0
-none_waits t n none = ap (λ (o : Option (Option Ticket)). bit (is_some o)) none
+module _ (m : Move) (s : SessionState) (once : AnswersOnce m s) (numbers : List ℕ)
+    (covers : Covers s.table numbers) where
+  abbrev opened : List ℕ
+  opened = with_opened (deed_of m s).call s.table numbers
 
-some_waits : (t : TableState) (n : ℕ) (ticket : Option Ticket) → awaited n t ≡ Some ticket → waits t n ≡ 1
-some_waits t n ticket some = ap (λ (o : Option (Option Ticket)). bit (is_some o)) some
+  opens_at : (n : ℕ) → IsIn n numbers ⊎ (call_opens n (deed_of m s).call s.table ≡ true) → IsIn n opened
+  opens_at n either = opened_there (deed_of m s).call s.table numbers n either
 
-module _ (opens : OpensAreAnsweredOnce) (stays : LegalStays) where
-  -- under each number: an open that waits after a move did so before, or the move opens it
-  keeps_by : (m : Move) (s : SessionState) → IsLegal s.table → (n : ℕ) (o : Option (Option Ticket)) (b : Bool) → awaited n s.table ≡ o → call_opens n (deed_of m s).call s.table ≡ b →
-      waits (after m s).table n ≤ waits s.table n + bit b
-  keeps_by m s legal n (Some ticket) b is opening =
-      let one : waits s.table n ≡ 1 = some_waits s.table n ticket is in
-      let most = bit_most (is_some (awaited n (after m s).table)) in
-      omega (arith, one, most)
-  keeps_by m s legal n None true is opening = let most = bit_most (is_some (awaited n (after m s).table)) in omega (arith, most)
-  keeps_by m s legal n None false is opening = let none : waits (after m s).table n ≡ 0 = none_waits (after m s).table n (opens.stays n m s legal is opening) in omega (arith, none)
+  -- an open that waits after a move did so before, or the move opens it
+  keeps : Covers (after m s).table opened
+  keeps n = by (covers n) (call_opens n (deed_of m s).call s.table) refl
+    where
+      by : (awaited n s.table ≡ None) ⊎ IsIn n numbers → (b : Bool) → call_opens n (deed_of m s).call s.table ≡ b →
+          (awaited n (after m s).table ≡ None) ⊎ IsIn n opened
+      by (inr there) b is = inr (opens_at n (inl there))
+      by (inl none) true is = inr (opens_at n (inr is))
+      by (inl none) false is = inl (once.stays n none is)
 
-  keeps_at : (m : Move) (s : SessionState) → IsLegal s.table → (n : ℕ) → waits (after m s).table n ≤ waits s.table n + opens_at (deed_of m s).call s.table n
-  keeps_at m s legal n = keeps_by m s legal n (awaited n s.table) (call_opens n (deed_of m s).call s.table) refl refl
+  -- one that is answered waited, and waits no more
+  waited : (one : AnswersOne s (after m s) (deed_of m s).says) → IsIn one.id numbers
+  waited one = elim (covers one.id) [ inl none ↦ absurd (let waits = one.waited in cc) | inr there ↦ there ]
 
-  -- the same if one is answered
-  answers_by : (m : Move) (s : SessionState) → IsLegal s.table → (one : AnswersOne s (after m s) (deed_of m s).says) (n : ℕ) (b : Bool) → (one.id == n) ≡ b →
-      waits (after m s).table n + bit b ≤ waits s.table n + opens_at (deed_of m s).call s.table n
-  answers_by m s legal one n true is =
-      let same : one.id ≡ n = eqb-true one.id n is in
-      let before : waits s.table n ≡ 1 = subst (λ (k : ℕ). waits s.table k ≡ 1) same (some_waits s.table one.id one.ticket one.waited) in
-      let behind : waits (after m s).table n ≡ 0 = subst (λ (k : ℕ). waits (after m s).table k ≡ 0) same (none_waits (after m s).table one.id one.waits) in
-      omega (arith, before, behind)
-  answers_by m s legal one n false is = let kept = keeps_at m s legal n in omega (arith, kept)
+  others_cover : (one : AnswersOne s (after m s) (deed_of m s).says) (less : Without one.id opened) →
+      Covers (after m s).table less.others
+  others_cover one less n = elim (keeps n) [
+    | inl none ↦ inl none
+    | inr there ↦ elim (less.rest n there) [
+      | inl same ↦ inl (subst (λ (k : ℕ). awaited k (after m s).table ≡ None) (sym same) one.waits)
+      | inr other ↦ inr other
+    ]
+  ]
 
-  -- these answers, and the opens that wait afterwards, are no more than those that waited before and those that were
-  -- asked for, below each number from some on
-  abbrev Within : ℕ → ℕ → TableState → TableState → Type 0
-  Within answered asked old new = (most : ℕ) × ((k : ℕ) → most ≤ k → answered + waiting k new ≤ waiting k old + asked)
+  move_counts : AllByRecursion NoOpenAnswer (deed_of m s).says ⊎ AnswersOne s (after m s) (deed_of m s).says →
+      Counted (opens_answered (deed_of m s).says) (opens_asked (calls_of m s)) numbers (after m s).table
+  move_counts (inl none) =
+      let no = silent (deed_of m s).says none in
+      let size = opened_size (deed_of m s).call s.table numbers in
+      record { waiting = opened; covers = keeps; most = omega (arith, no, size) }
+  move_counts (inr one) =
+      let few : opens_answered (deed_of m s).says ≤ 1 =
+      subst (λ (rs : List Record). opens_answered rs ≤ 1) (sym one.says_so) (resolved_most _ _ _) in
+      let less = without one.id opened (opens_at one.id (inl (waited one))) in
+      let size = opened_size (deed_of m s).call s.table numbers in
+      record { waiting = less.others; covers = others_cover one less; most = omega (arith, few, less.size, size) }
 
-  says_by : (m : Move) (s : SessionState) → IsLegal s.table → AllByRecursion NoOpenAnswer (deed_of m s).says ⊎ AnswersOne s (after m s) (deed_of m s).says → Within (opens_answered (deed_of m s).says) (opens_asked (calls_of m s)) s.table (after m s).table
-  says_by m s legal (inl none) = (
-    0,
-    λ k le.
-        let no : opens_answered (deed_of m s).says ≡ 0 = silent (deed_of m s).says none in
-        let parts = sum_le (waits (after m s).table) (λ n. 0) (waits s.table) (opens_at (deed_of m s).call s.table) (λ n. let kept = keeps_at m s legal n in omega (arith, kept)) k in
-        let opened = opened_most k (deed_of m s).call s.table in
-        omega (arith, no, parts, opened),
-  )
-  says_by m s legal (inr one) = (
-    one.id + 1,
-    λ k le.
-        let few : opens_answered (deed_of m s).says ≤ 1 = subst (λ (rs : List Record). opens_answered rs ≤ 1) (sym one.says_so) (resolved_most _ _ _) in
-        let there = one_there one.id k (omega (arith, le)) in
-        let parts = sum_le (waits (after m s).table) (one_at one.id) (waits s.table) (opens_at (deed_of m s).call s.table) (λ n. answers_by m s legal one n (one.id == n) refl) k in
-        let opened = opened_most k (deed_of m s).call s.table in
-        omega (arith, few, there, parts, opened),
-  )
+-- ---- many moves
 
-  -- ---- many moves
+-- of what a move adds to the records, the packets of its call are no answers
+after_answered : (m : Move) (s : SessionState) → opens_answered (after m s).records ≡ opens_answered s.records + opens_answered (deed_of m s).says
+unfolding after
+after_answered m s =
+    let packets : opens_answered (records_of (did (deed_of m s).call s.table).output) ≡ 0 = packets_silent (did (deed_of m s).call s.table).output in
+    let inner = answered_onto s.records (records_of (did (deed_of m s).call s.table).output) in
+    let outer = answered_onto (onto s.records (records_of (did (deed_of m s).call s.table).output)) (deed_of m s).says in
+    omega (arith, packets, inner, outer)
 
-  called_legal : (call : Option Call) (t : TableState) → IsLegal t → IsLegal (did call t).table
-  called_legal None t legal = legal
-  called_legal (Some call) t legal = stays.1 call t legal
+asked_two : (a b : List Call) → opens_asked (a ++ b) ≡ opens_asked a + opens_asked b
+asked_two [] b = omega arith
+asked_two (OpenUser window packet ticket ∷ a) b = let rest = asked_two a b in omega (arith, rest)
+asked_two (call ∷ a) b = asked_two a b
 
-  after_legal : (m : Move) (s : SessionState) → IsLegal s.table → IsLegal (after m s).table
-  unfolding after
-  after_legal m s legal = called_legal (deed_of m s).call s.table legal
+-- each of these moves answers opens once, after those before it
+abbrev Each : List Move → SessionState → Type 0
+Each moves s = (front : List Move) (m : Move) (back : List Move) → moves ≡ front ++ m ∷ back →
+    AnswersOnce m (when_done front s)
 
-  -- of what a move adds to the records, the packets of its call are no answers
-  after_answered : (m : Move) (s : SessionState) → opens_answered (after m s).records ≡ opens_answered s.records + opens_answered (deed_of m s).says
-  unfolding after
-  after_answered m s =
-      let packets : opens_answered (records_of (did (deed_of m s).call s.table).said) ≡ 0 = packets_silent (did (deed_of m s).call s.table).said in
-      let inner = answered_onto s.records (records_of (did (deed_of m s).call s.table).said) in
-      let outer = answered_onto (onto s.records (records_of (did (deed_of m s).call s.table).said)) (deed_of m s).says in
-      omega (arith, packets, inner, outer)
+moves_count : (moves : List Move) (s : SessionState) → Each moves s → (numbers : List ℕ) → Covers s.table numbers →
+    Counted (opens_answered (when_done moves s).records)
+    (opens_answered s.records + opens_asked (calls_in moves s)) numbers (when_done moves s).table
+moves_count [] s each numbers covers = record { waiting = numbers; covers = covers; most = omega arith }
+moves_count (m ∷ moves) s each numbers covers =
+    let once = each [] m moves refl in
+    let here = move_counts m s once numbers covers once.waits in
+    let later : Each moves (after m s) =
+    λ front m' back is. each (m ∷ front) m' back (ap (λ (ms : List Move). m ∷ ms) is) in
+    let rest = moves_count moves (after m s) later here.waiting here.covers in
+    let calls = asked_two (calls_of m s) (calls_in moves (after m s)) in
+    record {
+      waiting = rest.waiting;
+      covers = rest.covers;
+      most = omega (arith, here.most, rest.most, after_answered m s, calls);
+    }
 
-  asked_two : (a b : List Call) → opens_asked (a ++ b) ≡ opens_asked a + opens_asked b
-  asked_two [] b = omega arith
-  asked_two (OpenUser window packet ticket ∷ a) b = let rest = asked_two a b in omega (arith, rest)
-  asked_two (call ∷ a) b = asked_two a b
+-- ---- a run
 
-  moves_count : (moves : List Move) (s : SessionState) → IsLegal s.table →
-      IsLegal (when_done moves s).table
-      × ((most : ℕ) × ((k : ℕ) → most ≤ k → opens_answered (when_done moves s).records + waiting k (when_done moves s).table ≤ opens_answered s.records + waiting k s.table + opens_asked (calls_in moves s)))
-  moves_count [] s legal = (legal, (0, λ k le. omega arith))
-  moves_count (m ∷ moves) s legal =
-      let (one, here) = says_by m s legal (opens.waits m s legal) in
-      let (end, (more, rest)) = moves_count moves (after m s) (after_legal m s legal) in (
-        end,
-        (
-          one + more,
-          λ k le.
-              let a = here k (omega (arith, le)) in
-              let b = rest k (omega (arith, le)) in
-              omega (arith, a, b, after_answered m s, asked_two (calls_of m s) (calls_in moves (after m s))),
-        ),
-      )
+module _ (hosts : Hosts) (accepts : Accepts) where
+  -- from a state whose opens that wait are in a list
+  abbrev Counts : SessionState → SessionState → List Call → List Record → Type 0
+  Counts s t calls output = (numbers : List ℕ) → Covers s.table numbers →
+      Counted (opens_answered output) (opens_asked calls) numbers t.table
 
-  -- ---- from one state of a run to another
+  counts_none : (s : SessionState) (output : List Record) → opens_answered output ≡ 0 → Counts s s [] output
+  counts_none s output none numbers covers = record { waiting = numbers; covers = covers; most = omega (arith, none) }
 
-  abbrev Counted : SessionState → SessionState → List Call → List Record → Type 0
-  Counted s t calls said = IsLegal t.table × Within (opens_answered said) (opens_asked calls) s.table t.table
+  row_counts : (moves : List Move) (s : SessionState) → s.records ≡ [] → Each moves s →
+      Counts s (when_done moves s) (calls_in moves s) (said_by moves s)
+  row_counts moves s none each numbers covers =
+      let all = moves_count moves s each numbers covers in
+      let output : said_by moves s ≡ (when_done moves s).records =
+      ap (λ (rs : List Record). drop (length rs) (when_done moves s).records) none in
+      record {
+        waiting = all.waiting;
+        covers = all.covers;
+        most = omega (arith, all.most, ap opens_answered none, ap opens_answered output);
+      }
 
-  counted_none : (s : SessionState) (said : List Record) → opens_answered said ≡ 0 → IsLegal s.table → Counted s s [] said
-  counted_none s said none legal = (legal, (0, λ k le. omega (arith, none)))
+  turn_counts : (s : SessionState) (frame : Frame) (gained : List SignCall) (t : SessionTurn) → s.records ≡ [] → Makes (session_turn hosts accepts s frame) gained t →
+      Each (moves_by accepts s (event_of frame.kind frame.fields)) s →
+      Counts s t.state (calls_at accepts s frame) (said_open (is_open s.opening.phase) t.records)
+  turn_counts s frame gained t none =
+      turn_by hosts accepts s frame
+      (λ read gained t. Each (moves_by accepts s read) s →
+      Counts s t.state (calls_by accepts s read) (said_open (is_open s.opening.phase) t.records))
+      (λ event on. rw on (row_counts (all_moves (default_row accepts s event)) s none))
+      (λ event gained t un makes. rw un (λ each. counts_none s [] refl))
+      (λ e each. counts_none s _
+      (elim (is_open s.opening.phase) as (λ opened. opens_answered (said_open opened []) ≡ 0)
+      [ true ↦ refl | false ↦ refl ])) gained t
 
-  counted_two : (s t u : SessionState) (a b : List Call) (x y : List Record) → Counted s t a x → Counted t u b y → Counted s u (a ++ b) (x ++ y)
-  counted_two s t u a b x y (legal, (most, one)) (stays, (more, other)) = (
-    stays,
-    (
-      most + more,
-      λ k le.
-          let first = one k (omega (arith, le)) in
-          let second = other k (omega (arith, le)) in
-          omega (arith, first, second, answered_two x y, asked_two a b),
-    ),
-  )
-
-  module _ (hosts : Hosts) (accepts : Accepts) where
-    row_counts : (moves : List Move) (s : SessionState) → IsLegal s.table → s.records ≡ [] →
-        IsLegal (when_done moves s).table × Within (opens_answered (said_by moves s)) (opens_asked (calls_in moves s)) s.table (when_done moves s).table
-    row_counts moves s legal none =
-        let (end, (most, rest)) = moves_count moves s legal in
-        let no : opens_answered s.records ≡ 0 = ap opens_answered none in
-        let said : opens_answered (said_by moves s) ≡ opens_answered (when_done moves s).records = ap (λ (rs : List Record). opens_answered (drop (length rs) (when_done moves s).records)) none in
-        (end, (most, λ k le. let all = rest k le in omega (arith, all, no, said)))
-
-    said_none : (opened : Bool) → opens_answered (said_open opened []) ≡ 0
-    said_none true = refl
-    said_none false = refl
-
-    turn_counts : (s : SessionState) (frame : Frame) (gained : List SignCall) (t : SessionTurn) → IsLegal s.table → s.records ≡ [] → Makes (session_turn hosts accepts s frame) gained t →
-        Counted s t.state (calls_at accepts s frame) (said_open (is_open s.opening.phase) t.records)
-    turn_counts s frame gained t legal none =
-        turn_by hosts accepts s frame (λ read gained t. Counted s t.state (calls_by accepts s read) (said_open (is_open s.opening.phase) t.records))
-        (λ event on. rw on (row_counts (all_moves (default_row accepts s event)) s legal none))
-        (λ event gained t un makes. rw un (legal, (0, λ k le. omega arith))) (λ e. counted_none s (said_open (is_open s.opening.phase) []) (said_none (is_open s.opening.phase)) legal) gained t
-
-    none_wait : (last k : ℕ) → waiting k (no_channels last) ≡ 0
-    none_wait last zero = refl
-    none_wait last (suc k) = let rest = none_wait last k in omega (arith, rest)
-
-    -- along each path of the session
-    pub counted : (settings : RunSettings) (max : ℕ) (answers : List Answer) (script : Option (List ℕ)) → OpensAreCounted hosts accepts settings max answers script
-    counted settings max answers script = λ bytes is steps s path.
-        let so = session_along hosts accepts (λ s steps s'. IsLegal s.table → Counted s s' (calls_along accepts steps) (said_along steps))
-        (λ s legal. counted_none s [] refl legal)
-        (λ s frame gained t steps s' so makes on later legal.
-        let here = turn_counts s frame gained t legal so.taken makes in
-        counted_two s t.state s' (calls_at accepts s frame) (calls_along accepts steps) (said_open (is_open s.opening.phase) t.records) (said_along steps) here (later here.0))
-        settings max answers script bytes is steps s path (stays.0 0)
-        in
-        let all = so.1.1 so.1.0 (omega arith) in
-        let none = none_wait 0 so.1.0 in
-        omega (arith, all, none)
+  -- along each path of the session
+  pub counted : (settings : RunSettings) (max : ℕ) (answers : List Answer) (script : Option (List ℕ)) →
+      OpensAreAnswered hosts accepts settings max answers script →
+      OpensAreCounted hosts accepts settings max answers script
+  counted settings max answers script opens = λ bytes is steps s path.
+      let so = session_along hosts accepts
+      (λ s steps s'. AllByRecursion (AnswersOpens accepts) steps →
+      Counts s s' (calls_along accepts steps) (said_along steps)) (λ s each. counts_none s [] refl)
+      (λ s frame gained t steps s' ready makes on later each numbers covers.
+      let here = turn_counts s frame gained t ready.taken makes each.0 numbers covers in
+      let rest = later each.1 here.waiting here.covers in
+      let calls = asked_two (calls_at accepts s frame) (calls_along accepts steps) in
+      let output = answered_two (said_open (is_open s.opening.phase) t.records) (said_along steps) in
+      record { waiting = rest.waiting; covers = rest.covers; most = omega (arith, here.most, rest.most, calls, output) })
+      settings max answers script bytes is steps s path (opens bytes is steps s path) [] (λ n. inl refl)
+      in
+      omega (arith, so.most)

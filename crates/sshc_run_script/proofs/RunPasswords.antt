@@ -8,12 +8,12 @@ use Rattle.sshc_auth.specs.PasswordLaws.{Sound, open_sound, written_two}
 use Rattle.sshc_auth.specs.Passwords.{FitsRequest, HasShortUser, password_packet, times_asked, times_waiting, times_written}
 use Rattle.sshc_auth_request.specs.RequestTexts.{request}
 use Rattle.sshc_client_table.specs.Moves.{Move, done as when_done}
-use Rattle.sshc_client_table.specs.NoRequests.{IsSameRequest, WritesNone}
+use Rattle.sshc_client_table.specs.NoRequests.{WritesNone}
 use Rattle.sshc_client_table.specs.NoRequestsLaws.{moves_request, said_none}
 use Rattle.sshc_client_table.specs.SessionRecords.{is_session_record}
 use Rattle.sshc_run_agent.specs.AgentTurns.{Served}
 use Rattle.sshc_run_script.specs.PasswordRuns.{PasswordsAreAsked, times_asked_by, times_asked_in}
-use Rattle.sshc_run_script.proofs.RunNames.{Record, SignCall, Answer, Makes, always_makes, Event, OpeningState, open_row, Next, Row, ends, opens, refuses, stays, Accepts, SessionState, SessionRow, session_row, all_moves, default_opinions, event_of, Frame, ScriptStop, stop_of, taken, agents_turn, RunSettings, Hosts, Onward, TurnOf, SaysBy, own_events, RunState, run_machine, run_turn, Run, events_run, script_run, session_own, SessionTurn, emptied, onward, said_by, session_turn, next_turn, row_turn}
+use Rattle.sshc_run_script.proofs.RunNames.{Record, SignCall, Answer, Makes, always_makes, Event, OpeningState, open_row, Next, Row, ends, refuses, Accepts, SessionState, SessionRow, session_row, all_moves, default_opinions, event_of, Frame, ScriptStop, stop_of, taken, agents_turn, RunSettings, Hosts, Onward, TurnOf, SaysBy, own_events, RunState, run_machine, run_turn, Run, events_run, script_run, session_own, SessionTurn, emptied, onward, said_by, session_turn, next_turn}
 use Rattle.sshc_run_script.proofs.AgentsTurns.{agents_say}
 use Rattle.sshc_run_script.proofs.OpeningTurns.{asked_by}
 use Rattle.sshc_run_script.proofs.SessionTurns.{turn_by}
@@ -25,10 +25,10 @@ use Rattle.sshc_run_script.proofs.SessionPart.{run_by}
 -- ---- records
 
 -- an agent's records are no packets
-none_of_agents : (packet : List ℕ) (said : List Record) → SaysBy is_session_record false said → times_written packet said ≡ 0
+none_of_agents : (packet : List ℕ) (output : List Record) → SaysBy is_session_record false output → times_written packet output ≡ 0
 none_of_agents packet [] says = refl
-none_of_agents packet (records.Agent conn answer ∷ said) says = none_of_agents packet said says.1
-none_of_agents packet (one ∷ said) says = absurd cc
+none_of_agents packet (records.Agent conn answer ∷ output) says = none_of_agents packet output says.1
+none_of_agents packet (one ∷ output) says = absurd cc
 
 module _ (user password : List ℕ) (short : IsShort user) where
   abbrev packet : List ℕ
@@ -40,36 +40,27 @@ module _ (user password : List ℕ) (short : IsShort user) where
   abbrev SoundTurn : OpeningState → ℕ → TurnOf OpeningState → Type 0
   SoundTurn s asked t = (times_written packet t.records + times_waiting packet t.state ≤ times_waiting packet s + asked) × FitsRequest t.state
 
-  next_sound : (place : ℕ) (s : OpeningState) (event : Event) (said : List Record) (row : Row) (next : Next) → row.records ≡ said → FitsRequest s → Sound packet s event (record { records = said; next = next }) → SoundTurn s (times_asked packet event) (next_turn place s (record { records = said; next = next }) next)
-  next_sound place s event said row (stays t) is fits sound = sound
-  next_sound place s event said row (opens t) is fits sound = sound
-  next_sound place s event said row (ends e) is fits sound = (sound.0, fits)
-  next_sound place s event said row (refuses e) is fits sound = (sound.0, fits)
-
-  row_sound : (place : ℕ) (s : OpeningState) (event : Event) (row : Row) → FitsRequest s → Sound packet s event row → SoundTurn s (times_asked packet event) (row_turn place s row)
-  row_sound place s event row fits sound = next_sound place s event row.records row row.next refl fits sound
+  next_sound : (place : ℕ) (s : OpeningState) (event : Event) (output : List Record) (row : Row) (next : Next) → row.records ≡ output → FitsRequest s → Sound packet s event (record { records = output; next = next }) → SoundTurn s (times_asked packet event) (next_turn place s (record { records = output; next = next }) next)
+  next_sound place s event output row (ends e) is fits sound = (sound.0, fits)
+  next_sound place s event output row (refuses e) is fits sound = (sound.0, fits)
+  next_sound place s event output row next is fits sound = sound
 
   -- the same of a session
   abbrev SoundStep : SessionState → ℕ → SessionTurn → Type 0
   SoundStep s asked t = (times_written packet t.records + times_waiting packet t.state.opening ≤ times_waiting packet s.opening + asked) × FitsRequest t.state.opening
 
-  still_fits : (old new : OpeningState) → IsSameRequest old new → FitsRequest old → FitsRequest new
-  still_fits old new same fits = rw (same.phase, same.session_id, same.user, same.method, same.handed) fits
-
-  still_waits : (old new : OpeningState) → IsSameRequest old new → times_waiting packet new ≡ times_waiting packet old
-  still_waits old new same = rw (same.phase, same.user, same.method) refl
-
-  none_of_these : (said : List Record) → WritesNone said → times_written packet said ≡ 0
+  none_of_these : (output : List Record) → WritesNone output → times_written packet output ≡ 0
   unfolding request
-  none_of_these said none = none _
+  none_of_these output none = none _
 
   moves_sound : (moves : List Move) (s : SessionState) (asked : ℕ) (next : Onward) → FitsRequest s.opening →
       SoundStep s asked (record { records = said_by moves s; state = emptied (when_done moves s); next = next })
   moves_sound moves s asked next fits =
       let same = moves_request moves s in
       let none = none_of_these (said_by moves s) (said_none moves s) in
-      let waits = still_waits s.opening (when_done moves s).opening same in
-      (omega (arith, none, waits), still_fits s.opening (when_done moves s).opening same fits)
+      let waits : times_waiting packet (when_done moves s).opening ≡ times_waiting packet s.opening =
+      rw (same.phase, same.user, same.method) refl in
+      (omega (arith, none, waits), rw (same.phase, same.session_id, same.user, same.method, same.handed) fits)
 
   turn_sound : (hosts : Hosts) (accepts : Accepts) (s : SessionState) (frame : Frame) (gained : List SignCall) (t : SessionTurn) → FitsRequest s.opening → HasShortFields frame → Makes (session_turn hosts accepts s frame) gained t →
       SoundStep s (times_asked_by packet (event_of frame.kind frame.fields)) t
@@ -81,7 +72,7 @@ module _ (user password : List ℕ) (short : IsShort user) where
       (λ event gained t un makes has.
       asked_by hosts frame.place s.opening event (λ calls t. SoundTurn s.opening (times_asked packet event) t)
       (λ told calls row made.
-      row_sound frame.place s.opening event row fits
+      next_sound frame.place s.opening event row.records row row.next refl fits
       (always_makes (Sound packet s.opening event) (open_row s.opening event told) calls row (open_sound user password short s.opening event told fits (has event refl)) made))
       (λ e. (omega arith, fits)) gained t makes)
       (λ e has. (omega arith, fits)) gained t makes (λ event read. user_of frame.kind frame.fields event read fields)

@@ -31,9 +31,9 @@ module _ (law : RepliesAreInOrder) (hosts : Hosts) (accepts : Accepts) where
 
   -- each state that the session comes to
   pub replies_in_order : (settings : RunSettings) (max : ℕ) (answers : List Answer) (script : Option (List ℕ)) → AreInOrder hosts accepts settings max answers script
-  replies_in_order settings max answers script = λ bytes said steps s path.
+  replies_in_order settings max answers script = λ bytes output steps s path.
       let order = session_along hosts accepts (λ s steps s'. InOrder s.replies (requests_along accepts steps) s'.replies) (λ s. none_asked s.replies)
       (λ s frame gained t steps s' so makes on later. in_order_two s.replies t.state.replies s'.replies (requests_at accepts s frame) (requests_along accepts steps) (turn_in_order s frame gained t makes) later)
-      settings max answers script bytes said steps s path
+      settings max answers script bytes output steps s path
       in
       (order.0, sym order.1)

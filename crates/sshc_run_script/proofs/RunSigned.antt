@@ -1,5 +1,5 @@
 -- Along a run the session signs what it was asked for: what each step guarantees, joined over the events.
-use Rattle.std.proofs.Common.{◌≡◌, ◌≢◌, ◌⊎◌, inl, inr, ℕ, Bool, true, false, List, [], ◌∷◌, Option, Some, None, Result, refl, ap, sym, ◌∙◌, subst}
+use Rattle.std.proofs.Common.{◌≡◌, ◌≢◌, ◌⊎◌, inl, inr, ℕ, Bool, true, false, List, [], ◌∷◌, Option, Some, None, Result, Ok, refl, ap, sym, ◌∙◌, subst}
 use Rattle.std.specs.Prelude.{if◌then◌else◌}
 use Rattle.std.specs.List.{AllByRecursion}
 use Rattle.sshc_wire.specs.declared.auth_record.AuthRecord.TheVariants.{SignRequest, SignRequestCert}
@@ -28,7 +28,7 @@ use Rattle.sshc_client_table.specs.NoRequests.{IsSameRequest}
 use Rattle.sshc_client_table.specs.NoRequestsLaws.{moves_request}
 use Rattle.sshc_run_script.specs.Path.{StepOf, step_of}
 use Rattle.sshc_run_script.specs.SignedRequests.{AreSigned, AreSignedSteps, HasHostKey, behind, first_exchange, or_exchange}
-use Rattle.sshc_run_script.proofs.RunNames.{Record, SignCall, Answer, Asking, Always, Makes, always_makes, always_also, Event, OpeningState, shut, asked_of, open_row, Next, Row, opens, stays, Accepts, SessionState, is_open, session_row, all_moves, default_opinions, EventError, event_of, Frame, RunSettings, Hosts, TurnOf, stop_next, SessionTurn, onward, session_turn, asked_turn, next_turn}
+use Rattle.sshc_run_script.proofs.RunNames.{Record, SignCall, Answer, Asking, Always, Makes, always_makes, always_also, Event, OpeningState, shut, asked_of, open_row, Next, Row, opens, stays, Accepts, SessionState, is_open, session_row, all_moves, default_opinions, EventError, event_of, Frame, RunSettings, Hosts, Onward, TurnOf, stop_next, SessionTurn, onward, session_turn, asked_turn, next_turn}
 use Rattle.sshc_run_script.proofs.RunSteps.{session_along}
 use Rattle.sshc_run_script.proofs.OpeningTurns.{asked_by}
 use Rattle.sshc_run_script.proofs.SessionTurns.{turn_by}
@@ -36,33 +36,43 @@ use Rattle.sshc_run_script.proofs.RunCalls.{asked_once, AskedOnce}
 
 -- ---- what is true of a state, with the events before it
 
+-- behind the first exchange its hash is the session id, and each exchange that was done has the session's host key
+record Settled (past : List Event) (o : OpeningState) : Type 0 where
+  later : o.phase ≢ phases.Exchanging
+  session : first_exchange past ≡ Some (o.session_id, o.host_key)
+  keys : AllByRecursion (HasHostKey o.host_key) past
+
+-- while the first exchange runs, no exchange was done
+abbrev Begun : List Event → OpeningState → Type 0
+Begun past o = (IsFirst o × (first_exchange past ≡ None)) ⊎ Settled past o
+
 record SignedSo (past : List Event) (o : OpeningState) : Type 0 where
-  -- while the first exchange runs, no exchange was done
-  first : o.phase ≡ phases.Exchanging → IsFirst o × (first_exchange past ≡ None)
-  session : o.phase ≢ phases.Exchanging → first_exchange past ≡ Some (o.session_id, o.host_key)
-  keys : o.phase ≢ phases.Exchanging → AllByRecursion (HasHostKey o.host_key) past
+  begun : Begun past o
   asked : IsAskedFor past o.user o.method
 
--- which phase it is
-data Stage (phase : Phase) : Type 0 where
-  Early : phase ≡ phases.Exchanging → Stage phase
-  Later : phase ≢ phases.Exchanging → Stage phase
-
-stage_of : (phase : Phase) → Stage phase
-stage_of phases.Exchanging = Early refl
-stage_of phase = Later (λ same. absurd cc)
+-- an event with the session's host key, after which the id and the host key are the same
+settled_on : (past : List Event) (event : Event) (old new : OpeningState) → Settled past old →
+    HasHostKey old.host_key event →
+    new.phase ≢ phases.Exchanging →
+    ◌≡◌ {A = List ℕ × ExchangeKey} (new.session_id, new.host_key) (old.session_id, old.host_key) →
+    Settled (event ∷ past) new
+settled_on past event old new set has later same = record {
+  later = later;
+  session = ap (λ (h : Option (List ℕ × ExchangeKey)). or_exchange h event) set.session ∙ ap (λ (h : List ℕ × ExchangeKey). Some h) (sym same);
+  keys = subst (λ (key : ExchangeKey). AllByRecursion (HasHostKey key) (event ∷ past)) (sym (ap (λ (p : List ℕ × ExchangeKey). p.1) same)) (has, set.keys);
+}
 
 -- ---- a row
 
 -- bytes that are handed out are the stored request's
-stored_bytes : (k : Kept) (next : Next) (said : Record) (later : List Record) → HandsBytes k next said later → HandsStored k said
+stored_bytes : (k : Kept) (next : Next) (output : Record) (later : List Record) → HandsBytes k next output later → HandsStored k output
 stored_bytes k next (records.Auth ticket (SignRequest blob hash bytes)) later hands = hands.0
 stored_bytes k next (records.Auth ticket (SignRequestCert blob hash bytes)) later hands = hands.0
-stored_bytes k next said later hands = tt
+stored_bytes k next output later hands = tt
 
-stored_all : (k : Kept) (next : Next) (said : List Record) → HandsAll k next said → AllByRecursion (HandsStored k) said
+stored_all : (k : Kept) (next : Next) (output : List Record) → HandsAll k next output → AllByRecursion (HandsStored k) output
 stored_all k next [] hands = tt
-stored_all k next (one ∷ said) hands = (stored_bytes k next one said hands.0, stored_all k next said hands.1)
+stored_all k next (one ∷ output) hands = (stored_bytes k next one output hands.0, stored_all k next output hands.1)
 
 -- the row keeps what it must, and a call that it makes is of the stored request
 keeps_of : (k : Kept) (event : Event) (calls : List SignCall) (row : Row) → AskedOnce k event calls row → Keeps k event row
@@ -108,12 +118,9 @@ exchange_enters s x telling.Went phases.Exchanging is = accepted_enters s x s.se
 exchange_enters s x told phases.Exchanging is = tt
 exchange_enters s x told phase is = absurd cc
 
-calm : (phase : Phase) → phase ≡ phases.Exchanging → is_awaiting phase ≡ false
-calm phase is = rw is refl
-
 turn_enters : (s : OpeningState) (x : ExchangeResult) (told : Told) (awaits : Bool) → is_awaiting s.phase ≡ awaits → s.phase ≡ phases.Exchanging → Always (EntersRow (events.ExchangeDone x)) (turn_row awaits s (events.ExchangeDone x) told)
 unfolding plain_row exchange_done_row
-turn_enters s x told true is first = let clash : true ≡ false = sym is ∙ calm s.phase first in absurd cc
+turn_enters s x told true is first = let clash : is_awaiting phases.Exchanging ≡ true = rw first at is in absurd cc
 turn_enters s x told false is first = exchange_enters s x told s.phase first
 
 -- an event that is no exchange
@@ -148,19 +155,14 @@ none_done [] key none = tt
 none_done (event ∷ past) key none = let one = none_before (first_exchange past) event key none in (one.1, none_done past key one.0)
 
 -- a state that is entered so
-entered : (past : List Event) (event : Event) (t : OpeningState) → first_exchange past ≡ None → Enters event t → IsAskedFor (event ∷ past) t.user t.method → SignedSo (event ∷ past) t
-entered past (events.ExchangeDone x) t none (taken, later) asked = record {
-  first = λ same. absurd (later same);
-  session = λ other. rw none (ap (λ (h : List ℕ × ExchangeKey). Some h) (sym taken));
-  keys = λ other. (sym (ap (λ (p : List ℕ × ExchangeKey). p.1) taken), none_done past t.host_key none);
-  asked = asked;
-}
-entered past event t none (first, same) asked = record {
-  first = λ early. (first, rw none (no_exchange event same));
-  session = λ other. absurd (other first.exchanging);
-  keys = λ other. absurd (other first.exchanging);
-  asked = asked;
-}
+entered : (past : List Event) (event : Event) (t : OpeningState) → first_exchange past ≡ None → Enters event t →
+    Begun (event ∷ past) t
+entered past (events.ExchangeDone x) t none (taken, later) = inr (record {
+  later = later;
+  session = rw none (ap (λ (h : List ℕ × ExchangeKey). Some h) (sym taken));
+  keys = (sym (ap (λ (p : List ℕ × ExchangeKey). p.1) taken), none_done past t.host_key none);
+})
+entered past event t none (first, same) = inl (first, rw none (no_exchange event same))
 
 -- the session isn't over after a row
 abbrev Leads : Next → Type 0
@@ -181,88 +183,81 @@ later_has s event told calls row later makes leads = tt
 
 -- ---- a turn of the opening
 
--- if the run continues, it is true after the event too
-abbrev GoesSo : List Event → Event → TurnOf OpeningState → Type 0
-GoesSo past event t = stop_next t.next ≡ None → SignedSo (event ∷ past) t.state
+-- a turn's calls and records, and the state from which it continues
+record StepSo (past : List Event) (read : Result Event EventError) (s : OpeningState) (calls : List SignCall)
+    (output : List Record) (next : Onward) (to : OpeningState) : Type 0 where
+  goes : stop_next next ≡ None → SignedSo (behind read past) to
+  asked : AllByRecursion (IsSignedFor s.session_id past) calls
+  handed : is_open s.phase ≡ false → AllByRecursion (IsHandedFor s.session_id past) output
 
 module _ (past : List Event) (s : OpeningState) (event : Event) (so : SignedSo past s) where
-  next_state : (t : OpeningState) → (s.phase ≡ phases.Exchanging → Enters event t) → (s.phase ≢ phases.Exchanging → HasHostKey s.host_key event) → KeepsState (kept_of s) event t → SignedSo (event ∷ past) t
-  next_state t enters has keeps = by (stage_of s.phase)
-    where
-      asked : IsAskedFor (event ∷ past) t.user t.method
-      asked = asked_next s event past t so.asked keeps.1
-
-      by : Stage s.phase → SignedSo (event ∷ past) t
-      by (Early early) = entered past event t (so.first early).1 (enters early) asked
-      by (Later later) =
-          let kept = keeps.0 later in
-          record {
-            first = λ same. absurd (kept.1 same);
-            session = λ other. ap (λ (h : Option (List ℕ × ExchangeKey)). or_exchange h event) (so.session later) ∙ ap (λ (h : List ℕ × ExchangeKey). Some h) (sym kept.0);
-            keys = λ other.
-                subst (λ (key : ExchangeKey). AllByRecursion (HasHostKey key) (event ∷ past)) (sym (ap (λ (p : List ℕ × ExchangeKey). p.1) kept.0)) (has later, so.keys later);
-            asked = asked;
-          }
+  next_state : (t : OpeningState) → (IsFirst s → Enters event t) →
+      (s.phase ≢ phases.Exchanging → HasHostKey s.host_key event) →
+      KeepsState (kept_of s) event t → SignedSo (event ∷ past) t
+  next_state t enters has keeps = record {
+    begun = elim so.begun [
+      | inl early ↦ entered past event t early.1 (enters early.0)
+      | inr set ↦ inr (settled_on past event s t set (has set.later) (keeps.0 set.later).1 (keeps.0 set.later).0)
+    ];
+    asked = asked_next s event past t so.asked keeps.1;
+  }
 
   shut_so : (t : OpeningState) → t.phase ≢ phases.Exchanging → SignedSo (event ∷ past) t → SignedSo (event ∷ past) (shut t)
-  shut_so t later signed = record { first = λ same. absurd (later same); session = signed.session; keys = signed.keys; asked = signed.asked }
+  shut_so t later signed = record {
+    begun = elim signed.begun [
+      | inl early ↦ absurd (later early.0.exchanging)
+      | inr set ↦ inr (record { later = later; session = set.session; keys = set.keys })
+    ];
+    asked = signed.asked;
+  }
 
-  by_next : (place : ℕ) (row : Row) (next : Next) → (s.phase ≡ phases.Exchanging → EntersNext event next) → (s.phase ≢ phases.Exchanging → Leads next → HasHostKey s.host_key event) → KeepsNext (kept_of s) event next →
-      GoesSo past event (next_turn place s row next)
-  by_next place row (stays t) enters has keeps = λ goes. next_state t enters (λ later. has later tt) keeps
-  by_next place row (opens t) enters has keeps = λ goes. shut_so t (away (stage_of s.phase)) (next_state t (λ early. (enters early).0) (λ later. has later tt) keeps)
-    where
-      away : Stage s.phase → t.phase ≢ phases.Exchanging
-      away (Early early) = (enters early).1
-      away (Later behind) = (keeps.0 behind).1
-  by_next place row next enters has keeps = λ goes. absurd cc
+  abbrev Handed : List Record → Type 0
+  Handed output = AllByRecursion (IsHandedFor s.session_id past) output
 
-  -- a turn's calls and records, and the state from which it continues
-  record TurnSo (calls : List SignCall) (t : TurnOf OpeningState) : Type 0 where
-    goes : GoesSo past event t
-    asked : AllByRecursion (IsSignedFor s.session_id past) calls
-    handed : AllByRecursion (IsHandedFor s.session_id past) t.records
+  by_next : (place : ℕ) (row : Row) (next : Next) → (IsFirst s → EntersNext event next) →
+      (s.phase ≢ phases.Exchanging → Leads next → HasHostKey s.host_key event) → KeepsNext (kept_of s) event next →
+      Handed row.records →
+      (stop_next (next_turn place s row next).next ≡ None → SignedSo (event ∷ past) (next_turn place s row next).state)
+      × Handed (next_turn place s row next).records
+  by_next place row (stays t) enters has keeps handed =
+      ((λ goes. next_state t enters (λ later. has later tt) keeps), handed)
+  by_next place row (opens t) enters has keeps handed =
+      let away : t.phase ≢ phases.Exchanging =
+      elim so.begun [ inl early ↦ (enters early.0).1 | inr set ↦ (keeps.0 set.later).1 ] in
+      ((λ goes. shut_so t away (next_state t (λ first. (enters first).0) (λ later. has later tt) keeps)), handed)
+  by_next place row next enters has keeps handed = ((λ goes. absurd cc), handed)
 
-  said_in : (place : ℕ) (row : Row) (next : Next) → (next_turn place s row next).records ≡ row.records
-  said_in place row (stays t) = refl
-  said_in place row next = refl
-
-  asked_so : (hosts : Hosts) (place : ℕ) (calls : List SignCall) (t : TurnOf OpeningState) → Makes (asked_turn hosts place s event (asked_of s event)) calls t → TurnSo calls t
+  asked_so : (hosts : Hosts) (place : ℕ) (calls : List SignCall) (t : TurnOf OpeningState) → Makes (asked_turn hosts place s event (asked_of s event)) calls t →
+      StepSo past (Ok event) s calls t.records t.next t.state
   asked_so hosts place =
-      asked_by hosts place s event TurnSo
+      asked_by hosts place s event (λ calls t. StepSo past (Ok event) s calls t.records t.next t.state)
       (λ told calls row makes.
       let made = asked_once (kept_of s) event (open_row s event told) calls row (open_keeps s event told) makes in
       let keeps = keeps_of (kept_of s) event calls row made in
-      let handed = handed_for s.session_id past (kept_of s) row.records refl so.asked (stored_all (kept_of s) row.next row.records keeps.0) in
+      let turn =
+      by_next place row row.next (λ first. always_makes (EntersRow event) (open_row s event told) calls row (row_enters s event told first) makes)
+      (λ later leads. later_has s event told calls row later makes leads) keeps.1
+      (handed_for s.session_id past (kept_of s) row.records refl so.asked (stored_all (kept_of s) row.next row.records keeps.0))
+      in
       record {
-        goes =
-            by_next place row row.next (λ early. always_makes (EntersRow event) (open_row s event told) calls row (row_enters s event told (so.first early).0) makes)
-            (λ later leads. later_has s event told calls row later makes leads) keeps.1;
+        goes = turn.0;
         asked = calls_for s.session_id past (kept_of s) (shut s) calls refl so.asked (once_of (kept_of s) event calls row (shut s) refl made);
-        handed = subst (AllByRecursion (IsHandedFor s.session_id past)) (sym (said_in place row row.next)) handed;
+        handed = λ unopened. turn.1;
       })
-      (λ e. record { goes = λ goes. absurd cc; asked = tt; handed = tt })
+      (λ e. record { goes = λ goes. absurd cc; asked = tt; handed = λ unopened. tt })
 
 -- ---- a turn of the session
 
-record StepSo (past : List Event) (read : Result Event EventError) (s : SessionState) (calls : List SignCall) (t : SessionTurn) : Type 0 where
-  goes : stop_next t.next ≡ None → SignedSo (behind read past) t.state.opening
-  asked : AllByRecursion (IsSignedFor s.opening.session_id past) calls
-  handed : is_open s.opening.phase ≡ false → AllByRecursion (IsHandedFor s.opening.session_id past) t.records
-
-open_later : (phase : Phase) → is_open phase ≡ true → phase ≢ phases.Exchanging
-open_later phases.Exchanging is = absurd cc
-open_later phase is = λ same. absurd cc
-
-both : {A B : Type 0} {a c : A} {b d : B} → a ≡ c → b ≡ d → ◌≡◌ {A = A × B} (a, b) (c, d)
-both one other = rw (one, other) refl
-
 -- moves of an open session don't change it
-moved_so : (past : List Event) (event : Event) (old new : OpeningState) → old.phase ≢ phases.Exchanging → HasHostKey old.host_key event → SignedSo past old → IsSameRequest old new → SignedSo (event ∷ past) new
+moved_so : (past : List Event) (event : Event) (old new : OpeningState) → old.phase ≢ phases.Exchanging →
+    HasHostKey old.host_key event →
+    SignedSo past old → IsSameRequest old new → SignedSo (event ∷ past) new
 moved_so past event old new later has so same = record {
-  first = λ first. absurd (later (sym same.phase ∙ first));
-  session = λ other. ap (λ (h : Option (List ℕ × ExchangeKey)). or_exchange h event) (so.session later) ∙ ap (λ (h : List ℕ × ExchangeKey). Some h) (sym (both same.session_id same.host_key));
-  keys = λ other. subst (λ (key : ExchangeKey). AllByRecursion (HasHostKey key) (event ∷ past)) (sym same.host_key) (has, so.keys later);
+  begun = elim so.begun [
+    | inl early ↦ absurd (later early.0.exchanging)
+    | inr set ↦ inr (settled_on past event old new set has (λ first. later (sym same.phase ∙ first))
+        (rw (same.session_id, same.host_key) refl))
+  ];
   asked = asked_next old event past new so.asked (inl (same.user, inl same.method));
 }
 
@@ -278,18 +273,23 @@ open_has hosts accepts place s (events.ExchangeDone x) on =
     (session_has accepts (default_opinions s) s x (row_goes place row.next on)).0
 open_has hosts accepts place s event on = tt
 
-turn_so : (hosts : Hosts) (accepts : Accepts) (past : List Event) (s : SessionState) (frame : Frame) (calls : List SignCall) (t : SessionTurn) → SignedSo past s.opening → Makes (session_turn hosts accepts s frame) calls t → StepSo past (event_of frame.kind frame.fields) s calls t
-turn_so hosts accepts past s frame calls t so makes =
-    turn_by hosts accepts s frame (λ read calls t. StepSo past read s calls t)
+turn_so : (hosts : Hosts) (accepts : Accepts) (past : List Event) (s : SessionState) (frame : Frame)
+    (calls : List SignCall) (t : SessionTurn) → SignedSo past s.opening →
+    Makes (session_turn hosts accepts s frame) calls t →
+    StepSo past (event_of frame.kind frame.fields) s.opening calls t.records t.next t.state.opening
+turn_so hosts accepts past s frame calls t so =
+    turn_by hosts accepts s frame (λ read calls t. StepSo past read s.opening calls t.records t.next t.state.opening)
     (λ event on. record {
-      goes = λ goes. moved_so past event s.opening _ (open_later s.opening.phase on) (open_has hosts accepts frame.place s event goes) so (moves_request (all_moves (session_row accepts (default_opinions s) s event)) s);
+      goes = λ goes.
+          moved_so past event s.opening _
+          (λ first. let clash : is_open phases.Exchanging ≡ true = rw first at on in absurd cc)
+          (open_has hosts accepts frame.place s event goes) so
+          (moves_request (all_moves (session_row accepts (default_opinions s) s event)) s);
       asked = tt;
       handed = λ unopened. let clash : true ≡ false = sym on ∙ unopened in absurd cc;
     })
-    (λ event calls t un makes.
-    let done_so = asked_so past s.opening event so hosts frame.place calls t makes in
-    record { goes = done_so.goes; asked = done_so.asked; handed = λ unopened. done_so.handed })
-    (λ e. record { goes = λ goes. absurd cc; asked = tt; handed = λ unopened. tt }) calls t makes
+    (λ event calls t un. asked_so past s.opening event so hosts frame.place calls t)
+    (λ e. record { goes = λ goes. absurd cc; asked = tt; handed = λ unopened. tt }) calls t
 
 -- ---- the run
 
@@ -297,21 +297,25 @@ steps_signed : (hosts : Hosts) (accepts : Accepts) (past : List Event) (s : Sess
     Makes (session_turn hosts accepts s frame) gained t → (steps ≡ []) ⊎ (stop_next t.next ≡ None) → ((past : List Event) → SignedSo past t.state.opening → AreSignedSteps past steps) → AreSignedSteps past (step_of s frame gained t ∷ steps)
 steps_signed hosts accepts past s frame gained t steps so makes on later =
     let here = turn_so hosts accepts past s frame gained t so makes in
-    (record { session = so.session; key = so.keys; asked = here.asked; handed = here.handed }, rest steps on here later)
-  where
-    rest : (more : List (StepOf SessionState)) → (more ≡ []) ⊎ (stop_next t.next ≡ None) → StepSo past (event_of frame.kind frame.fields) s gained t → ((past : List Event) → SignedSo past t.state.opening → AreSignedSteps past more) →
-        AreSignedSteps (behind (event_of frame.kind frame.fields) past) more
-    rest more (inl last) here later = rw last tt
-    rest more (inr goes) here later = later (behind (event_of frame.kind frame.fields) past) (here.goes goes)
+    let settled : s.opening.phase ≢ phases.Exchanging → Settled past s.opening = λ away. elim so.begun [
+      | inl early ↦ absurd (away early.0.exchanging)
+      | inr set ↦ set
+    ] in (
+      record {
+        session = λ away. (settled away).session;
+        key = λ away. (settled away).keys;
+        asked = here.asked;
+        handed = here.handed;
+      },
+      elim on [ inl last ↦ rw last tt | inr goes ↦ later _ (here.goes goes) ],
+    )
 
 -- along a run the session signs what it was asked for
 pub signed_along : (hosts : Hosts) (accepts : Accepts) (settings : RunSettings) (max : ℕ) (answers : List Answer) (script : Option (List ℕ)) → AreSigned hosts accepts settings max answers script
-signed_along hosts accepts settings max answers script = λ bytes said steps s path.
-    let begins : SignedSo [] (new_session settings.session settings.opening).opening = record {
-      first = λ same. (record { exchanging = refl; runs = λ idle. absurd cc; fresh = refl }, refl);
-      session = λ other. absurd (other refl);
-      keys = λ other. absurd (other refl);
-      asked = tt;
-    } in
+signed_along hosts accepts settings max answers script = λ bytes output steps s path.
+    let fresh : IsFirst (new_session settings.session settings.opening).opening =
+    record { exchanging = refl; runs = λ idle. absurd cc; fresh = refl } in
     session_along hosts accepts (λ s steps s'. (past : List Event) → SignedSo past s.opening → AreSignedSteps past steps) (λ s past so. tt)
-    (λ s frame gained t steps s' between makes on later past so. steps_signed hosts accepts past s frame gained t steps so makes on later) settings max answers script bytes said steps s path [] begins
+    (λ s frame gained t steps s' between makes on later past so.
+    steps_signed hosts accepts past s frame gained t steps so makes on later)
+    settings max answers script bytes output steps s path [] (record { begun = inl (fresh, refl); asked = tt })

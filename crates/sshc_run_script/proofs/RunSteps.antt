@@ -64,7 +64,7 @@ module _ (laws : RowsKeepTheLaws) (hosts : Hosts) (accepts : Accepts) where
 pub session_along : (hosts : Hosts) (accepts : Accepts) (Ledger : SessionState → List (StepOf SessionState) → SessionState → Type 0) → ((s : SessionState) → Ledger s [] s) →
     ((s : SessionState) (frame : Frame) (gained : List SignCall) (t : SessionTurn) (steps : List (StepOf SessionState)) (s' : SessionState) → IsReady s → Makes (session_turn hosts accepts s frame) gained t → (steps ≡ []) ⊎ (stop_next t.next ≡ None) → Ledger t.state steps s' → Ledger s (step_of s frame gained t ∷ steps) s') →
     (settings : RunSettings) (max : ℕ) (answers : List Answer) (script : Option (List ℕ)) → EachPath hosts accepts settings max answers script (Ledger (new_session settings.session settings.opening))
-session_along hosts accepts Ledger none adds settings max answers script = λ bytes said steps s path.
+session_along hosts accepts Ledger none adds settings max answers script = λ bytes output steps s path.
     along (session_turn hosts accepts) IsReady Ledger none (λ s frame gained t ready. turn_ready hosts accepts s ready frame gained t) adds (own_events session_own (taken max bytes)) (new_session settings.session settings.opening) answers steps s (record { runs = refl; taken = refl; unclosed = λ un. refl }) path
 
 pub steps_keep : RowsKeepTheLaws → (hosts : Hosts) (accepts : Accepts) (settings : RunSettings) (max : ℕ) (answers : List Answer) (script : Option (List ℕ)) → StepsKeepLaws hosts accepts settings max answers script

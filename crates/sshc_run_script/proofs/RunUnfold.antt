@@ -12,10 +12,10 @@ use Rattle.sshc_run_reader.specs.FrontLaws.{none_more, front_short}
 use Rattle.sshc_run_script.specs.declared.error.RunError.TheVariants as errors
 use Rattle.sshc_run_script.specs.Machine.{refused}
 use Rattle.sshc_run_script.specs.TurnContracts.{TurnGives, LimitGives}
-use Rattle.sshc_run_script.proofs.RunNames.{append-nil, append, prepend, WroteFront, append-nothing, prepend-nothing, Record, SignCall, Answer, Makes, MakesFirst, Asking, always_makes, none_first, all_first, Ended, Frame, Head, Front, End, Bad, Whole, front, frame_at, size_of, events, stop, RunError, Onward, goes_on, opened, stopped, RunStop, ended, unanswered_stop, TurnOf, Turns, stop_next, IsNoEnd, NeverAtEnd, Streams, Ending, told, cut, unread, ending_of, stop_as, IsCut, IsExact, EndsAs, HasEarlier, HasWritten, HoldsAtMost, Ends, line, lines, Run, Spot, spot_after, run, run_on, at_end, after, stopped_with, asked_run, answers_of, events_run, StopsBy, CutBy, TakeAs, TakeGives, BringsOn}
+use Rattle.sshc_run_script.proofs.RunNames.{append-nil, append, prepend, WroteFront, append-nothing, prepend-nothing, Record, SignCall, Answer, Makes, MakesFirst, Asking, always_makes, none_first, all_first, Ended, Frame, Head, Front, End, Bad, Whole, front, frame_at, size_of, events, stop, RunError, Onward, stopped, RunStop, ended, unanswered_stop, TurnOf, Turns, stop_next, IsNoEnd, NeverAtEnd, Streams, Ending, told, cut, unread, ending_of, stop_as, IsCut, IsExact, EndsAs, HasEarlier, HasWritten, HoldsAtMost, Ends, line, lines, Run, Spot, spot_after, run, run_on, at_end, after, stopped_with, asked_run, answers_of, events_run, StopsBy, CutBy, TakeAs, TakeGives, BringsOn}
 use Rattle.sshc_run_script.proofs.AnsweredQuestions.{asked_made, asked_first}
 use Rattle.sshc_run_script.proofs.ScriptExtension.{front_more}
-use Rattle.sshc_run_script.proofs.Lines.{wrote_nothing, wrote_all}
+use Rattle.sshc_run_script.proofs.Lines.{wrote_nothing}
 
 front_nothing : (last : ℕ) → front last [] ≡ End
 unfolding front
@@ -27,23 +27,23 @@ not_nothing (c ∷ part) b more is = cc
 
 -- ---- prefixes of an event's bytes
 
--- if a shorter prefix begins with an event, so do the bytes, and more bytes follow it
-front_by : (last : ℕ) (bytes part : List ℕ) (b : ℕ) (more : List ℕ) (f : Front) → front last part ≡ f → bytes ≡ part ++ b ∷ more → ((head : Head) (rest : List ℕ) → front last bytes ≡ Whole head (rest ++ b ∷ more) → ⊥) → IsNoEvent last part
-front_by last bytes part b more End f is never = inl f
-front_by last bytes part b more Bad f is never = inr f
-front_by last bytes part b more (Whole head rest) f is never = absurd (never head rest (ap (front last) is ∙ front_more last part (b ∷ more) head rest f))
-
--- a shorter prefix of bytes that are at most one event isn't an event
+-- a shorter prefix of bytes that are at most one event isn't an event: if it began with one, so would the bytes, and
+-- more bytes would follow it
 none_shorter : (last : ℕ) (bytes part : List ℕ) (b : ℕ) (more : List ℕ) → IsOneAtMost last bytes → bytes ≡ part ++ b ∷ more → IsNoEvent last part
-none_shorter last bytes part b more one is = front_by last bytes part b more (front last part) refl is (by one)
+none_shorter last bytes part b more one is = by (front last part) refl
   where
-    by : IsOneAtMost last bytes → (head : Head) (rest : List ℕ) → front last bytes ≡ Whole head (rest ++ b ∷ more) → ⊥
-    by (inl (inl nothing)) head rest whole = let clash : End ≡ Whole head (rest ++ b ∷ more) = sym nothing ∙ whole in cc
-    by (inl (inr bad)) head rest whole = let clash : Bad ≡ Whole head (rest ++ b ∷ more) = sym bad ∙ whole in cc
-    by (inr (one, is)) head rest whole =
-        let longer : Whole one [] ≡ Whole head (rest ++ b ∷ more) = sym is ∙ whole in
-        let nothing : [] ≡ rest ++ b ∷ more = cc in
-        not_nothing rest b more nothing
+    never : (head : Head) (rest : List ℕ) → front last bytes ≡ Whole head (rest ++ b ∷ more) → IsOneAtMost last bytes →
+        ⊥
+    never head rest whole (inl (inl nothing)) = cc
+    never head rest whole (inl (inr bad)) = cc
+    never head rest whole (inr (other, same)) =
+        let longer : Whole other [] ≡ Whole head (rest ++ b ∷ more) = sym same ∙ whole in not_nothing rest b more cc
+
+    by : (f : Front) → front last part ≡ f → IsNoEvent last part
+    by End f = inl f
+    by Bad f = inr f
+    by (Whole head rest) f =
+        absurd (never head rest (ap (front last) is ∙ front_more last part (b ∷ more) head rest f) one)
 
 -- a whole event's bytes are one event
 front_is : (last : ℕ) (head : Head) (bytes : List ℕ) → IsWhole last head bytes → front last bytes ≡ Whole head []
@@ -79,9 +79,6 @@ one_held n place last bytes (inr (head, is)) =
     let nothing = ap length (events_nothing (suc n) (place + size_of head) head.0) in
     omega (arith, one, nothing)
 
-whole_held : (n place last : ℕ) (head : Head) (bytes : List ℕ) → IsWhole last head bytes → HoldsAtMost (suc n) place last bytes
-whole_held n place last head bytes whole = one_held n place last bytes (one_whole last head bytes whole)
-
 -- if there are no records, nothing remains to be written
 said_none : (held now : Option (List ℕ)) (records : List Record) (part : List ℕ) → records ≡ [] → now ≡ append held part → HasWritten held now (lines records)
 said_none held now records part none wrote = (part, wrote ∙ ap (λ (r : List Record). append held (lines r ++ part)) (sym none))
@@ -108,13 +105,12 @@ module _ {S : Type 0} (turn : Turns S) where
 
   -- a turn after which the run continues, and one that stops it
   going_by : (t : TurnOf S) (next : Onward) (r : Run) → stop_next next ≡ None → run_on t next r ≡ after t.records [] r
-  going_by t goes_on r h = refl
-  going_by t opened r h = refl
   going_by t (stopped stop) r h = absurd cc
+  going_by t next r h = refl
 
-  stopping_by : (t : TurnOf S) (next : Onward) (r : Run) (stop : RunStop) → stop_next next ≡ Some stop → run_on t next r ≡ stopped_with t.records stop
-  stopping_by t (stopped x) r stop h = let same : x ≡ stop = cc in ap (λ (y : RunStop). stopped_with t.records y) same
-  stopping_by t next r stop h = absurd cc
+  stop_is : (next : Onward) (stop : RunStop) → stop_next next ≡ Some stop → next ≡ stopped stop
+  stop_is (stopped x) stop is = let same : x ≡ stop = cc in ap stopped same
+  stop_is next stop is = absurd cc
 
   -- on no bytes the run is at the script's end
   pub run_nothing : (n : ℕ) (at : Spot S) (answers : List Answer) → run turn n at answers [] ≡ stopped_with [] (ended ends.ScriptEnd)
@@ -124,9 +120,8 @@ module _ {S : Type 0} (turn : Turns S) where
 
   -- after a turn no call is made on no bytes
   quiet : (n : ℕ) (at : Spot S) (head : Head) (t : TurnOf S) (next : Onward) → (run_on t next (run turn n (spot_after at head t.state) [] [])).calls ≡ []
-  quiet n at head t goes_on = ap (λ (r : Run). r.calls) (run_nothing n (spot_after at head t.state) [])
-  quiet n at head t opened = ap (λ (r : Run). r.calls) (run_nothing n (spot_after at head t.state) [])
   quiet n at head t (stopped stop) = refl
+  quiet n at head t next = ap (λ (r : Run). r.calls) (run_nothing n (spot_after at head t.state) [])
 
   -- if the bytes hold no whole event, there are no records and no calls, and the run comes to the end
   none_is : (n : ℕ) (at : Spot S) (answers : List Answer) (bytes : List ℕ) → IsNoEvent at.last bytes → (stop : RunStop) × (run turn (suc n) at answers bytes ≡ stopped_with [] stop) × IsCut stop
@@ -152,20 +147,24 @@ module _ {S : Type 0} (turn : Turns S) where
       Ends n at.place at.last (run turn n at) before (record before { left = left; reads = reads }) a
   bare_ends n at before left reads bytes a given count made by early few = (bytes, [], record { read = given; asked = sym (append-nil before.calls); made = made; by = by; early = early; count = count; few = few })
 
-  -- the script ends
-  pub end_ends : (at : Spot S) (before : Streams) (left : Option (List ℕ)) (reads : ℕ) → before.left ≡ left → IsAtEnd left → reads ≤ before.reads + 1 →
-      (n : ℕ) → Ends (suc n) at.place at.last (run turn (suc n) at) before (record before { left = left; reads = reads }) (Ok ends.ScriptEnd)
-  end_ends at before left reads same end count n =
-      let none : (answers : List Answer) → run turn (suc n) at answers [] ≡ stopped_with [] (ended ends.ScriptEnd) = λ answers. run_nothing (suc n) at answers in
-      bare_ends (suc n) at before left reads [] (Ok ends.ScriptEnd) (same ∙ sym (prepend-nothing left)) (omega (arith, count)) (rw (none []) refl)
+  -- the script ends, also at the limit
+  pub ends_at_end : (at : Spot S) (before : Streams) (left : Option (List ℕ)) (reads : ℕ) → before.left ≡ left → IsAtEnd left → reads ≤ before.reads + 1 →
+      (n : ℕ) → Ends n at.place at.last (run turn n at) before (record before { left = left; reads = reads }) (Ok ends.ScriptEnd)
+  ends_at_end at before left reads same end count n =
+      let none = run_nothing n at [] in
+      bare_ends n at before left reads [] (Ok ends.ScriptEnd) (same ∙ sym (prepend-nothing left)) (omega (arith, count)) (rw none refl)
       (record {
-        all = rw (none []) (sym (append-nothing before.held));
-        stop = rw (none []) refl;
-        rest = λ later more e. ap (run turn (suc n) at later) (none_more left more e end) ∙ none later ∙ sym (none []);
+        all = rw none (sym (append-nothing before.held));
+        stop = rw none refl;
+        rest = λ later more e. ap (run turn n at later) (none_more left more e end) ∙ run_nothing n at later ∙ sym none;
         just = λ later part b more is. absurd (not_nothing part b more is);
         whole = λ done. end;
       })
-      (early_one n at [] [] before.held before.held [] (inl (inl (front_nothing at.last))) (sym (append-nothing before.held))) (nothing_held (suc n) at.place at.last)
+      (λ later part b more is. absurd (not_nothing part b more is)) (nothing_held n at.place at.last)
+
+  pub end_ends : (at : Spot S) (before : Streams) (left : Option (List ℕ)) (reads : ℕ) → before.left ≡ left → IsAtEnd left → reads ≤ before.reads + 1 →
+      (n : ℕ) → Ends (suc n) at.place at.last (run turn (suc n) at) before (record before { left = left; reads = reads }) (Ok ends.ScriptEnd)
+  end_ends at before left reads same end count n = ends_at_end at before left reads same end count (suc n)
 
   -- an event that can't be read
   bad_ends : (at : Spot S) (before now : Streams) (bytes : List ℕ) → now.held ≡ before.held → IsBad at.last now.left bytes → (n : ℕ) → IsExact (run turn (suc n) at) bytes [] before now (Err (errors.BadEvent at.place))
@@ -205,11 +204,6 @@ module _ {S : Type 0} (turn : Turns S) where
 
   -- ---- an event that is taken
 
-  -- a turn that stops the run
-  stop_is : (next : Onward) (stop : RunStop) → stop_next next ≡ Some stop → next ≡ stopped stop
-  stop_is (stopped x) stop is = let same : x ≡ stop = cc in ap stopped same
-  stop_is next stop is = absurd cc
-
   -- no event that was taken ends the script
   pub not_taken : NeverAtEnd turn → (s s' : S) (frame : Frame) (gained : List SignCall) (held now : Option (List ℕ)) (a : Result Ended RunError) → a ≡ Ok ends.ScriptEnd → TakeGives (turn s frame) gained s' held now (Some a) → ⊥
   not_taken never s s' frame gained held now a is gives =
@@ -230,10 +224,10 @@ module _ {S : Type 0} (turn : Turns S) where
       record {
         within = omega (arith, place, whole.within);
         on = λ n later more.
-            run_whole n at (answers_of gained ++ later) (bytes ++ more) head more (whole.is more)
-            ∙ asked_made unanswered_stop (turn at.state (frame_at at.place head)) gained t later (behind n at head more) makes
-            ∙ ap (λ (r : Run). after [] gained r) (going_by t t.next _ on ∙ ap (λ (x : Spot S). after t.records [] (run turn n x later more)) (sym same));
-        counts = λ n more. event_counted n at.place at.last (bytes ++ more) head more (whole.is more) ∙ ap (λ (x : Spot S). suc (length (events n x.place x.last more))) (sym same);
+            rw (run_whole n at (answers_of gained ++ later) (bytes ++ more) head more (whole.is more), same)
+            (asked_made unanswered_stop (turn at.state (frame_at at.place head)) gained t later
+            (behind n at head more) makes ∙ ap (λ (r : Run). after [] gained r) (going_by t t.next _ on));
+        counts = λ n more. rw same (event_counted n at.place at.last (bytes ++ more) head more (whole.is more));
         quiet = λ n answers part b more parts. none_said n at answers part (none_shorter at.last bytes part b more (one_whole at.last head bytes whole) parts);
         just = λ n answers part b more parts. none_cut n at answers part (none_shorter at.last bytes part b more (one_whole at.last head bytes whole) parts);
       }
@@ -248,8 +242,8 @@ module _ {S : Type 0} (turn : Turns S) where
       run turn (suc n) at (answers_of gained) bytes ≡ after [] gained (behind n at head [] t [])
   made_alone n at head t gained bytes makes whole =
       alone n at head gained bytes whole
-      ∙ ap (λ (answers : List Answer). asked_run unanswered_stop (turn at.state (frame_at at.place head)) answers (behind n at head [])) (sym (append-nil (answers_of gained)))
-      ∙ asked_made unanswered_stop (turn at.state (frame_at at.place head)) gained t [] (behind n at head []) makes
+      ∙ rw (append-nil (answers_of gained)) at
+      (asked_made unanswered_stop (turn at.state (frame_at at.place head)) gained t [] (behind n at head []) makes)
 
   -- whichever of its calls were made, the run has them
   taken_made : (n : ℕ) (at : Spot S) (head : Head) (gained : List SignCall) (bytes : List ℕ) → MakesFirst (turn at.state (frame_at at.place head)) gained → IsWhole at.last head bytes → (run turn (suc n) at (answers_of gained) bytes).calls ≡ gained
@@ -261,13 +255,15 @@ module _ {S : Type 0} (turn : Turns S) where
   stops_exact : NeverAtEnd turn → (at : Spot S) (head : Head) (before now : Streams) (gained : List SignCall) (bytes : List ℕ) (a : Result Ended RunError) → IsWhole at.last head bytes →
       StopsBy (turn at.state (frame_at at.place head)) gained before.held now.held a → (n : ℕ) → IsExact (run turn (suc n) at) bytes gained before now a
   stops_exact never at head before now gained bytes a whole (t, makes, stops, wrote) n =
+      let stopped_on : (r : Run) → run_on t t.next r ≡ stopped_with t.records (stop_as a) =
+      λ r. ap (λ (next : Onward). run_on t next r) (stop_is t.next (stop_as a) stops) in
       let stopped_so : (later : List Answer) (more : List ℕ) → run turn (suc n) at (answers_of gained ++ later) (bytes ++ more) ≡ after [] gained (stopped_with t.records (stop_as a)) = λ later more.
       run_whole n at (answers_of gained ++ later) (bytes ++ more) head more (whole.is more)
       ∙ asked_made unanswered_stop (turn at.state (frame_at at.place head)) gained t later (behind n at head more) makes
-      ∙ ap (λ (r : Run). after [] gained r) (stopping_by t t.next _ (stop_as a) stops)
+      ∙ ap (λ (r : Run). after [] gained r) (stopped_on _)
       in
       let here : run turn (suc n) at (answers_of gained) bytes ≡ after [] gained (stopped_with t.records (stop_as a)) =
-      made_alone n at head t gained bytes makes whole ∙ ap (λ (r : Run). after [] gained r) (stopping_by t t.next _ (stop_as a) stops)
+      rw (append-nil (answers_of gained), append-nil bytes) at (stopped_so [] [])
       in
       record {
         all = rw here wrote;
@@ -281,9 +277,8 @@ module _ {S : Type 0} (turn : Turns S) where
 
   -- the records of a turn are the first of its run's
   first_by : (t : TurnOf S) (next : Onward) (r : Run) → (rest : List Record) × ((run_on t next r).records ≡ t.records ++ rest)
-  first_by t goes_on r = (r.records, refl)
-  first_by t opened r = (r.records, refl)
   first_by t (stopped stop) r = ([], sym (append-nil t.records))
+  first_by t next r = (r.records, refl)
 
   -- if a prefix of its records was written
   stops_cut : (at : Spot S) (head : Head) (held now : Option (List ℕ)) (gained : List SignCall) (bytes : List ℕ) → IsWhole at.last head bytes → CutBy (turn at.state (frame_at at.place head)) gained held now →
@@ -299,14 +294,15 @@ module _ {S : Type 0} (turn : Turns S) where
       )
 
   -- the calls are the first of the turn's, and what was written
-  as_cut : (ending : Ending) (asking : Asking (TurnOf S)) (held now : Option (List ℕ)) (gained : List SignCall) (a : Result Ended RunError) → TakeAs ending asking gained held now a → CutBy asking gained held now
-  as_cut told asking held now gained a (t, makes, stops, wrote) = inr (t, makes, wrote_all held now (lines t.records) wrote)
-  as_cut cut asking held now gained a gives = gives
-  as_cut unread asking held now gained a (t, makes, stops, wrote) = inr (t, makes, wrote_all held now (lines t.records) wrote)
-
-  cut_so : (asking : Asking (TurnOf S)) (held now : Option (List ℕ)) (gained : List SignCall) → CutBy asking gained held now → MakesFirst asking gained × ((part : List ℕ) × (now ≡ append held part))
-  cut_so asking held now gained (inl (first, same)) = (first, ([], same ∙ sym (append-nothing held)))
-  cut_so asking held now gained (inr (t, makes, (part, others, due, wrote))) = (all_first asking gained t makes, (part, wrote))
+  first_so : (ending : Ending) (asking : Asking (TurnOf S)) (held now : Option (List ℕ)) (gained : List SignCall)
+      (a : Result Ended RunError) → TakeAs ending asking gained held now a →
+      MakesFirst asking gained × ((part : List ℕ) × (now ≡ append held part))
+  first_so told asking held now gained a (t, makes, stops, wrote) =
+      (all_first asking gained t makes, (lines t.records, wrote))
+  first_so cut asking held now gained a (inl (first, same)) = (first, ([], same ∙ sym (append-nothing held)))
+  first_so cut asking held now gained a (inr (t, makes, (part, others, due, wrote))) = (all_first asking gained t makes, (part, wrote))
+  first_so unread asking held now gained a (t, makes, stops, wrote) =
+      (all_first asking gained t makes, (lines t.records, wrote))
 
   taken_ends : NeverAtEnd turn → (ending : Ending) (at : Spot S) (head : Head) (before now : Streams) (gained : List SignCall) (bytes : List ℕ) (a : Result Ended RunError) → IsWhole at.last head bytes →
       TakeAs ending (turn at.state (frame_at at.place head)) gained before.held now.held a → (n : ℕ) → EndsAs ending (run turn (suc n) at) bytes gained before now a
@@ -327,7 +323,7 @@ module _ {S : Type 0} (turn : Turns S) where
   )
   taken_gives never at at' head before now gained (Some a) asked (bytes, given, (whole, count)) gives moved = λ n.
       let asking : Asking (TurnOf S) = turn at.state (frame_at at.place head) in
-      let so = cut_so asking before.held now.held gained (as_cut (ending_of a) asking before.held now.held gained a gives) in (
+      let so = first_so (ending_of a) asking before.held now.held gained a gives in (
         bytes,
         gained,
         record {
@@ -337,7 +333,7 @@ module _ {S : Type 0} (turn : Turns S) where
           by = taken_ends never (ending_of a) at head before now gained bytes a whole gives n;
           early = early_one n at gained bytes before.held now.held so.1.0 (one_whole at.last head bytes whole) so.1.1;
           count = omega (arith, count);
-          few = whole_held n at.place at.last head bytes whole;
+          few = one_held n at.place at.last bytes (one_whole at.last head bytes whole);
         },
       )
 
@@ -367,16 +363,7 @@ module _ {S : Type 0} (turn : Turns S) where
   pub limit_ends : (at : Spot S) (before : Streams) (left : Option (List ℕ)) (reads : ℕ) (a : Result Ended RunError) → LimitGives before.left left a → reads ≤ before.reads + 1 →
       Ends 0 at.place at.last (run turn 0 at) before (record before { left = left; reads = reads }) a
   unfolding run events stop events_run
-  limit_ends at before left reads (Ok ends.ScriptEnd) (same, end) count =
-      limit_none at before left reads (Ok ends.ScriptEnd) same count
-      (record {
-        all = sym (append-nothing before.held);
-        stop = refl;
-        rest = λ later more e. ap (run turn 0 at later) (none_more left more e end);
-        just = λ later part b more is. absurd (not_nothing part b more is);
-        whole = λ done. end;
-      })
-  limit_ends at before left reads (Ok e) h count = absurd h
+  limit_ends at before left reads (Ok ends.ScriptEnd) (same, end) count = ends_at_end at before left reads same end count 0
   limit_ends at before left reads (Err errors.ScriptTooLong) (b, given) count =
       bare_ends 0 at before left reads (b ∷ []) (Err errors.ScriptTooLong) given (omega (arith, count)) refl
       (record {
@@ -389,7 +376,7 @@ module _ {S : Type 0} (turn : Turns S) where
       (early_limit at [] (b ∷ []) before.held) (none_held 0 at.place at.last (b ∷ []) (front_short at.last (b ∷ []) (omega arith)))
   limit_ends at before left reads (Err errors.ReadFault) same count = limit_none at before left reads (Err errors.ReadFault) same count (sym (append-nothing before.held))
   limit_ends at before left reads (Err errors.NoMemory) same count = limit_none at before left reads (Err errors.NoMemory) same count (wrote_nothing before.held [])
-  limit_ends at before left reads (Err e) h count = absurd h
+  limit_ends at before left reads a h count = absurd h
 
 -- where the script ends at the limit, nothing was read
 pub limit_still : (old new : Option (List ℕ)) (a : Result Ended RunError) → a ≡ Ok ends.ScriptEnd → LimitGives old new a → new ≡ old

@@ -38,7 +38,7 @@ session_asks hosts accepts s frame =
 
 says_own : (records : List Record) → AreSessions records → SaysBy is_session_record true records
 says_own [] so = tt
-says_own (said ∷ records) (here, so) = (here, says_own records so)
+says_own (output ∷ records) (here, so) = (here, says_own records so)
 
 module _ (hosts : Hosts) (accepts : Accepts) where
   abbrev SaysOwn : SessionTurn → Type 0

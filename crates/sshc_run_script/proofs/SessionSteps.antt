@@ -1,5 +1,5 @@
 -- A step of the session is the run's turn, and the session is ready for the next afterwards.
-use Rattle.std.proofs.Common.{◌≡◌, inl, inr, ℕ, Bool, true, false, List, [], ◌++◌, length, drop, Some, None, Err, refl, ap, sym, ◌∙◌}
+use Rattle.std.proofs.Common.{◌≡◌, inl, inr, ℕ, Bool, true, false, List, [], ◌∷◌, ◌++◌, length, drop, Some, None, Err, refl, ap, sym, ◌∙◌}
 use Rattle.std.specs.Option.{option_map}
 use Rattle.sshc_auth.specs.declared.step.Step.{Step}
 use Rattle.sshc_auth.specs.declared.step.Step.TheVariants as steps
@@ -9,14 +9,15 @@ use Rattle.sshc_client_table.specs.declared.life.Life.TheVariants.{Runs}
 use Rattle.sshc_client_table.specs.Moves.{done as when_done}
 use Rattle.sshc_client_table.specs.SessionRow.{Next, ends as row_ends, refuses}
 use Rattle.sshc_client_table.specs.SessionState.{opens_later}
-use Rattle.sshc_client_state.specs.OpeningStep.{Lent, StepsOpening, goes_on, life_if, outgoing}
+use Rattle.sshc_client_state.specs.OpeningStep.{Lent, goes_on, life_if, outgoing}
 use Rattle.sshc_client.specs.Stepping.{SessionStepped, StepsRow}
 use Rattle.sshc_client_table.specs.KeptByMovesLaws.{front_says, stop_says}
 use Rattle.sshc_run_script.specs.declared.known_hosts_handler.HandlerError.TheVariants.{Client}
+use Rattle.sshc_run_script.specs.Handled.{Handled}
 use Rattle.sshc_run_script.specs.Prefixes.{IsFront}
 use Rattle.sshc_run_script.specs.Ready.{IsReadyAfter}
 use Rattle.sshc_run_script.specs.SessionTurn.{row_turn}
-use Rattle.sshc_run_script.proofs.RunNames.{Record, SignCall, since, Asking, done, asked_on, makes_on, first_on, Event, OpeningState, asked_of, Accepts, SessionRow, SessionState, is_live, is_open, session_row, all_moves, default_opinions, HandlerError, Hosts, stop_next, stop_as, IsReady, SessionTurn, emptied, in_session, onward, step_turn, Turn, asked_turn, handler_error_of, step_answer, Took, Came}
+use Rattle.sshc_run_script.proofs.RunNames.{Record, SignCall, since, Asking, done, asked_on, makes_on, first_on, Event, OpeningState, asked_of, Accepts, SessionRow, SessionState, is_live, is_open, session_row, all_moves, default_opinions, HandlerError, Hosts, stop_next, stop_as, IsReady, SessionTurn, emptied, in_session, onward, step_turn, Turn, asked_turn, handler_error_of, hosts_of, step_answer, Took, Came}
 use Rattle.sshc_run_script.proofs.OpeningSteps.{hosts_gate, step_took}
 use Rattle.sshc_run_script.proofs.TakenEvents.{unchanged, since_none}
 use Rattle.sshc_run_script.proofs.ReadyTurns.{step_ready}
@@ -29,8 +30,8 @@ life_on place steps.Went none = refl
 life_on place steps.Opened none = refl
 life_on place step none = absurd cc
 
-module _ (s : SessionState) (ready : IsReady s) (place : ℕ) (result : Step HandlerError) (calls : List SignCall) (o : OpeningState) (said : List Record) (new : SessionState)
-    (rest : new ≡ record s { opening = o; records = said; life = life_if (goes_on result) }) where
+module _ (s : SessionState) (ready : IsReady s) (place : ℕ) (result : Step HandlerError) (calls : List SignCall) (o : OpeningState) (output : List Record) (new : SessionState)
+    (rest : new ≡ record s { opening = o; records = output; life = life_if (goes_on result) }) where
   -- the session after its records were taken
   emptied_is : (o' : OpeningState) → o ≡ o' → life_if (goes_on result) ≡ Runs → emptied new ≡ record s { opening = o' }
   emptied_is o' same life =
@@ -38,33 +39,17 @@ module _ (s : SessionState) (ready : IsReady s) (place : ℕ) (result : Step Han
       ∙ ap (λ (l : Life). record s { opening = o'; records = []; life = l }) (life ∙ sym ready.runs)
       ∙ ap (λ (rs : List Record). record s { opening = o'; records = rs }) (sym ready.taken)
 
-  said_is : new.records ≡ said
+  said_is : new.records ≡ output
   said_is = ap (λ (x : SessionState). x.records) rest
 
   -- a step that was the opening's turn was the session's
-  came_from : (asking : Asking Turn) → Took asking calls place result o said → Came (asked_on (in_session s) asking) calls place result (emptied new) new.records
+  came_from : (asking : Asking Turn) → Took asking calls place result o output → Came (asked_on (in_session s) asking) calls place result (emptied new) new.records
   came_from asking (inl (none, want, first)) = inl (want, inl (first_on (in_session s) asking calls first, said_is ∙ none))
   came_from asking (inr (t, makes, same, state, stop)) =
       inr (in_session s t, makes_on (in_session s) asking calls t makes, said_is ∙ same, stop, λ none. emptied_is t.state state (life_on place result (sym stop ∙ none)))
 
 pub later_opens : (s : SessionState) → IsReady s → is_open s.opening.phase ≡ false → opens_later s ≡ true
 later_opens s ready un = rw (ready.runs, un) refl
-
-module _ (hosts : Hosts) (accepts : Accepts) (place : ℕ) (event : Event) (was is : Lent) (result : Step HandlerError) (ready : IsReady was.session) (un : is_open was.session.opening.phase ≡ false)
-    (stepped : SessionStepped (hosts_gate hosts) accepts event was is result) where
-  steps_opening : StepsOpening (hosts_gate hosts) event was is result
-  steps_opening = stepped.opening (later_opens was.session ready un)
-
-  unopened_came : Came (step_turn false hosts accepts place was.session event) (since was.calls is.calls) place result (emptied is.session) is.session.records
-  unopened_came =
-      let so = steps_opening in
-      let before : OpeningLent = lent was.session.opening (outgoing was.session) was.calls was.signer_refusals in
-      let now : OpeningLent = lent so.opening so.said is.calls is.signer_refusals in
-      came_from was.session ready place result (since was.calls is.calls) so.opening so.said.records is.session so.rest (asked_turn hosts place was.session.opening event (asked_of was.session.opening event))
-      (step_took hosts place event before now result ready.taken refl (so.stepped.row (ready.unclosed un)))
-
-  unopened_gained : is.calls ≡ was.calls ++ since was.calls is.calls
-  unopened_gained = steps_opening.stepped.signer.gained
 
 -- ---- in an open session
 
@@ -94,26 +79,25 @@ module _ (place : ℕ) (row : SessionRow) (s new : SessionState) (taken : s.reco
   row_came steps.Opened never = absurd never
   row_came steps.Closed never = absurd never
 
-module _ (accepts : Accepts) (place : ℕ) (event : Event) (was is : Lent) (result : Step HandlerError) (ready : IsReady was.session) (on : is_open was.session.opening.phase ≡ true) where
-  lives : is_live was.session ≡ true
-  lives = rw (ready.runs, on) refl
-
-  -- the row that is followed
-  abbrev followed : SessionRow
-  followed = session_row accepts (default_opinions was.session) was.session event
-
-  opened_came : StepsRow Client followed was.session is.session result → is.calls ≡ was.calls → Came (done (row_turn place was.session followed)) (since was.calls is.calls) place result (emptied is.session) is.session.records
-  opened_came steps_row same = rw (since_none was.calls is.calls same) (row_came place followed was.session is.session ready.taken result steps_row)
-
 -- ---- any step
 
 module _ (hosts : Hosts) (accepts : Accepts) (place : ℕ) (event : Event) (was is : Lent) (result : Step HandlerError) (ready : IsReady was.session)
     (stepped : SessionStepped (hosts_gate hosts) accepts event was is result) where
+  lives : is_open was.session.opening.phase ≡ true → is_live was.session ≡ true
+  lives on = rw (ready.runs, on) refl
+
   came_by : (opened : Bool) → is_open was.session.opening.phase ≡ opened → Came (step_turn opened hosts accepts place was.session event) (since was.calls is.calls) place result (emptied is.session) is.session.records
-  came_by false un = unopened_came hosts accepts place event was is result ready un stepped
+  came_by false un =
+      let so = stepped.opening (later_opens was.session ready un) in
+      let before : OpeningLent = lent was.session.opening (outgoing was.session) was.calls was.signer_refusals in
+      let now : OpeningLent = lent so.opening so.output is.calls is.signer_refusals in
+      came_from was.session ready place result (since was.calls is.calls) so.opening so.output.records is.session so.rest (asked_turn hosts place was.session.opening event (asked_of was.session.opening event))
+      (step_took hosts place event before now result ready.taken refl (so.stepped.row (ready.unclosed un)))
   came_by true on =
-      let row = stepped.row (lives accepts place event was is result ready on) in
-      opened_came accepts place event was is result ready on row.0 row.1
+      let row = stepped.row (lives on) in
+      rw (since_none was.calls is.calls row.1)
+      (row_came place (session_row accepts (default_opinions was.session) was.session event) was.session is.session
+      ready.taken result row.0)
 
   pub session_came : Came (step_turn (is_open was.session.opening.phase) hosts accepts place was.session event) (since was.calls is.calls) place result (emptied is.session) is.session.records
   session_came = came_by (is_open was.session.opening.phase) refl
@@ -121,17 +105,24 @@ module _ (hosts : Hosts) (accepts : Accepts) (place : ℕ) (event : Event) (was 
   -- if the run continues, the session is what its turn left, which is ready
   ready_by : (step : Step HandlerError) → Came (step_turn (is_open was.session.opening.phase) hosts accepts place was.session event) (since was.calls is.calls) place step (emptied is.session) is.session.records → IsReadyAfter step (emptied is.session)
   ready_by steps.Went (inl (want, out)) = absurd cc
-  ready_by steps.Went (inr (t, makes, said, stop, state)) = rw (state stop) (step_ready hosts accepts was.session ready place event (since was.calls is.calls) t makes stop)
+  ready_by steps.Went (inr (t, makes, output, stop, state)) = rw (state stop) (step_ready hosts accepts was.session ready place event (since was.calls is.calls) t makes stop)
   ready_by steps.Opened (inl (want, out)) = absurd cc
-  ready_by steps.Opened (inr (t, makes, said, stop, state)) = rw (state stop) (step_ready hosts accepts was.session ready place event (since was.calls is.calls) t makes stop)
+  ready_by steps.Opened (inr (t, makes, output, stop, state)) = rw (state stop) (step_ready hosts accepts was.session ready place event (since was.calls is.calls) t makes stop)
   ready_by step came = tt
 
   pub session_ready : IsReadyAfter result (emptied is.session)
   session_ready = ready_by result session_came
 
   gained_by : (opened : Bool) → is_open was.session.opening.phase ≡ opened → is.calls ≡ was.calls ++ since was.calls is.calls
-  gained_by false un = unopened_gained hosts accepts place event was is result ready un stepped
-  gained_by true on = unchanged was.calls is.calls (stepped.row (lives accepts place event was is result ready on)).1
+  gained_by false un = (stepped.opening (later_opens was.session ready un)).stepped.signer.gained
+  gained_by true on = unchanged was.calls is.calls (stepped.row (lives on)).1
 
   pub session_gained : is.calls ≡ was.calls ++ since was.calls is.calls
   session_gained = gained_by (is_open was.session.opening.phase) refl
+
+-- a gate for which what it judges by doesn't change judges by the same host and the same known hosts text
+pub hosts_kept : (old new : Handled) → new.host ∷ new.known ∷ [] ≡ old.host ∷ old.known ∷ [] → hosts_of new ≡ hosts_of old
+hosts_kept old new same =
+    let host : new.host ≡ old.host = cc in
+    let known : new.known ≡ old.known = cc in
+    ap (λ (h : List ℕ). record { host = h; known = new.known }) host ∙ ap (λ (k : List ℕ). record { host = old.host; known = k }) known

@@ -115,14 +115,11 @@ unfolding byte_at
 byte_leaves [] b e = absurd cc
 byte_leaves (c ∷ bytes) b e = let is : bytes ≡ b.1 = ap (λ (p : ℕ × List ℕ). p.1) (ok_is {E = WireError} (c, bytes) b e) in omega (arith, ap length is)
 
-in_turn_is : (early : Bool) (moment : ℕ) (kind : EventKind) (fields : List ℕ) (head : Head) → cond early (Err reads.Bad) (Ok (moment, (kind, fields))) ≡ Ok head → length head.1.1 ≡ length fields
-in_turn_is early moment kind fields head e =
-    let g = guard_is early reads.Bad (moment, (kind, fields)) head e in
-    sym (ap (λ (h : Head). length h.1.1) g.1)
-
 head_fields : (last moment : ℕ) (kind : Option EventKind) (fields : List ℕ) (head : Head) → head_of last moment kind fields ≡ Ok head → length head.1.1 ≡ length fields
 head_fields last moment None fields head e = absurd cc
-head_fields last moment (Some kind) fields head e = in_turn_is (nat_lt moment last) moment kind fields head e
+head_fields last moment (Some kind) fields head e =
+    let g = guard_is (nat_lt moment last) reads.Bad (moment, (kind, fields)) head e in
+    sym (ap (λ (h : Head). length h.1.1) g.1)
 
 head_short : (last : ℕ) (body : List ℕ) (head : Head) → head_at last body ≡ Ok head → length head.1.1 ≤ length body
 unfolding head_at
@@ -148,13 +145,10 @@ sized_short last n rest left head false is e =
 
 front_fields : (last : ℕ) (bytes left : List ℕ) (head : Head) → front last bytes ≡ Whole head left → length head.1.1 < 2 ^ 32
 unfolding front sized_front
-front_fields last [] left head e = absurd cc
-front_fields last (a ∷ []) left head e = absurd cc
-front_fields last (a ∷ b ∷ []) left head e = absurd cc
-front_fields last (a ∷ b ∷ c ∷ []) left head e = absurd cc
 front_fields last (a ∷ b ∷ c ∷ d ∷ rest) left head e =
     let n : ℕ = from_be_bytes w32 (a ∷ b ∷ c ∷ d ∷ []) in
     sized_short last n rest left head (nat_lt n 9 || nat_lt 262144 n || nat_lt (length rest) n) refl e
+front_fields last bytes left head e = absurd cc
 
 abbrev pub HasShortFields : Frame → Type 0
 HasShortFields frame = length frame.fields < 2 ^ 32

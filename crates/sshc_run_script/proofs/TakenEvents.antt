@@ -6,7 +6,7 @@ use Rattle.sshc_wire.specs.declared.source.Failed.{Failed}
 use Rattle.sshc_wire.specs.declared.source.Failed.TheVariants as failures
 use Rattle.sshc_auth.specs.declared.step.Step.{Step}
 use Rattle.sshc_run_script.specs.declared.error.RunError.TheVariants as errors
-use Rattle.sshc_run_script.proofs.RunNames.{append-nil, append, WroteFront, append-nothing, Record, SignCall, since, Asking, done, Makes, Ended, RunError, HandlerError, TurnOf, stop_next, Ending, told, cut, unread, ending_of, stop_as, lines, step_answer, Came, CutBy, TakeAs, TakeGives}
+use Rattle.sshc_run_script.proofs.RunNames.{append-nil, append, WroteFront, append-nothing, Record, SignCall, since, Asking, done, Makes, Ended, RunError, HandlerError, TurnOf, stop_next, Ending, cut, ending_of, stop_as, lines, step_answer, Came, CutBy, TakeAs, TakeGives}
 use Rattle.sshc_run_script.proofs.Lines.{wrote_all}
 use Rattle.sshc_run_script.proofs.ScriptExtension.{wrote_longer}
 
@@ -16,9 +16,8 @@ front_none (b ∷ part) rest h = absurd cc
 
 module _ {S : Type 0} (asking : Asking (TurnOf S)) (gained : List SignCall) where
   take_as : (ending : Ending) (t : TurnOf S) (held now : Option (List ℕ)) (answer : Result Ended RunError) → Makes asking gained t → stop_next t.next ≡ Some (stop_as answer) → now ≡ append held (lines t.records) → TakeAs ending asking gained held now answer
-  take_as told t held now answer makes stop all = (t, makes, stop, all)
   take_as cut t held now answer makes stop all = inr (t, makes, wrote_all held now (lines t.records) all)
-  take_as unread t held now answer makes stop all = (t, makes, stop, all)
+  take_as ending t held now answer makes stop all = (t, makes, stop, all)
 
   done_by : (t : TurnOf S) (s : S) (held now : Option (List ℕ)) (o : Option (Result Ended RunError)) → Makes asking gained t → stop_next t.next ≡ option_map stop_as o → now ≡ append held (lines t.records) → (stop_next t.next ≡ None → s ≡ t.state) → TakeGives asking gained s held now o
   done_by t s held now None makes stop all state = (t, makes, stop, all, state stop)

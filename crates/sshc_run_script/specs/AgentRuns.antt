@@ -25,29 +25,29 @@ use Rattle.sshc_run_script.specs.SessionPart.{session_own}
 -- ---- the inputs of the agent
 
 -- an input, with its moment and its connection
-pub record Asked : Type 0 where
+pub record TimedInput : Type 0 where
   pub moment : ℕ
   pub conn : ℕ
   pub input : AgentInput
 
-abbrev pub asked_at : ℕ → ℕ → List AgentInput → List Asked
-asked_at moment conn [] = []
-asked_at moment conn (input ∷ inputs) = record { moment = moment; conn = conn; input = input } ∷ asked_at moment conn inputs
+abbrev pub inputs_at : ℕ → ℕ → List AgentInput → List TimedInput
+inputs_at moment conn [] = []
+inputs_at moment conn (input ∷ inputs) = record { moment = moment; conn = conn; input = input } ∷ inputs_at moment conn inputs
 
 -- the inputs of an event that can be read, and then those of the events after it
-abbrev pub asked_by_event : List (ℕ × FrameBytes) → ℕ → Result AgentEvent EventError → (List (ℕ × FrameBytes) → List Asked) → List Asked
-asked_by_event bytes moment (Ok event) later = asked_at moment (conn_of event) (event_inputs event bytes) ++ later (event_bytes event bytes)
-asked_by_event bytes moment (Err e) later = []
+abbrev pub inputs_by_event : List (ℕ × FrameBytes) → ℕ → Result AgentEvent EventError → (List (ℕ × FrameBytes) → List TimedInput) → List TimedInput
+inputs_by_event bytes moment (Ok event) later = inputs_at moment (conn_of event) (event_inputs event bytes) ++ later (event_bytes event bytes)
+inputs_by_event bytes moment (Err e) later = []
 
 -- the inputs of agents' events in order, where these bytes of each connection are in no frame yet
-unfoldable pub asked_along : List (ℕ × FrameBytes) → List Frame → List Asked
-asked_along bytes [] = []
-asked_along bytes (frame ∷ frames) = asked_by_event bytes frame.moment (agent_event_of frame.kind frame.fields) (λ more. asked_along more frames)
+unfoldable pub inputs_along : List (ℕ × FrameBytes) → List Frame → List TimedInput
+inputs_along bytes [] = []
+inputs_along bytes (frame ∷ frames) = inputs_by_event bytes frame.moment (agent_event_of frame.kind frame.fields) (λ more. inputs_along more frames)
 
 -- the inputs of the entries
-abbrev pub asked_in : List Entry → List Asked
-asked_in [] = []
-asked_in (e ∷ entries) = record { moment = e.moment; conn = e.conn; input = e.input } ∷ asked_in entries
+abbrev pub inputs_in : List Entry → List TimedInput
+inputs_in [] = []
+inputs_in (e ∷ entries) = record { moment = e.moment; conn = e.conn; input = e.input } ∷ inputs_in entries
 
 -- ---- the history
 
@@ -58,7 +58,7 @@ pub record IsOneHistory (asks : Bool) (frames : List Frame) (r : Run) : Type 0 w
   pub last : AgentList
   pub leads : Leads (empty_list asks) entries last
   pub numbers : AreNumbered [] entries
-  pub inputs : IsFront (asked_in entries) (asked_along [] (own_events (others session_own) frames))
+  pub inputs : IsFront (inputs_in entries) (inputs_along [] (own_events (others session_own) frames))
   pub reports : own_records (others session_own) r.records ≡ reported entries
   -- after an acknowledged lock nothing is signed, listed or changed, except by time, until the lock is removed
   pub locks : LocksHold entries

@@ -28,12 +28,12 @@ with_next asked None later = stopped_with [] unanswered_stop
 with_next asked (Some (answer, left)) later = after [] (call_of asked answer ∷ []) (later answer left)
 
 abbrev pub asked_by : {A : Type 0} → Asking A → List SignCall → (A → List SignCall → Run) → Run
-asked_by (done x) said later = later x said
-asked_by (asks asked on) said later = with_next asked (next_by asked.by said) (λ answer left. asked_by (on answer) left later)
+asked_by (done x) output later = later x output
+asked_by (asks asked on) output later = with_next asked (next_by asked.by output) (λ answer left. asked_by (on answer) left later)
 
 unfoldable pub events_by : {S : Type 0} → Turns S → S → List Frame → ScriptStop → List SignCall → Run
-events_by turn s [] st said = stopped_with [] (at_end st)
-events_by turn s (frame ∷ frames) st said = asked_by (turn s frame) said (λ t left. run_on t t.next (events_by turn t.state frames st left))
+events_by turn s [] st output = stopped_with [] (at_end st)
+events_by turn s (frame ∷ frames) st output = asked_by (turn s frame) output (λ t left. run_on t t.next (events_by turn t.state frames st left))
 
 -- over a whole script the machine makes just these calls of the signer, whether it takes their answers in order or each
 -- call the next answer with its asker

@@ -45,7 +45,7 @@ OnRead frame Holds = (event : Event) × (event_of frame.kind frame.fields ≡ Ok
 
 -- the verdict of the known hosts text on the host key of the first exchange, which this event is
 abbrev pub IsSaid : Hosts → SessionState → Frame → Result Bool HandlerError → Type 0
-IsSaid hosts s frame said = (s.opening.phase ≡ phases.Exchanging) × OnRead frame (λ event. said_by hosts (Ok event) ≡ Some said)
+IsSaid hosts s frame output = (s.opening.phase ≡ phases.Exchanging) × OnRead frame (λ event. said_by hosts (Ok event) ≡ Some output)
 
 -- an exchange has no host key, or the known hosts text says no to it
 abbrev pub SaysNo : Hosts → ExchangeResult → Type 0

@@ -75,9 +75,9 @@ pub record IsEndedLife (calls : List Call) (n : ℕ) (l : Life n) (last : Call) 
   pub opens : (called opener (ran l.before (no_channels l.last)).table).table ≡ born n l
   pub ends : channel_of n (called last (table_after n l)).table.channels ≡ None
 
-pub record IsAccounted (s : SessionState) (calls : List Call) (said : List Record) : Type 0 where
+pub record IsAccounted (s : SessionState) (calls : List Call) (output : List Record) : Type 0 where
   pub table : s.table ≡ (ran calls (no_channels 0)).table
-  pub packets : channel_packets said ≡ said_packets (ran calls (no_channels 0)).said
+  pub packets : channel_packets output ≡ said_packets (ran calls (no_channels 0)).output
   pub lives : (n : ℕ) (l : Life n) → IsLife calls n l → HasAccount s n l
   -- of a channel that has ended what was sent is a prefix of what was handed in
   pub ended : (n : ℕ) (l : Life n) (last : Call) → IsEndedLife calls n l last → IsFront (bytes_in (sent_with n l last)) (taken n l.calls)

@@ -16,12 +16,12 @@ use Rattle.sshc_run_script.specs.SessionPaths.{EachPath}
 abbrev pub is_open_answer : Record → Bool
 is_open_answer (Resolved ticket (ChannelOpened id)) = true
 is_open_answer (Resolved ticket (ChannelOpenFailed reason)) = true
-is_open_answer said = false
+is_open_answer output = false
 
 -- how many of these records answer an open of ours
 abbrev pub opens_answered : List Record → ℕ
 opens_answered [] = 0
-opens_answered (said ∷ records) = (if is_open_answer said then 1 else 0) + opens_answered records
+opens_answered (output ∷ records) = (if is_open_answer output then 1 else 0) + opens_answered records
 
 -- how many of these calls of the channel table open a channel of ours
 abbrev pub opens_asked : List Call → ℕ

@@ -29,15 +29,15 @@ opening_since m own max before now script = opening_of m own max (since before.c
 
 -- these are a prefix of the opening's records or, once it opens the session, all of them followed by more
 abbrev pub BeginsAs : {S : Type 0} {X : Type 0} → List X → OpeningStop S → List X → Type 0
-BeginsAs outputs (opens_before s frames left) said = IsFront said outputs ⊎ IsFront outputs said
-BeginsAs outputs (stops_with stop) said = IsFront said outputs
-BeginsAs outputs through said = IsFront said outputs
+BeginsAs outputs (opens_before s frames left) output = IsFront output outputs ⊎ IsFront outputs output
+BeginsAs outputs (stops_with stop) output = IsFront output outputs
+BeginsAs outputs through output = IsFront output outputs
 
 -- these are all of the opening's records and it ends in this way, or it opens the session and these follow them
 abbrev pub ConcludesAs : {S : Type 0} → List Record → OpeningStop S → List Record → Ended → Type 0
-ConcludesAs outputs (opens_before s frames left) said e = IsFront outputs said
-ConcludesAs outputs (stops_with stop) said e = (said ≡ outputs) × (stop ≡ ended e)
-ConcludesAs outputs through said e = (said ≡ outputs) × (e ≡ ScriptEnd)
+ConcludesAs outputs (opens_before s frames left) output e = IsFront outputs output
+ConcludesAs outputs (stops_with stop) output e = (output ≡ outputs) × (stop ≡ ended e)
+ConcludesAs outputs through output e = (output ≡ outputs) × (e ≡ ScriptEnd)
 
 -- ---- the guarantees of a whole run
 

@@ -15,14 +15,14 @@ use Rattle.sshc_run_script.specs.ScriptRun.{Run, answers_of}
 -- which events, records and askers are the part's
 pub record Own : Type 0 where
   pub event : Frame → Bool
-  pub said : Record → Bool
+  pub output : Record → Bool
   pub asker : Asker → Bool
 
 abbrev pub own_events : Own → List Frame → List Frame
 own_events own frames = filter own.event frames
 
 abbrev pub own_records : Own → List Record → List Record
-own_records own records = filter own.said records
+own_records own records = filter own.output records
 
 abbrev pub own_calls : Own → List SignCall → List SignCall
 own_calls own calls = filter (λ (call : SignCall). own.asker call.by) calls
@@ -36,7 +36,7 @@ own_answers own calls = answers_of (own_calls own calls)
 -- the test has this result for each record
 abbrev pub SaysBy : (Record → Bool) → Bool → List Record → Type 0
 SaysBy test is [] = Unit {0}
-SaysBy test is (said ∷ records) = (test said ≡ is) × SaysBy test is records
+SaysBy test is (output ∷ records) = (test output ≡ is) × SaysBy test is records
 
 -- the test has this result for each asker
 abbrev pub AsksBy : {A : Type 0} → (Asker → Bool) → Bool → Asking A → Type 0

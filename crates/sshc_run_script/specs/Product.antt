@@ -26,14 +26,14 @@ both_machine own one other = record { first = record { one = one.first; other = 
 
 -- the records and calls of each are its own, at its own events
 pub record Apart {A : Type 0} {B : Type 0} (own : Own) (one : Turns A) (other : Turns B) : Type 0 where
-  pub one_says : (s : A) (frame : Frame) → own.event frame ≡ true → Always (λ (t : TurnOf A). SaysBy own.said true t.records) (one s frame)
+  pub one_says : (s : A) (frame : Frame) → own.event frame ≡ true → Always (λ (t : TurnOf A). SaysBy own.output true t.records) (one s frame)
   pub one_asks : (s : A) (frame : Frame) → own.event frame ≡ true → AsksBy own.asker true (one s frame)
-  pub other_says : (s : B) (frame : Frame) → own.event frame ≡ false → Always (λ (t : TurnOf B). SaysBy own.said false t.records) (other s frame)
+  pub other_says : (s : B) (frame : Frame) → own.event frame ≡ false → Always (λ (t : TurnOf B). SaysBy own.output false t.records) (other s frame)
   pub other_asks : (s : B) (frame : Frame) → own.event frame ≡ false → AsksBy own.asker false (other s frame)
 
 -- what isn't the first machine's
 abbrev pub others : Own → Own
-others own = record { event = λ frame. not (own.event frame); said = λ said. not (own.said said); asker = λ asker. not (own.asker asker) }
+others own = record { event = λ frame. not (own.event frame); output = λ output. not (own.output output); asker = λ asker. not (own.asker asker) }
 
 -- why both stop: by whose event it is
 abbrev pub BothCause : {A : Type 0} {B : Type 0} → Own → (A → Frame → RunStop → Type 0) → (B → Frame → RunStop → Type 0) → Both A B → Frame → RunStop → Type 0

@@ -7,7 +7,7 @@ use Rattle.sshc_wire.specs.declared.record.Record.{Record}
 use Rattle.sshc_wire.specs.Records.{record_text}
 
 abbrev pub line : Record → List ℕ
-line said = text_line (record_text said)
+line output = text_line (record_text output)
 
 abbrev pub lines : List Record → List ℕ
 lines records = flat_map line records

@@ -21,7 +21,7 @@ is_session_asker Session = true
 is_session_asker (Agent connection) = false
 
 abbrev pub session_own : Own
-session_own = record { event = λ frame. is_session_kind frame.kind; said = is_session_record; asker = is_session_asker }
+session_own = record { event = λ frame. is_session_kind frame.kind; output = is_session_record; asker = is_session_asker }
 
 -- why an agent's event stops a run: its fields are outside the grammar
 abbrev pub IsAgentCause : Frame → RunStop → Type 0

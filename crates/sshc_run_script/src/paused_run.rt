@@ -172,9 +172,11 @@ impl PausedRun {
     ) -> RunStep
         // Whatever the run was handed before: it is the run of that and of these events, by the tables.
         ensures takes { Takes (V.accepts verifier.now) self.old events.now
-            (since (G.calls signer.old) (G.calls signer.new)) (text_since lines.old.items lines.new.items) self.new result }
+            (since (G.calls signer.old) (G.calls signer.new))
+            (text_since lines.old.items lines.new.items) self.new result }
         // `SignerFault` is returned only if the signer's count of refusals rose.
-        ensures signer { result ≡ RunStep.Refused RunError.SignerFault → Rose (G.refusals signer.old) (G.refusals signer.new) }
+        ensures signer { result
+            ≡ RunStep.Refused RunError.SignerFault → Rose (G.refusals signer.old) (G.refusals signer.new) }
         ensures lines { lines.new.items ≡ lines.old.items ++ text_since lines.old.items lines.new.items }
         ensures gained { G.calls signer.new ≡ G.calls signer.old ++ since (G.calls signer.old) (G.calls signer.new) }
     {

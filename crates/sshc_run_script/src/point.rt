@@ -14,7 +14,7 @@ use std::alloc::Global;
 /// Memory that is kept from one event to the next: of an agent's records, and where lines are made.
 #[derive(Drop)]
 pub struct Buffers {
-    pub said: Outbox,
+    pub output: Outbox,
     pub lines: LineBuffer,
 }
 
@@ -49,7 +49,7 @@ impl Point {
             place: 0,
             last: 0,
             buffers: Buffers {
-                said: Outbox::new(alloc),
+                output: Outbox::new(alloc),
                 lines: LineBuffer::new(alloc),
             },
         })

@@ -38,8 +38,8 @@ fn serve_event<G: LocalSigner, K: Sink>(
     ensures no_read { result ≢ Some (Err RunError.ReadFault) }
     ensures signer { SignerTaken (G.refusals signer.old) (G.refusals signer.new) result }
 {
-    match agents.take(moment, event, signer, &mut buffers.said) {
-        Ok(()) => match write_lines(&mut buffers.lines, sink, &buffers.said) {
+    match agents.take(moment, event, signer, &mut buffers.output) {
+        Ok(()) => match write_lines(&mut buffers.lines, sink, &buffers.output) {
             Ok(()) => None,
             Err(failed) => Some(Err(write_failed(failed))),
         },

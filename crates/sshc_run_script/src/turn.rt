@@ -82,7 +82,11 @@ pub fn event_error_at(place: u64, e: EventError) -> RunError
 }
 
 fn next_error_at(place: u64, e: NextError) -> RunError
-    ensures { result ≡ (elim e [ NextError.NoMemory ↦ RunError.NoMemory | NextError.ReadFault ↦ RunError.ReadFault | NextError.Bad ↦ RunError.BadEvent place ]) }
+    ensures { result ≡ (elim e [
+      | NextError.NoMemory ↦ RunError.NoMemory
+      | NextError.ReadFault ↦ RunError.ReadFault
+      | NextError.Bad ↦ RunError.BadEvent place
+    ]) }
 {
     match e {
         NextError::NoMemory => RunError::NoMemory,

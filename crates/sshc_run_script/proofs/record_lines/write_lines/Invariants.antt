@@ -1,6 +1,5 @@
 use Rattle.std.proofs.Common.{◌≡◌, take}
-use Rattle.sshc_wire.specs.Contents.{append, WritesMove}
-use Rattle.sshc_run_script.specs.RecordLines.{lines}
+use Rattle.sshc_run_script.proofs.RunNames.{append, WritesMove, lines}
 use Rattle.sshc_run_script.proofs.record_lines.write_lines.Given as goal
 
 abbrev pub invariant-loop-at : goal.invariant-loop-at

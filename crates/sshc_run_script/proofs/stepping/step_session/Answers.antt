@@ -1,9 +1,8 @@
 use Rattle.std.proofs.Common.{[], ◌∷◌}
 use Rattle.sshc_client_state.specs.OpeningStep.{Lent, lent_session}
 use Rattle.sshc_run_script.specs.TurnContracts.{hosts_of}
-use Rattle.sshc_run_script.proofs.SessionSteps.{session_came, session_ready, session_gained}
+use Rattle.sshc_run_script.proofs.SessionSteps.{hosts_kept, session_came, session_ready, session_gained}
 use Rattle.sshc_run_script.proofs.SignerFaults.{step_signer}
-use Rattle.sshc_run_script.proofs.SettingsKept.{hosts_kept}
 use Rattle.sshc_run_script.proofs.stepping.step_session.Goals as goal
 
 pub returns-clause-came : goal.returns-clause-came

@@ -1,10 +1,6 @@
 use Rattle.std.proofs.Common.{ap, ◌∙◌, ◌≡◌, ◌+◌, Ok, Some, None, arith, refl, sym}
-use Rattle.sshc_wire.specs.ContentsLaws.{moved_for, no_writes}
-use Rattle.sshc_key.specs.Signers.{since}
 use Rattle.sshc_auth.specs.declared.ended.Ended.TheVariants.{ScriptEnd}
-use Rattle.sshc_run_script.specs.ScriptRun.{spot}
-use Rattle.sshc_run_script.specs.RunTurn.{kept, run_turn}
-use Rattle.sshc_run_script.specs.TurnContracts.{hosts_of}
+use Rattle.sshc_run_script.proofs.RunNames.{moved_for, no_writes, since, spot, kept, run_turn, hosts_of}
 use Rattle.sshc_run_script.proofs.RunCauses.{never_at_end}
 use Rattle.sshc_run_script.proofs.RunUnfold.{end_ends, next_ends, not_taken, taken_gives}
 use Rattle.sshc_run_script.proofs.turn.one_turn.Goals as goal

@@ -1,10 +1,6 @@
 use Rattle.std.proofs.Common.{◌≡◌, true, false}
-use Rattle.sshc_run_reader.specs.Script.{frame_at}
-use Rattle.sshc_run_script.specs.AgentsTurn.{agents_turn}
-use Rattle.sshc_run_script.specs.RunTurn.{kept}
 use Rattle.sshc_run_script.specs.SessionPart.{is_session_kind, session_own}
-use Rattle.sshc_run_script.specs.SessionTurn.{session_turn}
-use Rattle.sshc_run_script.specs.TurnContracts.{hosts_of}
+use Rattle.sshc_run_script.proofs.RunNames.{frame_at, agents_turn, kept, session_turn, hosts_of}
 use Rattle.sshc_run_script.proofs.ProductTurns.{one_takes_so, other_takes_so}
 use Rattle.sshc_run_script.proofs.turn.take_event.Goals as goal
 

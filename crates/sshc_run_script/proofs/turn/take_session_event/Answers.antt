@@ -1,5 +1,4 @@
-use Rattle.sshc_run_reader.specs.Script.{frame_at}
-use Rattle.sshc_run_script.specs.TurnContracts.{hosts_of}
+use Rattle.sshc_run_script.proofs.RunNames.{frame_at, hosts_of}
 use Rattle.sshc_run_script.proofs.EventTurns.{unread_turn, event_taken}
 use Rattle.sshc_run_script.proofs.turn.take_session_event.Goals as goal
 

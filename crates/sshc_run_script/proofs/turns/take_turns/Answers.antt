@@ -1,10 +1,6 @@
 use Rattle.std.proofs.Common.{arith, refl, subst, ap, sym, ◌∙◌, ◌≡◌, ◌-◌, ℕ, Some}
-use Rattle.sshc_wire.specs.ContentsLaws.{no_writes, writes_on, writes_end, moved_for}
-use Rattle.sshc_run_script.specs.Outcome.{Streams, streams, Ends}
-use Rattle.sshc_run_script.specs.Ready.{IsReady}
-use Rattle.sshc_run_script.specs.ScriptRun.{Spot, spot, run}
-use Rattle.sshc_run_script.specs.RunTurn.{RunState, kept, run_turn}
-use Rattle.sshc_run_script.specs.TurnContracts.{hosts_of}
+use Rattle.sshc_run_script.proofs.RunNames.{no_writes, writes_on, writes_end, moved_for, Streams, streams, Ends}
+use Rattle.sshc_run_script.proofs.RunNames.{IsReady, Spot, spot, run, RunState, kept, run_turn, hosts_of}
 use Rattle.sshc_run_script.proofs.RunLoop.{along_none, along_more, along_ends, pauses_still, turn_ends}
 use Rattle.sshc_run_script.proofs.RunUnfold.{limit_ends, limit_still}
 use Rattle.sshc_run_script.proofs.turns.take_turns.Goals as goal

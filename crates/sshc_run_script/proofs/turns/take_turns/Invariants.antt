@@ -1,11 +1,6 @@
 use Rattle.std.proofs.Common.{◌≡◌, ◌+◌, ◌*◌, ◌≤◌}
-use Rattle.sshc_wire.specs.Contents.{WritesMove}
 use Rattle.sshc_run_script.specs.LoopInvariant.{IsAlong}
-use Rattle.sshc_run_script.specs.Outcome.{streams}
-use Rattle.sshc_run_script.specs.Ready.{IsReady}
-use Rattle.sshc_run_script.specs.ScriptRun.{run, spot}
-use Rattle.sshc_run_script.specs.RunTurn.{kept, run_turn}
-use Rattle.sshc_run_script.specs.TurnContracts.{hosts_of}
+use Rattle.sshc_run_script.proofs.RunNames.{WritesMove, streams, IsReady, run, spot, kept, run_turn, hosts_of}
 use Rattle.sshc_run_script.proofs.turns.take_turns.Given as goal
 
 abbrev pub invariant-loop-turn : goal.invariant-loop-turn
