@@ -6,9 +6,9 @@ program=crates/sshc_bench/out/sshc_bench
 count() { valgrind --tool=callgrind --callgrind-out-file=/dev/null "$program" "$@" 2>&1 >/dev/null | sed -n 's/.*refs: *//p' | tr -d ,; }
 for word in list sign; do
     for keys in 1 100 1000; do
-        few=$(count "$word" "$keys" 10)
-        many=$(count "$word" "$keys" 110)
-        echo "$word, $keys keys: $(((many - few) / 100)) instructions each"
+        few=$(count "$word" "$keys" 100)
+        many=$(count "$word" "$keys" 1100)
+        echo "$word, $keys keys: $(((many - few) / 1000)) instructions each"
     done
 done
 for word in list sign; do

@@ -5,7 +5,7 @@ mod frames;
 use frames::{adds, asks_to_sign, lists};
 use sshc_agent_core::{AgentCore, AgentInput, AgentOutput};
 use sshc_toy::ToySigner;
-use sshc_wire::{NoMemory, Octets};
+use sshc_wire::NoMemory;
 use std::alloc::Global;
 
 /// How many bytes an answer has; 0 for any other output.
@@ -16,9 +16,9 @@ fn size(output: &AgentOutput) -> u64 {
     }
 }
 
-/// Takes a frame at a moment, and returns how many bytes the answer has.
-fn answered(agent: &mut AgentCore, signer: &mut ToySigner, moment: u32, frame: Octets) -> u64 {
-    let output = agent.step(u64::from(moment), 1, &AgentInput::Frame(frame), signer);
+/// Takes an input at a moment, and returns how many bytes the answer has.
+fn answered(agent: &mut AgentCore, signer: &mut ToySigner, moment: u32, input: &AgentInput) -> u64 {
+    let output = agent.step(u64::from(moment), 1, input, signer);
     size(&output)
 }
 
@@ -30,9 +30,23 @@ fn add(
     keys: u32,
 ) -> Result<(), NoMemory> {
     for number in 0..keys {
-        let _ = answered(agent, signer, 0, adds(alloc, number)?);
+        let input = AgentInput::Frame(adds(alloc, number)?);
+        let _ = answered(agent, signer, 0, &input);
     }
     Ok(())
+}
+
+/// What is asked, made before it is asked: a listing, or a signature by each key.
+fn inputs(alloc: Global, signs: bool, keys: u32) -> Result<Vec<AgentInput>, NoMemory> {
+    let mut inputs = Vec::new(alloc);
+    if signs {
+        for number in 0..keys {
+            inputs.push(AgentInput::Frame(asks_to_sign(alloc, number)?))?;
+        }
+    } else {
+        inputs.push(AgentInput::Frame(lists(alloc)?))?;
+    }
+    Ok(inputs)
 }
 
 /// Asks for a listing, or for a signature by one key after the other. Returns how many bytes the answers have.
@@ -45,14 +59,18 @@ fn ask(
     times: u32,
 ) -> Result<u64, NoMemory> {
     add(alloc, agent, signer, keys)?;
+    let inputs = inputs(alloc, signs, keys)?;
     let mut bytes = 0u64;
+    let mut at = 0usize;
     for time in 0..times {
-        let frame = if signs {
-            asks_to_sign(alloc, time.checked_rem(keys).unwrap_or(0))?
+        if let Some(input) = inputs.get(at) {
+            bytes = bytes.saturating_add(answered(agent, signer, time, input));
+        }
+        at = if at < inputs.len().saturating_sub(1) {
+            at + 1
         } else {
-            lists(alloc)?
+            0
         };
-        bytes = bytes.saturating_add(answered(agent, signer, time, frame));
     }
     Ok(bytes)
 }

@@ -7,7 +7,10 @@ use std::alloc::Global;
 
 /// The peer's KEXINIT came, and the exchange is done with the host key of the known hosts text.
 const EXCHANGED: &[u8] =
-    b"\0\0\0\x09\0\0\0\0\0\0\0\0\x01\0\0\0\x7e\0\0\0\0\0\0\0\0\x02\x01\0\0\0\x33\0\0\0\x0bssh-ed25519\0\0\0\x20\x97\x43\xef\x2d\xda\x2e\xae\x39\xe3\x25\x81\x77\x02\xd6\x6e\x27\x94\xd5\xe6\xf3\xf7\xf7\x2e\xef\xf4\x04\x5e\x7f\x4e\x21\xe6\x49\0\0\0\x0asession-id\0\0\0\0\0\0\0\0\0\0\0\0\x11curve25519-sha256\0\0\0\0\0\0\0\0\0\0\0\0\0\0\0\0\0";
+    b"\0\0\0\x09\0\0\0\0\0\0\0\0\x01\0\0\0\x7e\0\0\0\0\0\0\0\0\x02\x01\0\0\0\x33\0\0\0\x0bssh-ed25519\0\0\0\x20\x97\
+        \x43\xef\x2d\xda\x2e\xae\x39\xe3\x25\x81\x77\x02\xd6\x6e\x27\x94\xd5\xe6\xf3\xf7\xf7\x2e\xef\xf4\x04\x5e\x7f\
+        \x4e\x21\xe6\x49\0\0\0\x0asession-id\0\0\0\0\0\0\0\0\0\0\0\0\x11curve25519-sha256\0\0\0\0\0\0\0\0\0\0\0\0\0\0\
+        \0\0\0";
 
 /// A request of `alice` by a password, around its ticket.
 const ASKED: &[u8] = b"\0\0\0\x1d\0\0\0\0\0\0\0\0\x10";
