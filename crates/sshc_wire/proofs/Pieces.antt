@@ -1,5 +1,5 @@
 -- One more piece of a buffer that is filled, and of a text that is written.
-use Rattle.std.proofs.Common.{◌≡◌, ℕ, ◌+◌, ◌-◌, ◌≤◌, List, ◌++◌, length, take, drop, ap, sym, ◌∙◌, arith, length-append, length-take, length-drop, drop-drop, Option}
+use Rattle.std.proofs.Common.{◌≡◌, ℕ, ◌+◌, ◌-◌, ◌<◌, ◌≤◌, List, ◌++◌, length, take, drop, ap, sym, ◌∙◌, arith, length-append, length-take, length-drop, drop-drop, Option}
 use Rattle.std.proofs.lemmas.List.{take-append-drop, take-append-le, take-take, take_all}
 use Rattle.std.proofs.Math.Seq.{take-append-add}
 use borrow.Rule.Slice.PartMut.{put_mid, post_of}
@@ -42,6 +42,20 @@ within_piece f n piece fits within = grind (arith, length-take, length-drop)
 
 pub within_buffer : (f n : ℕ) (buf piece : List ℕ) → f ≤ length buf → n ≤ length piece → f + n ≤ length (put_mid f (length buf - f) buf piece)
 within_buffer f n buf piece fits within = grind (arith, length-append, length-take)
+
+-- all of the filled bytes are in the buffer
+pub length_filled : (f n : ℕ) (buf piece : List ℕ) → f ≤ length buf → n ≤ length piece → length (take (f + n) (put_mid f (length buf - f) buf piece)) ≡ f + n
+length_filled f n buf piece fits within = grind (arith, length-take, length-append)
+
+-- bytes that were read, and then those before an error
+pub given_more : (f n count r0 r1 r2 : ℕ) (front : List ℕ) (a b c : Option (List ℕ)) → 0 < f → f ≤ length front → n + f ≤ count → r1 ≤ r0 + 1 →
+    a ≡ prepend (take f front) b → ((given : List ℕ) × (length given < n) × (b ≡ prepend given c) × (r2 ≤ r1 + length given + 1)) →
+    (given : List ℕ) × (length given < count) × (a ≡ prepend given c) × (r2 ≤ r0 + length given + 1)
+given_more f n count r0 r1 r2 front a b c some fits within counted first more =
+    let long : length (take f front ++ more.0) ≡ f + length more.0 = grind (arith, length-append, length-take) in
+    let short : length more.0 < n = more.1 in
+    let reads : r2 ≤ r1 + length more.0 + 1 = more.3 in
+    (take f front ++ more.0, omega arith, first ∙ ap (λ o. prepend (take f front) o) more.2 ∙ prepend-prepend (take f front) more.0 c, omega arith)
 
 -- the next bytes of a list, copied to the front of a buffer
 pub next_bytes : (at n : ℕ) (contents left buf : List ℕ) → left ≡ drop at contents → take n buf ≡ take n left → drop at contents ≡ take n buf ++ drop (at + n) contents

@@ -148,8 +148,21 @@ pub fn read_front<'a, S: Source>(
         return Err(Failed::NoMemory);
     }
     let front = &mut memory.as_mut_slice()[..count];
-    let filled = read_full(source, front)?;
-    Ok(&front[..filled])
+    let first = match source.read(front) {
+        Ok(first) => first,
+        Err(failed) => return Err(failed),
+    };
+    if first == count {
+        return Ok(front);
+    }
+    if first == 0 {
+        return Ok(&front[..0]);
+    }
+    let rest = match read_full(source, &mut front[first..]) {
+        Ok(rest) => rest,
+        Err(failed) => return Err(failed),
+    };
+    Ok(&front[..first + rest])
 }
 
 /// The next bytes of the source: as many as are asked for, or all before its end.

@@ -1,9 +1,9 @@
 //! Real streams and files, whose contents no contract knows. Each is proved against its trait; that the real thing
 //! behaves so is not.
 
-ghost use Rattle.std.specs.Prelude.{None, Err, OnErr, IfOk, ◌≡◌, ◌≤◌, length};
+ghost use Rattle.std.specs.Prelude.{None, Err, OnErr, IfOk, IfSome, ◌≡◌, ◌≤◌, length};
 ghost use Rattle.sshc_wire.specs.Beside.{no_side};
-ghost use Rattle.sshc_wire.specs.Faults.{HasCause, Rose};
+ghost use Rattle.sshc_wire.specs.Faults.{CountsEmpty, HasCause, Rose};
 
 use crate::error::NoMemory;
 use crate::files::{Files, Found};
@@ -12,7 +12,7 @@ use crate::source::{Failed, Source, with_empty};
 use crate::text::Text;
 use std::alloc::Global;
 use std::fs::OpenOptions;
-use std::io::{BufReader, ErrorKind, Read, Write};
+use std::io::{BufRead, BufReader, ErrorKind, Read, Write};
 use std::marker::Model;
 use std::path::Path;
 use std::{fs, io};
@@ -20,17 +20,33 @@ use std::{fs, io};
 /// How often a call that a signal interrupts is made again. One that is interrupted more often has failed.
 const RETRIES: u32 = 1 << 16;
 
-/// Reads, and reads again where a signal interrupted the call.
-fn read_uninterrupted<R: Read>(inner: &mut R, buf: &mut [u8]) -> io::Result<usize>
-    ensures { IfOk result (λ n. n ≤ length buf.new) }
+/// Fills the buffer from the bytes that the reader holds, if it holds so many.
+fn take_held<R: Read>(inner: &mut BufReader<R>, buf: &mut [u8]) -> bool {
+    let size = buf.len();
+    let held = inner.buffer();
+    if held.len() < size {
+        return false;
+    }
+    buf.copy_from_slice(&held[..size]);
+    inner.consume(size);
+    true
+}
+
+/// Reads, and reads again where a signal interrupted the call. `None` where it failed.
+fn read_uninterrupted<R: Read>(inner: &mut R, buf: &mut [u8]) -> Option<usize>
+    ensures { IfSome result (λ n. n ≤ length buf.new) }
 {
     for _ in 0..RETRIES {
         match inner.read(buf) {
-            Err(error) if error.kind() == ErrorKind::Interrupted => {}
-            other => return other,
+            Ok(count) => return Some(count),
+            Err(error) => {
+                if error.kind() != ErrorKind::Interrupted {
+                    return None;
+                }
+            }
         }
     }
-    inner.read(buf)
+    inner.read(buf).ok()
 }
 
 /// Writes, and writes again where a signal interrupted the call.
@@ -80,6 +96,29 @@ impl<R: Read + Drop> StdSource<R> {
     }
 }
 
+impl<R: Read> StdSource<R> {
+    /// A read of the reader itself, which is counted already.
+    #[inline(never)]
+    fn read_on(&mut self, buf: &mut [u8]) -> Result<usize, Failed>
+        ensures bound { IfOk result (λ n. n ≤ length buf.new) }
+        ensures cause { HasCause self.old.faults self.new.faults result }
+        ensures calls { self.new.calls ≡ self.old.calls }
+        ensures empty { CountsEmpty result (length buf.new) self.old.empty self.new.empty }
+    {
+        match read_uninterrupted(&mut self.inner, buf) {
+            Some(count) => {
+                self.empty = with_empty(self.empty, count, buf.len());
+                Ok(count)
+            }
+            None => {
+                self.empty = self.empty.saturating_add(1);
+                self.faults = self.faults.saturating_add(1);
+                Err(Failed::Fault)
+            }
+        }
+    }
+}
+
 impl<R: Read> Source for StdSource<R> {
     ghost left = { λ s. None };
 
@@ -91,19 +130,13 @@ impl<R: Read> Source for StdSource<R> {
 
     ghost beside = { λ s. no_side };
 
+    #[inline(always)]
     fn read(&mut self, buf: &mut [u8]) -> Result<usize, Failed> {
         self.reads = self.reads.saturating_add(1);
-        match read_uninterrupted(&mut self.inner, buf) {
-            Ok(count) => {
-                self.empty = with_empty(self.empty, count, buf.len());
-                Ok(count)
-            }
-            Err(_) => {
-                self.empty = self.empty.saturating_add(1);
-                self.faults = self.faults.saturating_add(1);
-                Err(Failed::Fault)
-            }
+        if take_held(&mut self.inner, buf) {
+            return Ok(buf.len());
         }
+        self.read_on(buf)
     }
 }
 
