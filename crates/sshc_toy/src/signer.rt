@@ -47,7 +47,7 @@ fn can_sign(name: &str) -> bool
 fn signature_text(alloc: Global, name: &Text, body: &[u8; 20]) -> Result<Vec<u8>, NoMemory>
     ensures { IfOk result (λ v. v.items ≡ signature_text (record { name = name.now; body = body.now; sk = None })) }
 {
-    let mut out = Vec::new(alloc);
+    let mut out = Vec::with_capacity(alloc, name.as_str().len().saturating_add(28))?;
     put_text(&mut out, name.as_str())?;
     put_bytes(&mut out, body)?;
     Ok(out)
