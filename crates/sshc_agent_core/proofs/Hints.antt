@@ -1,4 +1,4 @@
--- Lemmas by which several goals of a function are proved, in sets, and words that are unfolded there.
+-- Lemmas by which several goals of a function are proved, in sets.
 use Rattle.sshc_agent_core.proofs.AskedLemmas.{asked_now, none_now, none_other}
 use Rattle.sshc_agent_core.proofs.Constrained.{kept_fails, kept_next, kept_no_more, shorter}
 use Rattle.sshc_agent_core.proofs.DueCuts.{cut_agree, none_cut, none_past}

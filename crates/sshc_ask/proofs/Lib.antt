@@ -4,4 +4,4 @@ mod AnswerLemmas
 mod CallLemmas
 mod Lists
 mod Faults
-mod Hints
+mod By

@@ -87,7 +87,7 @@ fn identity(key: PublicKey, comment: Text) -> AgentIdentity
 }
 
 /// Reads a key of a listing: its blob, its comment, and then the key in the blob.
-#[tactic(auto, unfolding(crate::specs::AgentCalls::Readings::identity_at, sshc_key::specs::KeyReading::octets_at, sshc_key::specs::KeyReading::utf8_at))]
+#[tactic(auto, unfolding(crate::proofs::By::identity_at, crate::proofs::By::octets_at, crate::proofs::By::utf8_at))]
 fn read_identity(alloc: Global, c: &mut Cursor<'_>) -> Result<AgentIdentity, Error>
     ensures { Gives (λ x. x) result c.new (identity_at c.old) }
 {

@@ -38,7 +38,7 @@ fn signature_of(alloc: Global, asked: Option<HashAlg>, text: &[u8]) -> Result<Si
 }
 
 /// The signature string of an answer, after it was checked.
-#[tactic(auto, unfolding(crate::proofs::Hints::signature_text_in, crate::proofs::Hints::octets_at))]
+#[tactic(auto, unfolding(crate::proofs::By::signature_text_in, crate::proofs::By::octets_at))]
 fn signature_text(alloc: Global, asked: Option<HashAlg>, body: &[u8]) -> Result<&[u8], Error>
     ensures { GivesAll (λ text. text.now) result (signature_text_in asked body.now) }
 {
@@ -79,7 +79,7 @@ pub(crate) fn signed_in(
 }
 
 /// The signature of the answer, whatever its name.
-#[tactic(auto, unfolding(crate::proofs::Hints::signature_reading, crate::proofs::Hints::octets_at))]
+#[tactic(auto, unfolding(crate::proofs::By::signature_reading, crate::proofs::By::octets_at))]
 pub(crate) fn signature_in(alloc: Global, answer: &[u8]) -> Result<Signature, Error>
     ensures { GivesAll (λ s. s) result (signature_reading answer.now) }
 {

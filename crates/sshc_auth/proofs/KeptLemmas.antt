@@ -304,10 +304,10 @@ accepts gate s t event old mid told first answered (x, is, went, id, kept_so) =
     let wanted : AsksFor s event key.0 = asks_for s event key.0 key.1 in
     let same : events.ExchangeDone wanted.exchange ≡ events.ExchangeDone x = sym wanted.is ∙ is in
     let one : wanted.exchange ≡ x = cc in
-    record { exchange = wanted.exchange; came = wanted.is; key = key.0; is_there = wanted.has; accepted = key.2; session_id = id ∙ ap (λ (y : ExchangeResult). y.session_hash) (sym one); kept = kept_so ∙ ap (λ (y : ExchangeResult). y.key) (sym one) }
+    record { exchange = wanted.exchange; is_done = wanted.is; key = key.0; is_there = wanted.has; accepted = key.2; session_id = id ∙ ap (λ (y : ExchangeResult). y.session_hash) (sym one); kept = kept_so ∙ ap (λ (y : ExchangeResult). y.key) (sym one) }
 
 accepts_shut : {E : Type 0} (gate : GateAnswers E) (event : Event) (t : OpeningState) → AcceptsFirst gate event t → AcceptsFirst gate event (shut t)
-accepts_shut gate event t a = record { exchange = a.exchange; came = a.came; key = a.key; is_there = a.is_there; accepted = a.accepted; session_id = a.session_id; kept = a.kept }
+accepts_shut gate event t a = record { exchange = a.exchange; is_done = a.is_done; key = a.key; is_there = a.is_there; accepted = a.accepted; session_id = a.session_id; kept = a.kept }
 
 behind_first : {E : Type 0} (gate : GateAnswers E) (s : OpeningState) (event : Event) (old mid : Outgoing) (told : Told) (calls : List SignCall) (at : Span) (answer : Step Error) (result : Step E) →
     IsFirst s → Answered gate (exchange_in event) old mid (Ok told) (asked_of s event) → at.before ≡ s → result ≡ map_step gate.told_as answer → Steps (open_row s event told) calls at answer → GoesOnFirst at.after result ⊎ AcceptsFirst gate event at.after

@@ -43,7 +43,7 @@ use Rattle.sshc_auth.specs.declared.opening.Phase.TheVariants as phases
 use Rattle.sshc_auth.specs.declared.order.EventSort.TheVariants as sorts
 use Rattle.sshc_auth.specs.declared.step.Told.{Told}
 use Rattle.sshc_auth.specs.declared.step.Told.TheVariants as telling
-use Rattle.sshc_auth.specs.Causes.{Part, number, boolean, string, text, prompts, extensions, end, Breaks, BreaksBehind, after_prompts, rest_of, AreTooMany, HasTooManyPrompts, AreUnknown, IsInvalidReason, IsLocal, IsUnexpectedIn, IsCause, IsKeptKey, IsEarly, IsNotUsers, IsOutOfTurn, WasToldNo, Disconnects, ReadsTexts, Why, why, Caused, AllCaused, accept_parts, parts_in}
+use Rattle.sshc_auth.specs.Causes.{FieldKind, number, boolean, string, text, prompts, extensions, end, Breaks, BreaksBehind, after_prompts, rest_of, AreTooMany, HasTooManyPrompts, AreUnknown, IsInvalidReason, IsLocal, IsUnexpectedIn, IsCause, IsKeptKey, IsEarly, IsNotUsers, IsOutOfTurn, WasToldNo, Disconnects, ReadsTexts, Why, why, Caused, AllCaused, accept_parts, parts_in}
 use Rattle.sshc_auth.specs.OpeningState.{OpeningState, is_awaiting}
 use Rattle.sshc_auth.specs.OpeningTable.{answer_row, auth_row, gssapi_row, is_pk_ok, auth_packet_row, packet_row_in, held_packet_row, is_exchanging, numbered_row, payload_row, authenticate_row_in, plain_row, user_row, unopened_row, event_row, turn_row, open_row}
 use Rattle.sshc_auth.specs.OpeningTable.Order.{sort_of, is_early, is_early_at, is_early_awaiting, is_out_of_turn, packet_in}
@@ -67,7 +67,7 @@ by_error P x cause = cause
 -- ---- parts
 
 -- a packet is broken if a part of it can't be read; else the cause is that of what follows the part
-pub part_cause : {A : Type 0} (P : Why) (parts : List Part) (read : Result (A × List ℕ) WireError) (on : A → List ℕ → Row) →
+pub part_cause : {A : Type 0} (P : Why) (parts : List FieldKind) (read : Result (A × List ℕ) WireError) (on : A → List ℕ → Row) →
     (BreaksBehind (λ rest. Breaks parts rest) (rest_of read) → P.refusal errors.SshEncoding) →
     ((x : A) (rest : List ℕ) → read ≡ Ok (x, rest) → (Breaks parts rest → P.refusal errors.SshEncoding) → Caused P (on x rest).next) →
     Caused P (with_part broken_row read on).next

@@ -138,14 +138,14 @@ IsTooMuch s event = ⊥
 -- ---- packets that are broken
 
 -- a part of a packet: a number, a boolean, a string, a text, prompts or extensions after their number, or its end
-pub data Part : Type 0 where
-  number : Part
-  boolean : Part
-  string : Part
-  text : Part
-  prompts : Part
-  extensions : Part
-  end : Part
+pub data FieldKind : Type 0 where
+  number : FieldKind
+  boolean : FieldKind
+  string : FieldKind
+  text : FieldKind
+  prompts : FieldKind
+  extensions : FieldKind
+  end : FieldKind
 
 abbrev pub rest_of : {A : Type 0} → Result (A × List ℕ) WireError → Option (List ℕ)
 rest_of (Ok x) = Some x.1
@@ -160,7 +160,7 @@ after_end [] = Some []
 after_end (b ∷ left) = None
 
 -- the bytes after a part; `None` where it is short or isn't text, or where bytes remain at the end
-abbrev pub after : Part → List ℕ → Option (List ℕ)
+abbrev pub after : FieldKind → List ℕ → Option (List ℕ)
 after number body = rest_of (number_at w32 body)
 after boolean body = rest_of (boolean_at body)
 after string body = rest_of (string_at body)
@@ -174,19 +174,19 @@ BreaksBehind Breaks None = Unit {0}
 BreaksBehind Breaks (Some rest) = Breaks rest
 
 -- one of the parts can't be read
-abbrev pub Breaks : List Part → List ℕ → Type 0
+abbrev pub Breaks : List FieldKind → List ℕ → Type 0
 Breaks [] body = ⊥
 Breaks (part ∷ parts) body = BreaksBehind (λ rest. Breaks parts rest) (after part body)
 
 -- 60 is another message for each class of request
-abbrev pub answer_parts : Class → List Part
+abbrev pub answer_parts : Class → List FieldKind
 answer_parts classes.Key = text ∷ string ∷ end ∷ []
 answer_parts classes.Prompts = text ∷ text ∷ text ∷ prompts ∷ end ∷ []
 answer_parts classes.Gssapi = string ∷ end ∷ []
 answer_parts class = []
 
 -- 61, 64 and 65 belong to GSSAPI; the parts of no other packet are read
-abbrev pub gssapi_parts : Class → ℕ → List Part
+abbrev pub gssapi_parts : Class → ℕ → List FieldKind
 gssapi_parts classes.Gssapi n =
     if n == USERAUTH_GSSAPI_TOKEN then string ∷ end ∷ []
     else (if n == USERAUTH_GSSAPI_ERROR then number ∷ number ∷ text ∷ text ∷ end ∷ []
@@ -194,7 +194,7 @@ gssapi_parts classes.Gssapi n =
     else []))
 gssapi_parts class n = []
 
-abbrev pub auth_parts : Class → ℕ → List Part
+abbrev pub auth_parts : Class → ℕ → List FieldKind
 auth_parts class n =
     if n == USERAUTH_FAILURE then text ∷ boolean ∷ end ∷ []
     else (if n == USERAUTH_SUCCESS then end ∷ []
@@ -204,18 +204,18 @@ auth_parts class n =
     else gssapi_parts class n))))
 
 -- a SERVICE_ACCEPT is read to its end if it names the service that was asked for
-abbrev pub accept_parts : Result (List ℕ × List ℕ) WireError → List Part
+abbrev pub accept_parts : Result (List ℕ × List ℕ) WireError → List FieldKind
 accept_parts (Ok name) = if bytes_eq name.0 (codes "ssh-userauth") then string ∷ end ∷ [] else string ∷ []
 accept_parts (Err e) = string ∷ []
 
-abbrev pub parts_in : Phase → Class → ℕ → List ℕ → List Part
+abbrev pub parts_in : Phase → Class → ℕ → List ℕ → List FieldKind
 parts_in phases.Service class n body = if n == SERVICE_ACCEPT then accept_parts (string_at body) else (if n == EXT_INFO then extensions ∷ end ∷ [] else [])
 parts_in phases.Auth class n body = auth_parts class n
 parts_in phase class n body = []
 
 -- the parts that are read of a packet of this number; a disconnection may come in any phase, and the bytes after it are
 -- ignored
-abbrev pub parts_of : OpeningState → ℕ → List ℕ → List Part
+abbrev pub parts_of : OpeningState → ℕ → List ℕ → List FieldKind
 parts_of s n body = if n == DISCONNECT then number ∷ text ∷ text ∷ [] else parts_in s.phase s.class n body
 
 abbrev pub IsBrokenPacket : OpeningState → Event → Type 0

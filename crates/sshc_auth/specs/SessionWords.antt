@@ -71,7 +71,7 @@ GoesOnFirst s result = s.phase ≡ phases.Exchanging
 -- the session's from now on
 pub record AcceptsFirst {E : Type 0} (gate : GateAnswers E) (event : Event) (s : OpeningState) : Type 0 where
   pub exchange : ExchangeResult
-  pub came : event ≡ events.ExchangeDone exchange
+  pub is_done : event ≡ events.ExchangeDone exchange
   pub key : PublicKeyOrCertificate
   pub is_there : host_key exchange.key ≡ Some key
   pub accepted : gate.judges key (Ok true)

@@ -16,7 +16,6 @@ use std::alloc::Global;
 const MIC_METHOD: usize = 19;
 
 /// The bytes to sign for a key in a request, which begin with the session id as a string.
-#[tactic(auto, using(std::proofs::lemmas::List::append_assoc), unfolding(crate::specs::RequestTexts::signed, crate::specs::RequestTexts::unsigned_request))]
 pub fn part_to_sign(
     alloc: Global,
     session_id: &[u8],

@@ -1,4 +1,4 @@
--- Lemmas by which several goals of a function are proved, in sets, and words that are unfolded there.
+-- Lemmas by which several goals of a function are proved, in sets.
 use Rattle.sshc_c_calls.proofs.Asking.{asked_none, asked_some, starved}
 use Rattle.sshc_c_calls.proofs.Decoding.{reads_copied, reads_no_room, reads_nothing}
 

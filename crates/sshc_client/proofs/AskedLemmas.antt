@@ -185,11 +185,11 @@ accepted_first : {E : Type 0} (told_as : Error → E) (judges : PublicKeyOrCerti
     AcceptsFirst (verdict_gate told_as accepts) event t → AcceptsFirst (handler_gate told_as judges) event t
 accepted_first {E = E} told_as judges accepts event s t (asking.HostKey key) asked said a =
     let for : AsksFor s event key = asks_for s event key asked in
-    let same_exchange : a.exchange ≡ for.exchange = same_done a.exchange for.exchange (sym a.came ∙ for.is) in
+    let same_exchange : a.exchange ≡ for.exchange = same_done a.exchange for.exchange (sym a.is_done ∙ for.is) in
     let same_key : key ≡ a.key = same_some key a.key (sym for.has ∙ ap (λ (x : ExchangeResult). host_key x.key) (sym same_exchange) ∙ a.is_there) in
     record {
       exchange = a.exchange;
-      came = a.came;
+      is_done = a.is_done;
       key = a.key;
       is_there = a.is_there;
       accepted = subst (λ (k : PublicKeyOrCertificate). judges k (Ok true)) same_key (subst (judges key) (sym a.accepted) said);

@@ -25,8 +25,8 @@ use Rattle.sshc_client_table.specs.SessionTable.Opens.{confirmed_row, failed_row
 use Rattle.sshc_client_table.specs.SessionTable.Streams.{bytes_row}
 use Rattle.sshc_client_table.specs.Grown.{Grown}
 use Rattle.sshc_client_table.specs.GrownLaws.{done-append, grown_same}
-use Rattle.sshc_client_rows.specs.declared.flow.Flow.{Flow}
-use Rattle.sshc_client_rows.specs.declared.flow.Flow.TheVariants as flows
+use Rattle.sshc_client_rows.specs.declared.flow.RowFlow.{RowFlow}
+use Rattle.sshc_client_rows.specs.declared.flow.RowFlow.TheVariants as flows
 use Rattle.sshc_client_rows.specs.Follows.{Follows, all_moves, default_opinions}
 use Rattle.sshc_client.specs.declared.stop.Stop.{Stop}
 use Rattle.sshc_client.specs.declared.stop.Stop.TheVariants.{Own, Handler}
@@ -114,10 +114,10 @@ let_go_moved defaults was is callback back old mid new u (Err v) h moved = recor
   keeps = h.keeps;
 }
 
-pub let_go_call : {E : Type 0} (defaults : Type 0) (was is : HandlerAt) (callback : Callback) (back : List Move) (old mid new : SessionState) (u : Unit {0}) (moved : Result (Unit {0}) RanOut) (result : Result Flow (Stop E)) →
+pub let_go_call : {E : Type 0} (defaults : Type 0) (was is : HandlerAt) (callback : Callback) (back : List Move) (old mid new : SessionState) (u : Unit {0}) (moved : Result (Unit {0}) RanOut) (result : Result RowFlow (Stop E)) →
     result ≡ went_result moved → Calls {E = E} defaults callback (Ok tt) was is old mid (Ok u) → Does back mid new moved → FollowsOne {E = E} defaults was is (asking [] callback back) old new result
 let_go_call {E = E} defaults was is callback back old mid new u moved result is_so h m =
-    subst (λ (x : Result Flow (Stop E)). FollowsOne {E = E} defaults was is (asking [] callback back) old new x) (sym is_so) (let_go_moved {E = E} defaults was is callback back old mid new u moved h m)
+    subst (λ (x : Result RowFlow (Stop E)). FollowsOne {E = E} defaults was is (asking [] callback back) old new x) (sym is_so) (let_go_moved {E = E} defaults was is callback back old mid new u moved h m)
 
 -- ---- a row that makes no call
 
@@ -166,7 +166,7 @@ cut_by defaults row old new (inr f) = inr (record {
 cut_plain : (defaults : Type 0) (row : SessionRow) (old new : SessionState) → Fronts (all_moves row) old new → Cut defaults row old new
 cut_plain defaults row old new f = cut_by defaults row old new (onto_fronts row.front (row.back Accept) old new f)
 
-plain_row_follows : (E : Type 0) (defaults : Type 0) (was is : HandlerAt) (row : SessionRow) (old new : SessionState) (r : Result Flow Error) →
+plain_row_follows : (E : Type 0) (defaults : Type 0) (was is : HandlerAt) (row : SessionRow) (old new : SessionState) (r : Result RowFlow Error) →
     Follows row old new r → FollowsRow {E = E} defaults was is row old new (own_result r)
 plain_row_follows E defaults was is row old new (Ok flows.Went) f = (f.0, handled_plain defaults row old new f.1)
 plain_row_follows E defaults was is row old new (Ok (flows.Ended e)) f = (f.0, handled_plain defaults row old new f.1)
@@ -174,21 +174,21 @@ plain_row_follows E defaults was is row old new (Err e) (inl f) = inl (f.0, cut_
 plain_row_follows E defaults was is row old new (Err e) (inr f) = inr (f.0, handled_plain defaults row old new f.1)
 
 -- The handler is as it was before in all of these.
-pub own_one : {E : Type 0} (defaults : Type 0) (h : HandlerAt) (row : SessionRow) (old new : SessionState) (r : Result Flow Error) (result : Result Flow (Stop E)) →
+pub own_one : {E : Type 0} (defaults : Type 0) (h : HandlerAt) (row : SessionRow) (old new : SessionState) (r : Result RowFlow Error) (result : Result RowFlow (Stop E)) →
     result ≡ own_result r → Follows row old new r → FollowsOne {E = E} defaults h h row old new result
 own_one {E = E} defaults h row old new r result is f = record {
   opinions = default_opinions old;
   default = λ plain. refl;
-  follows = subst (λ (x : Result Flow (Stop E)). FollowsRow defaults h h row old new x) (sym is) (plain_row_follows E defaults h h row old new r f);
+  follows = subst (λ (x : Result RowFlow (Stop E)). FollowsRow defaults h h row old new x) (sym is) (plain_row_follows E defaults h h row old new r f);
   keeps = unheard (calls_of row) h h (same_handler h);
 }
 
-pub own_with : {E : Type 0} (defaults : Type 0) (h : HandlerAt) (row : Opinions → SessionRow) (old new : SessionState) (r : Result Flow Error) (result : Result Flow (Stop E)) →
+pub own_with : {E : Type 0} (defaults : Type 0) (h : HandlerAt) (row : Opinions → SessionRow) (old new : SessionState) (r : Result RowFlow Error) (result : Result RowFlow (Stop E)) →
     result ≡ own_result r → Follows (row (default_opinions old)) old new r → FollowsWith {E = E} defaults h h row old new result
 own_with {E = E} defaults h row old new r result is f = record {
   opinions = default_opinions old;
   default = λ plain. refl;
-  follows = subst (λ (x : Result Flow (Stop E)). FollowsRow defaults h h (row (default_opinions old)) old new x) (sym is) (plain_row_follows E defaults h h (row (default_opinions old)) old new r f);
+  follows = subst (λ (x : Result RowFlow (Stop E)). FollowsRow defaults h h (row (default_opinions old)) old new x) (sym is) (plain_row_follows E defaults h h (row (default_opinions old)) old new r f);
   keeps = unheard (calls_of (row (default_opinions old))) h h (same_handler h);
 }
 
@@ -238,7 +238,7 @@ ran_out_with defaults h row old new same = record {
 
 -- ---- a move before a row
 
-pub front_row : {E : Type 0} (defaults : Type 0) (was is : HandlerAt) (m : Move) (row : SessionRow) (old new : SessionState) (r : Result Flow (Stop E)) →
+pub front_row : {E : Type 0} (defaults : Type 0) (was is : HandlerAt) (m : Move) (row : SessionRow) (old new : SessionState) (r : Result RowFlow (Stop E)) →
     FollowsRow defaults was is row (after m old) new r → FollowsRow defaults was is (behind_moves (m ∷ []) row) old new r
 front_row defaults was is m row old new (Ok flows.Went) f = (f.0, record { mid = f.1.mid; answer = f.1.answer; let_go = f.1.let_go; is = f.1.is })
 front_row defaults was is m row old new (Ok (flows.Ended e)) f = (f.0, record { mid = f.1.mid; answer = f.1.answer; let_go = f.1.let_go; is = f.1.is })
@@ -247,18 +247,18 @@ front_row defaults was is m row old new (Err (Own e)) (inl (memory, inr f)) = in
 front_row defaults was is m row old new (Err (Own e)) (inr f) = inr (f.0, record { mid = f.1.mid; answer = f.1.answer; let_go = f.1.let_go; is = f.1.is })
 front_row defaults was is m row old new (Err (Handler e)) f = record { asked = f.asked; grown = f.grown; rose = f.rose; changed = f.changed }
 
-pub front_one : {E : Type 0} (defaults : Type 0) (was is : HandlerAt) (m : Move) (row : SessionRow) (old new : SessionState) (r : Result Flow (Stop E)) →
+pub front_one : {E : Type 0} (defaults : Type 0) (was is : HandlerAt) (m : Move) (row : SessionRow) (old new : SessionState) (r : Result RowFlow (Stop E)) →
     FollowsOne defaults was is row (after m old) new r → FollowsOne defaults was is (behind_moves (m ∷ []) row) old new r
 front_one defaults was is m row old new r f = record { opinions = default_opinions old; default = λ plain. refl; follows = front_row defaults was is m row old new r f.follows; keeps = f.keeps }
 
 -- the same of a call that follows a move
-pub asked_front : {E : Type 0} (defaults : Type 0) (was is : HandlerAt) (m : Move) (callback : Callback) (back : List Move) (old new : SessionState) (r : Result Flow (Stop E)) →
+pub asked_front : {E : Type 0} (defaults : Type 0) (was is : HandlerAt) (m : Move) (callback : Callback) (back : List Move) (old new : SessionState) (r : Result RowFlow (Stop E)) →
     FollowsOne defaults was is (asking [] callback back) (after m old) new r → FollowsOne defaults was is (asking (m ∷ []) callback back) old new r
 unfolding asking
 asked_front defaults was is m callback back old new r f = front_one defaults was is m (asking [] callback back) old new r f
 
 -- a report on a channel, after a move
-pub reports_front : {E : Type 0} (defaults : Type 0) (was is : HandlerAt) (m : Move) (id : ℕ) (output told : ChannelRecord) (back : List Move) (old new : SessionState) (r : Result Flow (Stop E)) →
+pub reports_front : {E : Type 0} (defaults : Type 0) (was is : HandlerAt) (m : Move) (id : ℕ) (output told : ChannelRecord) (back : List Move) (old new : SessionState) (r : Result RowFlow (Stop E)) →
     output ≡ told → FollowsOne defaults was is (reports [] id told back) (after m old) new r → FollowsOne defaults was is (reports (m ∷ []) id output back) old new r
 unfolding asking
 reports_front defaults was is m id output told back old new r same f =
@@ -266,7 +266,7 @@ reports_front defaults was is m id output told back old new r same f =
     (front_one defaults was is m (reports [] id told back) old new r f)
 
 -- a call that was made before
-pub called_before : {E : Type 0} {calls : List Callback} (defaults : Type 0) (was mid is : HandlerAt) (row : SessionRow) (old new : SessionState) (r : Result Flow (Stop E)) →
+pub called_before : {E : Type 0} {calls : List Callback} (defaults : Type 0) (was mid is : HandlerAt) (row : SessionRow) (old new : SessionState) (r : Result RowFlow (Stop E)) →
     HandlerHeard calls was mid → FollowsRow defaults mid is row old new r → FollowsRow defaults was is row old new r
 called_before defaults was mid is row old new (Ok flows.Went) keeps f = f
 called_before defaults was mid is row old new (Ok (flows.Ended e)) keeps f = f
@@ -274,7 +274,7 @@ called_before defaults was mid is row old new (Err (Own e)) keeps f = f
 called_before defaults was mid is row old new (Err (Handler e)) keeps f = record { asked = f.asked; grown = f.grown; rose = rose_later was.refusals mid.refusals is.refusals keeps.later f.rose; changed = f.changed }
 
 -- a row whose call isn't lent the session
-pub opined_row : {E : Type 0} (defaults : Type 0) (was is : HandlerAt) (call : Option Callback) (row : SessionRow) (old new : SessionState) (r : Result Flow (Stop E)) →
+pub opined_row : {E : Type 0} (defaults : Type 0) (was is : HandlerAt) (call : Option Callback) (row : SessionRow) (old new : SessionState) (r : Result RowFlow (Stop E)) →
     FollowsRow defaults was is row old new r → FollowsRow defaults was is (opining call row) old new r
 opined_row defaults was is call row old new (Ok flows.Went) f = (f.0, record { mid = f.1.mid; answer = f.1.answer; let_go = f.1.let_go; is = f.1.is })
 opined_row defaults was is call row old new (Ok (flows.Ended e)) f = (f.0, record { mid = f.1.mid; answer = f.1.answer; let_go = f.1.let_go; is = f.1.is })
@@ -289,7 +289,7 @@ opines_default defaults call default h = record { keeps = unheard (call ∷ []) 
 
 -- ---- our window is refilled
 
-retarget_row : {E : Type 0} (defaults : Type 0) (was is : HandlerAt) (positive : Bool) (id len : ℕ) (output : ChannelRecord) (window : ℕ) (old new : SessionState) (r : Result Flow (Stop E)) →
+retarget_row : {E : Type 0} (defaults : Type 0) (was is : HandlerAt) (positive : Bool) (id len : ℕ) (output : ChannelRecord) (window : ℕ) (old new : SessionState) (r : Result RowFlow (Stop E)) →
     FollowsRow defaults was is (reports [] id output []) (done (if positive then Targets window ∷ [] else []) (after (Receives id len) old)) new r →
     FollowsRow defaults was is (reports (Receives id len ∷ (if positive then Targets window ∷ [] else [])) id output []) old new r
 unfolding asking
@@ -299,7 +299,7 @@ retarget_row defaults was is true id len output window old new r f =
 retarget_row defaults was is false id len output window old new r f =
     front_row defaults was is (Receives id len) (reports [] id output []) old new r f
 
-pub kept_window : {E : Type 0} (defaults : Type 0) (was is : HandlerAt) (id len : ℕ) (output : ChannelRecord) (old new : SessionState) (r : Result Flow (Stop E)) →
+pub kept_window : {E : Type 0} (defaults : Type 0) (was is : HandlerAt) (id len : ℕ) (output : ChannelRecord) (old new : SessionState) (r : Result RowFlow (Stop E)) →
     adjusted_at id len (own_window old) old.table ≡ false → FollowsOne defaults was is (reports [] id output []) (after (Receives id len) old) new r →
     FollowsWith defaults was is (λ o. bytes_row o old id len output) old new r
 unfolding asking
@@ -310,7 +310,7 @@ kept_window defaults was is id len output old new r kept f = record {
   keeps = rw kept f.keeps;
 }
 
-pub brought_back : {E : Type 0} (defaults : Type 0) (was mid is : HandlerAt) (id len : ℕ) (output : ChannelRecord) (old last new : SessionState) (r : Result Flow (Stop E)) →
+pub brought_back : {E : Type 0} (defaults : Type 0) (was mid is : HandlerAt) (id len : ℕ) (output : ChannelRecord) (old last new : SessionState) (r : Result RowFlow (Stop E)) →
     adjusted_at id len (own_window old) old.table ≡ true → Retargets defaults id old.window_target was mid (after (Receives id len) old) last →
     FollowsOne defaults mid is (reports [] id output []) last new r →
     FollowsWith defaults was is (λ o. bytes_row o old id len output) old new r
@@ -327,7 +327,7 @@ brought_back defaults was mid is id len output old last new r back asked f =
 
 -- ---- opens
 
-pub confirmed_one : {E : Type 0} (defaults : Type 0) (was is : HandlerAt) (ticket : Option (Option Ticket)) (c : Confirmation) (old new : SessionState) (r : Result Flow (Stop E)) →
+pub confirmed_one : {E : Type 0} (defaults : Type 0) (was is : HandlerAt) (ticket : Option (Option Ticket)) (c : Confirmation) (old new : SessionState) (r : Result RowFlow (Stop E)) →
     is_some ticket ≡ true →
     FollowsOne defaults was is (reports [] c.recipient (happened.Open c.sender.max_packet_size c.sender.window_size) (Grants c.recipient 0 ∷ [])) (after (Confirms c) old) new r →
     FollowsOne defaults was is (confirmed_row ticket c) old new r
@@ -336,7 +336,7 @@ confirmed_one defaults was is None c old new r waits f = absurd cc
 confirmed_one defaults was is (Some ticket) c old new r waits f =
     front_one defaults was is (Confirms c) (reports [] c.recipient (happened.Open c.sender.max_packet_size c.sender.window_size) (Grants c.recipient 0 ∷ [])) old new r f
 
-pub failed_one : {E : Type 0} (defaults : Type 0) (was is : HandlerAt) (ticket : Option (Option Ticket)) (x : Refusal) (output : ChannelRecord) (old new : SessionState) (r : Result Flow (Stop E)) →
+pub failed_one : {E : Type 0} (defaults : Type 0) (was is : HandlerAt) (ticket : Option (Option Ticket)) (x : Refusal) (output : ChannelRecord) (old new : SessionState) (r : Result RowFlow (Stop E)) →
     is_some ticket ≡ true → output ≡ happened.OpenFailure x.reason x.description x.language →
     FollowsOne defaults was is (reports [] x.id.0 output []) (after (Fails x.id.0 x.reason) old) new r →
     FollowsOne defaults was is (failed_row ticket x) old new r
@@ -396,11 +396,11 @@ let_go_served {E = E} defaults default answer was is id opened old mid new (Err 
   keeps = h.keeps;
 }
 
-pub let_go_open : {E : Type 0} (defaults : Type 0) (default answer : OpenAnswer) (was is : HandlerAt) (id : ℕ) (opened : ServerOpen) (old mid new : SessionState) (moved : Result (Unit {0}) RanOut) (result : Result Flow (Stop E)) →
+pub let_go_open : {E : Type 0} (defaults : Type 0) (default answer : OpenAnswer) (was is : HandlerAt) (id : ℕ) (opened : ServerOpen) (old mid new : SessionState) (moved : Result (Unit {0}) RanOut) (result : Result RowFlow (Stop E)) →
     result ≡ went_result moved → Accepts defaults default → Calls {E = E} defaults (ServerOpened id opened) (Ok default) was is old mid (Ok answer) →
     Does (Tells (ServerOpenedRecord (record { 0 = id }) opened) ∷ settled id answer) mid new moved → FollowsOne {E = E} defaults was is (served id opened) old new result
 let_go_open {E = E} defaults default answer was is id opened old mid new moved result is_so accepts h m =
-    subst (λ (x : Result Flow (Stop E)). FollowsOne {E = E} defaults was is (served id opened) old new x) (sym is_so) (let_go_served {E = E} defaults default answer was is id opened old mid new moved accepts h m)
+    subst (λ (x : Result RowFlow (Stop E)). FollowsOne {E = E} defaults was is (served id opened) old new x) (sym is_so) (let_go_served {E = E} defaults default answer was is id opened old mid new moved accepts h m)
 
 known_row : (takes : Bool) (sender : Sender) (id : ℕ) (kind : List ℕ) (opened : ServerOpen) → is_unknown opened ≡ false → served_row takes sender id kind opened ≡ serving_row sender id opened
 known_row takes sender id kind opens.Unknown known = absurd cc
@@ -412,7 +412,7 @@ known_row takes sender id kind (opens.ForwardedTcpIp a b c d) known = refl
 known_row takes sender id kind (opens.ForwardedStreamLocal a) known = refl
 known_row takes sender id kind opens.AgentForward known = refl
 
-pub known_open : {E : Type 0} (defaults : Type 0) (was is : HandlerAt) (number : Option ℕ) (sender : Sender) (id : ℕ) (kind : List ℕ) (opened : ServerOpen) (old new : SessionState) (r : Result Flow (Stop E)) →
+pub known_open : {E : Type 0} (defaults : Type 0) (was is : HandlerAt) (number : Option ℕ) (sender : Sender) (id : ℕ) (kind : List ℕ) (opened : ServerOpen) (old new : SessionState) (r : Result RowFlow (Stop E)) →
     number ≡ Some id → is_unknown opened ≡ false → FollowsOne defaults was is (served id opened) (after (Reserves sender) old) new r →
     FollowsWith defaults was is (λ o. numbered_open_row o number sender kind opened) old new r
 unfolding served
@@ -437,7 +437,7 @@ known_accepts defaults opens.AgentForward known = inl refl
 not_taken : true ≡ false → ⊥
 not_taken same = absurd cc
 
-pub taken_open : {E : Type 0} (defaults : Type 0) (was mid is : HandlerAt) (number : Option ℕ) (sender : Sender) (id : ℕ) (kind : List ℕ) (old new : SessionState) (r : Result Flow (Stop E)) →
+pub taken_open : {E : Type 0} (defaults : Type 0) (was mid is : HandlerAt) (number : Option ℕ) (sender : Sender) (id : ℕ) (kind : List ℕ) (old new : SessionState) (r : Result RowFlow (Stop E)) →
     number ≡ Some id → Opines defaults (UnknownOffered id kind) false was mid true → FollowsOne defaults mid is (served id opens.Unknown) (after (Reserves sender) old) new r →
     FollowsWith defaults was is (λ o. numbered_open_row o number sender kind opens.Unknown) old new r
 unfolding served
@@ -457,7 +457,7 @@ taken_accepts defaults call was mid default opines = inr (λ plain. not_taken (o
 abbrev refused_moves : Sender → ℕ → List Move
 refused_moves sender id = Reserves sender ∷ Rejects id UnknownChannelType ∷ []
 
-not_taken_by : {E : Type 0} (defaults : Type 0) (was is : HandlerAt) (number : Option ℕ) (sender : Sender) (id : ℕ) (kind : List ℕ) (old new : SessionState) (r : Result Flow Error) →
+not_taken_by : {E : Type 0} (defaults : Type 0) (was is : HandlerAt) (number : Option ℕ) (sender : Sender) (id : ℕ) (kind : List ℕ) (old new : SessionState) (r : Result RowFlow Error) →
     number ≡ Some id → Opines defaults (UnknownOffered id kind) false was is false → Follows (plain_row (refused_moves sender id)) old new r →
     FollowsWith {E = E} defaults was is (λ o. numbered_open_row o number sender kind opens.Unknown) old new (own_result r)
 not_taken_by {E = E} defaults was is number sender id kind old new r numbered opines f = record {
@@ -474,7 +474,7 @@ pub not_taken_open : {E : Type 0} (defaults : Type 0) (was is : HandlerAt) (numb
 not_taken_open {E = E} defaults was is number sender id kind old new numbered opines left =
     not_taken_by {E = E} defaults was is number sender id kind old new (Ok flows.Went) numbered opines (refl, left)
 
-pub not_taken_ran_out : {E : Type 0} (defaults : Type 0) (was is : HandlerAt) (number : Option ℕ) (sender : Sender) (id : ℕ) (kind : List ℕ) (old new : SessionState) (result : Result Flow (Stop E)) →
+pub not_taken_ran_out : {E : Type 0} (defaults : Type 0) (was is : HandlerAt) (number : Option ℕ) (sender : Sender) (id : ℕ) (kind : List ℕ) (old new : SessionState) (result : Result RowFlow (Stop E)) →
     IsErrAnd result (λ e. e ≡ Own NoMemory) → number ≡ Some id → Opines defaults (UnknownOffered id kind) false was is false → new ≡ after (Reserves sender) old →
     FollowsWith {E = E} defaults was is (λ o. numbered_open_row o number sender kind opens.Unknown) old new result
 not_taken_ran_out defaults was is number sender id kind old new (Ok flow) never numbered opines left = absurd never
@@ -484,6 +484,6 @@ not_taken_ran_out {E = E} defaults was is number sender id kind old new (Err e) 
 
 -- ---- a row that is equal to another
 
-pub by_row : {E : Type 0} (defaults : Type 0) (was is : HandlerAt) (row told : SessionRow) (old new : SessionState) (r : Result Flow (Stop E)) →
+pub by_row : {E : Type 0} (defaults : Type 0) (was is : HandlerAt) (row told : SessionRow) (old new : SessionState) (r : Result RowFlow (Stop E)) →
     FollowsOne defaults was is told old new r → row ≡ told → FollowsOne defaults was is row old new r
 by_row {E = E} defaults was is row told old new r f same = subst (λ (x : SessionRow). FollowsOne {E = E} defaults was is x old new r) (sym same) f

@@ -1,8 +1,4 @@
--- Lemmas by which several goals of a function are proved, in sets, and words that are unfolded there.
-pub use Rattle.sshc_client_table.specs.SessionTable.{numbered_row}
-pub use Rattle.sshc_client_table.specs.SessionTable.Opens.{channel_open_row, open_confirmation_row, open_failure_row}
-pub use Rattle.sshc_client_table.specs.SessionTable.Requests.{channel_request_row, global_request_row}
-pub use Rattle.sshc_client_table.specs.SessionTable.Streams.{channel_close_row, channel_data_row, channel_extended_data_row, channel_report_row, window_adjust_row}
+-- Lemmas by which several goals of a function are proved, in sets.
 use Rattle.sshc_client.proofs.AskedLemmas.{judged_in, key_refused, key_said_no, key_told, key_told_refused, not_asked, refused_banner, refused_exchange, told_banner, told_exchange}
 use Rattle.sshc_client.proofs.BeforeLemmas.{exchange_there, not_live_early, refused_before, steps_behind}
 use Rattle.sshc_client.proofs.HandlerLemmas.{asked_front, brought_back, called, confirmed_one, failed_one, kept_window, known_accepts, known_open, let_go_call, none_confirmed, none_failed, not_taken_open, not_taken_ran_out, own_with, passed_with, ran_out_with, refused_call, refused_with, reports_front, taken_accepts, taken_open}

@@ -14,8 +14,8 @@ use Rattle.sshc_client_table.specs.SessionState.{SessionState, is_live}
 use Rattle.sshc_client_table.specs.SessionTable.{session_row}
 use Rattle.sshc_client_table.specs.StepLaws.{Borrowed, Followed, OpenStepLaws, behind, front, whole}
 use Rattle.sshc_client_table.proofs.StepLawLemmas.{rows_keep}
-use Rattle.sshc_client_rows.specs.declared.flow.Flow.{Flow}
-use Rattle.sshc_client_rows.specs.declared.flow.Flow.TheVariants as flows
+use Rattle.sshc_client_rows.specs.declared.flow.RowFlow.{RowFlow}
+use Rattle.sshc_client_rows.specs.declared.flow.RowFlow.TheVariants as flows
 use Rattle.sshc_client.specs.declared.stop.Stop.{Stop}
 use Rattle.sshc_client.specs.declared.stop.Stop.TheVariants.{Own, Handler}
 use Rattle.sshc_client.specs.Handling.{HandlerAt}
@@ -82,7 +82,7 @@ module _ {E : Type 0} (accepts : Accepts) (event : Event) (old : SessionState) w
   went_keeps false last new result ends_so whole_laws cut_laws = keeps_as new last result steps.Went ends_so.0 ends_so.1 whole_laws
   went_keeps true last new result ends_so whole_laws cut_laws = keeps_as new (after Stops last) result (steps.Ended _) ends_so.0 ends_so.1 (stopped_laws accepts event old last cut_laws)
 
-  row_keeps : (defaults : Type 0) (told_as : Error → E) (was is : HandlerAt) (row : SessionRow) (last new : SessionState) (answer : Result Flow (Stop E)) (result : Step E) →
+  row_keeps : (defaults : Type 0) (told_as : Error → E) (was is : HandlerAt) (row : SessionRow) (last new : SessionState) (answer : Result RowFlow (Stop E)) (result : Step E) →
       ((t : SessionState) (went : Bool) → Followed row old t went → OpenStepLaws accepts event old t went) →
       FollowsRow defaults was is row old last answer → EndsRow told_as last new answer result → Keeps new result
   row_keeps defaults told_as was is row last new (Ok flows.Went) result each f ends_so =

@@ -6,3 +6,4 @@ mod MethodLemmas
 mod RowLemmas
 mod StepLemmas
 mod Hints
+mod By

@@ -16,7 +16,7 @@ use Rattle.sshc_client_table.specs.SessionTable.Opens.{channel_open_row, open_co
 use Rattle.sshc_client_table.specs.SessionTable.Replies.{request_failure_row, request_success_row}
 use Rattle.sshc_client_table.specs.SessionTable.Requests.{channel_request_row}
 use Rattle.sshc_client_table.specs.SessionTable.Streams.{channel_close_row, channel_data_row, channel_extended_data_row, channel_report_row, window_adjust_row}
-use Rattle.sshc_client_rows.specs.declared.flow.Flow.{Flow}
+use Rattle.sshc_client_rows.specs.declared.flow.RowFlow.{RowFlow}
 use Rattle.sshc_client_rows.specs.Follows.{Follows, default_opinions}
 use Rattle.sshc_client.specs.declared.stop.Stop.{Stop}
 use Rattle.sshc_client.specs.Handling.{HandlerAt, HandlerHeard}
@@ -70,7 +70,7 @@ pub counted_lives : (len : ℕ) (s t : SessionState) → t ≡ after (Counts len
 counted_lives len s t counted_is live = ap is_live (counted_is ∙ counts len s live) ∙ live
 
 -- a row with a move before it, by the row that is the same after the move
-first_move : {E : Type 0} (defaults : Type 0) (was is : HandlerAt) (m : Move) (late row : Opinions → SessionRow) (s new : SessionState) (r : Result Flow (Stop E)) →
+first_move : {E : Type 0} (defaults : Type 0) (was is : HandlerAt) (m : Move) (late row : Opinions → SessionRow) (s new : SessionState) (r : Result RowFlow (Stop E)) →
     default_opinions (after m s) ≡ default_opinions s → ((o : Opinions) → late o ≡ row o) →
     FollowsWith defaults was is late (after m s) new r → FollowsWith defaults was is (λ o. behind_moves (m ∷ []) (row o)) s new r
 first_move defaults was is m late row s new r opinions same f = record {
@@ -80,7 +80,7 @@ first_move defaults was is m late row s new r opinions same f = record {
   keeps = subst (λ (x : SessionRow). HandlerHeard (calls_of x) was is) (same f.opinions) f.keeps;
 }
 
-pub heard_first : {E : Type 0} (defaults : Type 0) (was is : HandlerAt) (accepts : Accepts) (s t new : SessionState) (len number : ℕ) (body : List ℕ) (r : Result Flow (Stop E)) → is_live s ≡ true → t ≡ after Hears s →
+pub heard_first : {E : Type 0} (defaults : Type 0) (was is : HandlerAt) (accepts : Accepts) (s t new : SessionState) (len number : ℕ) (body : List ℕ) (r : Result RowFlow (Stop E)) → is_live s ≡ true → t ≡ after Hears s →
     FollowsWith defaults was is (λ o. packet_row accepts o t len number body) t new r →
     FollowsWith defaults was is (λ o. behind_moves (Hears ∷ []) (packet_row accepts o s len number body)) s new r
 heard_first defaults was is accepts s t new len number body r live heard f =
@@ -89,7 +89,7 @@ heard_first defaults was is accepts s t new len number body r live heard f =
     (λ o. ap (λ (x : SessionState). packet_row accepts o x len number body) (hears s live) ∙ unheard_packet accepts o s len number body)
     (subst (λ (x : SessionState). FollowsWith defaults was is (λ o. packet_row accepts o x len number body) x new r) heard f)
 
-pub counted_first : {E : Type 0} (defaults : Type 0) (was is : HandlerAt) (accepts : Accepts) (s t new : SessionState) (len number : ℕ) (body : List ℕ) (r : Result Flow (Stop E)) → is_live s ≡ true → t ≡ after (Counts len) s →
+pub counted_first : {E : Type 0} (defaults : Type 0) (was is : HandlerAt) (accepts : Accepts) (s t new : SessionState) (len number : ℕ) (body : List ℕ) (r : Result RowFlow (Stop E)) → is_live s ≡ true → t ≡ after (Counts len) s →
     FollowsWith defaults was is (λ o. numbered_row accepts o t number body) t new r →
     FollowsWith defaults was is (λ o. behind_moves (Counts len ∷ []) (numbered_row accepts o s number body)) s new r
 counted_first defaults was is accepts s t new len number body r live counted_is f =
@@ -100,13 +100,13 @@ counted_first defaults was is accepts s t new len number body r live counted_is 
 
 -- ---- a packet by its first byte
 
-pub disconnect_first : {E : Type 0} (defaults : Type 0) (h : HandlerAt) (accepts : Accepts) (s new : SessionState) (packet : List ℕ) (number : ℕ) (body : List ℕ) (own : Result Flow Error) (r : Result Flow (Stop E)) →
+pub disconnect_first : {E : Type 0} (defaults : Type 0) (h : HandlerAt) (accepts : Accepts) (s new : SessionState) (packet : List ℕ) (number : ℕ) (body : List ℕ) (own : Result RowFlow Error) (r : Result RowFlow (Stop E)) →
     packet ≡ number ∷ body → number ≡ DISCONNECT → r ≡ own_result own → Follows (disconnect_row body) s new own →
     FollowsWith {E = E} defaults h h (λ o. payload_row accepts o s packet) s new r
 unfolding payload_row
 disconnect_first {E = E} defaults h accepts s new packet number body own r whole is told f = rw (whole, is) (own_with {E = E} defaults h (λ o. disconnect_row body) s new own r told f)
 
-pub global_first : {E : Type 0} (defaults : Type 0) (was is : HandlerAt) (accepts : Accepts) (s new : SessionState) (packet : List ℕ) (len number : ℕ) (body : List ℕ) (r : Result Flow (Stop E)) →
+pub global_first : {E : Type 0} (defaults : Type 0) (was is : HandlerAt) (accepts : Accepts) (s new : SessionState) (packet : List ℕ) (len number : ℕ) (body : List ℕ) (r : Result RowFlow (Stop E)) →
     packet ≡ number ∷ body → len ≡ length packet → number ≡ GLOBAL_REQUEST →
     FollowsWith defaults was is (λ o. packet_row accepts o s len GLOBAL_REQUEST body) s new r →
     FollowsWith defaults was is (λ o. payload_row accepts o s packet) s new r
@@ -114,7 +114,7 @@ unfolding payload_row
 global_first defaults was is accepts s new packet len number body r whole long is_so f =
     rw (whole, is_so) (rw (long, whole) at f)
 
-pub other_first : {E : Type 0} (defaults : Type 0) (was is : HandlerAt) (accepts : Accepts) (s new : SessionState) (packet : List ℕ) (len number : ℕ) (body : List ℕ) (r : Result Flow (Stop E)) →
+pub other_first : {E : Type 0} (defaults : Type 0) (was is : HandlerAt) (accepts : Accepts) (s new : SessionState) (packet : List ℕ) (len number : ℕ) (body : List ℕ) (r : Result RowFlow (Stop E)) →
     packet ≡ number ∷ body → len ≡ length packet → (number == DISCONNECT) ≡ false → (number == GLOBAL_REQUEST) ≡ false →
     FollowsWith defaults was is (λ o. behind_moves (Hears ∷ []) (packet_row accepts o s len number body)) s new r →
     FollowsWith defaults was is (λ o. payload_row accepts o s packet) s new r

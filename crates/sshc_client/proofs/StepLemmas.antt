@@ -33,8 +33,8 @@ use Rattle.sshc_client_state.specs.OpeningStep.{Lent, StepsLent, StepsOpening, g
 use Rattle.sshc_client_table.specs.KeptByMovesLaws.{moves_keep}
 use Rattle.sshc_client_table.specs.OpenCauses.{IsOpenCause}
 use Rattle.sshc_client_table.specs.OpenCauseLaws.{NextCaused, all_keep, open_why, session_holds}
-use Rattle.sshc_client_rows.specs.declared.flow.Flow.{Flow}
-use Rattle.sshc_client_rows.specs.declared.flow.Flow.TheVariants as flows
+use Rattle.sshc_client_rows.specs.declared.flow.RowFlow.{RowFlow}
+use Rattle.sshc_client_rows.specs.declared.flow.RowFlow.TheVariants as flows
 use Rattle.sshc_client_rows.specs.Follows.{all_moves, default_opinions}
 use Rattle.sshc_client.specs.declared.stop.Stop.{Stop}
 use Rattle.sshc_client.specs.declared.stop.Stop.TheVariants.{Own, Handler}
@@ -108,7 +108,7 @@ stays_on : {E : Type 0} (b : Bool) (last new : SessionState) (step result : Step
 stays_on true last new step result off e = absurd cc
 stays_on false last new step result off e = e
 
-row_so : {E : Type 0} (defaults : Type 0) (told_as : Error → E) (accepts : Accepts) (o : Opinions) (event : Event) (was is : HandlerAt) (old last new : SessionState) (answer : Result Flow (Stop E)) (result : Step E) → defaults → is_open old.opening.phase ≡ true → has_left old.life ≡ false →
+row_so : {E : Type 0} (defaults : Type 0) (told_as : Error → E) (accepts : Accepts) (o : Opinions) (event : Event) (was is : HandlerAt) (old last new : SessionState) (answer : Result RowFlow (Stop E)) (result : Step E) → defaults → is_open old.opening.phase ≡ true → has_left old.life ≡ false →
     FollowsRow defaults was is (session_row accepts o old event) old last answer → EndsRow told_as last new answer result → StepsRow told_as (session_row accepts o old event) old new result
 row_so defaults told_as accepts o event was is old last new (Ok flows.Went) result plain is_opened runs_on f ends_so =
     let last_is = handled_so defaults (session_row accepts o old event) old last plain f.1 in
@@ -137,7 +137,7 @@ went_caused {E = E} defaults told_as was is s last new event false result left_b
 went_caused {E = E} defaults told_as was is s last new event true result left_by ends_so =
     subst (λ (z : Step E). IsCausedOpen defaults told_as was is s event z) (sym ends_so.0) (inr (refl, left_by refl))
 
-row_caused : {E : Type 0} (defaults : Type 0) (told_as : Error → E) (was is : HandlerAt) (row : SessionRow) (old last new : SessionState) (event : Event) (answer : Result Flow (Stop E)) (result : Step E) →
+row_caused : {E : Type 0} (defaults : Type 0) (told_as : Error → E) (was is : HandlerAt) (row : SessionRow) (old last new : SessionState) (event : Event) (answer : Result RowFlow (Stop E)) (result : Step E) →
     NextCaused (open_why old event) row.next → (has_left last.life ≡ true → Handled defaults row old last → defaults → ⊥) →
     FollowsRow defaults was is row old last answer → EndsRow told_as last new answer result → IsCausedOpen defaults told_as was is old event result
 row_caused defaults told_as was is row old last new event (Ok flows.Went) result caused left_by f ends_so =
@@ -385,6 +385,6 @@ nobody_left_ends true true last new step off same = absurd cc
 nobody_left_ends true false last new step off same = (refl, same)
 nobody_left_ends false c last new step off same = (refl, same)
 
-pub opened_steps : {E : Type 0} (defaults : Type 0) (told_as : Error → E) (accepts : Accepts) (event : Event) (was is : HandlerAt) (old last new : SessionState) (answer : Result Flow (Stop E)) (result : Step E) →
+pub opened_steps : {E : Type 0} (defaults : Type 0) (told_as : Error → E) (accepts : Accepts) (event : Event) (was is : HandlerAt) (old last new : SessionState) (answer : Result RowFlow (Stop E)) (result : Step E) →
     FollowsWith defaults was is (λ o. session_row accepts o old event) old last answer → EndsRow told_as last new answer result → StepsOpen defaults told_as accepts event was is old new result
 opened_steps defaults told_as accepts event was is old last new answer result follows ends_so = record { last = last; answer = answer; follows = follows; ends = ends_so }

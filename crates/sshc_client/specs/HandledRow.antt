@@ -18,8 +18,8 @@ use Rattle.sshc_client_table.specs.Moves.{Fronts, Move, Targets, Tells, done}
 use Rattle.sshc_client_table.specs.SessionRow.{Callback, Opinions, ServerOpened, SessionRow, WindowRefilled, calls_of, ends, goes, refuses}
 use Rattle.sshc_client_table.specs.SessionTable.Opens.{settled}
 use Rattle.sshc_client_table.specs.Grown.{Grown}
-use Rattle.sshc_client_rows.specs.declared.flow.Flow.{Flow}
-use Rattle.sshc_client_rows.specs.declared.flow.Flow.TheVariants as flows
+use Rattle.sshc_client_rows.specs.declared.flow.RowFlow.{RowFlow}
+use Rattle.sshc_client_rows.specs.declared.flow.RowFlow.TheVariants as flows
 use Rattle.sshc_client_rows.specs.Follows.{default_opinions}
 use Rattle.sshc_client.specs.declared.stop.Stop.{Stop}
 use Rattle.sshc_client.specs.declared.stop.Stop.TheVariants.{Own, Handler}
@@ -55,7 +55,7 @@ pub record HandlerRefused (defaults : Type 0) (was is : HandlerAt) (row : Sessio
   pub rose : Rose was.refusals is.refusals
   pub changed : defaults → ⊥
 
-abbrev pub FollowsRow : {E : Type 0} → Type 0 → HandlerAt → HandlerAt → SessionRow → SessionState → SessionState → Result Flow (Stop E) → Type 0
+abbrev pub FollowsRow : {E : Type 0} → Type 0 → HandlerAt → HandlerAt → SessionRow → SessionState → SessionState → Result RowFlow (Stop E) → Type 0
 FollowsRow defaults was is row old new (Ok flows.Went) = (row.next ≡ goes) × Handled defaults row old new
 FollowsRow defaults was is row old new (Ok (flows.Ended e)) = (row.next ≡ ends e) × Handled defaults row old new
 FollowsRow defaults was is row old new (Err (Own e)) =
@@ -64,23 +64,23 @@ FollowsRow defaults was is row old new (Err (Handler e)) = HandlerRefused defaul
 
 -- a call that follows the row chosen by what the handler returns from a callback that isn't lent the session; the handler
 -- hears what the row asks, and nothing else
-pub record FollowsWith {E : Type 0} (defaults : Type 0) (was is : HandlerAt) (row : Opinions → SessionRow) (old new : SessionState) (result : Result Flow (Stop E)) : Type 0 where
+pub record FollowsWith {E : Type 0} (defaults : Type 0) (was is : HandlerAt) (row : Opinions → SessionRow) (old new : SessionState) (result : Result RowFlow (Stop E)) : Type 0 where
   pub opinions : Opinions
   pub default : defaults → opinions ≡ default_opinions old
   pub follows : FollowsRow defaults was is (row opinions) old new result
   pub keeps : HandlerHeard (calls_of (row opinions)) was is
 
 -- a call that follows one row
-abbrev pub FollowsOne : {E : Type 0} → Type 0 → HandlerAt → HandlerAt → SessionRow → SessionState → SessionState → Result Flow (Stop E) → Type 0
+abbrev pub FollowsOne : {E : Type 0} → Type 0 → HandlerAt → HandlerAt → SessionRow → SessionState → SessionState → Result RowFlow (Stop E) → Type 0
 FollowsOne defaults was is row old new result = FollowsWith defaults was is (λ opinions. row) old new result
 
 -- the result of a call that calls no handler, as one of a row with a handler
-abbrev pub own_result : {E : Type 0} → Result Flow Error → Result Flow (Stop E)
+abbrev pub own_result : {E : Type 0} → Result RowFlow Error → Result RowFlow (Stop E)
 own_result (Ok flow) = Ok flow
 own_result (Err e) = Err (Own e)
 
 -- moves at the end of a row
-abbrev pub went_result : {E : Type 0} → Result (Unit {0}) RanOut → Result Flow (Stop E)
+abbrev pub went_result : {E : Type 0} → Result (Unit {0}) RanOut → Result RowFlow (Stop E)
 went_result (Ok u) = Ok flows.Went
 went_result (Err e) = Err (Own NoMemory)
 

@@ -27,8 +27,8 @@ use Rattle.sshc_client_table.specs.SessionTable.{session_row}
 use Rattle.sshc_client_table.specs.Grown.{Grown}
 use Rattle.sshc_client_table.specs.StepLaws.{OpenStepLaws}
 use Rattle.sshc_client_state.specs.OpeningStep.{Lent, StepsLent, goes_on}
-use Rattle.sshc_client_rows.specs.declared.flow.Flow.{Flow}
-use Rattle.sshc_client_rows.specs.declared.flow.Flow.TheVariants as flows
+use Rattle.sshc_client_rows.specs.declared.flow.RowFlow.{RowFlow}
+use Rattle.sshc_client_rows.specs.declared.flow.RowFlow.TheVariants as flows
 use Rattle.sshc_client.specs.declared.stop.Stop.{Stop}
 use Rattle.sshc_client.specs.declared.stop.Stop.TheVariants.{Own, Handler}
 use Rattle.sshc_client.specs.Handling.{HandlerAt, HandlerHeard, HandlerKept, handler_at}
@@ -53,7 +53,7 @@ has_left life = false
 -- ---- in an open session
 
 -- by how the row ended; if the row doesn't continue, the session is over
-abbrev pub EndsRow : {E : Type 0} → (Error → E) → SessionState → SessionState → Result Flow (Stop E) → Step E → Type 0
+abbrev pub EndsRow : {E : Type 0} → (Error → E) → SessionState → SessionState → Result RowFlow (Stop E) → Step E → Type 0
 EndsRow told_as last new (Ok flows.Went) result = EndsBy (has_left last.life) last new steps.Went result
 EndsRow told_as last new (Ok (flows.Ended e)) result = (result ≡ steps.Ended e) × (new ≡ after Stops last)
 EndsRow told_as last new (Err (Own e)) result = (result ≡ steps.Refused (told_as e)) × (new ≡ after Stops last)
@@ -61,7 +61,7 @@ EndsRow told_as last new (Err (Handler e)) result = (result ≡ steps.Refused e)
 
 pub record StepsOpen {E : Type 0} (defaults : Type 0) (told_as : Error → E) (accepts : Accepts) (event : Event) (was is : HandlerAt) (old new : SessionState) (result : Step E) : Type 0 where
   pub last : SessionState
-  pub answer : Result Flow (Stop E)
+  pub answer : Result RowFlow (Stop E)
   pub follows : FollowsWith defaults was is (λ o. session_row accepts o old event) old last answer
   pub ends : EndsRow told_as last new answer result
 

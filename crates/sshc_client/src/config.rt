@@ -17,7 +17,8 @@ pub struct Config {
     pub window_size: u32,
     /// The most bytes of a channel's packet (RFC 4254, section 5.1).
     pub maximum_packet_size: u32,
-    /// How many messages a channel is to hold for its user. Nothing here reads it: it is for whoever makes the transport.
+    /// How many messages a channel is to hold for its user. Nothing here reads it: it is for whoever makes the
+    /// transport.
     pub channel_buffer_size: usize,
     pub inactivity_timeout: Option<u64>,
     pub keepalive_interval: Option<u64>,

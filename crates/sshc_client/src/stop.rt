@@ -6,7 +6,7 @@ ghost use Rattle.sshc_client.specs.HandledRow.{lent_result, own_result, went_res
 ghost use Rattle.sshc_client.specs.declared.stop.Stop.TheVariants as stops;
 
 use sshc_auth::Error;
-use sshc_client_rows::Flow;
+use sshc_client_rows::RowFlow;
 use sshc_wire::{NoMemory, WireError};
 
 /// Why a row doesn't continue.
@@ -43,7 +43,7 @@ impl<E> From<WireError> for Stop<E> {
 }
 
 /// The result of a row that calls no handler.
-pub(crate) fn own<E>(row: Result<Flow, Error>) -> Result<Flow, Stop<E>>
+pub(crate) fn own<E>(row: Result<RowFlow, Error>) -> Result<RowFlow, Stop<E>>
     ensures { result ≡ own_result row }
 {
     match row {
@@ -53,11 +53,11 @@ pub(crate) fn own<E>(row: Result<Flow, Error>) -> Result<Flow, Stop<E>>
 }
 
 /// The result of the moves at the end of a row.
-pub(crate) fn went<E>(moved: Result<(), NoMemory>) -> Result<Flow, Stop<E>>
+pub(crate) fn went<E>(moved: Result<(), NoMemory>) -> Result<RowFlow, Stop<E>>
     ensures { result ≡ went_result moved }
 {
     match moved {
-        Ok(()) => Ok(Flow::Went),
+        Ok(()) => Ok(RowFlow::Went),
         Err(NoMemory) => Err(Stop::Own(Error::NoMemory)),
     }
 }

@@ -1,4 +1,4 @@
--- Lemmas by which several goals of a function are proved, in sets, and words that are unfolded there.
+-- Lemmas by which several goals of a function are proved, in sets.
 use Rattle.std.proofs.lemmas.List.{append_assoc}
 
 pub ruleset joined = (append_assoc)

@@ -14,8 +14,8 @@ use Rattle.sshc_client_table.specs.SessionState.{SessionState, exchanging, runs}
 use Rattle.sshc_client_table.specs.Moves.{Fronts, Move, Targets, done, onto}
 use Rattle.sshc_client_table.specs.SessionRow.{Opinions, SessionRow, ends, goes, refused, refuses}
 use Rattle.sshc_client_table.specs.SessionTable.Replies.{replied_row}
-use Rattle.sshc_client_rows.specs.declared.flow.Flow.{Flow}
-use Rattle.sshc_client_rows.specs.declared.flow.Flow.TheVariants as flows
+use Rattle.sshc_client_rows.specs.declared.flow.RowFlow.{RowFlow}
+use Rattle.sshc_client_rows.specs.declared.flow.RowFlow.TheVariants as flows
 
 abbrev pub default_opinions : SessionState → Opinions
 default_opinions s = record { takes_unknown = false; window_target = s.window_target }
@@ -25,7 +25,7 @@ abbrev pub all_moves : SessionRow → List Move
 all_moves row = onto row.front (row.back Accept)
 
 -- the row was followed to its end, or memory ran out after some of its moves
-abbrev pub Follows : SessionRow → SessionState → SessionState → Result Flow Error → Type 0
+abbrev pub Follows : SessionRow → SessionState → SessionState → Result RowFlow Error → Type 0
 Follows row old new (Ok flows.Went) = (row.next ≡ goes) × (new ≡ done (all_moves row) old)
 Follows row old new (Ok (flows.Ended e)) = (row.next ≡ ends e) × (new ≡ done (all_moves row) old)
 Follows row old new (Err e) =

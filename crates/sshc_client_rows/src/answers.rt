@@ -6,7 +6,7 @@ ghost use Rattle.sshc_client_table.specs.SessionRow.{plain_row};
 ghost use Rattle.sshc_client_table.specs.SessionTable.Requests.{if_wanted};
 ghost use Rattle.sshc_client_rows.specs.Follows.{Follows};
 
-use crate::flow::Flow;
+use crate::flow::RowFlow;
 use sshc_auth::Error;
 use sshc_client_state::Connection;
 use sshc_wire::ChannelId;
@@ -17,21 +17,21 @@ pub fn answered_on(
     id: ChannelId,
     want_reply: bool,
     done: bool,
-) -> Result<Flow, Error>
+) -> Result<RowFlow, Error>
     ensures row { Follows (plain_row (if_wanted want_reply (AnswersOn id.0 done))) session.old session.new result }
 {
     if want_reply {
         session.answer_on(id, done)?;
     }
-    Ok(Flow::Went)
+    Ok(RowFlow::Went)
 }
 
 /// The reply to a global request, if one is wanted.
-pub fn answered(session: &mut Connection, want_reply: bool, done: bool) -> Result<Flow, Error>
+pub fn answered(session: &mut Connection, want_reply: bool, done: bool) -> Result<RowFlow, Error>
     ensures row { Follows (plain_row (if_wanted want_reply (Answers done))) session.old session.new result }
 {
     if want_reply {
         session.answer(done)?;
     }
-    Ok(Flow::Went)
+    Ok(RowFlow::Went)
 }

@@ -4,14 +4,14 @@ ghost use Rattle.std.specs.Prelude.{◌≡◌, Some};
 ghost use Rattle.sshc_client_table.specs.SessionTable.{disconnect_row, reason_row};
 ghost use Rattle.sshc_client_rows.specs.Follows.{Follows};
 
-use crate::flow::Flow;
+use crate::flow::RowFlow;
 use sshc_auth::{Ending, Error, RemoteDisconnectInfo};
 use sshc_client_state::Connection;
 use sshc_wire::{Cursor, Disconnect, Text};
 
 /// DISCONNECT (RFC 4253, section 11.1).
 #[tactic(auto, unfolding(sshc_client_table::specs::SessionTable::disconnect_row))]
-pub fn disconnect(session: &mut Connection, body: &[u8]) -> Result<Flow, Error>
+pub fn disconnect(session: &mut Connection, body: &[u8]) -> Result<RowFlow, Error>
     ensures row { Follows (disconnect_row body.now) session.old session.new result }
 {
     let mut packet = Cursor::new(body);
@@ -26,7 +26,7 @@ fn disconnect_for(
     session: &mut Connection,
     reason_code: Disconnect,
     rest: &[u8],
-) -> Result<Flow, Error>
+) -> Result<RowFlow, Error>
     ensures row { Follows (reason_row (Some reason_code) rest.now) session.old session.new result }
 {
     let mut packet = Cursor::new(rest);
@@ -39,5 +39,5 @@ fn disconnect_for(
         message,
         lang_tag,
     };
-    Ok(Flow::Ended(Ending::remote(session.alloc(), info)?))
+    Ok(RowFlow::Ended(Ending::remote(session.alloc(), info)?))
 }

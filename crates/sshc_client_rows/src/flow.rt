@@ -8,7 +8,7 @@ use sshc_client_packets::PacketError;
 
 /// The result of a row that isn't refused.
 #[derive(Drop)]
-pub enum Flow {
+pub enum RowFlow {
     Went,
     Ended(Ending),
 }

@@ -14,7 +14,7 @@ mod users;
 pub use answers::{answered, answered_on};
 pub use disconnection::disconnect;
 pub use exchanges::{peer_kexinit, rekey_limit};
-pub use flow::{Flow, refusal_of};
+pub use flow::{RowFlow, refusal_of};
 pub use replies::{request_failure, request_success};
 pub use timers::{inactivity_timer, keepalive_timer};
 pub use users::user;

@@ -7,7 +7,7 @@ ghost use Rattle.sshc_client_table.specs.SessionTable.Replies.{proof_answer, rep
 ghost use Rattle.sshc_client_table.specs.SessionTable.Replies.{request_success_row, success_of};
 ghost use Rattle.sshc_client_rows.specs.Follows.{Follows, Succeeds};
 
-use crate::flow::Flow;
+use crate::flow::RowFlow;
 use sshc_auth::Error;
 use sshc_client_packets::{forward_port, judge_host_key_proof, read_nothing};
 use sshc_client_state::Connection;
@@ -54,16 +54,16 @@ fn proof_answer<V: Verifier>(
     }
 }
 
-fn replied(session: &mut Connection, resolution: Option<Resolution>) -> Result<Flow, Error>
+fn replied(session: &mut Connection, resolution: Option<Resolution>) -> Result<RowFlow, Error>
     ensures row { Follows (replied_row resolution) session.old session.new result }
 {
     session.reply(resolution)?;
-    Ok(Flow::Went)
+    Ok(RowFlow::Went)
 }
 
 /// REQUEST_FAILURE (RFC 4254, section 4).
 #[tactic(auto, unfolding(sshc_client_table::specs::SessionTable::Replies::request_failure_row))]
-pub fn request_failure(session: &mut Connection, body: &[u8]) -> Result<Flow, Error>
+pub fn request_failure(session: &mut Connection, body: &[u8]) -> Result<RowFlow, Error>
     ensures row { Follows (request_failure_row session.old body.now) session.old session.new result }
 {
     read_nothing(body)?;
@@ -71,12 +71,12 @@ pub fn request_failure(session: &mut Connection, body: &[u8]) -> Result<Flow, Er
 }
 
 /// The oldest request failed.
-fn failed(session: &mut Connection) -> Result<Flow, Error>
+fn failed(session: &mut Connection) -> Result<RowFlow, Error>
     ensures row { Follows (failure_for session.old.replies) session.old session.new result }
 {
     let answer = match session.first_reply() {
         Some(first) => failure_of(first.kind),
-        None => return Ok(Flow::Went),
+        None => return Ok(RowFlow::Went),
     };
     replied(session, answer)
 }
@@ -87,7 +87,7 @@ pub fn request_success<V: Verifier>(
     session: &mut Connection,
     body: &[u8],
     verifier: &V,
-) -> Result<Flow, Error>
+) -> Result<RowFlow, Error>
     ensures row { Follows (request_success_row (V.accepts verifier.now) session.old body.now) session.old session.new
         result }
 {
@@ -99,7 +99,7 @@ pub fn request_success<V: Verifier>(
             first,
             body,
         ),
-        None => return Ok(Flow::Went),
+        None => return Ok(RowFlow::Went),
     };
     match answer {
         Ok(answer) => replied(session, answer),

@@ -13,7 +13,7 @@ ghost use Rattle.sshc_client_state.specs.Asks.{ask_of};
 ghost use Rattle.sshc_client_rows.specs.Follows.{Follows};
 
 use crate::asked_of_channel::channel_moves;
-use crate::flow::Flow;
+use crate::flow::RowFlow;
 use sshc_auth::{Ending, Error, Event};
 use sshc_client_packets::ChannelOpen;
 use sshc_client_state::{Ask, Connection, asked_ticket};
@@ -22,7 +22,7 @@ use sshc_wire::{ChannelId, ChannelOpenFailure, Disconnect, NoMemory, Resolution,
 
 /// What the user asks; while an exchange runs it is out of turn.
 #[tactic(auto, unfolding(sshc_client_table::specs::SessionTable::Users::user_row))]
-pub fn user(session: &mut Connection, event: &Event) -> Result<Flow, Error>
+pub fn user(session: &mut Connection, event: &Event) -> Result<RowFlow, Error>
     requires { is_live session.old ≡ true }
     ensures row { Follows (user_row session.old event.now) session.old session.new result }
 {
@@ -33,7 +33,7 @@ pub fn user(session: &mut Connection, event: &Event) -> Result<Flow, Error>
 }
 
 #[tactic(auto, unfolding(sshc_client_table::specs::SessionTable::Users::asked_row))]
-fn asked(session: &mut Connection, event: &Event) -> Result<Flow, Error>
+fn asked(session: &mut Connection, event: &Event) -> Result<RowFlow, Error>
     requires { is_live session.old ≡ true }
     ensures row { Follows (asked_row session.old event.now) session.old session.new result }
 {
@@ -44,12 +44,12 @@ fn asked(session: &mut Connection, event: &Event) -> Result<Flow, Error>
             language_tag,
         } => {
             session.write_disconnect(*reason, description, language_tag)?;
-            Ok(Flow::Ended(Ending::disconnected()))
+            Ok(RowFlow::Ended(Ending::disconnected()))
         }
-        Event::Gone => Ok(Flow::Ended(Ending::closed())),
+        Event::Gone => Ok(RowFlow::Ended(Ending::closed())),
         _ => {
             user_moves(session, event)?;
-            Ok(Flow::Went)
+            Ok(RowFlow::Went)
         }
     }
 }

@@ -1,4 +1,4 @@
--- Lemmas by which several goals of a function are proved, in sets, and words that are unfolded there.
+-- Lemmas by which several goals of a function are proved, in sets.
 use Rattle.sshc_client_state.proofs.LiveLemmas.{later_runs, live_runs, live_unmuted, nothing_more, shown_open, shown_told}
 use Rattle.sshc_client_state.proofs.MoveLemmas.{after_accepts, after_closes, after_confirms, after_denies, after_ends_bytes, after_fails, after_grants, after_opens, after_peer_closes, after_receives, after_rejects, after_replied, after_resolves, after_resumes, after_sends, after_tells, same_number}
 use Rattle.sshc_client_state.proofs.UnknownLemmas.{none_confirmed, none_failed}

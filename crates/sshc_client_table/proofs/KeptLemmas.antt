@@ -10,7 +10,7 @@ use Rattle.sshc_mux.specs.Packets.{Packet, Piece, Eof, Close, Adjust}
 use Rattle.sshc_mux.specs.ChannelTable.{ChannelPacket, Turn, close_turn, data_turn, eof_turn, turned}
 use Rattle.sshc_mux.specs.ChannelTable.Ends.{is_unasked, takes}
 use Rattle.sshc_mux.specs.ChannelTable.Opens.{next_number, opened_by_user}
-use Rattle.sshc_mux.specs.ChannelAccount.{AskClose, AskEof, Bytes, Call, answered, EachCallDoesItsPart, EachCallKeepsTheRules, ExchangesAreQuiet, IsLegal, LegalStays, Moves, OpenUser, Part, bytes_in, bytes_part, called, close_part, eof_part, marked, may_send, no_part, opened, packets_by, packets_in, part, pending}
+use Rattle.sshc_mux.specs.ChannelAccount.{AskClose, AskEof, Bytes, Call, answered, EachCallDoesItsPart, EachCallKeepsTheRules, ExchangesAreQuiet, IsLegal, LegalStays, Moves, OpenUser, CallPart, bytes_in, bytes_part, called, close_part, eof_part, marked, may_send, no_part, opened, packets_by, packets_in, part, pending}
 use Rattle.sshc_auth.specs.OpeningState.{OpeningState}
 use Rattle.sshc_client_table.specs.SessionState.{SessionState, exchanging, is_running}
 use Rattle.sshc_client_table.specs.Moves as m
@@ -69,13 +69,13 @@ call_found running n call t c may found = absurd may
 
 -- ---- what the call's part is
 
-record IsPlain (p : Part) : Type 0 where
+record IsPlain (p : CallPart) : Type 0 where
   answer : p.answer ≡ None
   used : p.used ≡ 0
   returned : p.returned ≡ []
   gain : p.gain ≡ 0
 
-plain_if : (b : Bool) (p q : Part) → IsPlain p → IsPlain q → IsPlain (if b then p else q)
+plain_if : (b : Bool) (p q : CallPart) → IsPlain p → IsPlain q → IsPlain (if b then p else q)
 plain_if true p q first second = first
 plain_if false p q first second = second
 
@@ -137,7 +137,7 @@ nothing_before n = omega arith
 nothing_more : (n : ℕ) → n + 0 ≡ n
 nothing_more n = omega arith
 
-from_moves : (running : Bool) (c d : ChannelState) (packets : List Packet) (p : Part) → IsPlain p → Moves c d packets p → (running ≡ true → bytes_in packets ≡ []) → ChannelKeeps running c d
+from_moves : (running : Bool) (c d : ChannelState) (packets : List Packet) (p : CallPart) → IsPlain p → Moves c d packets p → (running ≡ true → bytes_in packets ≡ []) → ChannelKeeps running c d
 from_moves running c d packets p plain moves quiet = record {
   head = moves.head ∙ ap (λ (o : Option Head). answered o c.head) plain.answer;
   own_window =

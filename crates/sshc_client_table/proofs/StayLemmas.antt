@@ -10,7 +10,7 @@ use Rattle.sshc_mux.specs.ChannelTable.Ends.{takes}
 use Rattle.sshc_mux.specs.ChannelTable.Windows.{adjust_of, held}
 use Rattle.sshc_mux.specs.Packets.{Packet}
 use Rattle.sshc_mux.specs.ChannelTable.Opens.{accepted_head, awaited, awaited_by, awaited_in, confirmed_head, is_reserved, next_number, opened_by_user, reserved_by_server}
-use Rattle.sshc_mux.specs.ChannelAccount.{Call, OpenUser, ReserveServer, SettleServer, Confirm, Fail, Bytes, AskEof, AskClose, PeerClose, Grant, FlushAll, Received, EachCallDoesItsPart, IsLegal, Part, accept_part, answered, bytes_part, called, close_part, confirm_part, eof_part, grant_part, no_part, opened, part, received_part}
+use Rattle.sshc_mux.specs.ChannelAccount.{Call, OpenUser, ReserveServer, SettleServer, Confirm, Fail, Bytes, AskEof, AskClose, PeerClose, Grant, FlushAll, Received, EachCallDoesItsPart, IsLegal, CallPart, accept_part, answered, bytes_part, called, close_part, confirm_part, eof_part, grant_part, no_part, opened, part, received_part}
 use Rattle.sshc_mux.proofs.NumbersLemmas.{has_none, none_has, number_of, numbers-flushed, with_other, without_other}
 use Rattle.sshc_mux.specs.Places.{has, numbers}
 use Rattle.sshc_client_table.specs.SessionState.{SessionState}
@@ -27,7 +27,7 @@ abbrev Settles : Option Head → Type 0
 Settles None = Unit {0}
 Settles (Some h) = h.established ≡ true
 
-settles_if : (b : Bool) (p q : Part) → Settles p.answer → Settles q.answer → Settles (if b then p else q).answer
+settles_if : (b : Bool) (p q : CallPart) → Settles p.answer → Settles q.answer → Settles (if b then p else q).answer
 settles_if true p q first second = first
 settles_if false p q first second = second
 
@@ -42,7 +42,7 @@ confirm_settles : (recipient window packet : ℕ) (c : ChannelState) → Settles
 confirm_settles recipient window packet c =
     settles_if (is_some (awaited_by (Some c))) (record no_part { gain = window; answer = Some (confirmed_head recipient packet c.head) }) no_part refl tt
 
-answers_none : (b : Bool) (p : Part) → p.answer ≡ None → Settles (if b then p else no_part).answer
+answers_none : (b : Bool) (p : CallPart) → p.answer ≡ None → Settles (if b then p else no_part).answer
 answers_none b p none = settles_if b p no_part (none_settles p.answer none) tt
 
 bytes_settles : (stream : Stream) (bytes : List ℕ) (exchanging : Bool) (c : ChannelState) → Settles (bytes_part stream bytes exchanging c).answer

@@ -24,7 +24,7 @@ use Rattle.sshc_transport.specs.declared.exchange.ExchangeFlag.{ExchangeFlag}
 use Rattle.sshc_transport.specs.declared.exchange.ExchangeFlag.TheVariants as flags
 use Rattle.sshc_transport.specs.declared.exchange.ExchangeResult.{ExchangeResult}
 use Rattle.sshc_wire.specs.declared.channel_open_failure.ChannelOpenFailure.{ChannelOpenFailure}
-use Rattle.sshc_auth.specs.Causes.{Breaks, BreaksBehind, IsEarly, IsEndCause, ReadsTexts, Part, rest_of, text}
+use Rattle.sshc_auth.specs.Causes.{Breaks, BreaksBehind, IsEarly, IsEndCause, ReadsTexts, FieldKind, rest_of, text}
 use Rattle.sshc_auth.specs.OpeningState.{is_awaiting}
 use Rattle.sshc_auth.specs.CauseLaws.{not_kept}
 use Rattle.sshc_auth.specs.OpeningTable.Exchange.{has_kept_key}
@@ -151,7 +151,7 @@ unfolding asking
 reports_holds P front id output back told all others = record { caused = tt; front = all; back = λ answer. (told, others) }
 
 -- a part that can't be read breaks the packet; else what follows it may break it
-part_holds : {A : Type 0} (P : RowLaw) (parts : List Part) (r : Result (A × List ℕ) WireError) (on : A × List ℕ → SessionRow) → (BreaksBehind (λ rest. Breaks parts rest) (rest_of r) → P.refusal errors.SshEncoding) →
+part_holds : {A : Type 0} (P : RowLaw) (parts : List FieldKind) (r : Result (A × List ℕ) WireError) (on : A × List ℕ → SessionRow) → (BreaksBehind (λ rest. Breaks parts rest) (rest_of r) → P.refusal errors.SshEncoding) →
     ((x : A × List ℕ) → r ≡ Ok x → (Breaks parts x.1 → P.refusal errors.SshEncoding) → RowHolds P (on x)) → RowHolds P (with_read r on)
 part_holds P parts (Ok x) on breaks each = each x refl breaks
 part_holds P parts (Err e) on breaks each = record { caused = breaks tt; front = tt; back = λ answer. tt }

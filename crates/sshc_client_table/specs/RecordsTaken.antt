@@ -6,9 +6,9 @@ use Rattle.sshc_client_table.specs.SessionState.{SessionState}
 use Rattle.sshc_client_table.specs.Moves.{Move, done}
 
 -- the session with these records before its own
-abbrev pub behind : List Record → SessionState → SessionState
-behind before s = record s { records = before ++ s.records }
+abbrev pub with_earlier : List Record → SessionState → SessionState
+with_earlier before s = record s { records = before ++ s.records }
 
 abbrev pub RecordsAreOnlyAdded : Type 0
 RecordsAreOnlyAdded =
-    (before : List Record) (moves : List Move) (s : SessionState) → done moves (behind before s) ≡ behind before (done moves s)
+    (before : List Record) (moves : List Move) (s : SessionState) → done moves (with_earlier before s) ≡ with_earlier before (done moves s)

@@ -209,7 +209,7 @@ EachLifeHasItsAccount = (n : ℕ) (l : Life n) → Account (its_events n l) (its
 
 -- An event after which the stream has no pair ends the life: it is the pair's own, and what is to be done for it is to
 -- close the stream, after which the outputs of the life are orderly still.
-pub record Ending (n : ℕ) (l : Life n) (last : FwdEvent) : Type 0 where
+pub record PairEnding (n : ℕ) (l : Life n) (last : FwdEvent) : Type 0 where
   pub own : is_own n last (after_it n l) ≡ true
   pub outputs : (effect last (after_it n l)).outputs ≡ CloseStream n ∷ []
   pub order : IsOrderly none_given (its_outputs n l ++ (effect last (after_it n l)).outputs)
@@ -217,7 +217,7 @@ pub record Ending (n : ℕ) (l : Life n) (last : FwdEvent) : Type 0 where
 abbrev pub EachLifeEndsOnce : Type 0
 EachLifeEndsOnce =
     (n : ℕ) (l : Life n) (last : FwdEvent) →
-    get (effect last (after_it n l)).after.pairs n ≡ None → Ending n l last
+    get (effect last (after_it n l)).after.pairs n ≡ None → PairEnding n l last
 
 -- Of an event that isn't the pair's own no output names the pair; of its own each does.
 abbrev pub outputs_by : ℕ → FwdEvent → Forwards → List FwdOutput

@@ -3,3 +3,4 @@ mod LineLemmas
 mod RunLemmas
 mod ExactRun
 mod TellingLemmas
+mod By

@@ -42,7 +42,7 @@ fn two_numbers(body: &[u8]) -> Result<(u32, u32), EventFault>
     Ok((first, second))
 }
 
-#[tactic(auto, unfolding(crate::specs::EventText::number_and_bytes, crate::specs::EventText::u32_at, crate::specs::EventText::octets_at))]
+#[tactic(auto, unfolding(crate::proofs::By::number_and_bytes, crate::proofs::By::u32_at, crate::proofs::By::octets_at))]
 fn number_and_bytes(alloc: Global, body: &[u8]) -> Result<(u32, Octets), EventFault>
     ensures { GivesAll (λ n. n) result (number_and_bytes body.now) }
 {
@@ -54,7 +54,7 @@ fn number_and_bytes(alloc: Global, body: &[u8]) -> Result<(u32, Octets), EventFa
 }
 
 /// The fields of an accepted stream.
-#[tactic(auto, unfolding(crate::specs::EventText::accepted_at, crate::specs::EventText::u32_at, crate::specs::EventText::words_at))]
+#[tactic(auto, unfolding(crate::proofs::By::accepted_at, crate::proofs::By::u32_at, crate::proofs::By::words_at))]
 fn accepted(alloc: Global, body: &[u8]) -> Result<FwdEvent, EventFault>
     ensures { GivesAll (λ e. e) result (accepted_at body.now) }
 {

@@ -1,4 +1,4 @@
--- Lemmas by which several goals of a function are proved, in sets, and words that are unfolded there.
+-- Lemmas by which several goals of a function are proved, in sets.
 use Rattle.sshc_handle_calls.proofs.Answering.{answers, answers_at_once, answers_prompts, declined, declined_at_once}
 use Rattle.sshc_handle_calls.proofs.SigningAnswers.{answers_by_steps, answers_with}
 

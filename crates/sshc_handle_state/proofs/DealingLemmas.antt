@@ -13,7 +13,7 @@ use Rattle.sshc_wire.specs.declared.source.Failed.TheVariants.{Fault}
 use Rattle.sshc_transport.specs.Transports.{Handing, exchange_begun, payload}
 use Rattle.sshc_handle_tickets.specs.Tickets.{TicketState}
 use Rattle.sshc_handle_state.specs.Picking.{LinkAt}
-use Rattle.sshc_handle_state.specs.Dealing.{Deals, DealsBy, DealsFirst, DealsFront, Hands, HandsOn, gains_all, handing_of, handings, told, told_all}
+use Rattle.sshc_handle_state.specs.Dealing.{Deals, DealsBy, DealsFirst, DealsFront, Hands, HandsOn, gains_all, handing_of, handings, dealt, dealt_all}
 
 -- ---- calls of the transport
 
@@ -88,33 +88,33 @@ hands_more due more first second third a b c one two = record {
 
 -- ---- records that are held
 
-told_more : (records more : List Record) (t : TicketState) → told_all (records ++ more) t ≡ told_all more (told_all records t)
-unfolding told_all
+told_more : (records more : List Record) (t : TicketState) → dealt_all (records ++ more) t ≡ dealt_all more (dealt_all records t)
+unfolding dealt_all
 told_more [] more t = refl
-told_more (output ∷ records) more t = told_more records more (told output t)
+told_more (output ∷ records) more t = told_more records more (dealt output t)
 
 -- ---- both
 
 pub deals_nothing : (failed : Bool) (t : TicketState) (link : LinkAt) → Deals [] failed failed t t link link
-unfolding told_all
+unfolding dealt_all
 deals_nothing failed t link = record { tickets = refl; hands = hands_nothing failed link }
 
 pub deals_none : (first second : Bool) (t : TicketState) (was is : LinkAt) → Hands [] first second was is → Deals [] first second t t was is
-unfolding told_all
+unfolding dealt_all
 deals_none first second t was is hands = record { tickets = refl; hands = hands }
 
 pub deals_payload : (output : Record) (packet : List ℕ) (first second : Bool) (t : TicketState) (was is : LinkAt) → output ≡ Payload packet
     → Hands (payload packet ∷ []) first second was is → Deals (output ∷ []) first second t t was is
-unfolding told_all
+unfolding dealt_all
 deals_payload output packet first second t was is e hands = rw e (record { tickets = refl; hands = hands })
 
 pub deals_exchange : (output : Record) (first second : Bool) (t : TicketState) (was is : LinkAt) → output ≡ BeginExchange
     → Hands (exchange_begun ∷ []) first second was is → Deals (output ∷ []) first second t t was is
-unfolding told_all
+unfolding dealt_all
 deals_exchange output first second t was is e hands = rw e (record { tickets = refl; hands = hands })
 
-pub deals_told : (output : Record) (failed : Bool) (old new : TicketState) (link : LinkAt) → handing_of output ≡ [] → new ≡ told output old → Deals (output ∷ []) failed failed old new link link
-unfolding told_all
+pub deals_told : (output : Record) (failed : Bool) (old new : TicketState) (link : LinkAt) → handing_of output ≡ [] → new ≡ dealt output old → Deals (output ∷ []) failed failed old new link link
+unfolding dealt_all
 deals_told output failed old new link none e = record {
   tickets = e;
   hands = subst (λ (due : List Handing). Hands due failed failed link link) (sym (append-nil (handing_of output) ∙ none)) (hands_nothing failed link);
@@ -132,7 +132,7 @@ deals_stay failed old new link e = subst (λ (t : TicketState). Deals [] failed 
 pub deals_more : (front more : List Record) (first second third : Bool) (s t u : TicketState) (a b c : LinkAt)
     → Deals front first second s t a b → Deals more second third t u b c → Deals (front ++ more) first third s u a c
 deals_more front more first second third s t u a b c one two = record {
-  tickets = two.tickets ∙ (ap (λ (x : TicketState). told_all more x) one.tickets ∙ sym (told_more front more s));
+  tickets = two.tickets ∙ (ap (λ (x : TicketState). dealt_all more x) one.tickets ∙ sym (told_more front more s));
   hands = subst (λ (due : List Handing). Hands due first third a c) (sym (flat_map-append handing_of front more))
       (hands_more (handings front) (handings more) first second third a b c one.hands two.hands);
 }

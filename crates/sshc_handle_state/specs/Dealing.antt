@@ -22,12 +22,12 @@ held_behind (Channel id happened) held = held ++ Channel id happened ∷ []
 held_behind output held = held
 
 -- an answer settles its ticket; a channel that opens no longer counts as closed
-abbrev pub told : Record → TicketState → TicketState
-told output t = record t { due = due_behind output t.due; held = held_behind output t.held; closed = closed_behind (opened_by output) t.closed }
+abbrev pub dealt : Record → TicketState → TicketState
+dealt output t = record t { due = due_behind output t.due; held = held_behind output t.held; closed = closed_behind (opened_by output) t.closed }
 
-unfoldable pub told_all : List Record → TicketState → TicketState
-told_all [] t = t
-told_all (output ∷ records) t = told_all records (told output t)
+unfoldable pub dealt_all : List Record → TicketState → TicketState
+dealt_all [] t = t
+dealt_all (output ∷ records) t = dealt_all records (dealt output t)
 
 -- ---- calls of the transport
 
@@ -62,7 +62,7 @@ pub record Hands (due : List Handing) (failed_before failed_now : Bool) (was is 
 -- ---- both
 
 pub record Deals (records : List Record) (failed_before failed_now : Bool) (old new : TicketState) (was is : LinkAt) : Type 0 where
-  pub tickets : new ≡ told_all records old
+  pub tickets : new ≡ dealt_all records old
   pub hands : Hands (handings records) failed_before failed_now was is
 
 -- of all records; if memory ran out, of those that came before

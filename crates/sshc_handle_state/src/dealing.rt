@@ -2,7 +2,7 @@
 
 ghost use Rattle.std.specs.Prelude.{◌≡◌, ◌∷◌, [], OnErr, OnOk, length};
 ghost use Rattle.sshc_transport.specs.Transports.{exchange_begun, payload};
-ghost use Rattle.sshc_handle_state.specs.Dealing.{Deals, DealsBy, DealsFirst, Hands, handing_of, told};
+ghost use Rattle.sshc_handle_state.specs.Dealing.{Deals, DealsBy, DealsFirst, Hands, handing_of, dealt};
 ghost use Rattle.sshc_handle_state.specs.Picking.{link_at};
 
 use sshc_handle_tickets::Tickets;
@@ -55,7 +55,7 @@ fn begin<T: Transport>(transport: &mut T, failed: &mut bool) -> Result<(), NoMem
 
 /// Holds a record that is an answer or of what happened on a channel; a channel that opens no longer counts as closed.
 fn tell(tickets: &mut Tickets, output: Record) -> Result<(), NoMemory>
-    ensures ok { OnOk result (tickets.new ≡ told output tickets.old) }
+    ensures ok { OnOk result (tickets.new ≡ dealt output tickets.old) }
     ensures err { OnErr result (tickets.new ≡ tickets.old) }
 {
     match output {

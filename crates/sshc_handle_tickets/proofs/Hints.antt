@@ -1,4 +1,4 @@
--- Lemmas by which several goals of a function are proved, in sets, and words that are unfolded there.
+-- Lemmas by which several goals of a function are proved, in sets.
 use Rattle.sshc_handle_tickets.proofs.Free.{free_found, free_later, free_none}
 use Rattle.sshc_handle_tickets.proofs.Over.{count_over, first_dropped, none_cut, none_dropped, none_front, some_cut, some_front, without_dropped}
 

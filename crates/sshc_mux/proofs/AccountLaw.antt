@@ -4,13 +4,13 @@ use Rattle.std.proofs.lemmas.List.{append-nil}
 use Rattle.sshc_mux.specs.declared.chunk.Stream.{Stream}
 use Rattle.sshc_mux.specs.declared.channel.Stage.{Stage}
 use Rattle.sshc_mux.specs.declared.channel.Stage.TheVariants as Stages
-use Rattle.sshc_mux.specs.ChannelState.{Flow, ChannelState, TableState, Waiting, channel_of}
+use Rattle.sshc_mux.specs.ChannelState.{ChannelFlow, ChannelState, TableState, Waiting, channel_of}
 use Rattle.sshc_mux.specs.Packets.{Packet, Piece, Eof, Close, Adjust}
 use Rattle.sshc_mux.specs.ChannelTable.Opens.{awaited_by, is_reserved, accepted_head, confirmed_head}
 use Rattle.sshc_mux.specs.ChannelTable.Sending.{is_due}
 use Rattle.sshc_mux.specs.ChannelTable.Ends.{takes, is_sent, is_unasked}
 use Rattle.sshc_mux.specs.ChannelTable.Windows.{held, adjust_of}
-use Rattle.sshc_mux.specs.ChannelAccount.{Call, OpenUser, ReserveServer, SettleServer, Confirm, Fail, Bytes, AskEof, AskClose, PeerClose, Grant, FlushAll, Received, called, ran, no_channels, marked, taken, packets_by, bytes_in, pending, gain, gain_in, granted, IsSound, Part, no_part, eof_part, close_part, grant_part, accept_part, confirm_part, received_part, part, part_in, added, asks_eof, asks_close, lets_end, NoneDue, Moves, HasThroughout, Orderly, has_eof, has_close, Life, born, table_after, sent, Account, IsFront, sent_with}
+use Rattle.sshc_mux.specs.ChannelAccount.{Call, OpenUser, ReserveServer, SettleServer, Confirm, Fail, Bytes, AskEof, AskClose, PeerClose, Grant, FlushAll, Received, called, ran, no_channels, marked, taken, packets_by, bytes_in, pending, gain, gain_in, granted, IsSound, CallPart, no_part, eof_part, close_part, grant_part, accept_part, confirm_part, received_part, part, part_in, added, asks_eof, asks_close, lets_end, NoneDue, Moves, HasThroughout, Orderly, has_eof, has_close, Life, born, table_after, sent, Account, IsFront, sent_with}
 use Rattle.sshc_mux.proofs.AccountLemmas.{bytes-append, orderly_then}
 use Rattle.sshc_mux.specs.Places.{numbers, has, Apart}
 use Rattle.sshc_mux.proofs.NumbersLemmas.{has_none, apart_append}
@@ -27,7 +27,7 @@ nothing : (b : Bool) (more : List (Stream × ℕ)) → (if b then more else []) 
 nothing true more = refl
 nothing false more = refl
 
-granting : (e b : Bool) (p : Part) (more : List (Stream × ℕ)) → p.more ≡ [] → p.last ≡ false →
+granting : (e b : Bool) (p : CallPart) (more : List (Stream × ℕ)) → p.more ≡ [] → p.last ≡ false →
     (if b then more else []) ≡ pending (if e then p else no_part).more ++ (if b && not (if e then p else no_part).last then more else [])
 granting true b p more none last = nothing b more ∙ ap (λ (l : Bool). if b && not l then more else []) (sym last) ∙ ap (λ (ws : List Waiting). pending ws ++ (if b && not p.last then more else [])) (sym none)
 granting false b p more none last = nothing b more
@@ -46,17 +46,17 @@ ended_none : (b : Bool) (more : List (Stream × ℕ)) → let none : List (Strea
 ended_none true more = refl
 ended_none false more = refl
 
-ended_by : (e b : Bool) (p : Part) (more : List (Stream × ℕ)) → p.more ≡ [] → p.last ≡ true →
+ended_by : (e b : Bool) (p : CallPart) (more : List (Stream × ℕ)) → p.more ≡ [] → p.last ≡ true →
     (if b then (if e then [] else more) else []) ≡ pending (if e then p else no_part).more ++ (if b && not (if e then p else no_part).last then more else [])
 ended_by true b p more none last =
     ended_none b more ∙ ap (λ (l : Bool). if b && not l then more else []) (sym last) ∙ ap (λ (ws : List Waiting). pending ws ++ (if b && not p.last then more else [])) (sym none)
 ended_by false b p more none last = nothing b more
 
-if_more : (w : Bool) (p : Part) → p.more ≡ [] → (if w then p else no_part).more ≡ []
+if_more : (w : Bool) (p : CallPart) → p.more ≡ [] → (if w then p else no_part).more ≡ []
 if_more true p none = none
 if_more false p none = refl
 
-if_last : (w : Bool) (p : Part) → p.last ≡ false → (if w then p else no_part).last ≡ false
+if_last : (w : Bool) (p : CallPart) → p.last ≡ false → (if w then p else no_part).last ≡ false
 if_last true p none = none
 if_last false p none = refl
 
@@ -64,7 +64,7 @@ taken_step : (n : ℕ) (call : Call) (calls : List Call) (c : ChannelState) → 
 taken_step n (OpenUser window packet ticket) calls c = nothing (takes c.flow) (taken n calls)
 taken_step n (ReserveServer recipient window packet own) calls c = nothing (takes c.flow) (taken n calls)
 taken_step n (SettleServer id true) calls c =
-    let p : Part = record no_part { answer = Some (accepted_head c.head) } in
+    let p : CallPart = record no_part { answer = Some (accepted_head c.head) } in
     granting (eqb id n) (takes c.flow) (accept_part c) (taken n calls) (if_more (is_reserved c) p refl) (if_last (is_reserved c) p refl)
 taken_step n (SettleServer id false) calls c = nothing (takes c.flow) (taken n calls)
 taken_step n (Confirm id recipient window packet) calls c =
@@ -77,19 +77,19 @@ taken_step n (AskEof id) calls c = ended_by (eqb id n) (takes c.flow) (eof_part 
 taken_step n (AskClose id) calls c = ended_by (eqb id n) (takes c.flow) close_part (taken n calls) refl refl
 taken_step n (PeerClose id) calls c = nothing (takes c.flow) (taken n calls)
 taken_step n (Grant id amount exchanging) calls c =
-    let p : Part = record no_part { gain = held amount c.flow.window; sends = not exchanging; ends = true } in
+    let p : CallPart = record no_part { gain = held amount c.flow.window; sends = not exchanging; ends = true } in
     granting (eqb id n) (takes c.flow) (grant_part amount exchanging c) (taken n calls) (if_more c.head.established p refl) (if_last c.head.established p refl)
 taken_step n FlushAll calls c = nothing (takes c.flow) (taken n calls)
 taken_step n (Received id len target) calls c =
-    let p : Part = record no_part { used = len; returned = adjust_of target (c.own_window - len) } in
+    let p : CallPart = record no_part { used = len; returned = adjust_of target (c.own_window - len) } in
     granting (eqb id n) (takes c.flow) (received_part len target c) (taken n calls) (if_more c.head.established p refl) (if_last c.head.established p refl)
 
-adds_within : (e w : Bool) (p : Part) (most : ℕ) → p.gain ≤ most → (if e then (if w then p else no_part) else no_part).gain ≤ (if e && w then most else 0)
+adds_within : (e w : Bool) (p : CallPart) (most : ℕ) → p.gain ≤ most → (if e then (if w then p else no_part) else no_part).gain ≤ (if e && w then most else 0)
 adds_within true true p most within = within
 adds_within true false p most within = omega arith
 adds_within false w p most within = omega arith
 
-no_gain : (e w : Bool) (p : Part) → p.gain ≡ 0 → (if e then (if w then p else no_part) else no_part).gain ≤ 0
+no_gain : (e w : Bool) (p : CallPart) → p.gain ≡ 0 → (if e then (if w then p else no_part) else no_part).gain ≤ 0
 no_gain true true p none = omega (arith, none)
 no_gain true false p none = omega arith
 no_gain false w p none = omega arith
@@ -164,7 +164,7 @@ life n (call ∷ calls) t c c2 before due apart sound here stands there =
     let t1 : TableState = (called call t).table in
     let now = some_there (channel_of n t1.channels) stands.0 in
     let c1 : ChannelState = now.0 in
-    let p : Part = part n call c in
+    let p : CallPart = part n call c in
     let step : Moves c c1 (packets_by n (called call t).output) p = step_moves n call t c c1 apart sound here now.1 in
     let rest : Lived n calls t1 c1 c2 p.ends = life n calls t1 c1 c2 p.ends step.flow.ends (step_apart call t apart) step.sound now.1 stands.1 there in
     let a : List Packet = packets_by n (called call t).output in
@@ -183,14 +183,14 @@ life n (call ∷ calls) t c c2 before due apart sound here stands there =
           ∙ ap (λ (ms : List (Stream × ℕ)). ms ++ (if takes c1.flow then taken n calls else [])) step.flow.balance
           ∙ append_assoc (pending c.flow.pending) (pending p.more) (if takes c1.flow then taken n calls else [])
           ∙ ap (λ (ms : List (Stream × ℕ)). pending c.flow.pending ++ ms) (ap (λ (x : Bool). pending p.more ++ (if x then taken n calls else [])) step.flow.taking ∙ sym (taken_step n call calls c));
-      window = omega (arith, ap length bytes, length-append (bytes_in a) (bytes_in b), step.flow.window, rest.window, ap (λ (q : Part). q.gain) part_is);
+      window = omega (arith, ap length bytes, length-append (bytes_in a) (bytes_in b), step.flow.window, rest.window, ap (λ (q : CallPart). q.gain) part_is);
       order = subst P (sym packets) (orderly_then _ _ _ _ _ _ a b step.flow.order rest.order);
       eof =
           rest.eof ∙ ap (λ (u : Bool). u && not (asks_eof n calls t1)) step.flow.eof ∙ asked_twice (is_unasked c.flow.eof) p.eof (asks_eof n calls t1)
-          ∙ ap (λ (q : Part). is_unasked c.flow.eof && not (q.eof || asks_eof n calls t1)) (sym part_is);
+          ∙ ap (λ (q : CallPart). is_unasked c.flow.eof && not (q.eof || asks_eof n calls t1)) (sym part_is);
       close =
           rest.close ∙ ap (λ (u : Bool). u && not (asks_close n calls t1)) step.flow.close ∙ asked_twice (is_unasked c.flow.close) p.close (asks_close n calls t1)
-          ∙ ap (λ (q : Part). is_unasked c.flow.close && not (q.close || asks_close n calls t1)) (sym part_is);
+          ∙ ap (λ (q : CallPart). is_unasked c.flow.close && not (q.close || asks_close n calls t1)) (sym part_is);
       ends = subst Q (sym here) rest.ends;
       sound = rest.sound;
     }
@@ -254,13 +254,13 @@ made_life n l =
     let apart2 : Apart (numbers (born n l).channels) = apart_append t.channels l.start apart unused in
     let all : Lived n l.calls (born n l) l.start l.end false =
     life n l.calls (born n l) l.start l.end false (λ no. absurd (cc)) apart2 new.sound (found_last n t.channels l.start none new.number) l.stands l.there in
-    let f : Flow = l.end.flow in
+    let f : ChannelFlow = l.end.flow in
     let ps : List Packet = sent n l in
-    let P : Flow → Type 0 = λ g. Orderly (is_sent g.eof) (is_sent g.close) ps (is_sent f.eof) (is_sent f.close) in
+    let P : ChannelFlow → Type 0 = λ g. Orderly (is_sent g.eof) (is_sent g.close) ps (is_sent f.eof) (is_sent f.close) in
     let order : Orderly false false ps (is_sent f.eof) (is_sent f.close) = subst P new.flow all.order in
-    let eof_asked : is_unasked f.eof ≡ not (asks_eof n l.calls (born n l)) = all.eof ∙ ap (λ (g : Flow). is_unasked g.eof && not (asks_eof n l.calls (born n l))) new.flow in
-    let close_asked : is_unasked f.close ≡ not (asks_close n l.calls (born n l)) = all.close ∙ ap (λ (g : Flow). is_unasked g.close && not (asks_close n l.calls (born n l))) new.flow in
-    let balance : bytes_in ps ++ pending f.pending ≡ taken n l.calls = all.balance ∙ ap (λ (g : Flow). pending g.pending ++ (if takes g then taken n l.calls else [])) new.flow in
+    let eof_asked : is_unasked f.eof ≡ not (asks_eof n l.calls (born n l)) = all.eof ∙ ap (λ (g : ChannelFlow). is_unasked g.eof && not (asks_eof n l.calls (born n l))) new.flow in
+    let close_asked : is_unasked f.close ≡ not (asks_close n l.calls (born n l)) = all.close ∙ ap (λ (g : ChannelFlow). is_unasked g.close && not (asks_close n l.calls (born n l))) new.flow in
+    let balance : bytes_in ps ++ pending f.pending ≡ taken n l.calls = all.balance ∙ ap (λ (g : ChannelFlow). pending g.pending ++ (if takes g then taken n l.calls else [])) new.flow in
     let alone : f.pending ≡ [] → bytes_in ps ≡ taken n l.calls = λ h. sym (append-nil (bytes_in ps)) ∙ ap (λ (ws : List Waiting). bytes_in ps ++ pending ws) (sym h) ∙ balance in
     let eof_in : has_eof ps ≡ is_sent f.eof = eof_told false ps (is_sent f.eof) (is_sent f.close) order in
     let close_in : has_close ps ≡ is_sent f.close = close_told false ps (is_sent f.eof) (is_sent f.close) order in

@@ -5,7 +5,7 @@ use Rattle.std.proofs.lemmas.Bool.{cases_lt}
 use Rattle.sshc_mux.specs.declared.chunk.Stream.{Stream}
 use Rattle.sshc_mux.specs.declared.channel.Stage.{Stage}
 use Rattle.sshc_mux.specs.declared.channel.Stage.TheVariants as Stages
-use Rattle.sshc_mux.specs.ChannelState.{Flow, Waiting}
+use Rattle.sshc_mux.specs.ChannelState.{ChannelFlow, Waiting}
 use Rattle.sshc_mux.specs.Packets.{Packet, Piece, Eof, Close, Adjust}
 use Rattle.sshc_mux.specs.ChannelTable.Sending.{cut, cut_up_to, pieces_of, count_of, sent_of, left_of, emptied, is_due, done, due_of, ended_if}
 use Rattle.sshc_mux.specs.ChannelTable.Ends.{is_sent, is_unasked}
@@ -151,7 +151,7 @@ filled_append [] b first second = second
 filled_append (w ∷ a) b first second = (first.0, filled_append a b first.1 second)
 
 -- a flow sends, and keeps what its account is about
-pub record Kept (f after : Flow) (packets : List Packet) : Type 0 where
+pub record Kept (f after : ChannelFlow) (packets : List Packet) : Type 0 where
   pub balance : bytes_in packets ++ pending after.pending ≡ pending f.pending
   pub window : length (bytes_in packets) + after.window ≡ f.window
   pub order : Orderly (is_sent f.eof) (is_sent f.close) packets (is_sent after.eof) (is_sent after.close)
@@ -159,7 +159,7 @@ pub record Kept (f after : Flow) (packets : List Packet) : Type 0 where
   pub close : is_unasked after.close ≡ is_unasked f.close
   pub ordered : IsOrdered after
 
-pub kept_then : (f f1 f2 : Flow) (a b : List Packet) → Kept f f1 a → Kept f1 f2 b → Kept f f2 (a ++ b)
+pub kept_then : (f f1 f2 : ChannelFlow) (a b : List Packet) → Kept f f1 a → Kept f1 f2 b → Kept f f2 (a ++ b)
 kept_then f f1 f2 a b first second = record {
   balance =
       ap (λ (ms : List (Stream × ℕ)). ms ++ pending f2.pending) (bytes-append a b)
@@ -174,7 +174,7 @@ kept_then f f1 f2 a b first second = record {
 }
 
 -- bytes are sent
-pub emptied_kept : (size room : ℕ) (f : Flow) → (0 < room → 0 < size) → room ≤ f.window → IsOrdered f → Kept f (emptied room f) (sent_of size room f.pending)
+pub emptied_kept : (size room : ℕ) (f : ChannelFlow) → (0 < room → 0 < size) → room ≤ f.window → IsOrdered f → Kept f (emptied room f) (sent_of size room f.pending)
 emptied_kept size room f some fits ordered = record {
   balance = sent_left size room f.pending some;
   window = omega (arith, length-sent size room f.pending some);
@@ -190,7 +190,7 @@ emptied_kept size room f some fits ordered = record {
 }
 
 -- EOF and close are sent
-pub ended_kept : (may : Bool) (f : Flow) → (may ≡ true → f.pending ≡ []) → IsOrdered f → Kept f (ended_if may f) (if may then due_of f else [])
+pub ended_kept : (may : Bool) (f : ChannelFlow) → (may ≡ true → f.pending ≡ []) → IsOrdered f → Kept f (ended_if may f) (if may then due_of f else [])
 ended_kept true f none ordered = record {
   balance = ap (λ (ms : List (Stream × ℕ)). ms ++ pending f.pending) (due_bytes (is_due f.eof) (is_due f.close));
   window = omega (arith, ap length (due_bytes (is_due f.eof) (is_due f.close)));

@@ -1,14 +1,14 @@
 -- A flow's turn to send, part by part.
 use Rattle.std.proofs.Common.{◌≡◌, ℕ, Bool, List, [], ◌++◌, length, eqb, if◌then◌else◌, ◌&&◌, ap, sym, ◌∙◌, append_assoc}
 use Rattle.sshc_wire.specs.declared.record.Record.{Record}
-use Rattle.sshc_mux.specs.ChannelState.{Head, Flow}
+use Rattle.sshc_mux.specs.ChannelState.{Head, ChannelFlow}
 use Rattle.sshc_mux.specs.Packets.{Packet, payloads}
 use Rattle.sshc_mux.specs.ChannelTable.Sending.{sent_of, left_of, room_of, due_of, ends_of, emptied, flushed}
 use Rattle.sshc_mux.proofs.PieceLemmas.{payloads-append}
 use Rattle.sshc_mux.proofs.SendingLemmas.{append_none}
 
 -- the bytes, and then the ends that are due
-pub flushed_said : (exchanging is_empty : Bool) (h : Head) (f : Flow) (room : ℕ) (before mid after : List Record) →
+pub flushed_said : (exchanging is_empty : Bool) (h : Head) (f : ChannelFlow) (room : ℕ) (before mid after : List Record) →
     room ≡ room_of exchanging h f →
     mid ≡ before ++ payloads h.recipient (sent_of h.packet_size room f.pending) →
     is_empty ≡ eqb (length (left_of room f.pending)) 0 →
@@ -28,13 +28,13 @@ flushed_said exchanging is_empty h f room before mid after room_is first empty_i
 
 -- if nothing is written, no bytes are sent, and neither EOF nor close
 
-pub no_bytes_go : (exchanging : Bool) (h : Head) (f : Flow) (room : ℕ) → room ≡ room_of exchanging h f → (flushed exchanging h f).packets ≡ [] → sent_of h.packet_size room f.pending ≡ []
+pub no_bytes_go : (exchanging : Bool) (h : Head) (f : ChannelFlow) (room : ℕ) → room ≡ room_of exchanging h f → (flushed exchanging h f).packets ≡ [] → sent_of h.packet_size room f.pending ≡ []
 unfolding flushed
 no_bytes_go exchanging h f room room_is none =
     ap (λ (r : ℕ). sent_of h.packet_size r f.pending) room_is
     ∙ (append_none (sent_of h.packet_size (room_of exchanging h f) f.pending) (ends_of h (emptied (room_of exchanging h f) f)) none).0
 
-pub no_ends_go : (exchanging is_empty : Bool) (h : Head) (f : Flow) (room : ℕ) → room ≡ room_of exchanging h f → is_empty ≡ eqb (length (left_of room f.pending)) 0 → (flushed exchanging h f).packets ≡ [] →
+pub no_ends_go : (exchanging is_empty : Bool) (h : Head) (f : ChannelFlow) (room : ℕ) → room ≡ room_of exchanging h f → is_empty ≡ eqb (length (left_of room f.pending)) 0 → (flushed exchanging h f).packets ≡ [] →
     (if h.established && is_empty then due_of f else []) ≡ []
 unfolding flushed
 no_ends_go exchanging is_empty h f room room_is empty_is none =

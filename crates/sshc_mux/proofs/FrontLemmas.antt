@@ -8,7 +8,7 @@ use Rattle.sshc_wire.specs.Outgoing.{Outgoing, shown}
 use Rattle.sshc_mux.specs.declared.chunk.Stream.{Stream}
 use Rattle.sshc_mux.specs.declared.channel.Stage.{Stage}
 use Rattle.sshc_mux.specs.declared.channel.Stage.TheVariants as Stages
-use Rattle.sshc_mux.specs.ChannelState.{Head, Flow, ChannelState, Waiting}
+use Rattle.sshc_mux.specs.ChannelState.{Head, ChannelFlow, ChannelState, Waiting}
 use Rattle.sshc_mux.specs.Packets.{Packet, Eof, Close, payloads}
 use Rattle.sshc_mux.specs.ChannelTable.{Turned, in_flow}
 use Rattle.sshc_mux.specs.ChannelTable.Sending.{FlowTurn, cut, pieces_of, count_of, sent_of, left_of, room_of, emptied, may_end, is_due, done, due_of, ended_if, flushed}
@@ -52,12 +52,12 @@ no_ends true false true eof close = absurd (cc)
 no_ends true false false eof close = refl
 no_ends false e k eof close = refl
 
-not_ended : (may : Bool) (f : Flow) → done f.eof ≡ f.eof → done f.close ≡ f.close → ended_if may f ≡ f
+not_ended : (may : Bool) (f : ChannelFlow) → done f.eof ≡ f.eof → done f.close ≡ f.close → ended_if may f ≡ f
 not_ended true f eof close = ap (λ (s : Stage). record f { eof = s; close = done f.close }) eof ∙ ap (λ (s : Stage). record f { close = s }) close
 not_ended false f eof close = refl
 
 -- a front is sent at once, and the rest waits
-front_sent : (stream : Stream) (bytes front rest : List ℕ) (exchanging : Bool) (h : Head) (f : Flow) (room count : ℕ) →
+front_sent : (stream : Stream) (bytes front rest : List ℕ) (exchanging : Bool) (h : Head) (f : ChannelFlow) (room count : ℕ) →
     f.pending ≡ [] → takes f ≡ true → room ≡ room_of exchanging h f → count ≡ min (length bytes) room → front ≡ take count bytes → rest ≡ drop count bytes →
     flush_with stream bytes exchanging h f
     ≡ record { flow = record f { window = f.window - count; pending = waiting_of stream rest }; packets = pieces_of stream (cut h.packet_size front) }
@@ -65,7 +65,7 @@ unfolding flushed
 front_sent stream bytes front rest exchanging h f room count empty taking room_is count_is front_is rest_is =
     let some : ℕ = room_of exchanging h f in
     let w : Waiting = record { stream = stream; bytes = bytes } in
-    let after : Flow = emptied some (with_pending stream bytes f) in
+    let after : ChannelFlow = emptied some (with_pending stream bytes f) in
     let alone : f.pending ++ w ∷ [] ≡ w ∷ [] = ap (λ (ws : List Waiting). ws ++ w ∷ []) empty in
     let fits : count ≡ min (length bytes) some = count_is ∙ ap (λ (n : ℕ). min (length bytes) n) room_is in
     let sent : sent_of h.packet_size some (f.pending ++ w ∷ []) ≡ pieces_of stream (cut h.packet_size front) =
@@ -86,7 +86,7 @@ front_sent stream bytes front rest exchanging h f room count empty taking room_i
     let packets : sent_of h.packet_size some (f.pending ++ w ∷ []) ++ (if may_end h after then due_of after else []) ≡ pieces_of stream (cut h.packet_size front) =
     ap (λ (ps : List Packet). sent_of h.packet_size some (f.pending ++ w ∷ []) ++ ps) (no_ends (may_end h after) (is_due f.eof) (is_due f.close) (unasked_due f.eof eof) (unasked_due f.close close))
     ∙ append-nil (sent_of h.packet_size some (f.pending ++ w ∷ [])) ∙ sent in
-    ap (λ (k : Flow). let t : FlowTurn = record { flow = k; packets = sent_of h.packet_size some (f.pending ++ w ∷ []) ++ (if may_end h after then due_of after else []) } in t) flow
+    ap (λ (k : ChannelFlow). let t : FlowTurn = record { flow = k; packets = sent_of h.packet_size some (f.pending ++ w ∷ []) ++ (if may_end h after then due_of after else []) } in t) flow
     ∙ ap (λ (ps : List Packet). let t : FlowTurn = record { flow = record f { window = f.window - count; pending = waiting_of stream rest }; packets = ps } in t) packets
 
 -- the channel and the outbox after it
@@ -97,7 +97,7 @@ pub front_turned : {A : Type 0} (x : A) (stream : Stream) (bytes front rest : Li
     new.records ≡ old.records ++ shown old.muted output → new.muted ≡ old.muted →
     Turned (in_flow (flush_with stream bytes exchanging) c) c after old new (Ok x)
 front_turned x stream bytes front rest exchanging c after room count output old new empty taking room_is count_is front_is rest_is said_is after_is added muted =
-    let f : Flow = c.flow in
+    let f : ChannelFlow = c.flow in
     let alike = front_sent stream bytes front rest exchanging c.head f room count empty taking room_is count_is front_is rest_is in
     let short : length front ≡ count = ap (λ (bs : List ℕ). length bs) front_is ∙ omega (arith, length-take count bytes) in
     let channel : after ≡ record c { flow = record f { window = f.window - count; pending = waiting_of stream rest } } =

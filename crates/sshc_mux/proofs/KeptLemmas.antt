@@ -5,9 +5,9 @@ use Rattle.std.specs.HashMap.{HashMap, get, hash_map_len, Updates}
 use Rattle.std.proofs.lemmas.Bool.Decides.{eqb_tells}
 use Rattle.sshc_wire.specs.declared.error.NoMemory.{NoMemory}
 use Rattle.sshc_wire.specs.Outgoing.{Outgoing}
-use Rattle.sshc_mux.specs.ChannelState.{Flow, ChannelState, TableState, channel_of, with_channel, without}
+use Rattle.sshc_mux.specs.ChannelState.{ChannelFlow, ChannelState, TableState, channel_of, with_channel, without}
 use Rattle.sshc_mux.specs.ChannelTable.{Turn, Turned, waits, all_flushed}
-use Rattle.sshc_mux.specs.ChannelAccount.{FlushAll, IsSound, IsLegal, Part, Moves}
+use Rattle.sshc_mux.specs.ChannelAccount.{FlushAll, IsSound, IsLegal, CallPart, Moves}
 use Rattle.sshc_mux.specs.Places.{Slots, present, IsPlace, IsIndexed, IsStored, flushed_slot, numbers, has, Apart, waiting_of}
 use Rattle.sshc_mux.proofs.NumbersLemmas.{has_none, number_of, numbers-with, with_same, with_other, without_same, without_other, apart_without, apart_append, append_found}
 use Rattle.sshc_mux.proofs.PlaceLemmas.{present-append}
@@ -68,7 +68,7 @@ kept_set n at last waiting waiting2 index slots before after here stored number 
 
 -- a channel's turn
 
-turned_kept : {A : Type 0} (turn : ChannelState → Turn) → IsTurn turn → (before after : ChannelState) (old new : Outgoing) (result : Result A NoMemory) → ((x : ChannelState) → IsSound x → (p : Part) × Moves x (turn x).channel (turn x).packets p) →
+turned_kept : {A : Type 0} (turn : ChannelState → Turn) → IsTurn turn → (before after : ChannelState) (old new : Outgoing) (result : Result A NoMemory) → ((x : ChannelState) → IsSound x → (p : CallPart) × Moves x (turn x).channel (turn x).packets p) →
     Turned (turn before) before after old new result → IsSound before → (after.head.number ≡ before.head.number) × IsSound after
 turned_kept turn is before after old new (Ok x) moves (after_is, written, muted) sound =
     let P : ChannelState → Type 0 = λ c. (c.head.number ≡ before.head.number) × IsSound c in
@@ -78,7 +78,7 @@ turned_kept turn is before after old new (Err e) moves (after_is, written, muted
     subst P (sym after_is) (refl, sound)
 
 pub kept_turn : {A : Type 0} (turn : ChannelState → Turn) → IsTurn turn → (n at last waiting waiting2 : ℕ) (index : List (ℕ × ℕ)) (slots : Slots) (before after : ChannelState) (old new : Outgoing) (result : Result A NoMemory) →
-    ((x : ChannelState) → IsSound x → (p : Part) × Moves x (turn x).channel (turn x).packets p) → Held n slots at before → Stored index slots waiting last →
+    ((x : ChannelState) → IsSound x → (p : CallPart) × Moves x (turn x).channel (turn x).packets p) → Held n slots at before → Stored index slots waiting last →
     waiting2 + (if waits before then 1 else 0) ≡ waiting + (if waits after then 1 else 0) → Turned (turn before) before after old new result → Stored index (set slots at (Some after)) waiting2 last
 kept_turn turn is n at last waiting waiting2 index slots before after old new result moves here stored count turned =
     let kept = turned_kept turn is before after old new result moves turned (stored.1.sound n before here.found) in
@@ -88,7 +88,7 @@ kept_turn turn is n at last waiting waiting2 index slots before after old new re
 pub same_waits : {A : Type 0} (turn : ChannelState → Turn) (before after : ChannelState) (old new : Outgoing) (result : Result A NoMemory) (waiting : ℕ) → ((x : ChannelState) → (turn x).channel.flow ≡ x.flow) → Turned (turn before) before after old new result →
     waiting + (if waits before then 1 else 0) ≡ waiting + (if waits after then 1 else 0)
 same_waits turn before after old new (Ok x) waiting same (after_is, written, muted) =
-    ap (λ (f : Flow). waiting + (if not (eqb (length f.pending) 0) then 1 else 0)) (sym (ap (λ (c : ChannelState). c.flow) after_is ∙ same before))
+    ap (λ (f : ChannelFlow). waiting + (if not (eqb (length f.pending) 0) then 1 else 0)) (sym (ap (λ (c : ChannelState). c.flow) after_is ∙ same before))
 same_waits turn before after old new (Err e) waiting same (after_is, written, muted) =
     ap (λ (c : ChannelState). waiting + (if waits c then 1 else 0)) (sym after_is)
 
@@ -131,7 +131,7 @@ appended_sound (Some x) n m cs new c here fresh all found =
     subst P is (all m x here)
 
 fresh_quiet : (n : ℕ) (c : ChannelState) → Fresh n c → waits c ≡ false
-fresh_quiet n c fresh = ap (λ (f : Flow). not (eqb (length f.pending) 0)) fresh.flow
+fresh_quiet n c fresh = ap (λ (f : ChannelFlow). not (eqb (length f.pending) 0)) fresh.flow
 
 pub kept_push : (last waiting n at : ℕ) (index index2 : List (ℕ × ℕ)) (slice slots base longer : Slots) (c new : ChannelState) (old : Option ℕ) → Stored index slots waiting last → slice ≡ slots → channel_of n (present slice) ≡ None → Fresh n new → c ≡ new →
     base ≡ slots → at ≡ length slice → ((m : ℕ) → lookup (nat_eq m) index2 ≡ cond (eqb n m) (Some at) (lookup (nat_eq m) index)) → old ≡ lookup (nat_eq n) index → length index2 ≡ length index + (if is_some old then 0 else 1) →

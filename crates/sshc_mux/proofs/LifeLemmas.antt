@@ -5,7 +5,7 @@ use Rattle.sshc_mux.specs.ChannelState.{ChannelState, TableState, channel_of}
 use Rattle.sshc_mux.specs.Packets.{Packet}
 use Rattle.sshc_mux.specs.ChannelTable.{turn_at, take_at, no_packets_of, flush, accept_turn, confirm_turn, is_awaited, is_up, close_peer, Turn, flush_turn, data_turn, eof_turn, close_turn, grant_turn, received_turn, last_packets}
 use Rattle.sshc_mux.specs.ChannelTable.Opens.{next_number, opened_by_user, reserved_by_server, awaited_by, accepted, confirmed, is_reserved}
-use Rattle.sshc_mux.specs.ChannelAccount.{Call, OpenUser, ReserveServer, SettleServer, Confirm, Fail, Bytes, AskEof, AskClose, PeerClose, Grant, FlushAll, Received, called, opened, packets_by, IsSound, Part, no_part, bytes_part, eof_part, close_part, grant_part, flush_part, accept_part, confirm_part, received_part, part, Moves}
+use Rattle.sshc_mux.specs.ChannelAccount.{Call, OpenUser, ReserveServer, SettleServer, Confirm, Fail, Bytes, AskEof, AskClose, PeerClose, Grant, FlushAll, Received, called, opened, packets_by, IsSound, CallPart, no_part, bytes_part, eof_part, close_part, grant_part, flush_part, accept_part, confirm_part, received_part, part, Moves}
 use Rattle.sshc_mux.proofs.TurnLemmas.{still_moves, flush_turn_moves, data_moves, eof_moves, close_moves, grant_moves, received_moves, confirm_moves, accept_moves}
 use Rattle.sshc_mux.specs.Places.{numbers, Apart}
 use Rattle.sshc_mux.proofs.NumbersLemmas.{append_found}
@@ -27,14 +27,14 @@ confirm_by false recipient window packet c = refl
 pub confirm_number : (recipient window packet : ℕ) (c : ChannelState) → (confirm_turn recipient window packet c).channel.head.number ≡ c.head.number
 confirm_number recipient window packet c = confirm_by (is_some (awaited_by (Some c))) recipient window packet c
 
-moves_is : (c after c2 : ChannelState) (own packets : List Packet) (p : Part) → c2 ≡ after → packets ≡ own → Moves c after own p → Moves c c2 packets p
+moves_is : (c after c2 : ChannelState) (own packets : List Packet) (p : CallPart) → c2 ≡ after → packets ≡ own → Moves c after own p → Moves c c2 packets p
 moves_is c after c2 own packets p channel_is packets_is moves =
     let P : ChannelState → Type 0 = λ x. Moves c x own p in
     let Q : List Packet → Type 0 = λ ps. Moves c c2 ps p in
     subst Q (sym packets_is) (subst P (sym channel_is) moves)
 
 -- the named channel takes its turn, and another stays
-by_name : (n id : ℕ) (c c2 after : ChannelState) (packets own : List Packet) (p : Part) →
+by_name : (n id : ℕ) (c c2 after : ChannelState) (packets own : List Packet) (p : CallPart) →
     Outcome n id c c2 after packets own → IsSound c → (id ≡ n → Moves c after own p) → Moves c c2 packets (if eqb id n then p else no_part)
 by_name n id c c2 after packets own p outcome sound moves =
     let P : Bool → Type 0 = λ b. Moves c c2 packets (if b then p else no_part) in
@@ -50,7 +50,7 @@ same_if false x = refl
 -- the same where the call has no part in the account
 quietly : (n id : ℕ) (c c2 after : ChannelState) (packets own : List Packet) → Outcome n id c c2 after packets own → IsSound c → (id ≡ n → Moves c after own no_part) → Moves c c2 packets no_part
 quietly n id c c2 after packets own outcome sound moves =
-    let P : Part → Type 0 = λ p. Moves c c2 packets p in
+    let P : CallPart → Type 0 = λ p. Moves c c2 packets p in
     subst P (same_if (eqb id n) no_part) (by_name n id c c2 after packets own no_part outcome sound moves)
 
 opened_moves : (n : ℕ) (o : Option ℕ) (channel : ℕ → ChannelState) (t : TableState) (c c2 : ChannelState) → IsSound c → channel_of n t.channels ≡ Some c → channel_of n (opened o channel t).table.channels ≡ Some c2 → Moves c c2 (packets_by n (opened o channel t).output) no_part

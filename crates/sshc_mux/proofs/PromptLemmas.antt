@@ -2,7 +2,7 @@
 use Rattle.std.proofs.Common.{◌≡◌, ℕ, zero, suc, ◌-◌, ◌<◌, ◌≤◌, min, Bool, true, false, not, ◌&&◌, List, [], ◌∷◌, ◌++◌, length, take, drop, ltb, if◌then◌else◌, refl, ap, sym, subst, ◌∙◌, inl, inr, arith, length-take, length-drop}
 use Rattle.std.proofs.lemmas.Bool.{ltb-true, lt-ltb, cases_lt}
 use Rattle.sshc_mux.specs.declared.chunk.Stream.{Stream}
-use Rattle.sshc_mux.specs.ChannelState.{Head, Flow, Waiting}
+use Rattle.sshc_mux.specs.ChannelState.{Head, ChannelFlow, Waiting}
 use Rattle.sshc_mux.specs.Packets.{Packet, Piece, Eof, Close, Adjust}
 use Rattle.sshc_mux.specs.ChannelTable.Sending.{cut, cut_up_to, pieces_of, count_of, sent_of, left_of, room_of, emptied, may_end, is_due, ends_of, flushed}
 use Rattle.sshc_mux.specs.ChannelAccount.{AllFilled, AreLongest}
@@ -136,7 +136,7 @@ longest_room : (b : Bool) (size window : ℕ) (ws : List Waiting) → (b ≡ tru
 longest_room true size window ws some filled = longest_sent size window ws (λ _. some refl) filled
 longest_room false size window ws some filled = let P : List Packet → Type 0 = λ ps. AreLongest size window ws ps in subst P (sym (sent-nothing size ws)) tt
 
-pub flush_longest : (exchanging : Bool) (h : Head) (f : Flow) → AllFilled f.pending → AreLongest h.packet_size f.window f.pending (flushed exchanging h f).packets
+pub flush_longest : (exchanging : Bool) (h : Head) (f : ChannelFlow) → AllFilled f.pending → AreLongest h.packet_size f.window f.pending (flushed exchanging h f).packets
 unfolding flushed
 flush_longest exchanging h f filled =
     longest_then h.packet_size f.window f.pending (sent_of h.packet_size (room_of exchanging h f) f.pending) (ends_of h (emptied (room_of exchanging h f) f))
@@ -147,13 +147,13 @@ left_all : (room : ℕ) (ws : List Waiting) → count_of ws ≤ room → left_of
 left_all room [] fits = refl
 left_all room (w ∷ ws) fits = left-whole room w ws (omega arith) ∙ left_all (room - length w.bytes) ws (omega arith)
 
-whole_room : (h : Head) (f : Flow) → h.established ≡ true → 0 < h.packet_size → room_of false h f ≡ f.window
+whole_room : (h : Head) (f : ChannelFlow) → h.established ≡ true → 0 < h.packet_size → room_of false h f ≡ f.window
 whole_room h f up some =
     ap (λ (b : Bool). if b && true && ltb 0 h.packet_size then f.window else 0) up
     ∙ ap (λ (b : Bool). if b then f.window else 0) (lt-ltb 0 h.packet_size some)
 
 -- if no exchange runs, nothing waits that may be sent
-pub flush_empties : (exchanging : Bool) (h : Head) (f : Flow) → exchanging ≡ false → h.established ≡ true → 0 < h.packet_size → 0 < (flushed exchanging h f).flow.window → (flushed exchanging h f).flow.pending ≡ []
+pub flush_empties : (exchanging : Bool) (h : Head) (f : ChannelFlow) → exchanging ≡ false → h.established ≡ true → 0 < h.packet_size → 0 < (flushed exchanging h f).flow.window → (flushed exchanging h f).flow.pending ≡ []
 unfolding flushed
 flush_empties true h f quiet up some window = absurd (cc)
 flush_empties false h f quiet up some window =

@@ -2,7 +2,7 @@
 use Rattle.std.proofs.Common.{◌≡◌, ℕ, Bool, true, false, not, ◌&&◌, List, [], ◌∷◌, ◌++◌, length, eqb, if◌then◌else◌, Option, Some, None, refl, ap, sym, subst, ◌∙◌}
 use Rattle.std.specs.List.{AllByRecursion}
 use Rattle.sshc_mux.specs.declared.chunk.Stream.{Stream}
-use Rattle.sshc_mux.specs.ChannelState.{Flow, Head, ChannelState, TableState, channel_of}
+use Rattle.sshc_mux.specs.ChannelState.{ChannelFlow, Head, ChannelState, TableState, channel_of}
 use Rattle.sshc_mux.specs.Packets.{Packet, Piece, Eof, Close, Adjust}
 use Rattle.sshc_mux.specs.ChannelTable.{said_by, unmoved, removed, turned, taken_away, no_packets_of, accept_turn, confirm_turn, is_awaited, is_up, Turn, data_turn, eof_turn, close_turn, grant_turn, received_turn, last_packets}
 use Rattle.sshc_mux.specs.ChannelTable.Opens.{next_number, opened_by_user, reserved_by_server, is_reserved}
@@ -28,7 +28,7 @@ turned_silent : (o : Option ChannelState) (n : ℕ) (turn : ChannelState → Tur
 turned_silent None n turn t silent_so = tt
 turned_silent (Some c) n turn t silent_so = said_silent c (turn c).packets (silent_so c)
 
-silent_if : (b : Bool) (turn : FlowTurn) (f : Flow) → Silent turn.packets → Silent (if b then turn else still f).packets
+silent_if : (b : Bool) (turn : FlowTurn) (f : ChannelFlow) → Silent turn.packets → Silent (if b then turn else still f).packets
 silent_if true turn f all = all
 silent_if false turn f all = tt
 
@@ -54,10 +54,10 @@ end_silent : (b : Bool) (end : Packet) → IsNoData end → Silent (if b then en
 end_silent true end is = (is, tt)
 end_silent false end is = tt
 
-due_silent : (f : Flow) → Silent (due_of f)
+due_silent : (f : ChannelFlow) → Silent (due_of f)
 due_silent f = two_silent (if is_due f.eof then Eof ∷ [] else []) (if is_due f.close then Close ∷ [] else []) (end_silent (is_due f.eof) Eof tt) (end_silent (is_due f.close) Close tt)
 
-ends_silent : (may : Bool) (f : Flow) → Silent (if may then due_of f else [])
+ends_silent : (may : Bool) (f : ChannelFlow) → Silent (if may then due_of f else [])
 ends_silent true f = due_silent f
 ends_silent false f = tt
 
@@ -66,10 +66,10 @@ last_silent true = tt
 last_silent false = (tt, tt)
 
 -- while an exchange runs a flush writes ends alone
-flush_silent : (h : Head) (f : Flow) → Silent (flushed true h f).packets
+flush_silent : (h : Head) (f : ChannelFlow) → Silent (flushed true h f).packets
 unfolding flushed
 flush_silent h f =
-    let empty : Flow = emptied (room_of true h f) f in
+    let empty : ChannelFlow = emptied (room_of true h f) f in
     two_silent (sent_of h.packet_size (room_of true h f) f.pending) (ends_of h empty)
     (subst Silent (sym (ap (λ (r : ℕ). sent_of h.packet_size r f.pending) (no_room h f) ∙ sent-nothing h.packet_size f.pending)) tt)
     (ends_silent (may_end h empty) empty)

@@ -2,7 +2,7 @@
 use Rattle.std.proofs.Common.{◌≡◌, ℕ, ◌+◌, true, false, [], ◌∷◌, None, refl, ap, arith}
 use Rattle.sshc_mux.specs.declared.chunk.Stream.TheVariants as Streams
 use Rattle.sshc_mux.specs.declared.channel.Stage.TheVariants as Stages
-use Rattle.sshc_mux.specs.ChannelState.{Head, Flow, ChannelState}
+use Rattle.sshc_mux.specs.ChannelState.{Head, ChannelFlow, ChannelState}
 use Rattle.sshc_mux.specs.Packets.{Piece, Eof, Close}
 use Rattle.sshc_mux.specs.ChannelTable.Opens.{opened_by_user, confirmed}
 use Rattle.sshc_mux.specs.ChannelAccount.{Moves, bytes_part, eof_part, close_part, grant_part, AllAddressed}
@@ -10,7 +10,7 @@ use Rattle.sshc_mux.specs.ChannelAccount.{Moves, bytes_part, eof_part, close_par
 abbrev opened : ℕ → ChannelState
 opened window = confirmed 5 window 100 (opened_by_user 1 100 0 None)
 
-abbrev with_flow : ChannelState → Flow → ChannelState
+abbrev with_flow : ChannelState → ChannelFlow → ChannelState
 with_flow c f = record c { flow = f }
 
 abbrev with_head : ChannelState → Head → ChannelState

@@ -3,7 +3,7 @@
 use Rattle.std.proofs.Common.{◌≡◌, ℕ, ◌-◌, Bool, true, false, not, ◌&&◌, List, [], ◌∷◌, ◌++◌, length, eqb, ltb, if◌then◌else◌, refl, ap, ◌∙◌, inl, inr}
 use Rattle.std.proofs.lemmas.List.{append-nil}
 use Rattle.sshc_mux.specs.declared.chunk.Stream.{Stream}
-use Rattle.sshc_mux.specs.ChannelState.{Head, Flow, ChannelState, TableState}
+use Rattle.sshc_mux.specs.ChannelState.{Head, ChannelFlow, ChannelState, TableState}
 use Rattle.sshc_mux.specs.Packets.{Packet, Close}
 use Rattle.sshc_mux.specs.ChannelTable.{Effect, turn_at, take_at, no_packets_of, flush, accept_turn, confirm_turn, is_awaited, is_up, Turn, data_turn, eof_turn, close_turn, grant_turn, received_turn, last_packets}
 use Rattle.sshc_mux.specs.ChannelTable.Opens.{next_number, opened_by_user, reserved_by_server, is_reserved}
@@ -30,7 +30,7 @@ pub record Shapes (P : Effect → Type 0) (t : TableState) : Type 0 where
   pub takes : (n : ℕ) (goes : ChannelState → Bool) (last : ChannelState → List Packet) → AreLast goes last → P (take_at n goes last t)
   pub flushes : P (flush t)
 
-pub silent_flush : (exchanging : Bool) (h : Head) (f : Flow) → h.established ≡ false → (flushed exchanging h f).packets ≡ []
+pub silent_flush : (exchanging : Bool) (h : Head) (f : ChannelFlow) → h.established ≡ false → (flushed exchanging h f).packets ≡ []
 unfolding flushed
 silent_flush exchanging h f down =
     ap (λ (b : Bool). sent_of h.packet_size (if b && not exchanging && ltb 0 h.packet_size then f.window else 0) f.pending
@@ -38,7 +38,7 @@ silent_flush exchanging h f down =
     ∙ append-nil (sent_of h.packet_size 0 f.pending)
     ∙ sent-nothing h.packet_size f.pending
 
-silent_if : (b : Bool) (turn : FlowTurn) (f : Flow) → turn.packets ≡ [] → (if b then turn else still f).packets ≡ []
+silent_if : (b : Bool) (turn : FlowTurn) (f : ChannelFlow) → turn.packets ≡ [] → (if b then turn else still f).packets ≡ []
 silent_if true turn f silent = silent
 silent_if false turn f silent = refl
 

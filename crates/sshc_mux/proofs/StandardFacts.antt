@@ -2,7 +2,7 @@
 use Rattle.std.proofs.Common.{◌≡◌, ℕ, true, false, [], ◌∷◌, Some, None, refl}
 use Rattle.sshc_mux.specs.declared.chunk.Stream.TheVariants as Streams
 use Rattle.sshc_mux.specs.declared.channel.Stage.TheVariants as Stages
-use Rattle.sshc_mux.specs.ChannelState.{Flow, ChannelState, TableState}
+use Rattle.sshc_mux.specs.ChannelState.{ChannelFlow, ChannelState, TableState}
 use Rattle.sshc_mux.specs.Packets.{Piece, Eof, Close, Adjust}
 use Rattle.sshc_mux.specs.ChannelTable.{data_turn, eof_turn, close_turn, grant_turn, flush_turn, received_turn, close_peer, unmoved}
 use Rattle.sshc_mux.specs.ChannelAccount.{called, Confirm, Fail}
@@ -19,7 +19,7 @@ ten : (data_turn Streams.Data (0 ∷ 1 ∷ 2 ∷ 3 ∷ 4 ∷ 5 ∷ 6 ∷ 7 ∷ 8
 unfolding flushed cut
 ten = refl
 
-abbrev with_flow : ChannelState → Flow → ChannelState
+abbrev with_flow : ChannelState → ChannelFlow → ChannelState
 with_flow c f = record c { flow = f }
 
 abbrev after_ten : ChannelState

@@ -6,14 +6,14 @@ use Rattle.sshc_mux.specs.declared.chunk.Stream.{Stream}
 use Rattle.sshc_mux.specs.declared.channel.Stage.{Stage}
 use Rattle.sshc_mux.specs.declared.channel.Stage.TheVariants as Stages
 use Rattle.sshc_mux.specs.declared.channel.Opener.{Opener}
-use Rattle.sshc_mux.specs.ChannelState.{Head, Flow, ChannelState, Waiting}
+use Rattle.sshc_mux.specs.ChannelState.{Head, ChannelFlow, ChannelState, Waiting}
 use Rattle.sshc_mux.specs.Packets.{Packet, Piece, Eof, Close, Adjust}
 use Rattle.sshc_mux.specs.ChannelTable.{data_turn, eof_turn, close_turn, grant_turn, flush_turn, received_turn, accept_turn, confirm_turn}
 use Rattle.sshc_mux.specs.ChannelTable.Opens.{accepted, accepted_head, confirmed, confirmed_head, awaited_in, awaited_by, is_reserved}
 use Rattle.sshc_mux.specs.ChannelTable.Sending.{FlowTurn, still, pieces_of, cut, sent_of, room_of, emptied, may_end, is_due, ends_of, ended, ended_if, flushed}
 use Rattle.sshc_mux.specs.ChannelTable.Windows.{held, raised, is_low, refilled, adjust_of, adjust_packets}
 use Rattle.sshc_mux.specs.ChannelTable.Ends.{is_sent, is_unasked, asked, takes, with_pending, flush_with, with_eof, with_close}
-use Rattle.sshc_mux.specs.ChannelAccount.{amounts_in, pending, IsOrdered, IsSound, Part, no_part, bytes_part, eof_part, close_part, grant_part, flush_part, confirm_part, accept_part, received_part, AreLongest, Orderly, NoneDue, FlowMoves, answered, Moves}
+use Rattle.sshc_mux.specs.ChannelAccount.{amounts_in, pending, IsOrdered, IsSound, CallPart, no_part, bytes_part, eof_part, close_part, grant_part, flush_part, confirm_part, accept_part, received_part, AreLongest, Orderly, NoneDue, FlowMoves, answered, Moves}
 use Rattle.sshc_mux.proofs.TestLemmas.{and_left, and_right, and-false, and-true, no_length, room_facts}
 use Rattle.sshc_wire.specs.CasesLaws.{not_true}
 use Rattle.sshc_mux.proofs.PromptLemmas.{flush_empties, flush_longest}
@@ -21,28 +21,28 @@ use Rattle.sshc_mux.proofs.AccountLemmas.{Kept, kept_then, emptied_kept, ended_k
 
 -- a flow's flush
 
-flush_kept : (exchanging : Bool) (h : Head) (f : Flow) → IsOrdered f → Kept f (flushed exchanging h f).flow (flushed exchanging h f).packets
+flush_kept : (exchanging : Bool) (h : Head) (f : ChannelFlow) → IsOrdered f → Kept f (flushed exchanging h f).flow (flushed exchanging h f).packets
 unfolding flushed
 flush_kept exchanging h f ordered =
     let room = room_facts (h.established && not exchanging && ltb 0 h.packet_size) f.window h.packet_size (λ yes. ltb-true 0 h.packet_size (and_right (h.established && not exchanging) (ltb 0 h.packet_size) yes)) in
-    let empty : Flow = emptied (room_of exchanging h f) f in
+    let empty : ChannelFlow = emptied (room_of exchanging h f) f in
     let first : Kept f empty (sent_of h.packet_size (room_of exchanging h f) f.pending) = emptied_kept h.packet_size (room_of exchanging h f) f room.0 room.1 ordered in
     kept_then f empty (ended h empty) (sent_of h.packet_size (room_of exchanging h f) f.pending) (ends_of h empty)
     first
     (ended_kept (may_end h empty) empty (λ yes. no_length empty.pending (and_right h.established (eqb (length empty.pending) 0) yes)) first.ordered)
 
 -- if nothing waits on an established channel, neither EOF nor close is due after its flush
-ended_none : (may : Bool) (h : Head) (f : Flow) → may ≡ may_end h f → h.established ≡ true → f.pending ≡ [] → NoneDue (ended_if may f)
+ended_none : (may : Bool) (h : Head) (f : ChannelFlow) → may ≡ may_end h f → h.established ≡ true → f.pending ≡ [] → NoneDue (ended_if may f)
 ended_none true h f is up none = record { eof = done_due f.eof; close = done_due f.close }
 ended_none false h f is up none =
     let no : false ≡ true = is ∙ ap (λ (b : Bool). b && eqb (length f.pending) 0) up ∙ ap (λ (n : ℕ). eqb n 0) (ap length none) in absurd (cc)
 
-flush_ends : (exchanging : Bool) (h : Head) (f : Flow) → h.established ≡ true → (flushed exchanging h f).flow.pending ≡ [] → NoneDue (flushed exchanging h f).flow
+flush_ends : (exchanging : Bool) (h : Head) (f : ChannelFlow) → h.established ≡ true → (flushed exchanging h f).flow.pending ≡ [] → NoneDue (flushed exchanging h f).flow
 unfolding flushed
 flush_ends exchanging h f up none = ended_none (may_end h (emptied (room_of exchanging h f) f)) h (emptied (room_of exchanging h f) f) refl up none
 
 -- A call's part before anything is sent: the flow with it.
-record Readies (f ready : Flow) (p : Part) : Type 0 where
+record Readies (f ready : ChannelFlow) (p : CallPart) : Type 0 where
   pending : ready.pending ≡ f.pending ++ p.more
   window : ready.window ≡ f.window + p.gain
   eof_sent : is_sent ready.eof ≡ is_sent f.eof
@@ -53,7 +53,7 @@ record Readies (f ready : Flow) (p : Part) : Type 0 where
   ordered : IsOrdered ready
 
 -- it sends nothing
-silent_moves : (h : Head) (f ready : Flow) (p : Part) → p.sends ≡ false → p.ends ≡ false → Readies f ready p → FlowMoves h f ready [] p
+silent_moves : (h : Head) (f ready : ChannelFlow) (p : CallPart) → p.sends ≡ false → p.ends ≡ false → Readies f ready p → FlowMoves h f ready [] p
 silent_moves h f ready p sends ends r = record {
   balance = ap pending r.pending ∙ pending-append f.pending p.more;
   window = omega (arith, r.window);
@@ -67,9 +67,9 @@ silent_moves h f ready p sends ends r = record {
 }
 
 -- and then what may be sent is sent
-flush_moves : (exchanging : Bool) (h : Head) (f ready : Flow) (p : Part) → (p.sends ≡ true → exchanging ≡ false) → Readies f ready p → FlowMoves h f (flushed exchanging h ready).flow (flushed exchanging h ready).packets p
+flush_moves : (exchanging : Bool) (h : Head) (f ready : ChannelFlow) (p : CallPart) → (p.sends ≡ true → exchanging ≡ false) → Readies f ready p → FlowMoves h f (flushed exchanging h ready).flow (flushed exchanging h ready).packets p
 flush_moves exchanging h f ready p sends r =
-    let after : Flow = (flushed exchanging h ready).flow in
+    let after : ChannelFlow = (flushed exchanging h ready).flow in
     let packets : List Packet = (flushed exchanging h ready).packets in
     let kept = flush_kept exchanging h ready r.ordered in
     let P : Bool → Type 0 = λ e. Orderly e (is_sent ready.close) packets (is_sent after.eof) (is_sent after.close) in
@@ -89,7 +89,7 @@ flush_moves exchanging h f ready p sends r =
     }
 
 -- a flow with more room, or as it was
-risen : (f : Flow) (amount : ℕ) (p : Part) → p.more ≡ [] → p.eof ≡ false → p.close ≡ false → p.last ≡ false → p.gain ≡ amount → IsOrdered f → Readies f (record f { window = f.window + amount }) p
+risen : (f : ChannelFlow) (amount : ℕ) (p : CallPart) → p.more ≡ [] → p.eof ≡ false → p.close ≡ false → p.last ≡ false → p.gain ≡ amount → IsOrdered f → Readies f (record f { window = f.window + amount }) p
 risen f amount p more eof close last gain ordered = record {
   pending = sym (append-nil f.pending) ∙ ap (λ (ws : List Waiting). f.pending ++ ws) (sym more);
   window = omega (arith, gain);
@@ -101,7 +101,7 @@ risen f amount p more eof close last gain ordered = record {
   ordered = record { filled = ordered.filled; eof = ordered.eof; close = ordered.close; last = ordered.last };
 }
 
-as_was : (f : Flow) (p : Part) → p.more ≡ [] → p.eof ≡ false → p.close ≡ false → p.last ≡ false → p.gain ≡ 0 → IsOrdered f → Readies f f p
+as_was : (f : ChannelFlow) (p : CallPart) → p.more ≡ [] → p.eof ≡ false → p.close ≡ false → p.last ≡ false → p.gain ≡ 0 → IsOrdered f → Readies f f p
 as_was f p more eof close last gain ordered =
     let none : f.window + 0 ≡ f.window = omega arith in
     let P : ℕ → Type 0 = λ n. Readies f (record f { window = n }) p in
@@ -131,32 +131,32 @@ ends_amounts true false true = refl
 ends_amounts true false false = refl
 ends_amounts false e k = refl
 
-flush_amounts : (exchanging : Bool) (h : Head) (f : Flow) → amounts_in (flushed exchanging h f).packets ≡ []
+flush_amounts : (exchanging : Bool) (h : Head) (f : ChannelFlow) → amounts_in (flushed exchanging h f).packets ≡ []
 unfolding flushed
 flush_amounts exchanging h f =
-    let empty : Flow = emptied (room_of exchanging h f) f in
+    let empty : ChannelFlow = emptied (room_of exchanging h f) f in
     amounts-append (sent_of h.packet_size (room_of exchanging h f) f.pending) (ends_of h empty)
     ∙ ap (λ (ns : List ℕ). ns ++ amounts_in (ends_of h empty)) (sent_amounts h.packet_size (room_of exchanging h f) f.pending)
     ∙ ends_amounts (may_end h empty) (is_due f.eof) (is_due f.close)
 
 -- A flow's turn does its part.
-record DoesPart (h : Head) (f : Flow) (turn : FlowTurn) (p : Part) : Type 0 where
+record DoesPart (h : Head) (f : ChannelFlow) (turn : FlowTurn) (p : CallPart) : Type 0 where
   moves : FlowMoves h f turn.flow turn.packets p
   ordered : IsOrdered turn.flow
   returned : amounts_in turn.packets ≡ []
 
-flush_does : (exchanging : Bool) (h : Head) (f ready : Flow) (p : Part) → (p.sends ≡ true → exchanging ≡ false) → Readies f ready p → DoesPart h f (flushed exchanging h ready) p
+flush_does : (exchanging : Bool) (h : Head) (f ready : ChannelFlow) (p : CallPart) → (p.sends ≡ true → exchanging ≡ false) → Readies f ready p → DoesPart h f (flushed exchanging h ready) p
 flush_does exchanging h f ready p sends r = record {
   moves = flush_moves exchanging h f ready p sends r;
   ordered = (flush_kept exchanging h ready r.ordered).ordered;
   returned = flush_amounts exchanging h ready;
 }
 
-still_does : (h : Head) (f : Flow) → IsOrdered f → DoesPart h f (still f) no_part
+still_does : (h : Head) (f : ChannelFlow) → IsOrdered f → DoesPart h f (still f) no_part
 still_does h f ordered = record { moves = silent_moves h f f no_part refl refl (as_was f no_part refl refl refl refl refl ordered); ordered = ordered; returned = refl }
 
 -- the channel around it
-channel_moves : (c : ChannelState) (turn : FlowTurn) (p : Part) → p.answer ≡ None → p.used ≡ 0 → p.returned ≡ [] → (is_some (awaited_by (Some c)) ≡ true → p.gain ≡ 0) → IsSound c → DoesPart c.head c.flow turn p →
+channel_moves : (c : ChannelState) (turn : FlowTurn) (p : CallPart) → p.answer ≡ None → p.used ≡ 0 → p.returned ≡ [] → (is_some (awaited_by (Some c)) ≡ true → p.gain ≡ 0) → IsSound c → DoesPart c.head c.flow turn p →
     Moves c (record c { flow = turn.flow }) turn.packets p
 channel_moves c turn p answer none back gain sound does =
     let given : sum p.returned ≡ 0 = ap sum back in
@@ -188,12 +188,12 @@ some_length [] h = absurd (cc)
 some_length (b ∷ bytes) h = omega arith
 
 -- a choice of turns does the chosen part
-either_moves : (b : Bool) (c : ChannelState) (turn : FlowTurn) (p : Part) → IsSound c → (b ≡ true → Moves c (record c { flow = turn.flow }) turn.packets p) →
+either_moves : (b : Bool) (c : ChannelState) (turn : FlowTurn) (p : CallPart) → IsSound c → (b ≡ true → Moves c (record c { flow = turn.flow }) turn.packets p) →
     Moves c (record c { flow = (if b then turn else still c.flow).flow }) (if b then turn else still c.flow).packets (if b then p else no_part)
 either_moves true c turn p sound moves = moves refl
 either_moves false c turn p sound moves = still_moves c sound
 
-with_bytes : (stream : Stream) (bytes : List ℕ) (exchanging : Bool) (f : Flow) → takes f ≡ true → 0 < length bytes → IsOrdered f →
+with_bytes : (stream : Stream) (bytes : List ℕ) (exchanging : Bool) (f : ChannelFlow) → takes f ≡ true → 0 < length bytes → IsOrdered f →
     Readies f (with_pending stream bytes f) (record no_part { more = record { stream = stream; bytes = bytes } ∷ []; sends = not exchanging; ends = true })
 with_bytes stream bytes exchanging f open_then some ordered = record {
   pending = refl;
@@ -215,7 +215,7 @@ pub data_moves : (stream : Stream) (bytes : List ℕ) (exchanging : Bool) (c : C
     Moves c (data_turn stream bytes exchanging c).channel (data_turn stream bytes exchanging c).packets (bytes_part stream bytes exchanging c)
 data_moves stream bytes exchanging c sound =
     let some : Bool = not (eqb (length bytes) 0) in
-    let p : Part = record no_part { more = record { stream = stream; bytes = bytes } ∷ []; sends = not exchanging; ends = true } in
+    let p : CallPart = record no_part { more = record { stream = stream; bytes = bytes } ∷ []; sends = not exchanging; ends = true } in
     either_moves (takes c.flow && some) c (flush_with stream bytes exchanging c.head c.flow) p sound
     (λ yes. channel_moves c (flush_with stream bytes exchanging c.head c.flow) p refl refl refl (λ _. refl) sound
     (flush_does exchanging c.head c.flow (with_pending stream bytes c.flow) p (not_true exchanging)
@@ -238,7 +238,7 @@ sent_unasked Stages.Unasked h = absurd (cc)
 sent_unasked Stages.Asked h = absurd (cc)
 sent_unasked Stages.Sent h = refl
 
-eof_by : (b : Bool) (f : Flow) → b ≡ is_sent f.close → IsOrdered f → Readies f (record f { eof = if b then f.eof else asked f.eof }) (record no_part { eof = not b; last = true; ends = true })
+eof_by : (b : Bool) (f : ChannelFlow) → b ≡ is_sent f.close → IsOrdered f → Readies f (record f { eof = if b then f.eof else asked f.eof }) (record no_part { eof = not b; last = true; ends = true })
 eof_by true f is ordered = record {
   pending = sym (append-nil f.pending);
   window = omega arith;
@@ -270,7 +270,7 @@ eof_moves c sound =
     channel_moves c (flushed true c.head (with_eof c.flow)) (eof_part c) refl refl refl (λ _. refl) sound
     (flush_does true c.head c.flow (with_eof c.flow) (eof_part c) (λ no. absurd (cc)) (eof_by (is_sent c.flow.close) c.flow refl sound.flow))
 
-with_close_asked : (f : Flow) → IsOrdered f → Readies f (with_close f) close_part
+with_close_asked : (f : ChannelFlow) → IsOrdered f → Readies f (with_close f) close_part
 with_close_asked f ordered = record {
   pending = sym (append-nil f.pending);
   window = omega arith;
@@ -301,7 +301,7 @@ not_awaited false o up h = absurd (cc)
 pub grant_moves : (amount : ℕ) (exchanging : Bool) (c : ChannelState) → IsSound c → Moves c (grant_turn amount exchanging c).channel (grant_turn amount exchanging c).packets (grant_part amount exchanging c)
 grant_moves amount exchanging c sound =
     let more : ℕ = held amount c.flow.window in
-    let p : Part = record no_part { gain = more; sends = not exchanging; ends = true } in
+    let p : CallPart = record no_part { gain = more; sends = not exchanging; ends = true } in
     either_moves c.head.established c (flushed exchanging c.head (raised amount c.flow)) p sound
     (λ up. channel_moves c (flushed exchanging c.head (raised amount c.flow)) p refl refl refl (λ waits. absurd (not_awaited c.head.established c.head.opener up waits)) sound
     (flush_does exchanging c.head c.flow (raised amount c.flow) p (not_true exchanging) (risen c.flow more p refl refl refl refl refl sound.flow)))
@@ -310,7 +310,7 @@ returned_packets : (amounts : List ℕ) → amounts_in (adjust_packets amounts) 
 returned_packets [] = refl
 returned_packets (n ∷ amounts) = ap (λ (ns : List ℕ). n ∷ ns) (returned_packets amounts)
 
-adjusted_moves : (h : Head) (f : Flow) (p : Part) (amounts : List ℕ) → FlowMoves h f f [] p → FlowMoves h f f (adjust_packets amounts) p
+adjusted_moves : (h : Head) (f : ChannelFlow) (p : CallPart) (amounts : List ℕ) → FlowMoves h f f [] p → FlowMoves h f f (adjust_packets amounts) p
 adjusted_moves h f p [] m = m
 adjusted_moves h f p (n ∷ amounts) m =
     let rest : FlowMoves h f f (adjust_packets amounts) p = adjusted_moves h f p amounts m in
@@ -337,7 +337,7 @@ received_by : (b : Bool) (len target : ℕ) (c : ChannelState) → IsSound c →
     Moves c (record c { own_window = if b then refilled target (c.own_window - len) else c.own_window }) (adjust_packets (if b then adjust_of target (c.own_window - len) else []))
     (if b then record no_part { used = len; returned = adjust_of target (c.own_window - len) } else no_part)
 received_by true len target c sound =
-    let p : Part = record no_part { used = len; returned = adjust_of target (c.own_window - len) } in
+    let p : CallPart = record no_part { used = len; returned = adjust_of target (c.own_window - len) } in
     record {
       head = refl;
       own = refilled_sum target (c.own_window - len);
@@ -361,7 +361,7 @@ accepted_sound c sound = record { flow = sound.flow; unopened = λ h. absurd (cc
 
 accepted_by : (b : Bool) (c : ChannelState) → IsSound c → Moves c (if b then accepted c else c) [] (if b then record no_part { answer = Some (accepted_head c.head) } else no_part)
 accepted_by true c sound =
-    let p : Part = record no_part { answer = Some (accepted_head c.head) } in
+    let p : CallPart = record no_part { answer = Some (accepted_head c.head) } in
     record {
       head = refl;
       own = omega arith;
@@ -377,7 +377,7 @@ accept_moves c sound = accepted_by (is_reserved c) c sound
 confirmed_by : (b : Bool) (recipient window packet : ℕ) (c : ChannelState) → b ≡ is_some (awaited_by (Some c)) → IsSound c →
     Moves c (if b then confirmed recipient window packet c else c) [] (if b then record no_part { gain = window; answer = Some (confirmed_head recipient packet c.head) } else no_part)
 confirmed_by true recipient window packet c is sound =
-    let p : Part = record no_part { gain = window; answer = Some (confirmed_head recipient packet c.head) } in
+    let p : CallPart = record no_part { gain = window; answer = Some (confirmed_head recipient packet c.head) } in
     let first : c.flow.window + window ≡ window = omega (arith, sound.unopened (sym is)) in
     let P : ℕ → Type 0 = λ n. Readies c.flow (record c.flow { window = n }) p in
     record {
@@ -393,5 +393,5 @@ pub confirm_moves : (recipient window packet : ℕ) (c : ChannelState) → IsSou
 confirm_moves recipient window packet c sound = confirmed_by (is_some (awaited_by (Some c))) recipient window packet c refl sound
 
 -- while an exchange runs there is room for no bytes
-pub no_room : (h : Head) (f : Flow) → room_of true h f ≡ 0
+pub no_room : (h : Head) (f : ChannelFlow) → room_of true h f ≡ 0
 no_room h f = ap (λ (b : Bool). if b && ltb 0 h.packet_size then f.window else 0) (and-false h.established)

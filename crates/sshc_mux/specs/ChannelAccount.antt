@@ -7,7 +7,7 @@ use Rattle.sshc_wire.specs.declared.error.NoMemory.{NoMemory}
 use Rattle.sshc_wire.specs.declared.ticket.Ticket.{Ticket}
 use Rattle.sshc_wire.specs.Outgoing.{Outgoing}
 use Rattle.sshc_mux.specs.declared.chunk.Stream.{Stream}
-use Rattle.sshc_mux.specs.ChannelState.{Head, Flow, ChannelState, TableState, Waiting, channel_of}
+use Rattle.sshc_mux.specs.ChannelState.{Head, ChannelFlow, ChannelState, TableState, Waiting, channel_of}
 use Rattle.sshc_mux.specs.Packets.{Packet, Piece, Eof, Close, Adjust}
 use Rattle.sshc_mux.specs.ChannelTable.{Effect, CameAbout, ChannelPacket, unmoved, turn_at, take_at, no_packets_of, flush, settle, confirm_turn, is_awaited, close_peer, recipient_in, data_turn, eof_turn, close_turn, grant_turn, received_turn}
 use Rattle.sshc_mux.specs.ChannelTable.Opens.{next_number, IsNext, made_in, opened_by_user, reserved_by_server, awaited_by, is_reserved, confirmed_head, accepted_head}
@@ -119,7 +119,7 @@ AllFilled [] = Unit {0}
 AllFilled (w ∷ ws) = (0 < length w.bytes) × AllFilled ws
 
 -- No entry that waits is empty, no bytes wait after EOF or close was sent, and no EOF after our close.
-pub record IsOrdered (f : Flow) : Type 0 where
+pub record IsOrdered (f : ChannelFlow) : Type 0 where
   pub filled : AllFilled f.pending
   pub eof : is_sent f.eof ≡ true → f.pending ≡ []
   pub close : is_sent f.close ≡ true → f.pending ≡ []
@@ -132,7 +132,7 @@ pub record IsSound (c : ChannelState) : Type 0 where
   pub unopened : is_some (awaited_by (Some c)) ≡ true → c.flow.window ≡ 0
 
 -- a call's part in the account of a channel
-pub record Part : Type 0 where
+pub record CallPart : Type 0 where
   pub more : List Waiting  -- what it takes
   pub gain : ℕ  -- what it adds to the window
   pub eof : Bool  -- it asks for EOF
@@ -144,7 +144,7 @@ pub record Part : Type 0 where
   pub used : ℕ  -- how many bytes of our window the peer used
   pub returned : List ℕ  -- by how much our window is raised
 
-abbrev pub no_part : Part
+abbrev pub no_part : CallPart
 no_part = record {
   more = [];
   gain = 0;
@@ -158,44 +158,44 @@ no_part = record {
   returned = [];
 }
 
-abbrev pub bytes_part : Stream → List ℕ → Bool → ChannelState → Part
+abbrev pub bytes_part : Stream → List ℕ → Bool → ChannelState → CallPart
 bytes_part stream bytes exchanging c =
     if takes c.flow && not (length bytes == 0)
     then record no_part { more = record { stream = stream; bytes = bytes } ∷ []; sends = not exchanging; ends = true }
     else no_part
 
 -- EOF asked for after our close was sent is ignored
-abbrev pub eof_part : ChannelState → Part
+abbrev pub eof_part : ChannelState → CallPart
 eof_part c = record no_part { eof = not (is_sent c.flow.close); last = true; ends = true }
 
-abbrev pub close_part : Part
+abbrev pub close_part : CallPart
 close_part = record no_part { close = true; last = true; ends = true }
 
-abbrev pub grant_part : ℕ → Bool → ChannelState → Part
+abbrev pub grant_part : ℕ → Bool → ChannelState → CallPart
 grant_part amount exchanging c =
     if c.head.established
     then record no_part { gain = held amount c.flow.window; sends = not exchanging; ends = true }
     else no_part
 
-abbrev pub flush_part : Part
+abbrev pub flush_part : CallPart
 flush_part = record no_part { sends = true; ends = true }
 
-abbrev pub confirm_part : ℕ → ℕ → ℕ → ChannelState → Part
+abbrev pub confirm_part : ℕ → ℕ → ℕ → ChannelState → CallPart
 confirm_part recipient window packet c =
     if is_some (awaited_by (Some c))
     then record no_part { gain = window; answer = Some (confirmed_head recipient packet c.head) }
     else no_part
 
-abbrev pub accept_part : ChannelState → Part
+abbrev pub accept_part : ChannelState → CallPart
 accept_part c = if is_reserved c then record no_part { answer = Some (accepted_head c.head) } else no_part
 
-abbrev pub received_part : ℕ → ℕ → ChannelState → Part
+abbrev pub received_part : ℕ → ℕ → ChannelState → CallPart
 received_part len target c =
     if c.head.established
     then record no_part { used = len; returned = adjust_of target (c.own_window - len) }
     else no_part
 
-abbrev pub part : ℕ → Call → ChannelState → Part
+abbrev pub part : ℕ → Call → ChannelState → CallPart
 part n (SettleServer id true) c = if id == n then accept_part c else no_part
 part n (Confirm id recipient window packet) c = if id == n then confirm_part recipient window packet c else no_part
 part n (Bytes id stream bytes exchanging) c = if id == n then bytes_part stream bytes exchanging c else no_part
@@ -235,13 +235,13 @@ Orderly eof close (Close ∷ packets) eof_then close_then = (close ≡ false) ×
 Orderly eof close (Adjust amount ∷ packets) eof_then close_then = Orderly eof close packets eof_then close_then
 
 -- neither EOF nor close is due
-pub record NoneDue (f : Flow) : Type 0 where
+pub record NoneDue (f : ChannelFlow) : Type 0 where
   pub eof : is_due f.eof ≡ false
   pub close : is_due f.close ≡ false
 
 -- What a call does to the flow of a channel with this head, by its part in the account: the packets that it writes, and
 -- the flow after it.
-pub record FlowMoves (h : Head) (f after : Flow) (packets : List Packet) (p : Part) : Type 0 where
+pub record FlowMoves (h : Head) (f after : ChannelFlow) (packets : List Packet) (p : CallPart) : Type 0 where
   pub balance : bytes_in packets ++ pending after.pending ≡ pending f.pending ++ pending p.more
   pub window : length (bytes_in packets) + after.window ≡ f.window + p.gain
   pub longest : AreLongest h.packet_size (f.window + p.gain) (f.pending ++ p.more) packets
@@ -259,7 +259,7 @@ answered (Some new) h = new
 
 -- What a call does to a channel that the table has before and after it: the head stays unless the call answers the
 -- channel's open, our window falls by what the peer used and rises by what is returned, and the flow moves.
-pub record Moves (c after : ChannelState) (packets : List Packet) (p : Part) : Type 0 where
+pub record Moves (c after : ChannelState) (packets : List Packet) (p : CallPart) : Type 0 where
   pub head : after.head ≡ answered p.answer c.head
   pub own : after.own_window ≡ (c.own_window - p.used) + sum p.returned
   pub returned : amounts_in packets ≡ p.returned
@@ -283,7 +283,7 @@ abbrev pub granted : ℕ → List Call → TableState → ℕ
 granted n [] t = 0
 granted n (call ∷ calls) t = gain_in n call (channel_of n t.channels) + granted n calls (called call t).table
 
-abbrev pub part_in : ℕ → Call → Option ChannelState → Part
+abbrev pub part_in : ℕ → Call → Option ChannelState → CallPart
 part_in n call None = no_part
 part_in n call (Some c) = part n call c
 

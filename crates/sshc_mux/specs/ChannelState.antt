@@ -19,7 +19,7 @@ pub record Head : Type 0 where
   pub packet_size : ℕ  -- the most bytes that a piece may hold
 
 -- what goes to the peer
-pub record Flow : Type 0 where
+pub record ChannelFlow : Type 0 where
   pub window : ℕ  -- how many bytes may still be sent
   pub pending : List Waiting  -- what waits, one entry for each call
   pub eof : Stage
@@ -28,7 +28,7 @@ pub record Flow : Type 0 where
 pub record ChannelState : Type 0 where
   pub head : Head
   pub own_window : ℕ  -- how many bytes the peer may still send
-  pub flow : Flow
+  pub flow : ChannelFlow
 
 pub record TableState : Type 0 where
   pub channels : List ChannelState  -- in the order of their making

@@ -12,7 +12,7 @@ use Rattle.sshc_wire.specs.declared.record.Record.TheVariants.{Payload}
 use Rattle.sshc_wire.specs.Outgoing.{Outgoing, shown}
 use Rattle.sshc_mux.specs.declared.chunk.Stream.{Stream}
 use Rattle.sshc_mux.specs.declared.chunk.Stream.TheVariants as Streams
-use Rattle.sshc_mux.specs.ChannelState.{Head, Flow, ChannelState, TableState, channel_of, with_channel, without}
+use Rattle.sshc_mux.specs.ChannelState.{Head, ChannelFlow, ChannelState, TableState, channel_of, with_channel, without}
 use Rattle.sshc_mux.specs.Packets.{Packet, packet_text, payloads}
 use Rattle.sshc_mux.specs.ChannelTable.Sending.{FlowTurn, flushed}
 use Rattle.sshc_mux.specs.ChannelTable.Opens.{awaited_by, accepted, confirmed, is_reserved}
@@ -44,7 +44,7 @@ pub record Turn : Type 0 where
   pub packets : List Packet
 
 -- the channel's flow takes a turn, and all else is unchanged
-abbrev pub in_flow : (Head → Flow → FlowTurn) → ChannelState → Turn
+abbrev pub in_flow : (Head → ChannelFlow → FlowTurn) → ChannelState → Turn
 in_flow turn c = record {
   channel = record c { flow = (turn c.head c.flow).flow };
   packets = (turn c.head c.flow).packets;

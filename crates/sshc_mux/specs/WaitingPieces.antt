@@ -2,13 +2,13 @@
 -- them as parts of blocks that may have other owners.
 use Rattle.std.specs.Prelude.{ℕ, ◌<◌, List, [], ◌∷◌, length, map, Option, Some, None}
 use Rattle.sshc_mux.specs.declared.chunk.Stream.{Stream}
-use Rattle.sshc_mux.specs.ChannelState.{ChannelState, Flow, Waiting}
+use Rattle.sshc_mux.specs.ChannelState.{ChannelState, ChannelFlow, Waiting}
 use Rattle.sshc_mux.specs.ChannelAccount.{pending}
 
 abbrev pub bytes_of : Waiting → List ℕ
 bytes_of w = w.bytes
 
-abbrev pub pieces_of_flow : Flow → List (List ℕ)
+abbrev pub pieces_of_flow : ChannelFlow → List (List ℕ)
 pieces_of_flow f = map bytes_of f.pending
 
 -- the pieces on a channel, in order; none on no channel

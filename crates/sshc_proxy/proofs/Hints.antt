@@ -1,4 +1,4 @@
--- Lemmas by which several goals of a function are proved, in sets, and words that are unfolded there.
+-- Lemmas by which several goals of a function are proved, in sets.
 use Rattle.sshc_proxy.proofs.FrameLemmas.{fault_in_length, length_read, no_memory_in_length}
 use Rattle.sshc_proxy.proofs.ListingLemmas.{count_seen, text_seen}
 use Rattle.sshc_proxy.proofs.PolicyLemmas.{added, passed, stops}

@@ -12,3 +12,4 @@ mod AskingLemmas
 mod TakingLemmas
 mod ListingLaws
 mod Hints
+mod By

@@ -22,7 +22,7 @@ pub(crate) struct Listed<'a> {
 }
 
 /// Reads a key of a listing: its blob, its comment, and then the key in the blob.
-#[tactic(auto, unfolding(crate::specs::Listing::listed_at, sshc_key::specs::KeyReading::octets_at, sshc_key::specs::KeyReading::utf8_at))]
+#[tactic(auto, unfolding(crate::specs::Listing::listed_at, crate::proofs::By::octets_at, crate::proofs::By::utf8_at))]
 fn read_key<'a>(alloc: Global, c: &mut Cursor<'a>) -> Result<Listed<'a>, Error>
     ensures { Gives listed_seen result c.new (listed_at c.old) }
 {

@@ -132,7 +132,7 @@ impl Drawn {
         with_alike(alloc, beginning, count)
     }
 
-    #[tactic(auto, unfolding(crate::specs::Blocks::block_of, sshc_wire::specs::Wire::u32_text, sshc_wire::specs::Wire::string_text, sshc_wire::specs::Wire::bool_text))]
+    #[tactic(auto, unfolding(crate::specs::Blocks::block_of, sshc_wire::specs::Wire::u32_text))]
     fn sent_data(&mut self, alloc: Global, k: u64) -> Result<(), NoMemory>
         ensures { OnOk result (self.new ≡ adds (block_of BlockKind.SentData k self.old.number) self.old) }
     {
@@ -140,7 +140,7 @@ impl Drawn {
         self.script.add(k, kinds::CHANNEL, &fields)
     }
 
-    #[tactic(auto, unfolding(crate::specs::Blocks::block_of, sshc_wire::specs::Wire::u32_text, sshc_wire::specs::Wire::string_text, sshc_wire::specs::Wire::bool_text))]
+    #[tactic(auto, unfolding(crate::specs::Blocks::block_of, sshc_wire::specs::Wire::u32_text))]
     fn server_data(&mut self, alloc: Global, k: u64) -> Result<(), NoMemory>
         ensures { OnOk result (self.new ≡ adds (block_of BlockKind.ServerData k self.old.number) self.old) }
     {
@@ -148,7 +148,7 @@ impl Drawn {
         self.script.add(k, kinds::PAYLOAD, &packet)
     }
 
-    #[tactic(auto, unfolding(crate::specs::Blocks::block_of, sshc_wire::specs::Wire::u32_text, sshc_wire::specs::Wire::string_text, sshc_wire::specs::Wire::bool_text))]
+    #[tactic(auto, unfolding(crate::specs::Blocks::block_of, sshc_wire::specs::Wire::u32_text))]
     fn window(&mut self, alloc: Global, k: u64) -> Result<(), NoMemory>
         ensures { OnOk result (self.new ≡ adds (block_of BlockKind.Window k self.old.number) self.old) }
     {
@@ -156,7 +156,7 @@ impl Drawn {
         self.script.add(k, kinds::PAYLOAD, &packet)
     }
 
-    #[tactic(auto, unfolding(crate::specs::Blocks::block_of, sshc_wire::specs::Wire::u32_text, sshc_wire::specs::Wire::string_text, sshc_wire::specs::Wire::bool_text))]
+    #[tactic(auto, unfolding(crate::specs::Blocks::block_of, sshc_wire::specs::Wire::bool_text))]
     fn keepalive(&mut self, k: u64) -> Result<(), NoMemory>
         ensures { OnOk result (self.new ≡ adds (block_of BlockKind.Keepalive k self.old.number) self.old) }
     {
@@ -164,7 +164,7 @@ impl Drawn {
         self.script.add(k, kinds::PAYLOAD, &[msg::REQUEST_FAILURE])
     }
 
-    #[tactic(auto, unfolding(crate::specs::Blocks::block_of, sshc_wire::specs::Wire::u32_text, sshc_wire::specs::Wire::string_text, sshc_wire::specs::Wire::bool_text))]
+    #[tactic(auto, unfolding(crate::specs::Blocks::block_of))]
     fn forward(&mut self, alloc: Global, k: u32) -> Result<(), NoMemory>
         requires { k + 2 < 2 ^ 32 }
         ensures { OnOk result (self.new ≡ adds (block_of BlockKind.Forward k self.old.number) self.old) }
@@ -175,21 +175,21 @@ impl Drawn {
         self.script.add(u64::from(k), kinds::PAYLOAD, &granted)
     }
 
-    #[tactic(auto, unfolding(crate::specs::Blocks::block_of, sshc_wire::specs::Wire::u32_text, sshc_wire::specs::Wire::string_text, sshc_wire::specs::Wire::bool_text))]
+    #[tactic(auto, unfolding(crate::specs::Blocks::block_of))]
     fn rekey(&mut self, k: u64) -> Result<(), NoMemory>
         ensures { OnOk result (self.new ≡ adds (block_of BlockKind.Rekey k self.old.number) self.old) }
     {
         exchange(&mut self.script, k)
     }
 
-    #[tactic(auto, unfolding(crate::specs::Blocks::block_of, sshc_wire::specs::Wire::u32_text, sshc_wire::specs::Wire::string_text, sshc_wire::specs::Wire::bool_text))]
+    #[tactic(auto, unfolding(crate::specs::Blocks::block_of, sshc_wire::specs::Wire::u32_text))]
     fn listing(&mut self, k: u64) -> Result<(), NoMemory>
         ensures { OnOk result (self.new ≡ adds (block_of BlockKind.Listing k self.old.number) self.old) }
     {
         self.script.add(k, kinds::AGENT_BYTES, LISTING)
     }
 
-    #[tactic(auto, unfolding(crate::specs::Blocks::block_of, sshc_wire::specs::Wire::u32_text, sshc_wire::specs::Wire::string_text, sshc_wire::specs::Wire::bool_text))]
+    #[tactic(auto, unfolding(crate::specs::Blocks::block_of))]
     fn ignored(&mut self, k: u64) -> Result<(), NoMemory>
         ensures { OnOk result (self.new ≡ adds (block_of BlockKind.Ignored k self.old.number) self.old) }
     {

@@ -28,7 +28,7 @@ fn bytes_event(alloc: Global, c: &mut Cursor<'_>) -> Result<AgentEvent, EventErr
     Ok(AgentEvent::Bytes { conn, piece })
 }
 
-#[tactic(auto, unfolding(crate::specs::AgentEvents::request_answer_of, sshc_run_reader::specs::EventParts::u32_at, sshc_run_reader::specs::EventParts::flag_at))]
+#[tactic(auto, unfolding(crate::proofs::By::request_answer_of, crate::proofs::By::u32_at, crate::proofs::By::flag_at))]
 fn request_answer(c: &mut Cursor<'_>) -> Result<AgentEvent, EventError>
     ensures { GivesAll (λ e. e) result (request_answer_of c.old) }
 {
@@ -41,7 +41,7 @@ fn request_answer(c: &mut Cursor<'_>) -> Result<AgentEvent, EventError>
     })
 }
 
-#[tactic(auto, unfolding(crate::specs::AgentEvents::key_answer_of, sshc_run_reader::specs::EventParts::u32_at, sshc_run_reader::specs::EventParts::flag_at))]
+#[tactic(auto, unfolding(crate::proofs::By::key_answer_of, crate::proofs::By::u32_at, crate::proofs::By::flag_at))]
 fn key_answer(c: &mut Cursor<'_>) -> Result<AgentEvent, EventError>
     ensures { GivesAll (λ e. e) result (key_answer_of c.old) }
 {

@@ -22,7 +22,7 @@ use Rattle.sshc_run_reader.specs.declared.method_sort.MethodSort.{MethodSort}
 use Rattle.sshc_run_reader.specs.declared.method_sort.MethodSort.TheVariants as method_sorts
 use Rattle.sshc_run_reader.specs.EventParts.{IsU8, IsString}
 use Rattle.sshc_run_reader.specs.EventFields.{IsExchangeKey, IsExchange, IsMethodFields, IsMethod, method_sort, IsFields, kind_of}
-use Rattle.sshc_run_reader.specs.EventReading.{key_of_sort, exchange_key_at, exchange_at, is_exchange_number, as_payload, packet_of, hashed_pair_at, method_fields_at, method_at, event_of, request_of, payload_of, exchange_done_of, authenticate_of, authenticate_at, info_response_of, gssapi_token_of, gssapi_mic_of, gssapi_mic_at, gssapi_complete_of, signed_of, open_session_of, open_x11_of, open_direct_tcpip_of, direct_tcpip_at, open_direct_streamlocal_of, tcpip_forward_of, cancel_tcpip_forward_of, streamlocal_forward_of, cancel_streamlocal_forward_of, close_of, disconnect_of, disconnect_at, channel_of, channel_event_at, server_open_reply_of, server_open_reply_at, await_extension_info_of, get_server_sig_algs_of, keepalive_of, ping_of, no_more_sessions_of, host_keys_prove_of, prove_at, global_request_of, global_request_at}
+use Rattle.sshc_run_reader.specs.EventReading.{key_of_sort, exchange_key_at, exchange_at, is_exchange_number, as_payload, packet_of, hashed_pair_at, method_fields_at, method_at, event_of, request_of, payload_of, exchange_done_of, authenticate_of, authenticate_at, info_response_of, gssapi_token_of, gssapi_mic_of, gssapi_mic_at, gssapi_complete_of, signed_of, open_session_of, open_x11_of, open_direct_tcpip_of, direct_tcpip_at, open_direct_streamlocal_of, tcpip_forward_of, cancel_tcpip_forward_of, streamlocal_forward_of, cancel_streamlocal_forward_of, close_of, disconnect_of, disconnect_at, channel_of, channel_event_at, server_open_reply_of, server_open_reply_at, await_extension_info_of, get_server_sig_algs_of, keepalive_of, ping_of, no_more_sessions_of, host_keys_prove_of, global_request_of, global_request_at}
 use Rattle.sshc_run_reader.specs.KindLaws.{ReadAs, read_as}
 use Rattle.sshc_run_reader.proofs.EventGrammar.{parts, ok_so, made_so, ReadsOne, one_made, one_of, self, one_alone, Sorted, made_sorted, by_sort}
 use Rattle.sshc_run_reader.proofs.MsgGrammar.{a_msg}
@@ -118,7 +118,7 @@ payload packet (number ∷ body) = early (is_exchange_number number) refl
     early false is = ((λ fits e. (cc, λ h. absurd (grind (arith, nat_tests)))), (λ h. rw h.0 refl))
 
 pub event_read : (e : Event) (bytes : List ℕ) → Both e (event_of (kind_of e)) bytes
-unfolding event_of request_of payload_of exchange_done_of authenticate_of authenticate_at info_response_of gssapi_token_of gssapi_mic_of gssapi_mic_at gssapi_complete_of signed_of open_session_of open_x11_of open_direct_tcpip_of direct_tcpip_at open_direct_streamlocal_of tcpip_forward_of cancel_tcpip_forward_of streamlocal_forward_of cancel_streamlocal_forward_of close_of disconnect_of disconnect_at channel_of channel_event_at server_open_reply_of server_open_reply_at await_extension_info_of get_server_sig_algs_of keepalive_of ping_of no_more_sessions_of host_keys_prove_of prove_at global_request_of global_request_at
+unfolding event_of request_of payload_of exchange_done_of authenticate_of authenticate_at info_response_of gssapi_token_of gssapi_mic_of gssapi_mic_at gssapi_complete_of signed_of open_session_of open_x11_of open_direct_tcpip_of direct_tcpip_at open_direct_streamlocal_of tcpip_forward_of cancel_tcpip_forward_of streamlocal_forward_of cancel_streamlocal_forward_of close_of disconnect_of disconnect_at channel_of channel_event_at server_open_reply_of server_open_reply_at await_extension_info_of get_server_sig_algs_of keepalive_of ping_of no_more_sessions_of host_keys_prove_of global_request_of global_request_at
 event_read (events.ExchangeDone x) = made _ x (λ a b. self) an_exchange
 event_read (events.Payload packet) = payload packet
 event_read (events.Authenticate ticket user method) =

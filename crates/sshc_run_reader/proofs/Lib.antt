@@ -7,4 +7,4 @@ pub mod MsgGrammar
 pub mod StandardFacts
 mod EventTexts
 mod Longest
-mod Hints
+mod By

@@ -173,9 +173,6 @@ channel_event_at bytes = made_at (λ x. events.Channel x.0 x.1) (both_at channel
 unfoldable pub server_open_reply_at : Reader EventError Event
 server_open_reply_at bytes = made_at (λ x. events.ServerChannelOpenReply x.0 x.1) (both_at channel_at open_reply_at) bytes
 
-unfoldable pub prove_at : Reader EventError Event
-prove_at bytes = made_at (λ x. events.HostKeysProve x.0 x.1) (both_at ticket_at keys_at) bytes
-
 unfoldable pub global_request_at : Reader EventError Event
 global_request_at bytes = made_at (λ x. events.SendGlobalRequest x.0 x.1.0 x.1.1) (both_at ticket_at (both_at words_at octets_at)) bytes
 
@@ -219,7 +216,7 @@ unfoldable pub no_more_sessions_of : WholeReader EventError Event
 no_more_sessions_of bytes = finished_at Bad (made_at (λ x. events.NoMoreSessions x) flag_at) bytes
 
 unfoldable pub host_keys_prove_of : WholeReader EventError Event
-host_keys_prove_of bytes = finished_at Bad prove_at bytes
+host_keys_prove_of bytes = finished_at Bad (made_at (λ x. events.HostKeysProve x.0 x.1) (both_at ticket_at keys_at)) bytes
 
 unfoldable pub global_request_of : WholeReader EventError Event
 global_request_of bytes = finished_at Bad global_request_at bytes

@@ -8,7 +8,7 @@ use Rattle.sshc_run_reader.specs.declared.error.EventError.TheVariants.{Bad}
 use Rattle.sshc_run_reader.specs.declared.event_kind.EventKind.{EventKind}
 use Rattle.sshc_run_reader.specs.declared.event_kind.EventKind.TheVariants as kinds
 use Rattle.sshc_run_reader.specs.EventFields.{kind_of}
-use Rattle.sshc_run_reader.specs.EventReading.{as_payload, is_exchange_number, packet_of, event_of, request_of, payload_of, exchange_done_of, authenticate_of, authenticate_at, info_response_of, gssapi_token_of, gssapi_mic_of, gssapi_mic_at, gssapi_complete_of, signed_of, open_session_of, open_x11_of, open_direct_tcpip_of, direct_tcpip_at, open_direct_streamlocal_of, tcpip_forward_of, cancel_tcpip_forward_of, streamlocal_forward_of, cancel_streamlocal_forward_of, close_of, disconnect_of, disconnect_at, channel_of, channel_event_at, server_open_reply_of, server_open_reply_at, await_extension_info_of, get_server_sig_algs_of, keepalive_of, ping_of, no_more_sessions_of, host_keys_prove_of, prove_at, global_request_of, global_request_at}
+use Rattle.sshc_run_reader.specs.EventReading.{as_payload, is_exchange_number, packet_of, event_of, request_of, payload_of, exchange_done_of, authenticate_of, authenticate_at, info_response_of, gssapi_token_of, gssapi_mic_of, gssapi_mic_at, gssapi_complete_of, signed_of, open_session_of, open_x11_of, open_direct_tcpip_of, direct_tcpip_at, open_direct_streamlocal_of, tcpip_forward_of, cancel_tcpip_forward_of, streamlocal_forward_of, cancel_streamlocal_forward_of, close_of, disconnect_of, disconnect_at, channel_of, channel_event_at, server_open_reply_of, server_open_reply_at, await_extension_info_of, get_server_sig_algs_of, keepalive_of, ping_of, no_more_sessions_of, host_keys_prove_of, global_request_of, global_request_at}
 
 -- what was read is of this kind
 abbrev pub ReadAs : EventKind → Result Event EventError → Type 0
@@ -37,7 +37,7 @@ payload_as (number ∷ body) = early (is_exchange_number number)
 
 -- what is read as an event of a kind is of that kind
 pub read_as : (kind : EventKind) (bytes : List ℕ) → ReadAs kind (event_of kind bytes)
-unfolding event_of request_of payload_of exchange_done_of authenticate_of authenticate_at info_response_of gssapi_token_of gssapi_mic_of gssapi_mic_at gssapi_complete_of signed_of open_session_of open_x11_of open_direct_tcpip_of direct_tcpip_at open_direct_streamlocal_of tcpip_forward_of cancel_tcpip_forward_of streamlocal_forward_of cancel_streamlocal_forward_of close_of disconnect_of disconnect_at channel_of channel_event_at server_open_reply_of server_open_reply_at await_extension_info_of get_server_sig_algs_of keepalive_of ping_of no_more_sessions_of host_keys_prove_of prove_at global_request_of global_request_at
+unfolding event_of request_of payload_of exchange_done_of authenticate_of authenticate_at info_response_of gssapi_token_of gssapi_mic_of gssapi_mic_at gssapi_complete_of signed_of open_session_of open_x11_of open_direct_tcpip_of direct_tcpip_at open_direct_streamlocal_of tcpip_forward_of cancel_tcpip_forward_of streamlocal_forward_of cancel_streamlocal_forward_of close_of disconnect_of disconnect_at channel_of channel_event_at server_open_reply_of server_open_reply_at await_extension_info_of get_server_sig_algs_of keepalive_of ping_of no_more_sessions_of host_keys_prove_of global_request_of global_request_at
 read_as kinds.PeerKexinit bytes = alone_as _ _ bytes refl
 read_as kinds.TransportFailed bytes = alone_as _ _ bytes refl
 read_as kinds.RekeyLimit bytes = alone_as _ _ bytes refl

@@ -27,7 +27,7 @@ use Rattle.sshc_client_state.specs.Start.{new_session}
 use Rattle.sshc_client_table.specs.NoRequests.{IsSameRequest}
 use Rattle.sshc_client_table.specs.NoRequestsLaws.{moves_request}
 use Rattle.sshc_run_script.specs.Path.{StepOf, step_of}
-use Rattle.sshc_run_script.specs.SignedRequests.{AreSigned, AreSignedSteps, HasHostKey, behind, first_exchange, or_exchange}
+use Rattle.sshc_run_script.specs.SignedRequests.{AreSigned, AreSignedSteps, HasHostKey, with_event, first_exchange, or_exchange}
 use Rattle.sshc_run_script.proofs.RunNames.{Record, SignCall, Answer, Asking, Always, Makes, always_makes, always_also, Event, OpeningState, shut, asked_of, open_row, Next, Row, opens, stays, Accepts, SessionState, is_open, session_row, all_moves, default_opinions, EventError, event_of, Frame, RunSettings, Hosts, Onward, TurnOf, stop_next, SessionTurn, onward, session_turn, asked_turn, next_turn}
 use Rattle.sshc_run_script.proofs.RunSteps.{session_along}
 use Rattle.sshc_run_script.proofs.OpeningTurns.{asked_by}
@@ -186,7 +186,7 @@ later_has s event told calls row later makes leads = tt
 -- a turn's calls and records, and the state from which it continues
 record StepSo (past : List Event) (read : Result Event EventError) (s : OpeningState) (calls : List SignCall)
     (output : List Record) (next : Onward) (to : OpeningState) : Type 0 where
-  goes : stop_next next ≡ None → SignedSo (behind read past) to
+  goes : stop_next next ≡ None → SignedSo (with_event read past) to
   asked : AllByRecursion (IsSignedFor s.session_id past) calls
   handed : is_open s.phase ≡ false → AllByRecursion (IsHandedFor s.session_id past) output
 

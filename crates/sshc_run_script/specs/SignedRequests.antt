@@ -26,9 +26,9 @@ use Rattle.sshc_run_script.specs.SessionPart.{session_own}
 
 -- ---- the events before a state, the latest first
 
-abbrev pub behind : Result Event EventError → List Event → List Event
-behind (Ok event) past = event ∷ past
-behind (Err e) past = past
+abbrev pub with_event : Result Event EventError → List Event → List Event
+with_event (Ok event) past = event ∷ past
+with_event (Err e) past = past
 
 -- the hash and the host key of the first exchange that was done among them
 abbrev pub or_exchange : Option (List ℕ × ExchangeKey) → Event → Option (List ℕ × ExchangeKey)
@@ -61,7 +61,7 @@ pub record IsSignedStep (past : List Event) (x : StepOf SessionState) : Type 0 w
 -- each of these steps, behind those events
 abbrev pub AreSignedSteps : List Event → List (StepOf SessionState) → Type 0
 AreSignedSteps past [] = Unit {0}
-AreSignedSteps past (x ∷ steps) = IsSignedStep past x × AreSignedSteps (behind (event_of x.frame.kind x.frame.fields) past) steps
+AreSignedSteps past (x ∷ steps) = IsSignedStep past x × AreSignedSteps (with_event (event_of x.frame.kind x.frame.fields) past) steps
 
 -- along each path of the session
 abbrev pub AreSigned : Hosts → Accepts → RunSettings → ℕ → List Answer → Option (List ℕ) → Type 0

@@ -13,7 +13,7 @@ use Rattle.sshc_transport.specs.declared.transport.TransportEvent.TheVariants as
 
 -- a result of `next` other than out of memory
 pub data Answer : Type 0 where
-  came : TransportEvent → Answer
+  event_given : TransportEvent → Answer
   ended : Answer
   failed : Answer
 
@@ -27,7 +27,7 @@ abbrev pub gains : {A : Type 0} → Option (List A) → A → Option (List A)
 gains told x = option_map (λ before. before ++ x ∷ []) told
 
 abbrev pub AnswersNext : Option (List Answer) → Option (List Answer) → Result (Option TransportEvent) Failed → Type 0
-AnswersNext old new (Ok (Some event)) = new ≡ gains old (came event)
+AnswersNext old new (Ok (Some event)) = new ≡ gains old (event_given event)
 AnswersNext old new (Ok None) = new ≡ gains old ended
 AnswersNext old new (Err Fault) = new ≡ gains old failed
 AnswersNext old new (Err NoMemory) = new ≡ old

@@ -1,4 +1,4 @@
--- Lemmas by which several goals of a function are proved, in sets, and words that are unfolded there.
+-- Lemmas by which several goals of a function are proved, in sets.
 use Rattle.sshc_wire.proofs.Extended.{extended, extended_on, unextended}
 use Rattle.sshc_wire.proofs.NamesLemmas.{joined_on, names_first, names_none, names_skipped, names_whole}
 use Rattle.sshc_wire.proofs.OutboxLemmas.{all_told, both_added, cut_to_old, first_taken, none_taken, nothing_more, one_shown, one_told, rest_told, texts_next, told_next}

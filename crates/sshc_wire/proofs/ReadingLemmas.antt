@@ -7,7 +7,8 @@ use Rattle.sshc_wire.specs.Counted.{times_at}
 use Rattle.sshc_wire.specs.Methods.{method_of}
 use Rattle.sshc_wire.specs.Signals.{signal_of}
 use Rattle.sshc_wire.specs.declared.signal.Sig.{Sig}
-use Rattle.sshc_wire.specs.RecordReads.{signal_at}
+use Rattle.sshc_wire.specs.Names.{names_in}
+use Rattle.sshc_wire.specs.RecordReads.{method_list_at, name_list_at, signal_at}
 use Rattle.sshc_wire.specs.declared.methods.MethodKind.{MethodKind}
 use Rattle.sshc_wire.specs.Format.{done}
 use Rattle.sshc_wire.specs.FormatLaws.{bind_ok}
@@ -37,6 +38,11 @@ signal_read bytes name rest s read is = rw (text_string bytes name rest read) (a
 first_known : (o : Option MethodKind) (ms : List MethodKind) → cons_option o ms ≡ cons_option o [] ++ ms
 first_known None ms = refl
 first_known (Some m) ms = refl
+
+-- the methods whose names a text joins
+pub methods_read : (bytes t rest : List ℕ) → text_at bytes ≡ Ok (t, rest) → method_list_at bytes ≡ Ok (filter_map method_of (names_in t), rest)
+unfolding method_list_at name_list_at
+methods_read bytes t rest e = rw (text_string bytes t rest e) refl
 
 -- one name more was read
 pub known_more : (names : List (List ℕ)) (old new : List MethodKind) (before left : List (List ℕ)) (name : List ℕ) → filter_map method_of names ≡ old ++ filter_map method_of before → before ≡ name ∷ left

@@ -10,7 +10,7 @@ use super::Session;
 use crate::handler::Handler;
 use crate::signal::signal_copied;
 use crate::stop::{Stop, lent, went};
-use sshc_client_rows::Flow;
+use sshc_client_rows::RowFlow;
 use sshc_wire::{ChannelId, ChannelOpenFailure, ChannelRecord, NoMemory, Record, Sig, Text};
 
 impl Session {
@@ -126,7 +126,7 @@ impl Session {
         id: ChannelId,
         happened: ChannelRecord,
         handler: &mut H,
-    ) -> Result<Flow, Stop<H::Error>>
+    ) -> Result<RowFlow, Stop<H::Error>>
         ensures row { FollowsOne H.keeps_defaults
             (handler_at (H.refusals handler.old) (H.setting handler.old) (H.heard handler.old))
             (handler_at (H.refusals handler.new) (H.setting handler.new) (H.heard handler.new))
@@ -145,7 +145,7 @@ impl Session {
         id: ChannelId,
         happened: ChannelRecord,
         handler: &mut H,
-    ) -> Result<Flow, Stop<H::Error>>
+    ) -> Result<RowFlow, Stop<H::Error>>
         ensures row { FollowsOne H.keeps_defaults
             (handler_at (H.refusals handler.old) (H.setting handler.old) (H.heard handler.old))
             (handler_at (H.refusals handler.new) (H.setting handler.new) (H.heard handler.new))

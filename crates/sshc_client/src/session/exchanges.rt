@@ -13,7 +13,7 @@ use super::Session;
 use crate::handler::Handler;
 use crate::stop::{Stop, lent, went};
 use sshc_auth::{Error, ExchangeFlag, ExchangeResult};
-use sshc_client_rows::Flow;
+use sshc_client_rows::RowFlow;
 use sshc_wire::{NoMemory, Record, Text};
 
 /// The shared secret of an exchange, if the transport passed it on.
@@ -33,7 +33,7 @@ impl Session {
         &mut self,
         exchange: &ExchangeResult,
         handler: &mut H,
-    ) -> Result<Flow, Stop<H::Error>>
+    ) -> Result<RowFlow, Stop<H::Error>>
         ensures { FollowsOne H.keeps_defaults
             (handler_at (H.refusals handler.old) (H.setting handler.old) (H.heard handler.old))
             (handler_at (H.refusals handler.new) (H.setting handler.new) (H.heard handler.new))
@@ -54,7 +54,7 @@ impl Session {
         &mut self,
         exchange: &ExchangeResult,
         handler: &mut H,
-    ) -> Result<Flow, Stop<H::Error>>
+    ) -> Result<RowFlow, Stop<H::Error>>
         ensures { FollowsOne H.keeps_defaults
             (handler_at (H.refusals handler.old) (H.setting handler.old) (H.heard handler.old))
             (handler_at (H.refusals handler.new) (H.setting handler.new) (H.heard handler.new))
@@ -72,7 +72,7 @@ impl Session {
         &mut self,
         exchange: &ExchangeResult,
         handler: &mut H,
-    ) -> Result<Flow, Stop<H::Error>>
+    ) -> Result<RowFlow, Stop<H::Error>>
         ensures { FollowsOne H.keeps_defaults
             (handler_at (H.refusals handler.old) (H.setting handler.old) (H.heard handler.old))
             (handler_at (H.refusals handler.new) (H.setting handler.new) (H.heard handler.new))
@@ -89,7 +89,7 @@ impl Session {
         kex: Text,
         exchange: &ExchangeResult,
         handler: &mut H,
-    ) -> Result<Flow, Stop<H::Error>>
+    ) -> Result<RowFlow, Stop<H::Error>>
         requires { kex ≡ exchange.now.names.kex }
         ensures { FollowsOne H.keeps_defaults
             (handler_at (H.refusals handler.old) (H.setting handler.old) (H.heard handler.old))

@@ -22,18 +22,18 @@ use sshc_client_packets::{
     Confirmation, OpenRefusal, Sender, read_channel_open, read_confirmation, read_open_failure,
     read_server_open,
 };
-use sshc_client_rows::{Flow, refusal_of};
+use sshc_client_rows::{RowFlow, refusal_of};
 use sshc_client_table::OpenAnswer;
 use sshc_wire::{ChannelId, ChannelOpenFailure, ChannelRecord, NoMemory, Record, ServerOpen, Text};
 
 impl Session {
     /// CHANNEL_OPEN_CONFIRMATION.
-    #[tactic(auto, using(crate::proofs::Hints::handed_on), unfolding(crate::proofs::Hints::open_confirmation_row))]
+    #[tactic(auto, using(crate::proofs::Hints::handed_on), unfolding(crate::proofs::By::open_confirmation_row))]
     pub(super) fn open_confirmation<H: Handler>(
         &mut self,
         body: &[u8],
         handler: &mut H,
-    ) -> Result<Flow, Stop<H::Error>>
+    ) -> Result<RowFlow, Stop<H::Error>>
         requires { is_live self.old ≡ true }
         ensures row { FollowsOne H.keeps_defaults
             (handler_at (H.refusals handler.old) (H.setting handler.old) (H.heard handler.old))
@@ -50,7 +50,7 @@ impl Session {
         &mut self,
         c: Confirmation,
         handler: &mut H,
-    ) -> Result<Flow, Stop<H::Error>>
+    ) -> Result<RowFlow, Stop<H::Error>>
         requires { is_live self.old ≡ true }
         ensures row { FollowsOne H.keeps_defaults
             (handler_at (H.refusals handler.old) (H.setting handler.old) (H.heard handler.old))
@@ -71,12 +71,12 @@ impl Session {
     }
 
     /// CHANNEL_OPEN_FAILURE.
-    #[tactic(auto, using(crate::proofs::Hints::handed_on), unfolding(crate::proofs::Hints::open_failure_row))]
+    #[tactic(auto, using(crate::proofs::Hints::handed_on), unfolding(crate::proofs::By::open_failure_row))]
     pub(super) fn open_failure<H: Handler>(
         &mut self,
         body: &[u8],
         handler: &mut H,
-    ) -> Result<Flow, Stop<H::Error>>
+    ) -> Result<RowFlow, Stop<H::Error>>
         requires { is_live self.old ≡ true }
         ensures row { FollowsOne H.keeps_defaults
             (handler_at (H.refusals handler.old) (H.setting handler.old) (H.heard handler.old))
@@ -92,7 +92,7 @@ impl Session {
         &mut self,
         refusal: &OpenRefusal<'_>,
         handler: &mut H,
-    ) -> Result<Flow, Stop<H::Error>>
+    ) -> Result<RowFlow, Stop<H::Error>>
         requires { is_live self.old ≡ true }
         ensures row { FollowsOne H.keeps_defaults
             (handler_at (H.refusals handler.old) (H.setting handler.old) (H.heard handler.old))
@@ -102,7 +102,7 @@ impl Session {
         let description = Text::from_str(self.alloc, refusal.description)?;
         let language = Text::from_str(self.alloc, refusal.language)?;
         if !self.connection.fail(refusal.id, refusal.reason)? {
-            return Ok(Flow::Went);
+            return Ok(RowFlow::Went);
         }
         self.report(
             refusal.id,
@@ -116,12 +116,12 @@ impl Session {
     }
 
     /// CHANNEL_OPEN. If no number is free, it is out of memory.
-    #[tactic(auto, using(crate::proofs::Hints::handed_on), unfolding(crate::proofs::Hints::channel_open_row))]
+    #[tactic(auto, using(crate::proofs::Hints::handed_on), unfolding(crate::proofs::By::channel_open_row))]
     pub(super) fn channel_open<H: Handler>(
         &mut self,
         body: &[u8],
         handler: &mut H,
-    ) -> Result<Flow, Stop<H::Error>>
+    ) -> Result<RowFlow, Stop<H::Error>>
         requires { is_live self.old ≡ true }
         ensures row { FollowsWith H.keeps_defaults
             (handler_at (H.refusals handler.old) (H.setting handler.old) (H.heard handler.old))
@@ -143,7 +143,7 @@ impl Session {
         sender: Sender,
         opened: ServerOpen,
         handler: &mut H,
-    ) -> Result<Flow, Stop<H::Error>>
+    ) -> Result<RowFlow, Stop<H::Error>>
         requires live { is_live self.old ≡ true }
         requires known { is_unknown opened ≡ false }
         ensures row { (kind : List ℕ) → FollowsWith H.keeps_defaults
@@ -162,7 +162,7 @@ impl Session {
         sender: Sender,
         kind: &str,
         handler: &mut H,
-    ) -> Result<Flow, Stop<H::Error>>
+    ) -> Result<RowFlow, Stop<H::Error>>
         requires { is_live self.old ≡ true }
         ensures row { FollowsWith H.keeps_defaults
             (handler_at (H.refusals handler.old) (H.setting handler.old) (H.heard handler.old))
@@ -176,7 +176,7 @@ impl Session {
         }
         self.connection
             .reject(id, ChannelOpenFailure::UnknownChannelType)?;
-        Ok(Flow::Went)
+        Ok(RowFlow::Went)
     }
 
     /// Calls the handler for an open of the peer's, and does what the handler returns.
@@ -186,7 +186,7 @@ impl Session {
         id: ChannelId,
         opened: ServerOpen,
         handler: &mut H,
-    ) -> Result<Flow, Stop<H::Error>>
+    ) -> Result<RowFlow, Stop<H::Error>>
         requires { Accepts H.keeps_defaults (default_answer opened) }
         ensures row { FollowsOne H.keeps_defaults
             (handler_at (H.refusals handler.old) (H.setting handler.old) (H.heard handler.old))

@@ -13,7 +13,7 @@ use super::Session;
 use crate::handler::Handler;
 use crate::stop::{Stop, own};
 use sshc_auth::{Error, ExchangeFlag};
-use sshc_client_rows::{Flow, disconnect, request_failure, request_success};
+use sshc_client_rows::{RowFlow, disconnect, request_failure, request_success};
 use sshc_key::Verifier;
 use sshc_wire::{ChannelRecord, Octets, msg};
 
@@ -32,7 +32,7 @@ impl Session {
         packet: &Octets,
         verifier: &V,
         handler: &mut H,
-    ) -> Result<Flow, Stop<H::Error>>
+    ) -> Result<RowFlow, Stop<H::Error>>
         requires { is_live self.old ≡ true }
         ensures row { FollowsWith H.keeps_defaults
             (handler_at (H.refusals handler.old) (H.setting handler.old) (H.heard handler.old))
@@ -40,7 +40,7 @@ impl Session {
             (λ o. payload_row (V.accepts verifier.now) o self.old packet.now) self.old self.new result }
     {
         match packet.as_slice() {
-            [] => Ok(Flow::Went),
+            [] => Ok(RowFlow::Went),
             [number, body @ ..] => self.first(packet, *number, body, verifier, handler),
         }
     }
@@ -54,7 +54,7 @@ impl Session {
         body: &[u8],
         verifier: &V,
         handler: &mut H,
-    ) -> Result<Flow, Stop<H::Error>>
+    ) -> Result<RowFlow, Stop<H::Error>>
         requires live { is_live self.old ≡ true }
         requires whole { packet.now ≡ number ∷ body.now }
         ensures row { FollowsWith H.keeps_defaults
@@ -81,7 +81,7 @@ impl Session {
         body: &[u8],
         verifier: &V,
         handler: &mut H,
-    ) -> Result<Flow, Stop<H::Error>>
+    ) -> Result<RowFlow, Stop<H::Error>>
         requires { is_live self.old ≡ true }
         ensures row { FollowsWith H.keeps_defaults
             (handler_at (H.refusals handler.old) (H.setting handler.old) (H.heard handler.old))
@@ -102,7 +102,7 @@ impl Session {
         body: &[u8],
         verifier: &V,
         handler: &mut H,
-    ) -> Result<Flow, Stop<H::Error>>
+    ) -> Result<RowFlow, Stop<H::Error>>
         requires { is_live self.old ≡ true }
         ensures row { FollowsWith H.keeps_defaults
             (handler_at (H.refusals handler.old) (H.setting handler.old) (H.heard handler.old))
@@ -110,7 +110,7 @@ impl Session {
             (λ o. packet_row (V.accepts verifier.now) o self.old len number body.now) self.old self.new result }
     {
         if is_ignored(number) {
-            return Ok(Flow::Went);
+            return Ok(RowFlow::Went);
         }
         if number < 50 {
             return self.numbered(number, body, verifier, handler);
@@ -137,7 +137,7 @@ impl Session {
         body: &[u8],
         verifier: &V,
         handler: &mut H,
-    ) -> Result<Flow, Stop<H::Error>>
+    ) -> Result<RowFlow, Stop<H::Error>>
         requires { is_live self.old ≡ true }
         ensures row { FollowsWith H.keeps_defaults
             (handler_at (H.refusals handler.old) (H.setting handler.old) (H.heard handler.old))
@@ -150,14 +150,14 @@ impl Session {
     }
 
     /// A packet by its number; one that isn't known is passed over.
-    #[tactic(auto, using(crate::proofs::Hints::passed), unfolding(crate::proofs::Hints::numbered_row))]
+    #[tactic(auto, using(crate::proofs::Hints::passed), unfolding(crate::proofs::By::numbered_row))]
     fn numbered<V: Verifier, H: Handler>(
         &mut self,
         number: u8,
         body: &[u8],
         verifier: &V,
         handler: &mut H,
-    ) -> Result<Flow, Stop<H::Error>>
+    ) -> Result<RowFlow, Stop<H::Error>>
         requires { is_live self.old ≡ true }
         ensures row { FollowsWith H.keeps_defaults
             (handler_at (H.refusals handler.old) (H.setting handler.old) (H.heard handler.old))
@@ -179,7 +179,7 @@ impl Session {
             msg::CHANNEL_REQUEST => self.channel_request(body, handler),
             msg::CHANNEL_SUCCESS => self.channel_report(ChannelRecord::Success, body, handler),
             msg::CHANNEL_FAILURE => self.channel_report(ChannelRecord::Failure, body, handler),
-            _ => Ok(Flow::Went),
+            _ => Ok(RowFlow::Went),
         }
     }
 }

@@ -17,18 +17,18 @@ use sshc_client_packets::{
     PeerGlobal, PeerRequest, key_blobs, read_channel_request, read_global_request,
     read_request_head,
 };
-use sshc_client_rows::{Flow, answered, answered_on, refusal_of};
+use sshc_client_rows::{RowFlow, answered, answered_on, refusal_of};
 use sshc_key::PublicKey;
 use sshc_wire::{ChannelId, ChannelRecord, List, NoMemory, Octets, Record};
 
 impl Session {
     /// CHANNEL_REQUEST: number and name are read first; on a channel that isn't established the rest isn't.
-    #[tactic(auto, using(crate::proofs::Hints::handed_on), unfolding(crate::proofs::Hints::channel_request_row))]
+    #[tactic(auto, using(crate::proofs::Hints::handed_on), unfolding(crate::proofs::By::channel_request_row))]
     pub(super) fn channel_request<H: Handler>(
         &mut self,
         body: &[u8],
         handler: &mut H,
-    ) -> Result<Flow, Stop<H::Error>>
+    ) -> Result<RowFlow, Stop<H::Error>>
         ensures { FollowsOne H.keeps_defaults
             (handler_at (H.refusals handler.old) (H.setting handler.old) (H.heard handler.old))
             (handler_at (H.refusals handler.new) (H.setting handler.new) (H.heard handler.new))
@@ -36,7 +36,7 @@ impl Session {
     {
         let head = read_request_head(body)?;
         if !self.is_established(head.id) {
-            return Ok(Flow::Went);
+            return Ok(RowFlow::Went);
         }
         match read_channel_request(self.alloc, head.name, head.rest) {
             Ok(request) => self.requested(head.id, request, handler),
@@ -50,7 +50,7 @@ impl Session {
         id: ChannelId,
         request: PeerRequest,
         handler: &mut H,
-    ) -> Result<Flow, Stop<H::Error>>
+    ) -> Result<RowFlow, Stop<H::Error>>
         ensures { FollowsOne H.keeps_defaults
             (handler_at (H.refusals handler.old) (H.setting handler.old) (H.heard handler.old))
             (handler_at (H.refusals handler.new) (H.setting handler.new) (H.heard handler.new))
@@ -88,12 +88,12 @@ impl Session {
     }
 
     /// GLOBAL_REQUEST.
-    #[tactic(auto, using(crate::proofs::Hints::handed_on), unfolding(crate::proofs::Hints::global_request_row))]
+    #[tactic(auto, using(crate::proofs::Hints::handed_on), unfolding(crate::proofs::By::global_request_row))]
     pub(super) fn global_request<H: Handler>(
         &mut self,
         body: &[u8],
         handler: &mut H,
-    ) -> Result<Flow, Stop<H::Error>>
+    ) -> Result<RowFlow, Stop<H::Error>>
         ensures { FollowsOne H.keeps_defaults
             (handler_at (H.refusals handler.old) (H.setting handler.old) (H.heard handler.old))
             (handler_at (H.refusals handler.new) (H.setting handler.new) (H.heard handler.new))
@@ -110,7 +110,7 @@ impl Session {
         &mut self,
         request: PeerGlobal,
         handler: &mut H,
-    ) -> Result<Flow, Stop<H::Error>>
+    ) -> Result<RowFlow, Stop<H::Error>>
         ensures { FollowsOne H.keeps_defaults
             (handler_at (H.refusals handler.old) (H.setting handler.old) (H.heard handler.old))
             (handler_at (H.refusals handler.new) (H.setting handler.new) (H.heard handler.new))
@@ -133,7 +133,7 @@ impl Session {
         &mut self,
         keys: List<PublicKey>,
         handler: &mut H,
-    ) -> Result<Flow, Stop<H::Error>>
+    ) -> Result<RowFlow, Stop<H::Error>>
         ensures { FollowsOne H.keeps_defaults
             (handler_at (H.refusals handler.old) (H.setting handler.old) (H.heard handler.old))
             (handler_at (H.refusals handler.new) (H.setting handler.new) (H.heard handler.new))
@@ -150,7 +150,7 @@ impl Session {
         keys: List<PublicKey>,
         blobs: List<Octets>,
         handler: &mut H,
-    ) -> Result<Flow, Stop<H::Error>>
+    ) -> Result<RowFlow, Stop<H::Error>>
         requires { blobs ≡ blobs_of keys }
         ensures { FollowsOne H.keeps_defaults
             (handler_at (H.refusals handler.old) (H.setting handler.old) (H.heard handler.old))

@@ -13,7 +13,9 @@ use super::Session;
 use crate::handler::Handler;
 use crate::stop::{Stop, own};
 use sshc_auth::{Ended, Error, Event, Step};
-use sshc_client_rows::{Flow, inactivity_timer, keepalive_timer, peer_kexinit, rekey_limit, user};
+use sshc_client_rows::{
+    RowFlow, inactivity_timer, keepalive_timer, peer_kexinit, rekey_limit, user,
+};
 use sshc_client_table::Life;
 use sshc_key::{LocalSigner, Verifier};
 
@@ -98,16 +100,16 @@ impl Session {
     }
 
     /// How a step ends after its row. If the user left the session meanwhile, it doesn't continue.
-    fn end_row<H: Handler>(&mut self, answer: Result<Flow, Stop<H::Error>>) -> Step<H::Error>
+    fn end_row<H: Handler>(&mut self, answer: Result<RowFlow, Stop<H::Error>>) -> Step<H::Error>
         ensures { EndsRow H.told_as self.old self.new answer result }
     {
         match answer {
-            Ok(Flow::Went) => {
+            Ok(RowFlow::Went) => {
                 let mut step = Step::Went;
                 self.end_left(&mut step);
                 step
             }
-            Ok(Flow::Ended(e)) => {
+            Ok(RowFlow::Ended(e)) => {
                 self.connection.stop();
                 Step::Ended(e.into_ended())
             }
@@ -129,7 +131,7 @@ impl Session {
         event: &Event,
         handler: &mut H,
         verifier: &V,
-    ) -> Result<Flow, Stop<H::Error>>
+    ) -> Result<RowFlow, Stop<H::Error>>
         requires { is_live self.old ≡ true }
         ensures row { FollowsWith H.keeps_defaults
             (handler_at (H.refusals handler.old) (H.setting handler.old) (H.heard handler.old))

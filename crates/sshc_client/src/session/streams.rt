@@ -16,7 +16,7 @@ use super::Session;
 use crate::handler::Handler;
 use crate::stop::Stop;
 use sshc_client_packets::{read_channel, read_data, read_extended_data, read_window_adjust};
-use sshc_client_rows::Flow;
+use sshc_client_rows::RowFlow;
 use sshc_wire::{ChannelId, ChannelRecord, Octets};
 
 impl Session {
@@ -28,12 +28,12 @@ impl Session {
     }
 
     /// CHANNEL_WINDOW_ADJUST.
-    #[tactic(auto, using(crate::proofs::Hints::reports), unfolding(crate::proofs::Hints::window_adjust_row))]
+    #[tactic(auto, using(crate::proofs::Hints::reports), unfolding(crate::proofs::By::window_adjust_row))]
     pub(super) fn window_adjust<H: Handler>(
         &mut self,
         body: &[u8],
         handler: &mut H,
-    ) -> Result<Flow, Stop<H::Error>>
+    ) -> Result<RowFlow, Stop<H::Error>>
         requires { is_live self.old ≡ true }
         ensures row { FollowsOne H.keeps_defaults
             (handler_at (H.refusals handler.old) (H.setting handler.old) (H.heard handler.old))
@@ -42,7 +42,7 @@ impl Session {
     {
         let adjust = read_window_adjust(body)?;
         if !self.is_established(adjust.id) {
-            return Ok(Flow::Went);
+            return Ok(RowFlow::Went);
         }
         let new_size = match self.connection.grant(adjust.id, adjust.bytes_to_add)? {
             Some(left) => left,
@@ -76,7 +76,7 @@ impl Session {
         len: u64,
         output: ChannelRecord,
         handler: &mut H,
-    ) -> Result<Flow, Stop<H::Error>>
+    ) -> Result<RowFlow, Stop<H::Error>>
         requires { is_live self.old ≡ true }
         ensures row { FollowsWith H.keeps_defaults
             (handler_at (H.refusals handler.old) (H.setting handler.old) (H.heard handler.old))
@@ -92,12 +92,12 @@ impl Session {
     }
 
     /// CHANNEL_DATA. The bytes are copied once, into the record.
-    #[tactic(auto, using(crate::proofs::Hints::handed_on), unfolding(crate::proofs::Hints::channel_data_row))]
+    #[tactic(auto, using(crate::proofs::Hints::handed_on), unfolding(crate::proofs::By::channel_data_row))]
     pub(super) fn channel_data<H: Handler>(
         &mut self,
         body: &[u8],
         handler: &mut H,
-    ) -> Result<Flow, Stop<H::Error>>
+    ) -> Result<RowFlow, Stop<H::Error>>
         requires { is_live self.old ≡ true }
         ensures row { FollowsWith H.keeps_defaults
             (handler_at (H.refusals handler.old) (H.setting handler.old) (H.heard handler.old))
@@ -106,7 +106,7 @@ impl Session {
     {
         let data = read_data(body)?;
         if !self.is_established(data.id) {
-            return Ok(Flow::Went);
+            return Ok(RowFlow::Went);
         }
         let body = Octets::from_slice(self.alloc, data.body)?;
         let len = data.body.len() as u64;
@@ -114,12 +114,12 @@ impl Session {
     }
 
     /// CHANNEL_EXTENDED_DATA. The bytes are copied once, into the record.
-    #[tactic(auto, using(crate::proofs::Hints::handed_on), unfolding(crate::proofs::Hints::channel_extended_data_row))]
+    #[tactic(auto, using(crate::proofs::Hints::handed_on), unfolding(crate::proofs::By::channel_extended_data_row))]
     pub(super) fn channel_extended_data<H: Handler>(
         &mut self,
         body: &[u8],
         handler: &mut H,
-    ) -> Result<Flow, Stop<H::Error>>
+    ) -> Result<RowFlow, Stop<H::Error>>
         requires { is_live self.old ≡ true }
         ensures row { FollowsWith H.keeps_defaults
             (handler_at (H.refusals handler.old) (H.setting handler.old) (H.heard handler.old))
@@ -128,7 +128,7 @@ impl Session {
     {
         let data = read_extended_data(body)?;
         if !self.is_established(data.id) {
-            return Ok(Flow::Went);
+            return Ok(RowFlow::Went);
         }
         let ext = data.ext;
         let body = Octets::from_slice(self.alloc, data.body)?;
@@ -142,13 +142,13 @@ impl Session {
     }
 
     /// CHANNEL_EOF, CHANNEL_SUCCESS and CHANNEL_FAILURE.
-    #[tactic(auto, using(crate::proofs::Hints::handed_on), unfolding(crate::proofs::Hints::channel_report_row))]
+    #[tactic(auto, using(crate::proofs::Hints::handed_on), unfolding(crate::proofs::By::channel_report_row))]
     pub(super) fn channel_report<H: Handler>(
         &mut self,
         happened: ChannelRecord,
         body: &[u8],
         handler: &mut H,
-    ) -> Result<Flow, Stop<H::Error>>
+    ) -> Result<RowFlow, Stop<H::Error>>
         ensures row { FollowsOne H.keeps_defaults
             (handler_at (H.refusals handler.old) (H.setting handler.old) (H.heard handler.old))
             (handler_at (H.refusals handler.new) (H.setting handler.new) (H.heard handler.new))
@@ -156,18 +156,18 @@ impl Session {
     {
         let id = read_channel(body)?;
         if !self.is_established(id) {
-            return Ok(Flow::Went);
+            return Ok(RowFlow::Went);
         }
         self.report(id, happened, handler)
     }
 
     /// CHANNEL_CLOSE: the channel is removed.
-    #[tactic(auto, using(crate::proofs::Hints::reports), unfolding(crate::proofs::Hints::channel_close_row))]
+    #[tactic(auto, using(crate::proofs::Hints::reports), unfolding(crate::proofs::By::channel_close_row))]
     pub(super) fn channel_close<H: Handler>(
         &mut self,
         body: &[u8],
         handler: &mut H,
-    ) -> Result<Flow, Stop<H::Error>>
+    ) -> Result<RowFlow, Stop<H::Error>>
         ensures row { FollowsOne H.keeps_defaults
             (handler_at (H.refusals handler.old) (H.setting handler.old) (H.heard handler.old))
             (handler_at (H.refusals handler.new) (H.setting handler.new) (H.heard handler.new))
@@ -175,7 +175,7 @@ impl Session {
     {
         let id = read_channel(body)?;
         if !self.is_established(id) {
-            return Ok(Flow::Went);
+            return Ok(RowFlow::Went);
         }
         self.connection.close_by_peer(id)?;
         self.report(id, ChannelRecord::Close, handler)

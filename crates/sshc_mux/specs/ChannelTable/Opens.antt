@@ -5,7 +5,7 @@ use Rattle.sshc_wire.specs.declared.ticket.Ticket.{Ticket}
 use Rattle.sshc_mux.specs.declared.channel.Opener.{Opener}
 use Rattle.sshc_mux.specs.declared.channel.Opener.TheVariants.{User, Server}
 use Rattle.sshc_mux.specs.declared.channel.Stage.TheVariants.{Unasked}
-use Rattle.sshc_mux.specs.ChannelState.{Head, Flow, ChannelState, TableState, channel_of}
+use Rattle.sshc_mux.specs.ChannelState.{Head, ChannelFlow, ChannelState, TableState, channel_of}
 
 -- the next number; 0 after the last u32
 abbrev pub above : ℕ → ℕ
@@ -42,7 +42,7 @@ abbrev pub made_in : ChannelState → TableState → TableState
 made_in c t = record { channels = t.channels ++ c ∷ []; last = c.head.number }
 
 -- nothing waits, and no end was asked for
-abbrev pub new_flow : ℕ → Flow
+abbrev pub new_flow : ℕ → ChannelFlow
 new_flow window = record { window = window; pending = []; eof = Unasked; close = Unasked }
 
 -- an open of ours, whose recipient and window are not known yet

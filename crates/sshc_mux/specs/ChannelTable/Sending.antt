@@ -5,16 +5,16 @@ use Rattle.std.specs.Prelude.{ℕ, zero, suc, ◌+◌, ◌-◌, min, Bool, true,
 use Rattle.sshc_mux.specs.declared.chunk.Stream.{Stream}
 use Rattle.sshc_mux.specs.declared.channel.Stage.{Stage}
 use Rattle.sshc_mux.specs.declared.channel.Stage.TheVariants as Stages
-use Rattle.sshc_mux.specs.ChannelState.{Head, Flow, Waiting}
+use Rattle.sshc_mux.specs.ChannelState.{Head, ChannelFlow, Waiting}
 use Rattle.sshc_mux.specs.Packets.{Packet, Piece, Eof, Close}
 
 -- a channel's flow after what it did, and the packets that it wrote
 pub record FlowTurn : Type 0 where
-  pub flow : Flow
+  pub flow : ChannelFlow
   pub packets : List Packet
 
 -- nothing changes and nothing is written
-abbrev pub still : Flow → FlowTurn
+abbrev pub still : ChannelFlow → FlowTurn
 still f = record { flow = f; packets = [] }
 
 -- at most so many pieces of one call's bytes, each as long as the packet size allows
@@ -50,15 +50,15 @@ left_of room (w ∷ ws) =
     else record { stream = w.stream; bytes = drop room w.bytes } ∷ ws
 
 -- bytes are sent on an established channel while no exchange runs and the packet size isn't 0
-abbrev pub room_of : Bool → Head → Flow → ℕ
+abbrev pub room_of : Bool → Head → ChannelFlow → ℕ
 room_of exchanging h f = if h.established && not exchanging && nat_lt 0 h.packet_size then f.window else 0
 
 -- the flow without the bytes that it sends
-abbrev pub emptied : ℕ → Flow → Flow
+abbrev pub emptied : ℕ → ChannelFlow → ChannelFlow
 emptied room f = record f { pending = left_of room f.pending; window = f.window - min room (count_of f.pending) }
 
 -- EOF and close wait until the channel is established and no bytes wait
-abbrev pub may_end : Head → Flow → Bool
+abbrev pub may_end : Head → ChannelFlow → Bool
 may_end h f = h.established && length f.pending == 0
 
 abbrev pub is_due : Stage → Bool
@@ -72,20 +72,20 @@ done Stages.Asked = Stages.Sent
 done Stages.Sent = Stages.Sent
 
 -- EOF first, then our close
-abbrev pub due_of : Flow → List Packet
+abbrev pub due_of : ChannelFlow → List Packet
 due_of f = (if is_due f.eof then Eof ∷ [] else []) ++ (if is_due f.close then Close ∷ [] else [])
 
-abbrev pub ends_of : Head → Flow → List Packet
+abbrev pub ends_of : Head → ChannelFlow → List Packet
 ends_of h f = if may_end h f then due_of f else []
 
-abbrev pub ended_if : Bool → Flow → Flow
+abbrev pub ended_if : Bool → ChannelFlow → ChannelFlow
 ended_if may f = record f { eof = if may then done f.eof else f.eof; close = if may then done f.close else f.close }
 
-abbrev pub ended : Head → Flow → Flow
+abbrev pub ended : Head → ChannelFlow → ChannelFlow
 ended h f = ended_if (may_end h f) f
 
 -- bytes, then EOF and close if they are due
-unfoldable pub flushed : Bool → Head → Flow → FlowTurn
+unfoldable pub flushed : Bool → Head → ChannelFlow → FlowTurn
 flushed exchanging h f = record {
   flow = ended h (emptied (room_of exchanging h f) f);
   packets = sent_of h.packet_size (room_of exchanging h f) f.pending ++ ends_of h (emptied (room_of exchanging h f) f);

@@ -1,6 +1,6 @@
 -- Windows: what the peer grants, and what it uses of ours (RFC 4254, section 5.2).
 use Rattle.std.specs.Prelude.{ℕ, ◌+◌, ◌-◌, ◌/◌, ◌^◌, min, Bool, ◌&&◌, List, [], ◌∷◌, if◌then◌else◌, nat_lt}
-use Rattle.sshc_mux.specs.ChannelState.{Head, Flow, ChannelState}
+use Rattle.sshc_mux.specs.ChannelState.{Head, ChannelFlow, ChannelState}
 use Rattle.sshc_mux.specs.Packets.{Packet, Adjust}
 use Rattle.sshc_mux.specs.ChannelTable.Sending.{FlowTurn, still, flushed}
 
@@ -9,11 +9,11 @@ abbrev pub held : ℕ → ℕ → ℕ
 held amount window = min amount (2 ^ 32 - 1 - window)
 
 -- the window after a grant
-abbrev pub raised : ℕ → Flow → Flow
+abbrev pub raised : ℕ → ChannelFlow → ChannelFlow
 raised amount f = record f { window = f.window + held amount f.window }
 
 -- a grant, and then what may be sent
-abbrev pub grant_flow : ℕ → Bool → Head → Flow → FlowTurn
+abbrev pub grant_flow : ℕ → Bool → Head → ChannelFlow → FlowTurn
 grant_flow amount exchanging h f = if h.established then flushed exchanging h (raised amount f) else still f
 
 -- our window fell below half of the target

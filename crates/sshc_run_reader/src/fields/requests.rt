@@ -5,7 +5,7 @@ ghost use Rattle.sshc_wire.specs.Format.{made_at, no_bytes_at};
 ghost use Rattle.sshc_wire.specs.Grammar.{finished_at};
 ghost use Rattle.sshc_run_reader.specs.EventParts.{keys_at};
 ghost use Rattle.sshc_run_reader.specs.EventReading.{reply_of, open_reply_at, direct_tcpip_at, disconnect_at};
-ghost use Rattle.sshc_run_reader.specs.EventReading.{channel_event_at, server_open_reply_at, prove_at};
+ghost use Rattle.sshc_run_reader.specs.EventReading.{channel_event_at, server_open_reply_at};
 ghost use Rattle.sshc_run_reader.specs.EventReading.{global_request_at, await_extension_info_of};
 ghost use Rattle.sshc_run_reader.specs.EventReading.{cancel_streamlocal_forward_of, cancel_tcpip_forward_of};
 ghost use Rattle.sshc_run_reader.specs.EventReading.{channel_of, close_of, disconnect_of, get_server_sig_algs_of};
@@ -50,7 +50,7 @@ pub fn open_x11(alloc: Global, c: &mut Cursor<'_>) -> Result<Event, EventError>
     })
 }
 
-#[tactic(auto, unfolding(crate::proofs::Hints::open_direct_tcpip_of, crate::proofs::Hints::direct_tcpip_at))]
+#[tactic(auto, unfolding(crate::proofs::By::open_direct_tcpip_of, crate::proofs::By::direct_tcpip_at))]
 pub fn open_direct_tcpip(alloc: Global, c: &mut Cursor<'_>) -> Result<Event, EventError>
     ensures { GivesAll (λ e. e) result (open_direct_tcpip_of c.old) }
 {
@@ -180,7 +180,7 @@ fn open_reply(c: &mut Cursor<'_>) -> Result<Result<(), ChannelOpenFailure>, Even
     Ok(reply_by(accept, reason))
 }
 
-#[tactic(auto, unfolding(crate::proofs::Hints::server_open_reply_of, crate::proofs::Hints::server_open_reply_at))]
+#[tactic(auto, unfolding(crate::proofs::By::server_open_reply_of, crate::proofs::By::server_open_reply_at))]
 fn server_open_reply(c: &mut Cursor<'_>) -> Result<Event, EventError>
     ensures { GivesAll (λ e. e) result (server_open_reply_of c.old) }
 {
@@ -238,7 +238,7 @@ fn no_more_sessions(c: &mut Cursor<'_>) -> Result<Event, EventError>
     Ok(Event::NoMoreSessions { want_reply })
 }
 
-#[tactic(auto, unfolding(crate::specs::EventReading::host_keys_prove_of, crate::specs::EventReading::prove_at, crate::specs::EventParts::keys_at))]
+#[tactic(auto, unfolding(crate::proofs::By::host_keys_prove_of, crate::specs::EventParts::keys_at))]
 fn host_keys_prove(alloc: Global, c: &mut Cursor<'_>) -> Result<Event, EventError>
     ensures { GivesAll (λ e. e) result (host_keys_prove_of c.old) }
 {

@@ -86,7 +86,7 @@ fn known(alloc: Global, left: Names<'_>) -> Result<MethodSet, RecordError>
 }
 
 /// A list of names of methods.
-#[tactic(auto, unfolding(crate::specs::RecordReads::method_list_at, crate::specs::RecordReads::name_list_at), using(crate::proofs::ReadingLemmas::text_string))]
+#[tactic(auto, using(crate::proofs::ReadingLemmas::methods_read))]
 pub(super) fn read_methods(alloc: Global, c: &mut Cursor<'_>) -> Result<MethodSet, RecordError>
     ensures { IfOk result (λ m. method_list_at c.old ≡ Ok (m, c.new)) }
 {

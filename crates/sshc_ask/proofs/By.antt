@@ -1,0 +1,3 @@
+-- Words that proofs of functions unfold, from one place with a short path.
+pub use Rattle.sshc_ask.specs.AgentCalls.Readings.{identity_at, signature_reading, signature_text_in}
+pub use Rattle.sshc_key.specs.KeyReading.{octets_at, utf8_at}
