@@ -1,6 +1,6 @@
 #!/usr/bin/env python3
-"""Writes the rows of crates/sshc_rows_proxy (data/ and stdout): what a client and an agent send, and what has to come of it,
-worked by hand from draft-miller-ssh-agent, OpenSSH's PROTOCOL.agent and the README of sshc_proxy. Nothing here runs the proxy.
+"""Writes the rows of the agent proxy in crates/sshc_rows_formats (data/proxy and their part of stdout): what a client and an
+agent send, and what has to come of it, worked by hand from draft-miller-ssh-agent, OpenSSH's PROTOCOL.agent and the README of sshc_proxy. Nothing here runs the proxy.
 
 Usage: bench/proxy_rows.py, from the top of the repository
 """
@@ -233,30 +233,54 @@ def words():
     yield "an-agent-that-ends", "socket one", "opens", asks, "", "", "", text([OK]), "25"
 
 
+# policies by the names of their files
+FILES = {
+    "one": (line("K1", "K3") + "\n").encode(),
+    "two": ("\n".join([line("K1", "K3"), line("K2", "K3"), line("K2", "K2")]) + "\n").encode(),
+    "none": b"# nothing\n",
+    "bad": (line("K1", "K3") + "\n\nallow\n").encode(),
+    "latin": b"# \xff\n",
+}
+
+
+def in_folder(policy):
+    """A policy's path, from where the program runs."""
+    return f"proxy/{policy}"
+
+
+def with_path(given):
+    """A program's arguments, of which the second is a policy."""
+    first, _, policy = given.partition(" ")
+    return f"{first} {in_folder(policy)}" if policy in FILES else given
+
+
+def told(table, names):
+    """The part of stdout for a table."""
+    return f"== {table}\n" + "".join(f"ok {name}\n" for name in names)
+
+
 def main():
-    folder = "crates/sshc_rows_proxy"
+    folder = "crates/sshc_rows_formats"
     tables = {
         "policies": [(name, text.encode().hex(), said) for name, text, said in policies()],
-        "steps": [(name, policy, " ".join(given for given, _ in rows), " ".join(said for _, said in rows)) for name, policy, rows in steps()],
-        "runs": list(runs()),
-        "words": list(words()),
+        "steps": [(name, in_folder(policy), " ".join(given for given, _ in rows), " ".join(said for _, said in rows)) for name, policy, rows in steps()],
+        "runs": [(name, in_folder(policy), *rest) for name, policy, *rest in runs()],
+        "words": [(name, with_path(given), *rest) for name, given, *rest in words()],
     }
-    lines = []
     for table, rows in tables.items():
-        with open(f"{folder}/data/{table}", "w") as file:
+        with open(f"{folder}/data/proxy/{table}", "w") as file:
             file.write("# Written by bench/proxy_rows.py; src/ says what the fields are.\n")
             for row in rows:
                 file.write(" | ".join(row) + "\n")
-        lines += [f"== {table}"] + [f"ok {row[0]}" for row in rows]
+    with open(f"{folder}/stdout") as file:
+        parts = ["== " + part for part in file.read().split("== ")[1:]]
     with open(f"{folder}/stdout", "w") as file:
-        file.write("".join(f"{line}\n" for line in lines))
-    files = {"one": line("K1", "K3") + "\n", "two": "\n".join([line("K1", "K3"), line("K2", "K3"), line("K2", "K2")]) + "\n", "none": "# nothing\n",
-             "bad": line("K1", "K3") + "\n\nallow\n"}
-    for name, body in files.items():
-        with open(f"{folder}/data/{name}", "w") as file:
+        for part in parts:
+            name = part[3 : part.index("\n")]
+            file.write(told(name, [row[0] for row in tables[name]]) if name in tables else part)
+    for name, body in FILES.items():
+        with open(f"{folder}/data/proxy/{name}", "wb") as file:
             file.write(body)
-    with open(f"{folder}/data/latin", "wb") as file:
-        file.write(b"# \xff\n")
 
 
 if __name__ == "__main__":

@@ -5,7 +5,7 @@
 ghost use Rattle.std.specs.Prelude.{◌≡◌, IfOk};
 
 use crate::files::policy_of;
-use crate::row::{bytes_of, field_of, is_row, numbers_of, verdict};
+use crate::row::{bytes_of, field_of, numbers_of};
 use sshc_ask::Duplex;
 use sshc_proxy::{Policy, ProxyError, proxy_run};
 use sshc_toy::ToyVerifier;
@@ -66,20 +66,10 @@ fn is_run(alloc: Global, policy: Policy, line: &str) -> Result<bool, NoMemory> {
     )
 }
 
-fn is_right(rt: &HostRuntime, line: &str) -> anyhow::Result<bool> {
+/// Whether the row holds.
+pub fn is_right(rt: &HostRuntime, line: &str) -> anyhow::Result<bool> {
     match policy_of(rt, field_of(line, 1)) {
         Ok(policy) => Ok(is_run(rt.alloc(), policy, line)?),
         Err(_) => Ok(false),
     }
-}
-
-/// Prints whether each row of the text holds.
-pub fn print_rows(rt: &HostRuntime, text: &str) -> anyhow::Result<()> {
-    for line in text.lines() {
-        if is_row(line) {
-            let verdict = verdict(is_right(rt, line)?);
-            println!(rt; "{verdict} {}", field_of(line, 0))?;
-        }
-    }
-    Ok(())
 }

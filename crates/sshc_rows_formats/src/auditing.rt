@@ -1,9 +1,10 @@
 //! Worked rows of the auditor: the words of each row run over the files next to it. A row holds if the text written and
 //! the status are those of the row; it is also printed whether ssh-keygen made the same file.
 
-use crate::files::{text_of, verdict};
+use crate::files::text_of;
+use crate::row::{verdict, words_of};
 use sshc_audit::audit_words;
-use sshc_wire::{MemSink, NoMemory, StdFiles, Text};
+use sshc_wire::{MemSink, NoMemory, StdFiles};
 
 /// A row: its name, the status, the files with the expected text and with ssh-keygen's, and the auditor's words.
 #[derive(Clone, Copy)]
@@ -38,17 +39,9 @@ fn row_of(line: &str) -> Option<Row<'_>> {
     })
 }
 
-fn words_of(rt: &HostRuntime, line: &str) -> Result<Vec<Text>, NoMemory> {
-    let mut words = Vec::new(rt.alloc());
-    for word in line.split_whitespace() {
-        words.push(Text::from_str(rt.alloc(), word)?)?;
-    }
-    Ok(words)
-}
-
 /// Whether the auditor's words write the expected text, and return the expected status.
 fn is_right(rt: &HostRuntime, row: &Row<'_>, wanted: &str) -> Result<bool, NoMemory> {
-    let words = words_of(rt, row.words)?;
+    let words = words_of(rt.alloc(), row.words)?;
     let mut sink = MemSink::new(Vec::new(rt.alloc()), Vec::new(rt.alloc()));
     let mut files = StdFiles::new(rt);
     let status = audit_words(rt.alloc(), words.as_slice(), &mut files, &mut sink);

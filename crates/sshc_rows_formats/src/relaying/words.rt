@@ -1,15 +1,15 @@
 //! The command-line arguments. A row is: name | the arguments | how the agent's socket is opened (`opens`, `missing`,
 //! `fails`) | the client's bytes, the numbers of its reads and of its writes that fail | the agent's bytes | the bytes
-//! written to the client | the status. The files are those beside the table; the agent's reads and writes don't fail.
+//! written to the client | the status. The paths of policies begin where the program runs; the agent's reads and writes don't fail.
 
 ghost use Rattle.std.specs.Prelude.{None};
 
-use crate::row::{field_of, is_row, verdict};
-use crate::runs::{MemStream, is_written, stream_of};
+use crate::row::{field_of, words_of};
+use super::runs::{MemStream, is_written, stream_of};
 use sshc_ask::{OpenFailed, Opener};
 use sshc_proxy::proxy_words;
 use sshc_toy::ToyVerifier;
-use sshc_wire::{NoMemory, StdFiles, Text};
+use sshc_wire::{NoMemory, StdFiles};
 use std::alloc::Global;
 
 /// Opens a stream over memory, or fails.
@@ -49,15 +49,8 @@ impl Opener for MemOpener {
     }
 }
 
-fn words_of(alloc: Global, field: &str) -> Result<Vec<Text>, NoMemory> {
-    let mut words = Vec::new(alloc);
-    for word in field.split_whitespace() {
-        words.push(Text::from_str(alloc, word)?)?;
-    }
-    Ok(words)
-}
-
-fn is_right(rt: &HostRuntime, line: &str) -> anyhow::Result<bool> {
+/// Whether the row holds.
+pub fn is_right(rt: &HostRuntime, line: &str) -> anyhow::Result<bool> {
     let alloc: Global = rt.alloc();
     let words = words_of(alloc, field_of(line, 1))?;
     let mut opener = MemOpener {
@@ -84,15 +77,4 @@ fn is_right(rt: &HostRuntime, line: &str) -> anyhow::Result<bool> {
     );
     let status = format!(in alloc; "{status}")?;
     Ok(is_written(alloc, &client, field_of(line, 7)) && status.as_str() == field_of(line, 8))
-}
-
-/// Prints whether each row of the text holds.
-pub fn print_rows(rt: &HostRuntime, text: &str) -> anyhow::Result<()> {
-    for line in text.lines() {
-        if is_row(line) {
-            let verdict = verdict(is_right(rt, line)?);
-            println!(rt; "{verdict} {}", field_of(line, 0))?;
-        }
-    }
-    Ok(())
 }

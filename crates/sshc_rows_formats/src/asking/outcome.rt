@@ -1,7 +1,7 @@
 //! Makes the call that a row names, and describes its result in words. An error of the call is an error here too.
 
-use super::row::bytes_of;
 use crate::files::let_go;
+use crate::row::bytes_of;
 use sshc_ask::{AgentClient, Duplex};
 use sshc_key::{
     AgentIdentity, AgentSessionBinding, Constraint, Error, HashAlg, KeyData, KeyRef, PrivateKey,

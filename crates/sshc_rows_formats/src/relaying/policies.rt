@@ -1,7 +1,7 @@
 //! Policies as texts. A row is: name | the text, in hexadecimal | `rules` and their number, or `bad` and the number of
 //! the first bad line.
 
-use crate::row::{bytes_of, field_of, is_row, verdict};
+use crate::row::{bytes_of, field_of};
 use sshc_proxy::{PolicyError, parse_policy};
 use std::alloc::Global;
 
@@ -14,21 +14,11 @@ fn read(alloc: Global, text: &str) -> anyhow::Result<String> {
     }
 }
 
-fn is_right(alloc: Global, line: &str) -> anyhow::Result<bool> {
+/// Whether the row holds.
+pub fn is_right(alloc: Global, line: &str) -> anyhow::Result<bool> {
     let bytes = bytes_of(alloc, field_of(line, 1));
     match str::from_utf8(&bytes) {
         Ok(text) => Ok(read(alloc, text)?.as_str() == field_of(line, 2)),
         Err(_) => Ok(false),
     }
-}
-
-/// Prints whether each row of the text holds.
-pub fn print_rows(rt: &HostRuntime, text: &str) -> anyhow::Result<()> {
-    for line in text.lines() {
-        if is_row(line) {
-            let verdict = verdict(is_right(rt.alloc(), line)?);
-            println!(rt; "{verdict} {}", field_of(line, 0))?;
-        }
-    }
-    Ok(())
 }

@@ -2,7 +2,7 @@
 //! `:frame:HEX`, `:answer:HEX` or `:close`; an output is `forward:HEX`, `answer:HEX`, `nothing` or `no-memory`.
 
 use crate::files::policy_of;
-use crate::row::{bytes_of, field_of, is_row, verdict};
+use crate::row::{bytes_of, field_of};
 use sshc_proxy::{Policy, ProxyCore, ProxyInput, ProxyOutput};
 use sshc_toy::ToyVerifier;
 use sshc_wire::{NoMemory, Octets};
@@ -61,7 +61,8 @@ fn outputs_of(alloc: Global, policy: Policy, inputs: &str) -> anyhow::Result<Str
     Ok(shown)
 }
 
-fn is_right(rt: &HostRuntime, line: &str) -> anyhow::Result<bool> {
+/// Whether the row holds.
+pub fn is_right(rt: &HostRuntime, line: &str) -> anyhow::Result<bool> {
     match policy_of(rt, field_of(line, 1)) {
         Ok(policy) => {
             let shown = outputs_of(rt.alloc(), policy, field_of(line, 2))?;
@@ -69,15 +70,4 @@ fn is_right(rt: &HostRuntime, line: &str) -> anyhow::Result<bool> {
         }
         Err(_) => Ok(false),
     }
-}
-
-/// Prints whether each row of the text holds.
-pub fn print_rows(rt: &HostRuntime, text: &str) -> anyhow::Result<()> {
-    for line in text.lines() {
-        if is_row(line) {
-            let verdict = verdict(is_right(rt, line)?);
-            println!(rt; "{verdict} {}", field_of(line, 0))?;
-        }
-    }
-    Ok(())
 }

@@ -1,6 +1,6 @@
 //! Rows: the fields of a line.
 
-use sshc_wire::NoMemory;
+use sshc_wire::{NoMemory, Text};
 use std::alloc::Global;
 
 /// Whether the line is a row.
@@ -39,4 +39,13 @@ pub fn numbers_of(alloc: Global, field: &str) -> Result<Vec<u64>, NoMemory> {
 /// The word that is printed of a row.
 pub fn verdict(is_right: bool) -> &'static str {
     if is_right { "ok" } else { "WRONG" }
+}
+
+/// The words of a field, separated by white space.
+pub fn words_of(alloc: Global, field: &str) -> Result<Vec<Text>, NoMemory> {
+    let mut words = Vec::new(alloc);
+    for word in field.split_whitespace() {
+        words.push(Text::from_str(alloc, word)?)?;
+    }
+    Ok(words)
 }
