@@ -1,21 +1,24 @@
-//! Measurements, printed as counts.
+//! Measurements, printed as counts, and many cases in one process.
 //!
-//! The first argument names what is measured, two numbers how much of it (README.md lists them). Without arguments
-//! there is a small run of each.
+//! The first argument names what is run, two numbers how much of it (README.md lists them). Without arguments there is a
+//! small run of each measurement, and then the cases of standard input.
 #![tactic(auto)]
 
 mod agent;
+mod cases;
 mod channels;
 mod handle;
 mod script;
+mod waking;
 
 use std::env;
+use std::process::ExitCode;
 use std::sync::Wait;
 use std::thread::Threads;
 use std::time::Clock;
 
 /// The runs without arguments.
-const SMALL: [(&str, u32, u32); 11] = [
+const SMALL: [(&str, u32, u32); 13] = [
     ("channels", 3, 10),
     ("packets", 1_000, 2),
     ("grants", 3, 10),
@@ -27,6 +30,8 @@ const SMALL: [(&str, u32, u32); 11] = [
     ("list", 3, 10),
     ("sign", 3, 10),
     ("pings", 1, 16),
+    ("woken", 16, 0),
+    ("channel", 16, 0),
 ];
 
 /// The number in an argument; 0 if there is no number.
@@ -37,13 +42,15 @@ fn number(word: Option<String>) -> u32 {
     }
 }
 
-fn is_known(name: &str) -> bool {
-    for (known, _first, _second) in SMALL {
-        if known == name {
-            return true;
-        }
-    }
-    false
+/// The line of a session over a transport that another thread fills.
+fn waking_line<R: Threads + Wait + Sync + AllocGlobal + Clock>(
+    rt: &R,
+    name: &str,
+    first: u32,
+    second: u32,
+) -> anyhow::Result<String> {
+    let answered = waking::answered(rt, name, u64::from(first), u64::from(second))?;
+    Ok(format!(in rt.alloc(); "{answered} came back")?)
 }
 
 /// Makes one run, and returns its line.
@@ -59,25 +66,41 @@ fn line<R: Threads + Wait + Sync + AllocGlobal + Clock>(
         "list" => Ok(agent::line(alloc, false, first, second)?),
         "sign" => Ok(agent::line(alloc, true, first, second)?),
         "pings" => handle::line(rt, first, second),
-        _ if is_known(name) => Ok(channels::line(alloc, name, first, second)?),
+        "woken" | "polled" | "beside" | "idle" | "idle-polled" | "channel" => {
+            waking_line(rt, name, first, second)
+        }
+        "channels" | "packets" | "grants" | "flushes" | "closes" | "oldest-first" | "events" => {
+            Ok(channels::line(alloc, name, first, second)?)
+        }
         _ => Ok(String::from_str(alloc, "NAME FIRST SECOND")?),
     }
 }
 
-fn main(rt: HostRuntime) -> anyhow::Result<()> {
-    let mut words = env::args(&rt)?;
-    let _program = words.next();
-    match words.next() {
-        Some(name) => {
-            let first = number(words.next());
-            let second = number(words.next());
-            println!(&rt; "{}", line(&rt, name.as_str(), first, second)?)?;
-        }
-        None => {
-            for (name, first, second) in SMALL {
-                println!(&rt; "{}", line(&rt, name, first, second)?)?;
-            }
-        }
+/// A small run of each measurement.
+fn print_small(rt: &HostRuntime) -> anyhow::Result<()> {
+    for (name, first, second) in SMALL {
+        println!(rt; "{}", line(rt, name, first, second)?)?;
     }
     Ok(())
+}
+
+/// Runs what the arguments name, and returns the status.
+fn run(rt: &HostRuntime) -> anyhow::Result<u8> {
+    let mut words = env::args(rt)?;
+    let _program = words.next();
+    let Some(name) = words.next() else {
+        print_small(rt)?;
+        return Ok(cases::run(rt)?);
+    };
+    if name.as_str() == "cases" {
+        return Ok(cases::run(rt)?);
+    }
+    let first = number(words.next());
+    let second = number(words.next());
+    println!(rt; "{}", line(rt, name.as_str(), first, second)?)?;
+    Ok(0)
+}
+
+fn main(rt: HostRuntime) -> anyhow::Result<ExitCode> {
+    Ok(ExitCode::from(run(&rt)?))
 }

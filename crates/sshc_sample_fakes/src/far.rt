@@ -1,5 +1,6 @@
 //! A transport whose server runs in a thread of its own, and which wakes its runner.
 
+use crate::bell::Bell;
 use crate::server::{Coming, Server};
 use rtrb::{Consumer, Producer, RingBuffer};
 use sshc_handle::{Waker, is_short};
@@ -8,7 +9,6 @@ use sshc_wire::{Failed, NoMemory, Octets};
 use std::alloc::Global;
 use std::sync::atomic::{AtomicBool, Ordering};
 use std::sync::{Arc, Wait};
-use std::thread::Parker;
 
 /// How many packets, and how many events, may be under way at most.
 const PLACES: usize = 256;
@@ -19,8 +19,8 @@ pub struct FarTransport {
     alloc: Global,
     packets: Producer<Octets, Global>,
     events: Consumer<TransportEvent, Global>,
-    /// Where the server's thread rests.
-    bell: Arc<Parker, Global>,
+    /// Where the server's thread waits for packets.
+    bell: Arc<Bell, Global>,
     is_over: Arc<AtomicBool, Global>,
     faults: u64,
 }
@@ -38,7 +38,7 @@ impl Drop for FarTransport {
         drop(packets);
         drop(events);
         drop(is_over);
-        bell.unpark();
+        bell.ring();
     }
 }
 
@@ -49,7 +49,7 @@ pub struct FarServer<P: Server + Drop> {
     coming: Coming,
     packets: Consumer<Octets, Global>,
     events: Producer<TransportEvent, Global>,
-    bell: Arc<Parker, Global>,
+    bell: Arc<Bell, Global>,
     is_over: Arc<AtomicBool, Global>,
 }
 
@@ -61,7 +61,7 @@ pub fn across_threads<P: Server + Drop>(
 ) -> Result<(FarTransport, FarServer<P>), NoMemory> {
     let (packets_in, packets_out) = RingBuffer::new(alloc, PLACES)?;
     let (events_in, events_out) = RingBuffer::new(alloc, PLACES)?;
-    let bell = Arc::new(alloc, Parker::new())?;
+    let bell = Arc::new(alloc, Bell::new())?;
     let is_over = Arc::new(alloc, AtomicBool::new(false))?;
     let transport = FarTransport {
         alloc,
@@ -118,7 +118,7 @@ impl Transport for FarTransport {
         };
         match self.packets.push(packet) {
             Ok(()) => {
-                self.bell.unpark();
+                self.bell.ring();
                 Ok(())
             }
             Err(refused) => {
@@ -171,10 +171,12 @@ impl<P: Server + Drop> FarServer<P> {
     pub fn serve<R: Wait>(self, rt: &R, waker: Option<&Waker>) {
         let mut mine = self;
         let mut is_open = mine.pass_on(waker);
+        let mut vain = 0;
         for _ in rt.forever() {
             if !is_open {
                 break;
             }
+            let seen = mine.bell.rings();
             match mine.packets.pop() {
                 Ok(packet) => {
                     mine.hear(&packet);
@@ -184,7 +186,7 @@ impl<P: Server + Drop> FarServer<P> {
                     if mine.packets.is_abandoned() {
                         break;
                     }
-                    mine.bell.park(rt);
+                    vain = mine.bell.wait(rt, seen, vain);
                 }
             }
         }

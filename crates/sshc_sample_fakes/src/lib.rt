@@ -2,6 +2,7 @@
 //! each host key, and clocks. For tests, examples and measurements.
 #![tactic(auto)]
 
+mod bell;
 mod beside;
 mod clock;
 mod far;

@@ -12,6 +12,8 @@ mod connecting;
 #[cfg(test)]
 mod defaults;
 #[cfg(test)]
+mod echo;
+#[cfg(test)]
 mod leaving;
 #[cfg(test)]
 mod logins;
@@ -21,6 +23,8 @@ mod looking;
 mod maker;
 #[cfg(test)]
 mod packets;
+#[cfg(test)]
+mod pairs;
 #[cfg(test)]
 mod payloads;
 #[cfg(test)]

@@ -1,8 +1,8 @@
 //! Runs of `sshc` and of forwards over memory.
 
-use crate::case::{Case, Kind};
-use crate::outcome::Outcome;
-use crate::relayed::relayed;
+use super::case::{Case, Kind};
+use super::outcome::Outcome;
+use super::relayed::relayed;
 use sshc_forward_run::forward_words;
 use sshc_run::{ToySigner, ToyVerifier, run_words};
 use sshc_wire::{MemFiles, MemSink, MemSource, NoMemory, Octets, Text};

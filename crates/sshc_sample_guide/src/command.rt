@@ -1,8 +1,5 @@
 //! Logs in over a transport in memory, runs a command, and prints its output and its status. An example of a program
 //! with threads: one thread takes turns with the session, and the others hold its handle.
-#![tactic(auto)]
-
-mod faces;
 
 use sshc_client::{ChannelMsg, Config, Error};
 use sshc_handle::{AuthResult, Handle, at_once, connect_stream};
@@ -62,7 +59,8 @@ fn greet_and_leave<R: Wait>(
     output
 }
 
-fn main(rt: HostRuntime) -> anyhow::Result<()> {
+/// Logs in over a transport in memory, runs a command, and prints what it wrote and its status.
+pub fn print_output(rt: &HostRuntime) -> anyhow::Result<()> {
     let alloc = rt.alloc();
     let host = Host::new(alloc, 1);
     let coming = host.greeting()?;
@@ -76,19 +74,19 @@ fn main(rt: HostRuntime) -> anyhow::Result<()> {
         StillClock(0),
     )?;
     let (output, _left) = at_once(
-        &rt,
+        rt,
         &handle,
-        |handle| greet_and_leave(&rt, alloc, handle),
-        |_handle| runner.run(&rt),
+        |handle| greet_and_leave(rt, alloc, handle),
+        |_handle| runner.run(rt),
     );
     let output = output?;
-    print!(&rt;
+    print!(rt;
         "{}",
         std::str::from_utf8(output.bytes.as_slice()).unwrap_or("no text")
     )?;
     match output.status {
-        Some(status) => println!(&rt; "status {status}")?,
-        None => println!(&rt; "no status")?,
+        Some(status) => println!(rt; "status {status}")?,
+        None => println!(rt; "no status")?,
     }
     Ok(())
 }

@@ -12,7 +12,7 @@ const APART: u32 = 100;
 
 /// What the server does when bytes come.
 #[derive(Clone, Copy, PartialEq, Eq)]
-pub enum Echo {
+pub(crate) enum Echo {
     /// It sends them back. Its end follows the client's.
     Back,
     /// It closes the channel.
@@ -20,7 +20,7 @@ pub enum Echo {
 }
 
 #[derive(Drop)]
-pub struct EchoServer {
+pub(crate) struct EchoServer {
     alloc: Global,
     host: Host,
     echo: Echo,
@@ -112,7 +112,7 @@ impl Server for EchoServer {
 }
 
 /// A session over such a server, which its first exchange opens.
-pub fn echoing(
+pub(crate) fn echoing(
     alloc: Global,
     echo: Echo,
 ) -> Result<(Handle<Keeper>, FakeRunner<EchoServer>), Error> {

@@ -1,14 +1,16 @@
 //! Pairs served by `serve_pair` over a server in memory, each by threads of its own. A pair holds if its stream was
 //! written just what is to come back to it.
 
+use crate::answers::leave;
 use crate::echo::{Echo, echoing};
 use sshc_client::Error;
 use sshc_forward::serve_pair;
 use sshc_handle::Handle;
 use sshc_sample_fakes::{Keeper, at_once, run_beside};
-use sshc_wire::{Disconnect, MemSink, MemSource, NoMemory};
+use sshc_wire::{MemSink, MemSource, NoMemory};
 use std::alloc::Global;
 use std::sync::Wait;
+use std::test::*;
 use std::thread::Threads;
 use std::time::Clock;
 
@@ -72,10 +74,6 @@ fn forward<R: Threads + Wait + Sync>(
     }
 }
 
-fn leave<R: Wait>(rt: &R, handle: &Handle<Keeper>) {
-    let _left = handle.disconnect(rt, Disconnect::ByApplication, "", "");
-}
-
 /// How many bytes came back to each of two streams.
 #[derive(Clone, Copy, PartialEq, Eq)]
 struct Both {
@@ -97,7 +95,7 @@ fn forward_both<R: Threads + Wait + Sync>(
         |handle| forward(rt, alloc, handle, first),
         |handle| forward(rt, alloc, handle, second),
     );
-    leave(rt, handle);
+    let _ = leave(rt, handle);
     Both { first, second }
 }
 
@@ -129,7 +127,7 @@ fn forward_late<R: Threads + Wait + Sync>(
     let mut reader = MemSource::new(bytes_of(alloc, stream)?, Vec::new(alloc));
     let mut writer = MemSink::new(Vec::new(alloc), Vec::new(alloc));
     let channel = handle.channel_open_direct_tcpip(rt, "echo", 7, "127.0.0.1", 1000)?;
-    leave(rt, handle);
+    let _ = leave(rt, handle);
     serve_pair(rt, alloc, handle, channel, &mut reader, &mut writer)?;
     Ok(Some(writer.contents().len()))
 }
@@ -193,7 +191,7 @@ fn an_ended_session<R: Threads + Wait + Sync + Clock>(
 
 /// A row that pairs make.
 #[derive(Clone, Copy)]
-pub enum Pairs {
+enum Pairs {
     TwoPairs,
     AFailedRead,
     AFailedWrite,
@@ -202,7 +200,7 @@ pub enum Pairs {
 }
 
 /// The rows, by their names.
-pub const PAIRS: [(&str, Pairs); 5] = [
+const PAIRS: &[(&str, Pairs)] = &[
     ("two_pairs", Pairs::TwoPairs),
     ("a_failed_read", Pairs::AFailedRead),
     ("a_failed_write", Pairs::AFailedWrite),
@@ -211,7 +209,7 @@ pub const PAIRS: [(&str, Pairs); 5] = [
 ];
 
 /// Whether the row holds.
-pub fn holds<R: Threads + Wait + Sync + Clock>(rt: &R, alloc: Global, pairs: Pairs) -> bool {
+fn holds<R: Threads + Wait + Sync + Clock>(rt: &R, alloc: Global, pairs: Pairs) -> bool {
     let held = match pairs {
         Pairs::TwoPairs => two_pairs(rt, alloc),
         Pairs::AFailedRead => a_failed_read(rt, alloc),
@@ -220,4 +218,13 @@ pub fn holds<R: Threads + Wait + Sync + Clock>(rt: &R, alloc: Global, pairs: Pai
         Pairs::AnEndedSession => an_ended_session(rt, alloc),
     };
     held == Ok(true)
+}
+
+/// Each row holds.
+#[test]
+fn serves_pairs(rt: HostRuntime) -> Result<(), Fail> {
+    for (name, pairs) in PAIRS {
+        assert!(&rt; holds(&rt, rt.alloc(), *pairs), "{name}");
+    }
+    Ok(())
 }

@@ -1,7 +1,7 @@
 use denote.Param.Send.{sendable}
 use Rattle.std.proofs.Crossing.{crosses}
 use Rattle.sshc_handle.proofs.Sending.{handle_sync}
-use Rattle.sshc_bench_waking.proofs.use_and_leave.Goals as goal
+use Rattle.sshc_bench.proofs.waking.use_and_leave.Goals as goal
 
 -- the closure that each thread calls holds the runtime, the handle and a number
 pub map_indices-all-requires-sync-F : goal.map_indices-all-requires-sync-F

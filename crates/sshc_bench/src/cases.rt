@@ -1,7 +1,6 @@
 //! Many cases in one process: scripts, known hosts texts, policies with the streams of a proxy, events of forwards.
 //! Each is run over memory by the call that its program makes, and its outcome is written before the next case is read.
 //! README.md has the bytes of cases and outcomes.
-#![tactic(auto)]
 
 mod case;
 mod outcome;
@@ -13,12 +12,11 @@ use outcome::write_outcome;
 use runs::outcome_of;
 use sshc_wire::{Failed, NoMemory, StdSink, StdSource};
 use std::io;
-use std::process::ExitCode;
 
 /// The status for bytes that are no case.
 const BROKEN: u8 = 2;
 
-const NO_MEMORY: u8 = 20;
+pub const NO_MEMORY: u8 = 20;
 
 const READ_FAULT: u8 = 21;
 
@@ -33,7 +31,7 @@ fn broken_status(broken: Broken) -> u8 {
 }
 
 /// Runs the cases of standard input, and returns the status: 0 at its end.
-fn run(rt: &HostRuntime) -> Result<u8, NoMemory> {
+pub fn run(rt: &HostRuntime) -> Result<u8, NoMemory> {
     let mut source = StdSource::new(rt.alloc(), rt.reader())?;
     let mut sink = StdSink::new(io::writer(rt));
     let mut bytes = Vec::new(rt.alloc());
@@ -50,11 +48,4 @@ fn run(rt: &HostRuntime) -> Result<u8, NoMemory> {
         }
     }
     Ok(0)
-}
-
-fn main(rt: HostRuntime) -> ExitCode {
-    match run(&rt) {
-        Ok(status) => ExitCode::from(status),
-        Err(NoMemory) => ExitCode::from(NO_MEMORY),
-    }
 }

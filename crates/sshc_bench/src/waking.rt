@@ -1,35 +1,30 @@
-//! A session over a transport that another thread fills. The first argument says what is run, one or two numbers how
-//! much of it: `woken N` and `polled N` send N pings, one after the other, with a runner that is woken or that asks its
-//! transport each millisecond; `beside T N` sends N pings while T threads wait for channels; `channel N` passes N
-//! numbers to another thread and back by a plain channel; `idle MS` does nothing for so many milliseconds.
-#![tactic(auto)]
+//! A session over a transport that another thread fills: what a call costs, and what waiting costs. README.md says what
+//! each run does.
 
-mod far;
 
-use crate::far::{Far, Near, across};
 use crossbeam_channel::{Receiver, Sender, unbounded};
 use sshc_client::{Config, Error};
 use sshc_handle::{Handle, Runner, Waker, at_once, connect_stream};
-use sshc_sample_fakes::{FakeTransport, Host, Keeper, StillClock};
+use sshc_sample_fakes::{FarServer, FarTransport, Host, Keeper, StillClock, across_threads};
 use sshc_toy::{RefusingVerifier, ToySigner};
 use sshc_wire::{ChannelId, Disconnect};
 use std::alloc::Global;
 use std::sync::Wait;
 use std::thread::Threads;
 use std::time::{Clock, Duration};
-use std::{env, thread};
+use std::thread;
 
 /// A runner over a server in another thread.
-type FarRunner = Runner<Keeper, Near, ToySigner, RefusingVerifier, StillClock>;
+type FarRunner = Runner<Keeper, FarTransport, ToySigner, RefusingVerifier, StillClock>;
 
 /// The server of such a runner.
-type Server = Far<Host>;
+type Server = FarServer<Host>;
 
 /// A session that its first exchange opens, and its server.
 fn session(alloc: Global) -> Result<(Handle<Keeper>, FarRunner, Server), Error> {
     let host = Host::granting(alloc, 1);
     let coming = host.greeting()?;
-    let (transport, server) = across(alloc, FakeTransport::new(host, coming, u64::MAX))?;
+    let (transport, server) = across_threads(alloc, host, coming)?;
     let mut config = Config::default_in(alloc)?;
     config.anonymous = true;
     let (handle, runner) = connect_stream(
@@ -184,29 +179,21 @@ fn by_channel<R: Threads + Wait + Sync>(
     Ok(passed)
 }
 
-/// The number in an argument; 16 if there is none.
-fn number(word: Option<String>) -> u64 {
-    match word {
-        Some(word) => word.as_str().parse::<u64>().unwrap_or(16),
-        None => 16,
-    }
-}
-
-fn main(rt: HostRuntime) -> anyhow::Result<()> {
+/// Makes a run of this name, and returns how many pings or numbers came back. An unknown name makes no run.
+pub fn answered<R: Threads + Wait + Sync + AllocGlobal + Clock>(
+    rt: &R,
+    name: &str,
+    first: u64,
+    second: u64,
+) -> anyhow::Result<u64> {
     let alloc = rt.alloc();
-    let mut words = env::args(&rt)?;
-    let _program = words.next();
-    let name = words.next();
-    let first = number(words.next());
-    let second = number(words.next());
-    let done = match name.as_deref() {
-        Some("polled") => run(&rt, alloc, false, Use::Ping(first))?,
-        Some("beside") => run(&rt, alloc, true, Use::Beside(first, second))?,
-        Some("idle") => run(&rt, alloc, true, Use::Idle(first))?,
-        Some("idle-polled") => run(&rt, alloc, false, Use::Idle(first))?,
-        Some("channel") => by_channel(&rt, alloc, first)?,
-        _ => run(&rt, alloc, true, Use::Ping(first))?,
-    };
-    println!(&rt; "{done}")?;
-    Ok(())
+    match name {
+        "woken" => Ok(run(rt, alloc, true, Use::Ping(first))?),
+        "polled" => Ok(run(rt, alloc, false, Use::Ping(first))?),
+        "beside" => Ok(run(rt, alloc, true, Use::Beside(first, second))?),
+        "idle" => Ok(run(rt, alloc, true, Use::Idle(first))?),
+        "idle-polled" => Ok(run(rt, alloc, false, Use::Idle(first))?),
+        "channel" => Ok(by_channel(rt, alloc, first)?),
+        _ => Ok(0),
+    }
 }

@@ -1,8 +1,8 @@
 //! Runs of the proxy over memory.
 
-use crate::case::Case;
-use crate::outcome::Outcome;
-use crate::runs::{new_sink, source_of};
+use super::case::Case;
+use super::outcome::Outcome;
+use super::runs::{new_sink, source_of};
 use sshc_ask::Duplex;
 use sshc_proxy::{Policy, PolicyError, ProxyError, parse_policy, proxy_run};
 use sshc_run::ToyVerifier;
