@@ -76,31 +76,23 @@ fn line<R: Threads + Wait + Sync + AllocGlobal + Clock>(
     }
 }
 
-/// A small run of each measurement.
-fn print_small(rt: &HostRuntime) -> anyhow::Result<()> {
-    for (name, first, second) in SMALL {
-        println!(rt; "{}", line(rt, name, first, second)?)?;
-    }
-    Ok(())
-}
-
-/// Runs what the arguments name, and returns the status.
-fn run(rt: &HostRuntime) -> anyhow::Result<u8> {
-    let mut words = env::args(rt)?;
-    let _program = words.next();
-    let Some(name) = words.next() else {
-        print_small(rt)?;
-        return Ok(cases::run(rt)?);
-    };
-    if name.as_str() == "cases" {
-        return Ok(cases::run(rt)?);
-    }
-    let first = number(words.next());
-    let second = number(words.next());
-    println!(rt; "{}", line(rt, name.as_str(), first, second)?)?;
-    Ok(0)
-}
-
 fn main(rt: HostRuntime) -> anyhow::Result<ExitCode> {
-    Ok(ExitCode::from(run(&rt)?))
+    let mut words = env::args(&rt)?;
+    let _program = words.next();
+    let status = match words.next() {
+        None => {
+            for (name, first, second) in SMALL {
+                println!(&rt; "{}", line(&rt, name, first, second)?)?;
+            }
+            cases::run(&rt)?
+        }
+        Some(name) if name.as_str() == "cases" => cases::run(&rt)?,
+        Some(name) => {
+            let first = number(words.next());
+            let second = number(words.next());
+            println!(&rt; "{}", line(&rt, name.as_str(), first, second)?)?;
+            0
+        }
+    };
+    Ok(ExitCode::from(status))
 }

@@ -1,7 +1,6 @@
 //! A session over a transport that another thread fills: what a call costs, and what waiting costs. README.md says what
 //! each run does.
 
-
 use crossbeam_channel::{Receiver, Sender, unbounded};
 use sshc_client::{Config, Error};
 use sshc_handle::{Handle, Runner, Waker, at_once, connect_stream};
@@ -10,9 +9,9 @@ use sshc_toy::{RefusingVerifier, ToySigner};
 use sshc_wire::{ChannelId, Disconnect};
 use std::alloc::Global;
 use std::sync::Wait;
+use std::thread;
 use std::thread::Threads;
 use std::time::{Clock, Duration};
-use std::thread;
 
 /// A runner over a server in another thread.
 type FarRunner = Runner<Keeper, FarTransport, ToySigner, RefusingVerifier, StillClock>;

@@ -1,5 +1,8 @@
 mod Closing
+mod Columns
 pub mod Firsts
 mod Free
+mod LineLemmas
 mod Over
+mod PlaceLemmas
 mod Hints

@@ -8,7 +8,7 @@ use Rattle.sshc_wire.specs.declared.record.Record.TheVariants.{Channel, Resolved
 use Rattle.sshc_wire.specs.declared.channel_id.ChannelId.{ChannelId}
 use Rattle.sshc_wire.specs.declared.ticket.Ticket.{Ticket}
 use Rattle.sshc_handle_tickets.proofs.Firsts.{none_first}
-use Rattle.sshc_handle_line.specs.Lines.{has_some, number_in}
+use Rattle.sshc_handle_tickets.specs.Lines.{has_some, number_in}
 use Rattle.sshc_handle_tickets.specs.Tickets.{answered, channel_in, channel_of, dropped, due_behind, first_of, held_at, is_of, is_on, is_on_some, is_ticket, left_due, without_first}
 
 by_case : {P : Type 0} (b : Bool) → (b ≡ true → P) → (b ≡ false → P) → P

@@ -1,7 +1,7 @@
 -- The tickets that are open, and the records that are held until someone asks for them.
-unfoldable pub use Rattle.sshc_handle_line.specs.Lines.{first_of, without_first}
-pub use Rattle.sshc_handle_line.specs.Lines.{is_number}
-pub use Rattle.sshc_handle_line.specs.Numbers.{channel_of, ticket_of}
+unfoldable pub use Rattle.sshc_handle_tickets.specs.Lines.{first_of, without_first}
+pub use Rattle.sshc_handle_tickets.specs.Lines.{is_number}
+pub use Rattle.sshc_handle_tickets.specs.Numbers.{channel_of, ticket_of}
 use Rattle.std.specs.Prelude.{ℕ, zero, suc, ◌+◌, ◌-◌, ◌^◌, Bool, true, false, nat_eq, if◌then◌else◌, not, ◌||◌, List, [], ◌∷◌, ◌++◌, Option, Some, None, is_some, filter, map}
 use Rattle.std.specs.List.{list_any}
 use Rattle.sshc_wire.specs.declared.record.Record.{Record}

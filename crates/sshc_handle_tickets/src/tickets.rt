@@ -11,8 +11,8 @@ ghost use Rattle.sshc_handle_tickets.specs.Tickets.{due_behind, first_of, free_w
 ghost use Rattle.sshc_handle_tickets.specs.Tickets.{is_on_some, is_taken, is_ticket, number_after, opened_by};
 ghost use Rattle.sshc_handle_tickets.specs.Tickets.{without_first};
 
+use crate::line::Line;
 use crate::marks::Marks;
-use sshc_handle_line::Line;
 use sshc_wire::{ChannelId, ChannelRecord, NoMemory, Record, Resolution, Ticket};
 use std::alloc::Global;
 use std::collections::btree_map::Values;

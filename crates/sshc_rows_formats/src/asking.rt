@@ -1,11 +1,13 @@
 //! Worked calls of an agent's client. A row is: name | the call | the bytes of the agent's answer | the numbers of the
 //! reads and of the writes that fail | the bytes that are written | those left to read | the call's result. Bytes are in
-//! hexadecimal. The stream of a row whose name begins with `slow-` moves one byte at a time.
+//! hexadecimal. The stream of a row whose name begins with `slow-` moves one byte at a time. The call `connect WAY` opens
+//! a stream by a path that `opens`, is `missing` or `fails`, or by `no` path.
 
 mod outcome;
 
+use crate::opener::MemOpener;
 use crate::row::{bytes_of, field_of, numbers_of};
-use outcome::{Client, returned};
+use outcome::{Client, connected, returned};
 use sshc_ask::{AgentClient, Duplex};
 use sshc_key::Error;
 use sshc_wire::{MemSink, MemSource, NoMemory, PieceSink, PieceSource, read_up_to};
@@ -48,8 +50,19 @@ fn is_left(alloc: Global, source: &mut PieceSource, left: &[u8]) -> bool {
     }
 }
 
+/// Whether an agent's client is connected as the row says.
+fn is_connected(alloc: Global, line: &str, way: &str) -> anyhow::Result<bool> {
+    let mut opener = MemOpener::new(alloc, way, "")?;
+    let path = if way == "no" { None } else { Some("socket") };
+    let answer = connected(alloc, path, &mut opener);
+    Ok(is_said(alloc, answer, field_of(line, 7)))
+}
+
 /// Whether the call of the row comes to what the row says.
 pub fn is_right(alloc: Global, line: &str) -> anyhow::Result<bool> {
+    if let Some(way) = field_of(line, 1).strip_prefix("connect ") {
+        return is_connected(alloc, line, way);
+    }
     let client = client_of(alloc, line)?;
     let (client, answer) = returned(alloc, client, field_of(line, 1));
     let is_returned = is_said(alloc, answer, field_of(line, 7));
@@ -59,7 +72,6 @@ pub fn is_right(alloc: Global, line: &str) -> anyhow::Result<bool> {
         &mut stream.source,
         &bytes_of(alloc, field_of(line, 6)),
     );
-    let is_written =
-        stream.sink.sink.contents() == bytes_of(alloc, field_of(line, 5)).as_slice();
+    let is_written = stream.sink.sink.contents() == bytes_of(alloc, field_of(line, 5)).as_slice();
     Ok(is_written && is_left && is_returned)
 }

@@ -10,6 +10,7 @@ mod files;
 mod forwarding;
 mod keys;
 mod lines;
+mod opener;
 mod packets;
 mod relaying;
 mod row;

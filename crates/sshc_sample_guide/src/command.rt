@@ -1,5 +1,4 @@
-//! Logs in over a transport in memory, runs a command, and prints its output and its status. An example of a program
-//! with threads: one thread takes turns with the session, and the others hold its handle.
+//! Logs in over a transport in memory, and runs a command.
 
 use sshc_client::{ChannelMsg, Config, Error};
 use sshc_handle::{AuthResult, Handle, at_once, connect_stream};
@@ -8,12 +7,14 @@ use sshc_toy::{RefusingVerifier, ToySigner};
 use sshc_wire::Disconnect;
 use std::alloc::Global;
 use std::sync::Wait;
+use std::thread::Threads;
+use std::time::Clock;
 
 /// The output of a command, and its status.
 #[derive(Drop)]
-struct Output {
-    bytes: Vec<u8>,
-    status: Option<u32>,
+pub struct Output {
+    pub bytes: Vec<u8>,
+    pub status: Option<u32>,
 }
 
 /// Runs a command on a channel of its own, and reads to the channel's end.
@@ -59,9 +60,8 @@ fn greet_and_leave<R: Wait>(
     output
 }
 
-/// Logs in over a transport in memory, runs a command, and prints what it wrote and its status.
-pub fn print_output(rt: &HostRuntime) -> anyhow::Result<()> {
-    let alloc = rt.alloc();
+/// Logs in over a transport in memory, and runs a command.
+pub fn output<R: Threads + Wait + Sync + Clock>(rt: &R, alloc: Global) -> Result<Output, Error> {
     let host = Host::new(alloc, 1);
     let coming = host.greeting()?;
     let (handle, runner) = connect_stream(
@@ -79,14 +79,5 @@ pub fn print_output(rt: &HostRuntime) -> anyhow::Result<()> {
         |handle| greet_and_leave(rt, alloc, handle),
         |_handle| runner.run(rt),
     );
-    let output = output?;
-    print!(rt;
-        "{}",
-        std::str::from_utf8(output.bytes.as_slice()).unwrap_or("no text")
-    )?;
-    match output.status {
-        Some(status) => println!(rt; "status {status}")?,
-        None => println!(rt; "no status")?,
-    }
-    Ok(())
+    output
 }

@@ -1,5 +1,5 @@
-//! Logs in, has the server forward a port, and prints what a connection to it brings. The transport is filled by a
-//! thread of its own, as one over a socket is, and wakes the runner. `docs/GUIDE.md` explains this program.
+//! Logs in, has the server forward a port, and reads what a connection to it brings. The transport is filled by a thread
+//! of its own, as one over a socket is, and wakes the runner. `docs/GUIDE.md` explains this program.
 
 use crate::doorman::{Arrivals, Doorman, watch_door};
 use crate::server::Forwarding;
@@ -10,7 +10,8 @@ use sshc_toy::{RefusingVerifier, ToySigner};
 use sshc_wire::{ChannelId, Disconnect};
 use std::alloc::Global;
 use std::sync::Wait;
-use std::thread;
+use std::thread::{self, Threads};
+use std::time::Clock;
 
 /// The bytes that come on a channel, to its end.
 fn read_all<R: Wait>(
@@ -70,9 +71,8 @@ fn knocked_and_left<R: Wait>(
     bytes
 }
 
-/// Logs in over a transport that a thread fills, has a port forwarded, and prints what a connection to it brings.
-pub fn print_knock(rt: &HostRuntime) -> anyhow::Result<()> {
-    let alloc = rt.alloc();
+/// Logs in over a transport that a thread fills, has a port forwarded, and returns what a connection to it brings.
+pub fn knock<R: Threads + Wait + Sync + Clock>(rt: &R, alloc: Global) -> Result<Vec<u8>, Error> {
     let greeting = Host::new(alloc, 1).greeting()?;
     let (transport, server) = across_threads(alloc, Forwarding, greeting)?;
     let (doorman, arrivals) = watch_door(alloc, [8; 32])?;
@@ -93,10 +93,5 @@ pub fn print_knock(rt: &HostRuntime) -> anyhow::Result<()> {
         |handle| knocked_and_left(rt, alloc, handle, arrivals),
         |_handle| { thread::join(rt, || server.serve(rt, Some(&waker)), || runner.run(rt)) },
     );
-    let bytes = bytes?;
-    println!(rt;
-        "{}",
-        std::str::from_utf8(bytes.as_slice()).unwrap_or("no text")
-    )?;
-    Ok(())
+    bytes
 }

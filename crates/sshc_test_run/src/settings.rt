@@ -15,6 +15,9 @@ const KEEPALIVE_DUE: &[u8] = b"\0\0\0\x09\0\0\0\0\0\0\0\0\x08";
 /// The peer's packet IGNORE.
 const IGNORE: &[u8] = b"\0\0\0\x0e\0\0\0\0\0\0\0\0\x03\x02\0\0\0\0";
 
+/// The peer's banner, which is empty: a packet of nine bytes.
+const BANNER: &[u8] = b"\0\0\0\x12\0\0\0\0\0\0\0\0\x03\x35\0\0\0\0\0\0\0\0";
+
 /// The user asks for an exchange.
 const REKEY: &[u8] = b"\0\0\0\x09\0\0\0\0\0\0\0\0\x24";
 
@@ -83,6 +86,48 @@ const NARROW: Settings = Settings {
     anonymous: true,
     ..DEFAULT
 };
+
+/// A window of five bytes, of which twice as much may come while an exchange of ours runs: one banner, and no second.
+const TEN_BYTES: Settings = Settings {
+    window_size: 5,
+    ..DEFAULT
+};
+
+/// A window of four bytes: no banner.
+const FEWER_BYTES: Settings = Settings {
+    window_size: 4,
+    ..DEFAULT
+};
+
+/// Packets that come before the user is in, while an exchange of ours runs.
+const HELD: &[&[u8]] = &[KEXINIT, EXCHANGE, PASSWORD, ACCEPTED, REKEY, BANNER, BANNER];
+
+/// How many packets may come before the user is in, while an exchange of ours runs.
+const FLOODED: &[Row] = &[
+    (
+        "one packet within twice the window, and one beyond it",
+        TEN_BYTES,
+        HELD,
+        Ends::By(RunError::Pending),
+        "2000000011637572766532353531392d736861323536
+01050000000c7373682d7573657261757468
+013200000005616c6963650000000e7373682d636f6e6e656374696f6e0000000870617373776f726400000000027077
+02
+2100000000
+",
+    ),
+    (
+        "a packet beyond twice the window",
+        FEWER_BYTES,
+        HELD,
+        Ends::By(RunError::Pending),
+        "2000000011637572766532353531392d736861323536
+01050000000c7373682d7573657261757468
+013200000005616c6963650000000e7373682d636f6e6e656374696f6e0000000870617373776f726400000000027077
+02
+",
+    ),
+];
 
 /// Sessions that their first exchange opens, whose lines are that of its name and that of the open session; and a timer
 /// without settings.
@@ -199,6 +244,14 @@ fn holds(alloc: Global, row: &Row) -> Result<bool, NoMemory> {
 #[test]
 fn open_sessions_write_what_their_rows_say(rt: HostRuntime) -> Result<(), Fail> {
     for row in OPENED {
+        assert!(rt; holds(rt.alloc(), row)?, "{}", row.0);
+    }
+    Ok(())
+}
+
+#[test]
+fn packets_are_counted_before_the_user_is_in(rt: HostRuntime) -> Result<(), Fail> {
+    for row in FLOODED {
         assert!(rt; holds(rt.alloc(), row)?, "{}", row.0);
     }
     Ok(())

@@ -2,8 +2,8 @@
 
 use crate::login::KEYLESS;
 use crate::scripts::{
-    ACCEPTED, EXCHANGE, KEXINIT, KNOWN, LINES, LOGIN, PASSWORD, SUCCESS, after, calls, script_of,
-    whole_events,
+    ACCEPTED, BY_PAIR, EXCHANGE, KEXINIT, KEY_ACCEPTED, KNOWN, LINES, LOGIN, PASSWORD, SUCCESS,
+    after, calls, script_of, whole_events,
 };
 use sshc_run::run_words;
 use sshc_run_script::{RefusingSigner, RefusingVerifier};
@@ -257,6 +257,12 @@ const BY_FILES: &[Row] = &[
     },
 ];
 
+/// The request by a key, and the error of a signer that refuses.
+const SIGNER_FAULT: &str =
+    "013200000005616c6963650000000e7373682d636f6e6e656374696f6e000000097075626c69636b6579000000000b7373682d65\
+    643235353139000000330000000b7373682d65643235353139000000200808080808080808080808080808080808080808080808\
+    080808080808080808\nerror signer-fault\n";
+
 const BY_EVENTS: &[Row] = &[
     Row {
         case: "an empty script",
@@ -287,6 +293,16 @@ const BY_EVENTS: &[Row] = &[
         status: 27,
         written: 82,
         line: "error transport-failed\n",
+    },
+    Row {
+        case: "a signer that refuses a login by a key",
+        given: Given {
+            events: &[KEXINIT, EXCHANGE, BY_PAIR, ACCEPTED, KEY_ACCEPTED, SUCCESS],
+            ..LOGS_IN
+        },
+        status: 23,
+        written: 82,
+        line: SIGNER_FAULT,
     },
     Row {
         case: "a second KEXINIT",

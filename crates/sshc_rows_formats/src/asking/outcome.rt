@@ -1,8 +1,9 @@
 //! Makes the call that a row names, and describes its result in words. An error of the call is an error here too.
 
 use crate::files::let_go;
+use crate::opener::MemOpener;
 use crate::row::bytes_of;
-use sshc_ask::{AgentClient, Duplex};
+use sshc_ask::{AgentClient, Duplex, connect_env};
 use sshc_key::{
     AgentIdentity, AgentSessionBinding, Constraint, Error, HashAlg, KeyData, KeyRef, PrivateKey,
     PublicKey, Signature, Signer, parse_public_key_base64, read_key_pair,
@@ -287,4 +288,15 @@ pub fn returned(alloc: Global, mut client: Client, call: &str) -> (Client, Resul
     }
     let answer = outcome(alloc, &mut client, words);
     (client, answer)
+}
+
+/// `ok` for a client of the agent at a path, if there is one.
+pub fn connected(
+    alloc: Global,
+    path: Option<&str>,
+    opener: &mut MemOpener,
+) -> Result<String, Error> {
+    let client = connect_env(alloc, path, opener)?;
+    let_go(client);
+    Ok(String::from_str(alloc, "ok")?)
 }

@@ -2,33 +2,13 @@
 //! writes that fail | the same of the agent | the bytes written to the client | those written to the agent | the
 //! result. Bytes are in hexadecimal; `ok`, or the name of the error, is the result.
 
-ghost use Rattle.std.specs.Prelude.{◌≡◌, IfOk};
-
 use crate::files::policy_of;
-use crate::row::{bytes_of, field_of, numbers_of};
-use sshc_ask::Duplex;
+use crate::opener::{MemStream, stream_of};
+use crate::row::{bytes_of, field_of};
 use sshc_proxy::{Policy, ProxyError, proxy_run};
 use sshc_toy::ToyVerifier;
-use sshc_wire::{MemSink, MemSource, NoMemory};
+use sshc_wire::NoMemory;
 use std::alloc::Global;
-
-/// A stream over memory.
-pub type MemStream = Duplex<MemSource, MemSink>;
-
-/// A stream that has these bytes left, of which the reads and the writes of these numbers fail.
-pub fn stream_of(
-    alloc: Global,
-    bytes: &str,
-    reads: &str,
-    writes: &str,
-) -> Result<MemStream, NoMemory>
-    ensures { IfOk result (λ s. (s.source.calls ≡ 0) × (s.sink.calls ≡ 0)) }
-{
-    Ok(Duplex {
-        source: MemSource::new(bytes_of(alloc, bytes), numbers_of(alloc, reads)?),
-        sink: MemSink::new(Vec::new(alloc), numbers_of(alloc, writes)?),
-    })
-}
 
 /// Whether these bytes, in hexadecimal, were written.
 pub fn is_written(alloc: Global, stream: &MemStream, bytes: &str) -> bool {

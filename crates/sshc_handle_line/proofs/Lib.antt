@@ -1,3 +1,0 @@
-mod Columns
-mod LineLemmas
-mod PlaceLemmas
