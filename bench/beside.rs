@@ -1,6 +1,6 @@
 //! A number that three threads pass on in a circle, as a ping of a handle goes from its user to the runner, the server,
 //! the runner and the user, beside threads that each wait on a condition of their own. Nothing of this repository is in
-//! it: it is the measure for `sshc_bench_waking beside`.
+//! it: it is the measure for `sshc_bench beside`.
 //!
 //! Words: THREADS PINGS. Build it by `rustc --edition 2021 -O bench/beside.rs`.
 

@@ -1,8 +1,8 @@
 #!/usr/bin/env python3
-"""Cases for sshc_fuzz_main and bench/plain, made at random from worked inputs, for tests/fuzz.py. A case is what a program is
-given, in the bytes of crates/sshc_fuzz_main/README.md. Each generator yields so many of one kind.
+"""Cases for `sshc_bench cases` and bench/plain, made at random from worked inputs, for tests/fuzz.py. A case is what a program is
+given, in the bytes of crates/sshc_bench/README.md. Each generator yields so many of one kind.
 
-Usage: tests/cases.py, which writes the stored run of crates/sshc_fuzz_main (stdin and stdout) from worked rows
+Usage: tests/cases.py, which writes stdin and the end of stdout of crates/sshc_bench, its cases and their outcomes, from worked rows
 """
 import base64
 import pathlib
@@ -125,7 +125,7 @@ def frames(rng, count):
 def host_lines(rng):
     """Lines of known hosts texts, good and bad ones, in texts."""
     texts = [row.known.encode() for row in rows_in(ROWS) if row.known]
-    folder = DATA / "sshc_rows_calls/data"
+    folder = DATA / "sshc_rows_formats/data"
     texts += [(folder / name).read_bytes() for name in ("plain", "marks", "wild", "worked", "marks.hashed", "doubled", "pairs")]
     texts += [known_text(rng).encode() for _ in range(400)]
     key = base64.b64encode(KEY)
@@ -242,7 +242,7 @@ def forward_event(rng):
 def forwards(rng, count):
     """The worked runs of forwards and events made at random, event by event."""
     runs = []
-    for line in (DATA / "sshc_rows_forward/data/runs").read_text().splitlines():
+    for line in (DATA / "sshc_rows_formats/data/forwards").read_text().splitlines():
         if line and not line.startswith("#"):
             runs.append(pieces(bytes.fromhex(line.split("|")[5].replace(" ", ""))))
     runs = [events for events in runs if events]
@@ -284,19 +284,26 @@ def stored():
     learned = b"\n[localhost]:13265 ssh-ed25519 " + key + b"\n"
     yield case(0, b"hosts\nlearn\nlocalhost\n13265\nabsent\n" + key, b"#"), outcome(0, b"learned\n", b"#" + learned)
     for name, status in (("each-kind-of-frame", 0), ("an-agent-that-ends-before-its-answer", 25)):
-        row = row_of("sshc_rows_proxy/data/runs", name)
-        policy = (DATA / "sshc_rows_proxy/data" / row[1]).read_bytes()
+        row = row_of("sshc_rows_formats/data/proxy/runs", name)
+        policy = (DATA / "sshc_rows_formats/data" / row[1]).read_bytes()
         given, answers, written, left = (bytes.fromhex(row[at]) for at in (2, 5, 8, 9))
         yield case(1, b"", policy, given, answers), outcome(status, written, left)
-    yield case(1, b"", (DATA / "sshc_rows_proxy/data/bad").read_bytes()), outcome(5, b"error policy 3\n", b"")
-    row = row_of("sshc_rows_forward/data/runs", "a_whole_life")
+    yield case(1, b"", (DATA / "sshc_rows_formats/data/proxy/bad").read_bytes()), outcome(5, b"error policy 3\n", b"")
+    row = row_of("sshc_rows_formats/data/forwards", "a_whole_life")
     lines = "".join(one.strip() + "\n" for one in row[6].split(";") if one.strip())
     yield case(2, given=bytes.fromhex(row[5].replace(" ", ""))), outcome(int(row[4]), lines.encode(), b"")
 
 
+# how many lines of measurements stand before the outcomes
+MEASURED = 13
+
+
 def main():
-    for place, parts in zip(("stdin", "stdout"), zip(*stored())):
-        (DATA / "sshc_fuzz_main" / place).write_bytes(b"".join(parts))
+    given, outcomes = zip(*stored())
+    (DATA / "sshc_bench/stdin").write_bytes(b"".join(given))
+    path = DATA / "sshc_bench/stdout"
+    lines = path.read_bytes().split(b"\n", MEASURED)[:MEASURED]
+    path.write_bytes(b"".join(line + b"\n" for line in lines) + b"".join(outcomes))
 
 
 if __name__ == "__main__":

@@ -38,7 +38,7 @@ class Case:
 
 def forward_cases(program):
     """The rows of forwards without failing calls of their own."""
-    path = HERE.parent / "crates/sshc_rows_forward/data/runs"
+    path = HERE.parent / "crates/sshc_rows_formats/data/forwards"
     for line in path.read_text().splitlines():
         if line.startswith("#") or not line:
             continue
@@ -84,8 +84,8 @@ class Upstream:
 
 def proxy_cases(program, upstream):
     """The rows of the proxy's runs without failing calls of their own."""
-    folder = HERE.parent / "crates/sshc_rows_proxy/data"
-    for line in (folder / "runs").read_text().splitlines():
+    folder = HERE.parent / "crates/sshc_rows_formats/data"
+    for line in (folder / "proxy/runs").read_text().splitlines():
         if line.startswith("#") or not line:
             continue
         name, policy, asked, reads, writes, answers, upper_reads, upper_writes, wanted, _, result = [part.strip() for part in line.split("|")]

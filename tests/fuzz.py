@@ -5,8 +5,8 @@ forward events beside bench/forward.rs, records beside tests/records.py. The sam
 difference, how the inputs ended, how many got past the first reader, and how many there were a second.
 
 Usage: tests/fuzz.py FOLDER KIND COUNT [SEED]
-FOLDER is where the proved programs lie as NAME/out/NAME (crates, say): sshc_fuzz_main, which takes many cases, and for records
-sshc_show. KIND is scripts, frames, hosts, policies, forwards or records. It needs rustc. A difference's case is kept as fuzz-KIND-NUMBER in the current folder; `sshc_fuzz_main` runs it alone.
+FOLDER is where the proved programs lie as NAME/out/NAME (crates, say): sshc_bench, which takes many cases, and for records
+sshc_show. KIND is scripts, frames, hosts, policies, forwards or records. It needs rustc. A difference's case is kept as fuzz-KIND-NUMBER in the current folder; `sshc_bench cases` runs it alone.
 """
 import collections
 import os
@@ -156,7 +156,7 @@ def label(outcome):
 
 def compared(kind, folder, place, rng, count, ends, past):
     """The cases on which the two programs differ, with what each made of them. The next batch is made while one is run."""
-    sides = [Side([place("sshc_fuzz_main")], folder, "proved"), Side([plain(folder), "many"], folder, "plain")]
+    sides = [Side([place("sshc_bench"), "cases"], folder, "proved"), Side([plain(folder), "many"], folder, "plain")]
     before = []
     for batch in batches(cases.KINDS[kind](rng, count)):
         yield from judged(kind, sides, before, ends, past)

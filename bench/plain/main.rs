@@ -3,7 +3,7 @@
 //! definitions where these leave a question, so that a difference from the program shows an error of one of them.
 //!
 //! Words: script HOST PORT KNOWN, and `buffered` to hold lines back in a buffer of 64 KiB; or `many`, to run the cases of
-//! standard input as `sshc_fuzz_main` does (many.rs).
+//! standard input as `sshc_bench cases` does (many.rs).
 //! Build it by `rustc --edition 2021 -O -o plain bench/plain/main.rs`.
 
 mod agent;

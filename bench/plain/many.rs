@@ -1,4 +1,4 @@
-//! Many cases in one process (crates/sshc_fuzz_main/README.md has their bytes): scripts, known hosts texts, a proxy between
+//! Many cases in one process (crates/sshc_bench/README.md has their bytes): scripts, known hosts texts, a proxy between
 //! two byte strings, and events of forwards.
 
 use crate::hosts_words;
