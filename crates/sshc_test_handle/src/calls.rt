@@ -94,13 +94,13 @@ fn only<T: Drop>(alloc: Global, item: Result<T, NoMemory>) -> Result<Vec<T>, NoM
 
 /// The answers to two calls that were open at once.
 #[derive(Clone, Copy)]
-struct Both {
+pub(crate) struct Both {
     first: Result<u32, Error>,
     second: Result<u32, Error>,
 }
 
 /// Makes both calls at once, and leaves.
-fn make_both<R: Threads + Wait + Sync>(
+pub(crate) fn make_both<R: Threads + Wait + Sync>(
     rt: &R,
     alloc: Global,
     handle: &Handle<Keeper>,
@@ -235,7 +235,7 @@ const OF_ONE_KIND: &[(&str, Kind, Call, Answer, Answer)] = &[
 ];
 
 /// Whether one of the two answers is the one, and the other is the other.
-fn are(both: Both, one: Answer, other: Answer) -> bool {
+pub(crate) fn are(both: Both, one: Answer, other: Answer) -> bool {
     (both.first == one && both.second == other) || (both.first == other && both.second == one)
 }
 

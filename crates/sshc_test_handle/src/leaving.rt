@@ -1,12 +1,13 @@
 //! Ways to end a session that takes nothing that is submitted, and one that never runs.
 
-use crate::answers::{GONE, leave};
+use crate::answers::{GONE, done, leave, ping};
 use crate::script::{Line, Script, awaiting};
 use sshc_auth::{Ended, Error};
 use sshc_client::Config;
 use sshc_handle::{Handle, Runner, Stoppable, Stopper, connect_stream, with_stopper};
 use sshc_sample_fakes::{FakeTransport, Host, Keeper, StillClock, at_once, opened};
 use sshc_toy::{RefusingVerifier, ToySigner};
+use sshc_wire::ChannelId;
 use std::alloc::Global;
 use std::sync::Wait;
 use std::test::*;
@@ -47,21 +48,32 @@ fn narrow(alloc: Global) -> Result<(Handle<Keeper>, StoppableRunner, Stopper), E
     Ok((handle, runner, stopper))
 }
 
-/// What becomes of a session with bytes that wait for a window: whether they wait, whether the session has ended some
-/// time after its user disconnected, and how it ends once its transport is stopped.
+/// Waits until bytes of a channel wait for a window.
+fn await_pending<R: Wait + Clock>(rt: &R, handle: &Handle<Keeper>, id: ChannelId) {
+    for _ in rt.forever() {
+        if handle.has_pending_data(rt, id) {
+            break;
+        }
+        thread::sleep(rt, Duration::from_millis(1));
+    }
+}
+
+/// What becomes of a session with bytes that wait for a window: whether it has ended some time after its user
+/// disconnected, and how it ends once its transport is stopped.
 fn stopped<R: Wait + Clock>(
     rt: &R,
     handle: &Handle<Keeper>,
     stopper: &Stopper,
-) -> Result<(bool, bool, Ended), Error> {
+) -> Result<(bool, Ended), Error> {
     let channel = handle.channel_open_session(rt)?;
     channel.data(rt, b"hi")?;
     leave(rt, handle)?;
+    await_pending(rt, handle, channel.id());
+    // That nothing happens can't be waited for: a runner that takes the disconnection does it within this time.
     thread::sleep(rt, Duration::from_millis(20));
-    let waits = handle.has_pending_data(rt, channel.id());
     let early = handle.is_closed();
     stopper.stop();
-    Ok((waits, early, handle.wait_closed(rt)?))
+    Ok((early, handle.wait_closed(rt)?))
 }
 
 /// While bytes wait for the peer's window no disconnection is taken; a transport that is stopped ends the session.
@@ -74,31 +86,28 @@ fn ends_by_a_stopped_transport(rt: HostRuntime) -> Result<(), Fail> {
         |handle| stopped(&rt, handle, &stopper),
         |_handle| runner.run(&rt),
     );
-    assert!(&rt; seen == Ok((true, false, Ended::Disconnected)) && run == GONE);
+    assert!(&rt; seen == Ok((false, Ended::Disconnected)) && run == GONE);
     Ok(())
 }
 
-/// Lets a value go once others wait.
-fn let_go_late<R: Clock, T: Drop>(rt: &R, value: T) {
-    thread::sleep(rt, Duration::from_millis(20));
-    drop(value);
-}
-
-/// A runner that is dropped and hasn't run answers who waits, and nothing more is submitted.
+/// A runner that is dropped and hasn't run answers who waits, whether before or after, and nothing more is submitted.
 #[test]
 fn tells_who_waits_that_nothing_runs(rt: HostRuntime) -> Result<(), Fail> {
     let alloc = rt.alloc();
     let (handle, runner) = opened(alloc, Host::new(alloc, 1))?;
-    let (pinged, _gone) = at_once(
+    let asked = ping(&rt, &handle);
+    let (ended, _gone) = at_once(
         &rt,
         &handle,
-        |handle| handle.send_ping(&rt),
-        |_handle| let_go_late(&rt, runner),
+        |handle| handle.wait_closed(&rt),
+        |_handle| drop(runner),
     );
-    assert!(&rt; pinged == GONE && handle.is_closed() && handle.wait_any(&rt).is_none());
     assert!(&rt;
-        handle.send_ping(&rt) == Err(Error::SendError)
-            && handle.wait_closed(&rt) == Err(Error::Disconnect)
+        ended == Err(Error::Disconnect) && handle.is_closed() && handle.wait_any(&rt).is_none()
+    );
+    assert!(&rt;
+        done(handle.poll_ticket(&rt, asked)) == Some(GONE)
+            && handle.send_ping(&rt) == Err(Error::SendError)
     );
     Ok(())
 }

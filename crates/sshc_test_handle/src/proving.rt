@@ -1,15 +1,13 @@
-//! A proof of host keys that the server gives.
+//! Two proofs of host keys that are asked for at once, of which the server gives one.
 
-use crate::answers::leave;
-use crate::calls::Call;
+use crate::calls::{Call, DENIED, are, make_both};
 use crate::packets::PROVE;
-use crate::script::{Line, Script, awaiting};
 use sshc_client::{Config, Error};
 use sshc_handle::{Handle, Runner, connect_stream};
-use sshc_sample_fakes::{FakeTransport, Host, Keeper, StillClock, at_once};
+use sshc_sample_fakes::{Coming, FakeTransport, Host, Keeper, Server, StillClock, at_once};
 use sshc_toy::{ToySigner, ToyVerifier};
+use sshc_wire::NoMemory;
 use std::alloc::Global;
-use std::sync::Wait;
 use std::test::*;
 
 /// The server grants the request, with the toy pair's signature by the key over the request's name, the session id and
@@ -18,20 +16,53 @@ const PROOF: &[u8] =
     b"Q\0\0\0'\0\0\0\x0bssh-ed\x32\x35\x35\x31\x39\0\0\0\x14\xec\xf4\xa4\x06\xbd\xf1*\xcbP\xd2\x11\
     +j\x35\xcd\xdcBwN\0";
 
-const PROVE_LINES: &[Line] = &[(PROVE, PROOF)];
+/// The server refuses the request.
+const REFUSAL: &[u8] = b"\x52";
+
+/// A server that awaits two requests for a proof, and gives a proof for the first alone.
+#[derive(Drop)]
+struct Proving {
+    host: Host,
+    /// Whether it has heard the first.
+    has_heard: bool,
+}
+
+impl Server for Proving {
+    fn hear(&mut self, packet: &[u8], coming: &mut Coming) -> Result<(), NoMemory> {
+        if packet != PROVE {
+            coming.end();
+            return Ok(());
+        }
+        if self.has_heard {
+            coming.packet(PROOF)?;
+            return coming.packet(REFUSAL);
+        }
+        self.has_heard = true;
+        Ok(())
+    }
+
+    fn exchange(&mut self, coming: &mut Coming) -> Result<(), NoMemory> {
+        self.host.exchange(coming)
+    }
+}
 
 /// A runner that verifies by the toy pair.
-type ProvingRunner = Runner<Keeper, FakeTransport<Script>, ToySigner, ToyVerifier, StillClock>;
+type ProvingRunner = Runner<Keeper, FakeTransport<Proving>, ToySigner, ToyVerifier, StillClock>;
 
 /// A session over such a server, which its first exchange opens.
 fn proving(alloc: Global) -> Result<(Handle<Keeper>, ProvingRunner), Error> {
-    let coming = Host::new(alloc, 1).greeting()?;
+    let host = Host::new(alloc, 1);
+    let coming = host.greeting()?;
+    let server = Proving {
+        host,
+        has_heard: false,
+    };
     let mut config = Config::default_in(alloc)?;
     config.anonymous = true;
     connect_stream(
         alloc,
         config,
-        FakeTransport::new(awaiting(alloc, PROVE_LINES), coming, 1000),
+        FakeTransport::new(server, coming, 1000),
         Keeper,
         ToySigner::new(alloc),
         ToyVerifier::new(alloc),
@@ -39,24 +70,18 @@ fn proving(alloc: Global) -> Result<(Handle<Keeper>, ProvingRunner), Error> {
     )
 }
 
-/// Asks for the proof of a key, and leaves.
-fn prove_and_leave<R: Wait>(rt: &R, alloc: Global, handle: &Handle<Keeper>) -> Result<u32, Error> {
-    let proved = Call::Prove.make(rt, alloc, handle);
-    let _ = leave(rt, handle);
-    proved
-}
-
-/// The key that is asked about is proved: the request is written as the document has it, and its proof is accepted.
+/// Of two proofs of a key that are asked for at once, the one that the server gives is accepted, and the other is denied:
+/// the requests are written as the document has them.
 #[test]
-fn accepts_the_proof_of_a_key(rt: HostRuntime) -> Result<(), Fail> {
+fn accepts_the_proof_that_is_given(rt: HostRuntime) -> Result<(), Fail> {
     let alloc = rt.alloc();
     let (handle, runner) = proving(alloc)?;
-    let (proved, _left) = at_once(
+    let (both, _left) = at_once(
         &rt,
         &handle,
-        |handle| prove_and_leave(&rt, alloc, handle),
+        |handle| make_both(&rt, alloc, handle, Call::Prove, Call::Prove),
         |_handle| runner.run(&rt),
     );
-    assert!(&rt; proved == Ok(0));
+    assert!(&rt; are(both, Ok(0), DENIED));
     Ok(())
 }
