@@ -4,5 +4,6 @@ import sys
 from .show import main
 
 if sys.argv[1:2] != ["show"]:
-    sys.exit(__doc__)
+    print(__doc__, file=sys.stderr)
+    sys.exit(2)
 sys.exit(main(sys.argv[2:], "sazhonthil show"))

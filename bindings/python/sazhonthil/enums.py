@@ -54,14 +54,6 @@ class HashAlgorithm(Named):
     SHA512 = 2
 
 
-class HostKeySort(Named):
-    """What the host key of an exchange is."""
-
-    MISSING = 0
-    PLAIN = 1
-    CERTIFICATE = 2
-
-
 class HostKeysFault(Named):
     """Why the server's proof of its host keys is refused (OpenSSH's PROTOCOL, section 2.5)."""
 

@@ -13,14 +13,14 @@ from enum import IntEnum
 from typing import BinaryIO, Iterator, List, NamedTuple, Optional, Tuple
 
 from . import wire
-from .enums import DisconnectReason, HostKeySort, OpenFailure
+from .enums import DisconnectReason, OpenFailure
 from .requests import (  # noqa: F401 (all of them are named again here)
     AgentForward, ChannelMessage, Close, Data, Env, Eof, Exec, ExtendedData, GssapiWithMic, KeyboardInteractive, Method, NoMethod,
     OutsideCertificate, OutsideKey, Pair, PairAndCertificate, Password, Pty, SendSignal, Shell, Subsystem, WindowChange, X11,
 )
 from .shapes import (
-    ALL_HIDDEN_TEXTS, BYTES, FLAG, HIDDEN, HIDDEN_REST, KEY, TEXT, U32, Among, HostKey, ListOf, OneOf, Packet, Secret, Token, Variant,
-    part,
+    ALL_HIDDEN_TEXTS, BYTES, CERTIFICATE, FLAG, HIDDEN, HIDDEN_REST, KEY, TEXT, U32, Among, Empty, ListOf, OneOf, Packet, Secret, Token,
+    Variant, part,
 )
 from .wire import Reader, WireError
 
@@ -40,7 +40,8 @@ class Event(Variant):
     """An event."""
 
     def encode(self, moment: int = 0) -> bytes:
-        """The event as a script has it: its length, the moment in milliseconds, its kind and its fields."""
+        """The event as a script has it: its length, the moment in milliseconds, its kind and its fields. What only a reader
+        refuses, such as a blob that isn't a valid key, isn't looked for."""
         body = wire.u64(moment) + wire.u8(self.NUMBER) + self.write()
         if len(body) > LONGEST:
             raise ValueError(f"an event of {len(body)} bytes, and {LONGEST} are the most")
@@ -133,11 +134,36 @@ class PeerKexinit(Event, number=0x01, name="PEER_KEXINIT"):
     """The peer's KEXINIT came (RFC 4253, section 7.1)."""
 
 
+class HostKey(Variant):
+    """The host key of an exchange."""
+
+
+@dataclass(frozen=True)
+class NoHostKey(HostKey, number=0, name="missing"):
+    """There is none."""
+
+    blob: bytes = part(Empty(), "host-key-blob", b"")
+
+
+@dataclass(frozen=True)
+class PlainHostKey(HostKey, number=1, name="plain"):
+    """A plain key."""
+
+    blob: bytes = part(KEY, "host-key-blob")
+
+
+@dataclass(frozen=True)
+class CertifiedHostKey(HostKey, number=2, name="certificate"):
+    """A certificate."""
+
+    blob: bytes = part(CERTIFICATE, "host-key-blob")
+
+
 @dataclass(frozen=True)
 class ExchangeDone(Event, number=0x02, name="EXCHANGE_DONE"):
-    """A key exchange is done (RFC 4253, section 8). `host_key` is its sort and its blob, empty where it is missing."""
+    """A key exchange is done (RFC 4253, section 8)."""
 
-    host_key: Tuple[HostKeySort, bytes] = part(HostKey())
+    host_key: HostKey = part(OneOf(HostKey, "u8, str"))
     hash: bytes = part(HIDDEN)
     signature: bytes = part(HIDDEN)
     secret: Optional[bytes] = part(Secret())

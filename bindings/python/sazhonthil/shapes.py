@@ -6,7 +6,7 @@ import functools
 from typing import Any, Callable, ClassVar, Dict, Generic, List, Optional, Sequence, Tuple, Type, TypeVar
 
 from . import keys, wire
-from .enums import HostKeySort, LoginMethod, Named
+from .enums import LoginMethod, Named
 from .wire import Reader, WireError
 from .words import Line
 
@@ -130,11 +130,12 @@ class Reason(Part[int]):
 
     def __init__(self, names: Type[Named]) -> None:
         def show(line: Line, word: str, value: int) -> None:
-            if value in names._value2member_map_:
-                line.word(word)
-                line.word(names(value).word)
-            else:
-                line.number(word, value)
+            try:
+                name = names(value).word
+            except ValueError:
+                name = str(value)
+            line.word(word)
+            line.word(name)
 
         super().__init__("u32", 4, Reader.u32, wire.u32, show)
 
@@ -151,6 +152,19 @@ class HiddenIfAny(Part[bytes]):
 
 
 HIDDEN_IF_ANY = HiddenIfAny()
+
+
+class Empty(Part[bytes]):
+    """A string that has to be empty."""
+
+    def __init__(self) -> None:
+        super().__init__("str", 4, Reader.string, wire.string, Line.blob)
+
+    def read(self, reader: Reader) -> bytes:
+        value = super().read(reader)
+        if value:
+            raise WireError("a string that has to be empty has bytes")
+        return value
 
 
 class Token(Shape[Optional[bytes]]):
@@ -185,31 +199,6 @@ class Secret(Shape[Optional[bytes]]):
     def show(self, line: Line, word: str, value: Optional[bytes]) -> None:
         line.flag(f"{word}-present", value is not None)
         line.size(word, value or b"")
-
-
-class HostKey(Shape[Tuple[HostKeySort, bytes]]):
-    """The sort of an exchange's host key, and its blob, which has to be valid and of that sort."""
-
-    wire, least = "u8, str", 5
-    _WORDS = ("missing", "plain", "certificate")
-
-    def read(self, reader: Reader) -> Tuple[HostKeySort, bytes]:
-        number, blob = reader.u8(), reader.string()
-        if number == HostKeySort.PLAIN:
-            keys.check_key(blob)
-        elif number == HostKeySort.CERTIFICATE:
-            keys.check_certificate(blob)
-        elif number != HostKeySort.MISSING or blob:
-            raise WireError("no host key of a sort that there is")
-        return HostKeySort(number), blob
-
-    def write(self, value: Tuple[HostKeySort, bytes]) -> bytes:
-        return wire.u8(value[0]) + wire.string(value[1])
-
-    def show(self, line: Line, word: str, value: Tuple[HostKeySort, bytes]) -> None:
-        line.word(word)
-        line.word(self._WORDS[value[0]])
-        line.blob(f"{word}-blob", value[1])
 
 
 class Packet(Part[bytes]):
@@ -261,10 +250,9 @@ class Methods(Shape[Tuple[LoginMethod, ...]]):
     wire, least = "list", 4
 
     def read(self, reader: Reader) -> Tuple[LoginMethod, ...]:
+        names = [name for name in reader.text().split(",") if name]
         try:
-            methods = tuple(LoginMethod(name) for name in reader.text().split(",") if name)
-        except WireError:
-            raise
+            methods = tuple(map(LoginMethod, names))
         except ValueError:
             raise WireError("not the name of a method") from None
         if len(set(methods)) < len(methods):
@@ -335,9 +323,9 @@ ALL_HIDDEN_TEXTS = ListOf(HIDDEN_TEXT, "one", is_counted=True)
 # ---- dataclasses whose fields have shapes
 
 
-def part(shape: Shape[Any], word: Optional[str] = None) -> Any:
+def part(shape: Shape[Any], word: Optional[str] = None, default: Any = dataclasses.MISSING) -> Any:
     """A field of a dataclass, with its shape and the word before it in lines (by default its name)."""
-    return dataclasses.field(repr=not shape.is_hidden, metadata={"shape": shape, "word": word})
+    return dataclasses.field(default=default, repr=not shape.is_hidden, metadata={"shape": shape, "word": word})
 
 
 class Fields:
@@ -413,10 +401,10 @@ class Variant(Fields):
 class OneOf(Shape[Variant]):
     """A number of one byte, and the fields of the variant that has it."""
 
-    wire, least = "u8", 1
+    least = 1
 
-    def __init__(self, family: Type[Variant]) -> None:
-        self.family = family
+    def __init__(self, family: Type[Variant], wire_name: str = "u8") -> None:
+        self.family, self.wire = family, wire_name
 
     def read(self, reader: Reader) -> Variant:
         number = reader.u8()

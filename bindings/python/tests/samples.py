@@ -4,12 +4,12 @@ Each text has an é and no other string has one, so that a test can break the te
 from __future__ import annotations
 
 import pathlib
-from typing import List
+from typing import List, Optional
 
 from sazhonthil import events as e
 from sazhonthil import records as r
 from sazhonthil.enums import (
-    AgentFault, AgentRequest, DisconnectReason, HashAlgorithm, HostKeysFault, HostKeySort, LoginMethod, OpenFailure, Signal,
+    AgentFault, AgentRequest, DisconnectReason, HashAlgorithm, HostKeysFault, LoginMethod, OpenFailure, Signal,
 )
 from sazhonthil.shapes import Mode, Prompt
 
@@ -29,14 +29,15 @@ PAIR = KEY + string(b"private".ljust(32, b".") + KEY[-32:])
 _STATEMENT = bytes(7) + b"\x2a" + b"\0\0\0\2" + string(b"id") + string(string(b"host.example")) + bytes(8) + b"\xff" * 8
 CERTIFICATE = (
     string(b"ssh-ed25519-cert-v01@openssh.com") + string(b"nonce") + KEY[15:] + _STATEMENT
-    + string(b"") + string(string(b"permit-pty") + string(b"")) + string(b"") + string(KEY) + string(string(b"ssh-ed25519") + string(b"signed"))
+    + string(b"") + string(string(b"permit-pty") + string(b"")) + string(b"") + string(KEY)
+    + string(string(b"ssh-ed25519") + string(b"signed"))
 )
 
 MANY, LAST = 0x01020304, 0xFFFFFFFF
 
 
-def exchange(key: bytes = KEY, sort: HostKeySort = HostKeySort.PLAIN, secret: object = b"shared", strict: bool = True) -> e.ExchangeDone:
-    return e.ExchangeDone((sort, key), b"hash", b"signature", secret, "kéx", "kéy", "cé", "mé1", "mé2", strict)  # type: ignore[arg-type]
+def exchange(key: e.HostKey = e.PlainHostKey(KEY), secret: Optional[bytes] = b"shared", strict: bool = True) -> e.ExchangeDone:
+    return e.ExchangeDone(key, b"hash", b"signature", secret, "kéx", "kéy", "cé", "mé1", "mé2", strict)
 
 
 LOGINS = [
@@ -73,8 +74,8 @@ MESSAGES = [
 SCRIPT: List[e.Event] = [
     e.PeerKexinit(),
     exchange(),
-    exchange(CERTIFICATE, HostKeySort.CERTIFICATE, None, False),
-    exchange(b"", HostKeySort.MISSING, b""),
+    exchange(e.CertifiedHostKey(CERTIFICATE), None, False),
+    exchange(e.NoHostKey(), b""),
     e.Payload(b"\x32packet"),
     e.Payload(b""),
     e.TransportFailed(),

@@ -5,7 +5,7 @@ import io
 import unittest
 
 from sazhonthil import events as e
-from sazhonthil.enums import HashAlgorithm, HostKeySort
+from sazhonthil.enums import HashAlgorithm
 from sazhonthil.shapes import Variant
 
 from .samples import CERTIFICATE, KEY, LOGINS, MESSAGES, PAIR, RSA, SCRIPT, SIGNAL, TOP, exchange, string
@@ -38,7 +38,8 @@ class Events(unittest.TestCase):
         self.assertEqual(e.decode(event(kind, fields))[0].event.NUMBER, kind)
 
     def test_each_kind_has_a_sample(self) -> None:
-        for family, samples in ((e.Event, SCRIPT), (e.Method, LOGINS), (e.ChannelMessage, MESSAGES)):
+        host_keys = [sample.host_key for sample in SCRIPT if isinstance(sample, e.ExchangeDone)]
+        for family, samples in ((e.Event, SCRIPT), (e.Method, LOGINS), (e.ChannelMessage, MESSAGES), (e.HostKey, host_keys)):
             self.assertEqual(set(family.FAMILY), {sample.NUMBER for sample in samples})
         self.assertEqual({kind.value for kind in e.EventKind}, set(e.Event.FAMILY))
         self.assertEqual(e.EventKind.OPEN_X11, 0x18)
@@ -59,7 +60,7 @@ class Events(unittest.TestCase):
         names = ("curve25519-sha256", "", "", "", "")
         script = [
             e.PeerKexinit(),
-            e.ExchangeDone((HostKeySort.PLAIN, KEY), b"session-id", b"", None, *names, False),
+            e.ExchangeDone(e.PlainHostKey(KEY), b"session-id", b"", None, *names, False),
             e.Authenticate(1, "alice", e.Password("pw")),
             e.Payload(b"\6" + string(b"ssh-userauth")),
             e.Payload(b"\x34"),
@@ -175,7 +176,7 @@ class Events(unittest.TestCase):
 
     def test_host_keys(self) -> None:
         for sort, blob in ((0, KEY), (1, b""), (1, CERTIFICATE), (2, KEY), (2, b""), (3, KEY), (3, b"")):
-            self.refuses(0x02, bytes([sort]) + string(blob) + exchange(b"", HostKeySort.MISSING).write()[5:])
+            self.refuses(0x02, bytes([sort]) + string(blob) + exchange(e.NoHostKey()).write()[5:])
 
     def test_secret(self) -> None:
         absent = exchange(secret=None).write()

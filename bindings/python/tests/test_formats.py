@@ -51,7 +51,8 @@ class Events(unittest.TestCase):
             kinds = [int(number, 16) for number in numbers.split(", ")]
             for number, name in zip(kinds, re.findall(r"[A-Z][A-Z0-9_]+", names)):
                 found[number] = (name, fields)
-        self.assertEqual({number: name for number, (name, _) in found.items()}, {number: kind.NAME for number, kind in e.Event.FAMILY.items()})
+        wanted = {number: kind.NAME for number, kind in e.Event.FAMILY.items()}
+        self.assertEqual({number: name for number, (name, _) in found.items()}, wanted)
         for number, kind in e.Event.FAMILY.items():
             if kind not in (e.Authenticate, e.Channel, e.SignFailed):
                 self.assertEqual(types_of(found[number][1].split(";")[0]), types_in(kind), kind.NAME)

@@ -7,8 +7,8 @@ import sys
 import unittest
 
 from sazhonthil import show
-from sazhonthil.events import AuthInfoResponse, Authenticate, ExchangeDone, Pair, Password, X11, Channel
-from sazhonthil.enums import HashAlgorithm, HostKeySort
+from sazhonthil.enums import HashAlgorithm
+from sazhonthil.events import X11, Authenticate, AuthInfoResponse, Channel, ExchangeDone, NoHostKey, Pair, Password
 from sazhonthil.packets import Asked, show_packet
 from sazhonthil.words import Line, quoted
 
@@ -78,7 +78,7 @@ class Show(unittest.TestCase):
             words.event(Authenticate(1, "u", Pair(PAIR, HashAlgorithm.NONE))),
             words.event(AuthInfoResponse((secret,))),
             words.event(Channel(1, X11(True, True, "p", secret, 0))),
-            words.event(ExchangeDone((HostKeySort.MISSING, b""), hidden, hidden, hidden, "", "", "", "", "", True)),
+            words.event(ExchangeDone(NoHostKey(), hidden, hidden, hidden, "", "", "", "", "", True)),
             words_of(b"\x32" + asks + string(b"password") + b"\1" + string(hidden) + string(hidden)),
             words_of(b"\x32" + asks + string(b"other") + string(hidden)),
             words_of(b"\x3d\0\0\0\1" + string(hidden), Asked.PROMPTS),
