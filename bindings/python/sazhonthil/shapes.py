@@ -269,7 +269,8 @@ class Methods(Shape[Tuple[LoginMethod, ...]]):
 
 
 class ListOf(Shape[Tuple[Any, ...]]):
-    """A number, and so many elements. The number is shown where it has a word of its own."""
+    """A number, and so many elements. `word` is what each is shown with (by default the list's own word); the number is shown
+    where `is_counted` says so."""
 
     least = 4
 
@@ -315,7 +316,7 @@ class ToEnd(Part[Any]):
             self.element.show_next(line, word, reader)
 
 
-# A number, and so many strings of which only the sizes are shown; and so many texts.
+# A number, and so many strings, or texts, of which only the sizes are shown.
 ALL_HIDDEN = ListOf(HIDDEN, "one", is_counted=True)
 ALL_HIDDEN_TEXTS = ListOf(HIDDEN_TEXT, "one", is_counted=True)
 
