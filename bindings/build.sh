@@ -14,9 +14,14 @@ archive=${2:-$top/crates/sazhonthil/out/libsazhonthil.a}
 rows=$top/crates/sshc_rows_session/data/runs
 mkdir -p "$out"
 out=$(cd "$out" && pwd)
+export PYTHONDONTWRITEBYTECODE=1
+
+# the formats in Python, without the library
+(cd "$here/python" && python3 -m unittest discover) > "$out/formats.log" 2>&1 || { cat "$out/formats.log"; exit 1; }
+done=" formats"
+
 [ -f "$archive" ] || { echo "no $archive: run 'rt lib' in crates/sazhonthil" >&2; exit 2; }
 cp "$archive" "$out/libsazhonthil.a"
-done=""
 
 python3 "$here/check_header.py" "$here/include/sazhonthil.h" "$top/crates/sazhonthil" "$out/libsazhonthil.a"
 
@@ -36,7 +41,7 @@ done
 "$out/misuse.by"
 done="$done C"
 
-export PYTHONDONTWRITEBYTECODE=1 SAZHONTHIL="$out/shared/libsazhonthil.so" SAZHONTHIL_LIB="$out" ROWS="$out/rows"
+export SAZHONTHIL="$out/shared/libsazhonthil.so" SAZHONTHIL_LIB="$out" ROWS="$out/rows"
 python3 "$here/tests/rows.py" "$rows"
 done="$done Python"
 

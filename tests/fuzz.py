@@ -1,12 +1,13 @@
 #!/usr/bin/env python3
 """Changes worked inputs at random, and runs the proved code over them beside programs or readers that were written apart:
 scripts, agents' frames, known hosts texts, and policies with the streams of a proxy beside the plain loop of bench/plain,
-forward events beside bench/forward.rs, records beside tests/records.py. The same number makes the same inputs. It prints each
+forward events beside bench/forward.rs. Records are read by the Python package beside tests/records.py. The same number makes the same inputs. It prints each
 difference, how the inputs ended, how many got past the first reader, and how many there were a second.
 
 Usage: tests/fuzz.py FOLDER KIND COUNT [SEED]
-FOLDER is where the proved programs lie as NAME/out/NAME (crates, say): sshc_bench, which takes many cases, and for records
-sshc_show. KIND is scripts, frames, hosts, policies, forwards or records. It needs rustc. A difference's case is kept as fuzz-KIND-NUMBER in the current folder; `sshc_bench cases` runs it alone.
+FOLDER is where the proved programs lie as NAME/out/NAME (crates, say): sshc_bench, which takes many cases; for records it isn't
+looked at. KIND is scripts, frames, hosts, policies, forwards or records. All but records need rustc. A difference's case is kept as
+fuzz-KIND-NUMBER in the current folder; `sshc_bench cases` runs it alone.
 """
 import collections
 import os
@@ -18,6 +19,7 @@ import tempfile
 import time
 
 HERE = pathlib.Path(__file__).resolve().parent
+SHOW = HERE.parent / "bindings" / "python" / "sshc_show"
 sys.path[:0] = [str(HERE), str(HERE.parent / "bench")]
 import cases  # noqa: E402
 from changes import Quick, changed  # noqa: E402
@@ -186,14 +188,14 @@ EXTRA_RECORDS = (
 )
 
 
-def records(program, rng, count, ends):
+def records(rng, count, ends):
     """Many lines in one process: each is shown, or is told to be no record."""
     worked = [bytes.fromhex(line) for row in rows_in(ROWS) for line in row.wanted.split("\n") if line and " " not in line]
     worked += [bytes.fromhex(line) for line in EXTRA_RECORDS]
     for start in range(0, count, BATCH):
         bodies = [changed(rng, rng.choice(worked), worked) for _ in range(min(BATCH, count - start))]
         lines = b"".join(body.hex().encode() + b"\n" for body in bodies)
-        done = subprocess.run([program], input=lines, stdout=subprocess.PIPE, check=False)
+        done = subprocess.run([sys.executable, SHOW], input=lines, stdout=subprocess.PIPE, check=False)
         shown = done.stdout.split(b"\n")[:-1]
         if len(shown) != len(bodies):
             yield lines, [(done.returncode, done.stdout[-300:])]
@@ -213,7 +215,7 @@ def main():
     rng, ends, past, differing = Quick(f"{kind} {seed}"), collections.Counter(), collections.Counter(), 0
     began = time.monotonic()
     with tempfile.TemporaryDirectory(dir="/dev/shm") as folder:
-        found = records(place("sshc_show"), rng, count, ends) if kind == "records" else compared(kind, folder, place, rng, count, ends, past)
+        found = records(rng, count, ends) if kind == "records" else compared(kind, folder, place, rng, count, ends, past)
         for body, results in found:
             differing += 1
             print(f"{kind} {seed}, difference {differing}: {[str(one)[-300:] for one in results]}", flush=True)
