@@ -19,6 +19,7 @@ import subprocess
 import sys
 import tempfile
 
+sys.dont_write_bytecode = True
 import kept
 
 TOP = pathlib.Path(__file__).resolve().parent.parent
