@@ -132,24 +132,35 @@ def copied(names, room):
                 shutil.copy(edit, f"{room}/crates/{crate}/must-fail/{edit.name}")
 
 
-def verdict_of(said):
+def verdict_of(said, after):
+    """The verdict in what `rt must-fail` says of an edit, whose last words may stand on the line after it."""
     kind = next(kind for words, kind in VERDICTS if said.startswith(words))
-    told = said.partition(": ")[2] or said
+    told = (said.partition(": ")[2] or said) + (f" {after}" if said.endswith(":") else "")
     if kind == UNFIT:
         return UNFIT, f"it doesn't compile: {told}"
     return kind, "" if kind == PROVES else told
 
 
+def said_by(words, folder):
+    """The exit status of a command, and the lines that it prints."""
+    ran = subprocess.run(words, cwd=folder, stdout=subprocess.PIPE, stderr=subprocess.STDOUT, text=True)
+    return ran.returncode, ran.stdout.strip().splitlines() or [""]
+
+
 def tried(crate, room):
-    """What `rt must-fail` says of each body of the crate: its verdict, and the first line of what it was told."""
-    ran = subprocess.run(["rt", "must-fail", crate], cwd=room, capture_output=True, text=True)
-    found = [SAID.match(line) for line in (ran.stdout + ran.stderr).splitlines()]
-    told = {it[2]: verdict_of(it[3]) for it in found if it and it[1] == crate}
-    last = (ran.stdout + ran.stderr).strip().splitlines()[-1:] or [""]
-    return {
-        edit.stem: told.get(edit.stem, (UNFIT, misfit(edit)) if misfit(edit) else (UNTOLD, last[0]))
-        for edit in files_of(crate)
-    }
+    """What `rt must-fail` says of each body of the crate: its verdict, and the first line of what it was told. In a
+    crate that isn't proved as it stands each would seem to be refused."""
+    found = {edit.stem: (UNFIT, misfit(edit)) for edit in files_of(crate) if misfit(edit)}
+    status, lines = said_by(["rt", "check"], f"{room}/crates/{crate}")
+    if status:
+        found |= {it.stem: (UNTOLD, f"the crate isn't proved: {lines[-1]}") for it in files_of(crate)}
+        return found
+    lines = said_by(["rt", "must-fail", crate], room)[1]
+    for line, after in zip(lines, [*lines[1:], ""]):
+        said = SAID.match(line)
+        if said and said[1] == crate:
+            found[said[2]] = verdict_of(said[3], after)
+    return {it.stem: found.get(it.stem, (UNTOLD, lines[-1])) for it in files_of(crate)}
 
 
 def try_all(names):
