@@ -195,8 +195,9 @@ def misquoted(text, snippets):
 
 def of_wrong_bodies():
     """What tests/wrong_bodies.py finds wrong."""
+    script = [sys.executable, "-B", TOP / "tests" / "wrong_bodies.py"]
     for words in (["--apply"], ["--page", "--check"]):
-        ran = subprocess.run([sys.executable, "-B", TOP / "tests" / "wrong_bodies.py", *words], capture_output=True, text=True)
+        ran = subprocess.run([*script, *words], capture_output=True, text=True)
         if ran.returncode:
             yield from (ran.stdout + ran.stderr).splitlines()
 

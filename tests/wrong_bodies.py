@@ -29,17 +29,19 @@ HEAD = (
     "Written by `tests/wrong_bodies.py --page` from the files.\n\n"
     "A wrong body is a mistake in a function's code that its contract has to refuse. Each name below is a file "
     "`wrong/NAME.edit` of its crate, in the form of a must-fail edit, which says what changes. The last column "
-    "names the function whose contract, and its clause where one was picked out, is expected to refuse the body, "
-    "or says why it proves: that is what the file expects, from what the prover once said or from reading the "
-    "clauses. Bodies that only return `NoMemory` prove almost everywhere, since no clause excludes that; they "
-    "have no files.\n\n"
+    "names the function whose contract, and its clause where one was picked out, is expected to refuse the "
+    "body, or says why it proves: that is what the file expects, from what the prover said when it was tried, "
+    "or from reading the clauses. Bodies that only return `NoMemory` prove almost everywhere, since no clause "
+    "excludes that; they have no files.\n\n"
     "`rt ci` tries the edits in `must-fail/` alone (`docs/DECISIONS.md`, \"The gate tries the edits that tell "
     "most\"). `python3 tests/wrong_bodies.py CRATE` tries the others, in a copy of the repository, and compares "
-    "what the prover says with what each file expects; `--apply`, which `docs/check.py` runs, only looks whether "
-    "each still applies. Those without a file were planted by hand, one at a time, and what refused them was "
-    "noted then; nothing tries them again. In `put_keyboard_interactive`, `send_front`, `next_number`, "
-    "`settle_server` and `write_lines` what was refused are proofs written by hand, which don't fit the wrong "
-    "bodies; that no others would is by reading the clauses.\n"
+    "what the prover says with what each file expects; `--apply`, which `docs/check.py` runs, only looks "
+    "whether each still applies. The files were made on 2026-12-01, from edits and from notes of what had been "
+    "tried until then; since that day the prover has tried those of `sshc_transport` again, and no others. "
+    "Those without a file were planted by hand, one at a time, and what refused them was noted then; nothing "
+    "tries them again. In `put_keyboard_interactive`, `send_front`, `next_number`, `settle_server` and "
+    "`write_lines` what was refused are proofs written by hand, which don't fit the wrong bodies; that no "
+    "others would is by reading the clauses.\n"
 )
 EXPECTS = re.compile(r"(refused) by \S|(proves), because \S")
 REFUSED, PROVES, UNFIT, UNTOLD = "refused", "proves", "doesn't apply", "could not tell"
@@ -178,7 +180,7 @@ def try_all(names):
                 differ += not is_as_expected
                 also = "" if is_as_expected else f" (EXPECTED: {expects})"
                 print(f"{crate}/{name}: {verdict}{also}{': ' + told if told else ''}", flush=True)
-    print(f"{differ} otherwise than expected")
+    print(f"{differ} otherwise than expected, or without a verdict")
     return differ > 0
 
 
