@@ -1,12 +1,24 @@
 #!/bin/sh
 # Builds and tests what calls the C library, with Debian's packages alone (gcc, python3, cargo, golang-go; the client in C:
-# libssl-dev; its tests: openssh-server, python3-cryptography). A language whose tools are missing is passed over.
+# make, libssl-dev; its tests: python3-cryptography, openssh-server). A language whose tools are missing is passed over, and
+# the last line says what was left out.
 #
-#   bindings/build.sh [OUT [ARCHIVE]]
+#   bindings/build.sh [--with-servers] [OUT [ARCHIVE]]
 #
 # OUT is a folder for what is made (bindings/out), ARCHIVE the library: crates/sazhonthil/out/libsazhonthil.a, which
-# `rt lib` makes in crates/sazhonthil once the crate is proved.
+# `rt lib` makes in crates/sazhonthil once the crate is proved, and bindings/archive.py from what `rt ci` kept.
+#
+# With --with-servers, as root, the client also logs in to servers of this machine's packages. For that a user sshc-client
+# is made, with a password, and removed again; it stops where there is one already. Without the flag no user is touched.
+# The status is 3 where a tool is missing without which nothing can be built.
 set -eu
+servers=no
+if [ "${1:-}" = --with-servers ]; then
+  servers=yes
+  shift
+  [ "$(id -u)" = 0 ] && [ -x /usr/sbin/sshd ] || { echo "--with-servers wants root and /usr/sbin/sshd" >&2; exit 2; }
+fi
+case ${1:-} in -*) echo "build.sh [--with-servers] [OUT [ARCHIVE]]" >&2; exit 2 ;; esac
 here=$(cd "$(dirname "$0")" && pwd)
 top=$(dirname "$here")
 out=${1:-$here/out}
@@ -15,13 +27,19 @@ rows=$top/crates/sshc_rows_session/data/runs
 mkdir -p "$out"
 out=$(cd "$out" && pwd)
 export PYTHONDONTWRITEBYTECODE=1
+[ -f "$archive" ] || { echo "no $archive: run 'rt lib' in crates/sazhonthil" >&2; exit 2; }
+cp "$archive" "$out/libsazhonthil.a"
+left=""
+for tool in python3 cc ar nm; do
+  command -v $tool > /dev/null || { echo "bindings: passed over, since there is no $tool"; exit 3; }
+done
+sanitizers=-fsanitize=address,undefined
+echo "int main(void) { return 0; }" > "$out/empty.c"
+cc $sanitizers "$out/empty.c" -o "$out/empty" 2> /dev/null && "$out/empty" || { echo "bindings: passed over, since cc has no AddressSanitizer"; exit 3; }
 
 # the formats in Python, without the library
 (cd "$here/python" && python3 -m unittest discover) > "$out/formats.log" 2>&1 || { cat "$out/formats.log"; exit 1; }
 done=" formats"
-
-[ -f "$archive" ] || { echo "no $archive: run 'rt lib' in crates/sazhonthil" >&2; exit 2; }
-cp "$archive" "$out/libsazhonthil.a"
 
 python3 "$here/check_header.py" "$here/include/sazhonthil.h" "$top/crates/sazhonthil" "$out/libsazhonthil.a"
 
@@ -34,7 +52,7 @@ cc -shared -o "$out/shared/libsazhonthil.so" "$out/runtime.o" -Wl,--whole-archiv
 # C, under AddressSanitizer with its search for leaks: the worked rows, misuse, and each request for memory refused once
 python3 "$here/tests/rows.py" "$rows" --dump > "$out/rows"
 for name in rows misuse; do
-  cc -g -O1 -Wall -Wextra -fsanitize=address,undefined -DFAIL_AT -I"$here/include" "$here/tests/$name.c" "$here/runtime/runtime.c" "$out/libsazhonthil.a" -o "$out/$name.by"
+  cc -g -O1 -Wall -Wextra $sanitizers -DFAIL_AT -I"$here/include" "$here/tests/$name.c" "$here/runtime/runtime.c" "$out/libsazhonthil.a" -o "$out/$name.by"
 done
 "$out/rows.by" < "$out/rows"
 "$out/rows.by" 100000 < "$out/rows"
@@ -49,24 +67,37 @@ if command -v cargo > /dev/null; then
   (cd "$here/rust" && CARGO_TARGET_DIR="$out/target" cargo test --offline -q) > "$out/rust.log" 2>&1 || { cat "$out/rust.log"; exit 1; }
   grep 'test result: ok. [1-9]' "$out/rust.log" | sed 's/;.*//; s/test result:/rust:/'
   done="$done Rust"
+else
+  left="$left Rust"
 fi
 
 if command -v go > /dev/null; then
   (cd "$here/go" && CGO_LDFLAGS="-L$out -lsazhonthil -lsazhonthil_runtime" GOCACHE="$out/gocache" GOFLAGS=-mod=mod go test -v ./...) > "$out/go.log" 2>&1 || { cat "$out/go.log"; exit 1; }
   grep -o 'go: .* rows' "$out/go.log"
   done="$done Go"
+else
+  left="$left Go"
 fi
 
 python3 "$here/tests/snippets.py" "$here/README.md" "$out"
 done="$done snippets"
 
-if [ -f /usr/include/openssl/evp.h ]; then
+if [ -f /usr/include/openssl/evp.h ] && command -v make > /dev/null; then
   make -s -C "$top/clients/c" OUT="$out" LIB="$out/libsazhonthil.a"
   done="$done client"
-  if [ -x /usr/sbin/sshd ] && [ "$(id -u)" = 0 ]; then
-    python3 "$top/clients/c/tests/logins.py" "$out/client"
+  if python3 -c 'import cryptography' 2> /dev/null; then
     python3 "$top/clients/c/tests/bad_servers.py" "$out/client"
-    done="$done logins bad-servers"
+    done="$done bad-servers"
+  else
+    left="$left bad-servers"
   fi
+  if [ $servers = yes ]; then
+    python3 "$top/clients/c/tests/logins.py" "$out/client"
+    done="$done logins"
+  else
+    left="$left logins (--with-servers)"
+  fi
+else
+  left="$left client bad-servers logins"
 fi
-echo "bindings: all well:$done"
+echo "bindings: all well:$done${left:+; left out:$left}"

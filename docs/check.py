@@ -13,7 +13,11 @@
   the calls and clauses have to be words of that crate, or of a crate that it uses.
 - A count of the repository's crates or edits has to be right, and no other count of what is in it may stand in a
   document, since nothing would notice when it no longer is so. What was measured on a day is no such count (DATED).
-- The documents have at most so many lines (LINES), and no line of text that is longer than anybody reads (LONGEST).
+- A document of docs/ and the README have at most so many words (WORDS; those of MORE_WORDS more, each with its reason),
+  and no line of text is longer than anybody reads (LONGEST).
+- A function of sshc_sample_snippets that a document quotes has to stand there as it is quoted.
+- Each wrong body and each must-fail edit has to apply, and docs/WRONG_BODIES.md to be what their files say, which
+  tests/wrong_bodies.py compares.
 - A file of specs/ holds definitions, or its name ends in Laws. A law is what has a type and no other mark, and whose
   type ends with a relation. Equality tests and codes hold the proofs that they are right (WITH_PROOFS).
 
@@ -22,14 +26,27 @@ import pathlib
 import re
 import subprocess
 import sys
+import textwrap
 
 TOP = pathlib.Path(__file__).resolve().parent.parent
 # Documents about names that aren't this repository's, or not any more: only paths and crates are looked up there.
 OTHERS = ("CHANGELOG.md", "docs/DIFFERENCES.md", "docs/WRONG_BODIES.md", "docs/DECISIONS.md", "bench/")
 # Documents of what was measured or tried on a day.
 DATED = ("CHANGELOG.md", "docs/WRONG_BODIES.md", "docs/HOSTILE.md", "bench/")
-# The most lines that a document may have.
-LINES = {"README.md": 150} | {f"docs/{name}.md": 200 for name in ("ARCHITECTURE", "GUIDE", "FORMATS", "TABLES", "DEFINITIONS", "DECISIONS", "DIFFERENCES", "PROOF_GUIDE")}
+# The most words of a document of docs/ and of the README.
+WORDS = 2500
+# Those that may have more, and why.
+MORE_WORDS = {
+    "docs/WRONG_BODIES.md": (10000, "a table, written from the files of wrong bodies"),
+    "docs/DECISIONS.md": (17500, "a list of entries, looked up by what they decide"),
+    "docs/DEFINITIONS.md": (6500, "a table of every definition that a promise rests on"),
+    "docs/DIFFERENCES.md": (4500, "a table of what differs from russh, call by call"),
+    "docs/ARCHITECTURE.md": (4000, "a table of the crates, and guides to changes"),
+    "docs/FORMATS.md": (3500, "tables of bytes, kind by kind"),
+    "docs/PROOF_GUIDE.md": (3200, "hints by the kind of proof, looked up one at a time"),
+    "docs/HOSTILE.md": (3200, "tables of faults and of what each refusal leaves"),
+    "docs/TABLES.md": (2900, "the tables of the protocol, row by row"),
+}
 # The most characters of a line that is no row of a table.
 LONGEST = 1700
 # Functions of the C library, and words of the language.
@@ -149,6 +166,42 @@ def laws_in(name):
     return [law for law, type_ in types if RELATION.search(type_.rsplit(" → ", 1)[-1]) and not type_.rstrip().endswith("Type 0")]
 
 
+QUOTE = re.compile(r"(?ms)^```rust\n(.*?)^```")
+FUNCTION = re.compile(r"(?ms)^((?: *///[^\n]*\n| *#\[[^\n]*\n)*)( *)(?:pub )?fn (\w+).*?^\2\}\n")
+
+
+def dedented(text):
+    return textwrap.dedent(text).strip()
+
+
+def snippet_functions():
+    """The functions of sshc_sample_snippets by name, each with what stands before it."""
+    found = {}
+    for file in (TOP / "crates" / "sshc_sample_snippets" / "src").glob("*.rt"):
+        for it in FUNCTION.finditer(file.read_text()):
+            found.setdefault(it[3], []).append(dedented(it[0]))
+    return found
+
+
+def misquoted(text, snippets):
+    """The functions of sshc_sample_snippets that a document quotes otherwise than they are: a line, and what is wrong.
+    A block that begins `#![` is a whole file of its own."""
+    for block in QUOTE.finditer(text):
+        for it in FUNCTION.finditer(block[1] if not block[1].startswith("#![") else ""):
+            if it[3] in snippets and not any(whole.endswith(dedented(it[0])) for whole in snippets[it[3]]):
+                at = text.count("\n", 0, block.start(1) + it.start(3)) + 1
+                yield at, f"{it[3]} isn't as in sshc_sample_snippets"
+
+
+def of_wrong_bodies():
+    """What tests/wrong_bodies.py finds wrong."""
+    script = [sys.executable, "-B", TOP / "tests" / "wrong_bodies.py"]
+    for words in (["--apply"], ["--page", "--check"]):
+        ran = subprocess.run([*script, *words], capture_output=True, text=True)
+        if ran.returncode:
+            yield from (ran.stdout + ran.stderr).splitlines()
+
+
 def main():
     files = tracked()
     folders = {str(parent) for name in files for parent in pathlib.PurePath(name).parents}
@@ -157,15 +210,18 @@ def main():
     right = {"crates": len(crates.uses), "edits": edits()}
     words, dashed = set(STANDARD), set(FOREIGN)
     for name in files:
-        if not name.endswith(".md") or name == "docs/WRONG_BODIES.md":
+        if not name.endswith(".md"):
             try:
-                words |= words_in((TOP / name).read_text())
-                dashed |= dashed_in((TOP / name).read_text())
+                # The names in a wrong body are not the code's.
+                text = (TOP / name).read_text() if "/wrong/" not in name else ""
+                words |= words_in(text)
+                dashed |= dashed_in(text)
             except UnicodeDecodeError:
                 pass
             words |= words_in(name)
             dashed |= dashed_in(name)
     texts = {name: (TOP / name).read_text() for name in files if name.endswith(".md")}
+    snippets = snippet_functions()
     found = 0
 
     def report(name, at, what):
@@ -173,14 +229,21 @@ def main():
         print(f"{name}:{at}: {what}")
         found += 1
 
+    for what in of_wrong_bodies():
+        print(what)
+        found += 1
     for name in files:
         for law in laws_in(name):
             report(name, 1, f"{law} is a law: its file's name has to end in Laws")
 
     for name, text in texts.items():
         lines = without_blocks(text).splitlines()
-        if len(lines) > LINES.get(name, len(lines)):
-            report(name, len(lines), f"more than {LINES[name]} lines")
+        for at, what in misquoted(text, snippets):
+            report(name, at, what)
+        if name == "README.md" or name.startswith("docs/"):
+            most = MORE_WORDS.get(name, (WORDS,))[0]
+            if len(text.split()) > most:
+                report(name, len(lines), f"more than {most} words: {len(text.split())}")
         in_claims = False
         for at, line in enumerate(lines, 1):
             wrong = [path for path in PATH.findall(line) if path.removeprefix("./").removeprefix("../").removeprefix("../") not in ends and "*" not in path]

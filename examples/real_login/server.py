@@ -39,7 +39,7 @@ class Server:
     def __enter__(self):
         if not os.path.exists(SSHD):
             sys.exit(f"there is no {SSHD}: apt-get install openssh-server")
-        self.folder, self.process = tempfile.mkdtemp(prefix="sshc-real-login-"), None
+        self.folder, self.process, self.is_made = tempfile.mkdtemp(prefix="sshc-real-login-"), None, False
         try:
             self._start()
         except BaseException:
@@ -54,6 +54,7 @@ class Server:
         os.chmod(self.folder, 0o755)
         self.port, self.password = free_port(), secrets.token_hex(8)
         subprocess.run(["useradd", "--create-home", "--shell", "/bin/sh", USER], check=True)
+        self.is_made = True
         subprocess.run(["chpasswd"], input=f"{USER}:{self.password}\n", text=True, check=True)
         self._make_key("host_key")
         self._make_key("user_key")
@@ -70,8 +71,10 @@ class Server:
         if self.process:
             self.process.terminate()
             self.process.wait()
-        subprocess.run(["pkill", "-u", USER], check=False, capture_output=True)
-        subprocess.run(["userdel", "--remove", USER], check=False, capture_output=True)
+        # A user that was there before stays: useradd then fails.
+        if self.is_made:
+            subprocess.run(["pkill", "-u", USER], check=False, capture_output=True)
+            subprocess.run(["userdel", "--remove", USER], check=False, capture_output=True)
         subprocess.run(["rm", "-r", self.folder], check=True)
 
     def _make_key(self, name):

@@ -1,5 +1,6 @@
 """Starts servers on the loopback for the client's tests, each with keys and a user of its own, and stops them. As root."""
 import os
+import pwd
 import secrets
 import shutil
 import socket
@@ -43,16 +44,38 @@ def until_open(port):
     sys.exit("the server doesn't start")
 
 
+def is_user(name):
+    try:
+        pwd.getpwnam(name)
+    except KeyError:
+        return False
+    return True
+
+
 class Scratch:
-    """A folder with host keys, a user with a password and a key in an agent."""
+    """A folder with host keys, a user with a password and a key in an agent. The user is made, and taken away again; one
+    that is there already, or a home of that name, is left alone, and nothing is tested."""
 
     def __enter__(self):
-        self.folder, self.user = tempfile.mkdtemp(prefix="client-test-"), "sshc-client"
+        self.folder, self.user, self.is_made = tempfile.mkdtemp(prefix="client-test-"), "sshc-client", False
         os.chmod(self.folder, 0o755)
         self.password, self.processes = secrets.token_hex(8), []
-        subprocess.run(["userdel", "--remove", self.user], capture_output=True)
+        try:
+            self.make_user()
+            self.make_keys()
+        except BaseException:
+            self.__exit__()
+            raise
+        return self
+
+    def make_user(self):
+        if is_user(self.user) or os.path.exists(f"/home/{self.user}"):
+            sys.exit(f"the user {self.user}, or its home, is there already: remove it if an earlier run left it")
         subprocess.run(["useradd", "--create-home", "--shell", "/bin/sh", self.user], check=True)
+        self.is_made = True
         subprocess.run(["chpasswd"], input=f"{self.user}:{self.password}\n", text=True, check=True)
+
+    def make_keys(self):
         for kind in ("ed25519", "ecdsa", "rsa"):
             self.make_key(f"host_{kind}", kind)
             self.make_key(f"user_{kind}", kind)
@@ -66,14 +89,23 @@ class Scratch:
         self.start(["ssh-agent", "-D", "-a", self.socket], stdout=subprocess.DEVNULL)
         while not os.path.exists(self.socket):
             time.sleep(0.02)
-        return self
 
     def __exit__(self, *_):
         for process in self.processes:
             process.terminate()
             process.wait()
-        subprocess.run(["userdel", "--remove", self.user], capture_output=True)
+        if self.is_made:
+            self.remove_user()
         shutil.rmtree(self.folder, ignore_errors=True)
+
+    def remove_user(self):
+        """It fails while a process of the user's runs, such as a connection that is just ending."""
+        for _ in range(50):
+            subprocess.run(["userdel", "--remove", self.user], capture_output=True)
+            if not is_user(self.user):
+                return
+            time.sleep(0.1)
+        print(f"the user {self.user} can't be removed", file=sys.stderr)
 
     def make_key(self, name, kind):
         more = ["-b", "2048"] if kind == "rsa" else ["-b", kind[5:]] if kind.startswith("ecdsa") and kind != "ecdsa" else []
