@@ -17,8 +17,8 @@ pub(crate) enum Deed {
     Nothing,
 }
 
-/// Bytes, EOF and close of the channel are submitted, bytes for the stream are written. A writer isn't told of the end
-/// of writing, and the call ends with the stream's close.
+/// Bytes, EOF and close of the channel are submitted, bytes for the stream are written. The end of writing and the
+/// stream's close are among the ends that were given, by which the thread that writes does them.
 pub(crate) fn deed_for(output: FwdOutput) -> Deed
     ensures { result ≡ deed_for output }
 {

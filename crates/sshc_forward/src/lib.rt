@@ -3,11 +3,15 @@
 #![tactic(auto)]
 
 mod deeds;
+mod ends;
 mod events;
 mod serving;
 mod shared;
+mod socket;
 
+pub use ends::StreamEnd;
 pub use serving::serve_pair;
+pub use socket::{SharedSocket, Socket, SocketReader, SocketWriter, split_socket};
 pub use sshc_forward_core::{
     ForwardCore, FwdEvent, FwdOutput, FwdRefused, Given, PairEvent, Reading, ServedPair, account,
 };

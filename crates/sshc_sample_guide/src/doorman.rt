@@ -14,14 +14,26 @@ use std::thread::Parker;
 /// How many connections may wait to be served; more are rejected.
 const PLACES: usize = 16;
 
-/// Accepts the server's key alone, and the connections that come to a port that the server forwards.
-#[derive(Drop)]
+/// Accepts the server's key alone, and the connections that come to a port that the server forwards. When it goes, the
+/// thread that waits for connections is woken, and learns that no more come.
 pub struct Doorman {
     /// The server's Ed25519 key.
     pinned: [u8; 32],
     connections: Producer<ChannelId, Global>,
     /// Where the thread rests that serves the connections.
     bell: Arc<Parker, Global>,
+}
+
+impl Drop for Doorman {
+    fn drop(self) {
+        let Doorman {
+            pinned: _,
+            connections,
+            bell,
+        } = self;
+        drop(connections);
+        bell.unpark();
+    }
 }
 
 /// The connections that came, for the thread that serves them.

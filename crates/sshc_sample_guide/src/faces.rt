@@ -104,6 +104,7 @@ pub mod proxy {
 pub mod forward {
     pub use sshc_forward::{
         ForwardCore, FwdError, FwdEvent, FwdOutput, FwdRefused, Given, PairEvent, Reading,
-        ServedPair, account, forward_words, run_forward, serve_pair,
+        ServedPair, SharedSocket, Socket, SocketReader, SocketWriter, StreamEnd, account,
+        forward_words, run_forward, serve_pair, split_socket,
     };
 }

@@ -67,7 +67,8 @@ fn knocked_and_left<R: Wait>(
 ) -> Result<Vec<u8>, Error> {
     let mut arrivals = arrivals;
     let bytes = knocked(rt, alloc, handle, &mut arrivals);
-    handle.disconnect(rt, Disconnect::ByApplication, "done", "")?;
+    // The server may have left before.
+    let _ = handle.disconnect(rt, Disconnect::ByApplication, "done", "");
     bytes
 }
 

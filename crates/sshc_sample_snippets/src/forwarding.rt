@@ -1,7 +1,7 @@
 //! A local port's stream served with a channel of a session, and the core of forwards by itself.
 
 use sshc_client::Handler;
-use sshc_forward::{ForwardCore, FwdEvent, FwdOutput, FwdRefused, serve_pair};
+use sshc_forward::{ForwardCore, FwdEvent, FwdOutput, FwdRefused, StreamEnd, serve_pair};
 use sshc_handle::Handle;
 use sshc_wire::{Sink, Source};
 use std::alloc::Global;
@@ -18,13 +18,12 @@ pub fn join_pair(core: &mut ForwardCore) -> Result<Vec<FwdOutput>, FwdRefused> {
 
 /// Opens a channel to port 7 of the server's host "echo" for a stream that came to a local port, and serves both until
 /// the channel is closed. Whether it was served.
-pub fn serve_local<H: Handler, S: Source + Send, K: Sink + Send, R: Threads + Wait + Sync>(
-    rt: &R,
-    alloc: Global,
-    handle: &Handle<H>,
-    reader: &mut S,
-    writer: &mut K,
-) -> bool
+pub fn serve_local<
+    H: Handler,
+    S: Source + Send,
+    K: Sink + StreamEnd + Send,
+    R: Threads + Wait + Sync,
+>(rt: &R, alloc: Global, handle: &Handle<H>, reader: &mut S, writer: &mut K) -> bool
 where
     H::Error: Send,
 {

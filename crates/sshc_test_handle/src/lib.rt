@@ -38,6 +38,8 @@ mod script;
 #[cfg(test)]
 mod sending;
 #[cfg(test)]
+mod sockets;
+#[cfg(test)]
 mod turns;
 #[cfg(test)]
 mod waking;
