@@ -21,13 +21,13 @@ const REFUSAL: &[u8] = b"\x52";
 
 /// A server that awaits two requests for a proof, and gives a proof for the first alone.
 #[derive(Drop)]
-struct Proving {
+struct OneProof {
     host: Host,
     /// Whether it has heard the first.
     has_heard: bool,
 }
 
-impl Server for Proving {
+impl Server for OneProof {
     fn hear(&mut self, packet: &[u8], coming: &mut Coming) -> Result<(), NoMemory> {
         if packet != PROVE {
             coming.end();
@@ -47,13 +47,13 @@ impl Server for Proving {
 }
 
 /// A runner that verifies by the toy pair.
-type ProvingRunner = Runner<Keeper, FakeTransport<Proving>, ToySigner, ToyVerifier, StillClock>;
+type OneProofRunner = Runner<Keeper, FakeTransport<OneProof>, ToySigner, ToyVerifier, StillClock>;
 
 /// A session over such a server, which its first exchange opens.
-fn proving(alloc: Global) -> Result<(Handle<Keeper>, ProvingRunner), Error> {
+fn session(alloc: Global) -> Result<(Handle<Keeper>, OneProofRunner), Error> {
     let host = Host::new(alloc, 1);
     let coming = host.greeting()?;
-    let server = Proving {
+    let server = OneProof {
         host,
         has_heard: false,
     };
@@ -75,7 +75,7 @@ fn proving(alloc: Global) -> Result<(Handle<Keeper>, ProvingRunner), Error> {
 #[test]
 fn accepts_the_proof_that_is_given(rt: HostRuntime) -> Result<(), Fail> {
     let alloc = rt.alloc();
-    let (handle, runner) = proving(alloc)?;
+    let (handle, runner) = session(alloc)?;
     let (both, _left) = at_once(
         &rt,
         &handle,
