@@ -62,7 +62,7 @@ fn greet_and_leave<R: Wait>(
 }
 
 /// Logs in over a transport in memory, and runs a command.
-pub fn output<R: Threads + Wait + Sync + Clock>(rt: &R, alloc: Global) -> Result<Output, Error> {
+pub fn greeted<R: Threads + Wait + Sync + Clock>(rt: &R, alloc: Global) -> Result<Output, Error> {
     let host = Host::new(alloc, 1);
     let coming = host.greeting()?;
     let (handle, runner) = connect_stream(

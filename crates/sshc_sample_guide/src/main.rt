@@ -12,7 +12,7 @@ mod server;
 
 fn main(rt: HostRuntime) -> anyhow::Result<()> {
     let alloc = rt.alloc();
-    let output = command::output(&rt, alloc)?;
+    let output = command::greeted(&rt, alloc)?;
     print!(&rt;
         "{}",
         std::str::from_utf8(output.bytes.as_slice()).unwrap_or("no text")
