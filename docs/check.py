@@ -12,7 +12,8 @@
 - In docs/DEFINITIONS.md each definition has to be a word of the files that its row names; in a crate's table of claims
   the calls and clauses have to be words of that crate, or of a crate that it uses.
 - A count of the repository's crates or edits has to be right, and no other count of what is in it may stand in a
-  document, since nothing would notice when it no longer is so. What was measured on a day is no such count (DATED).
+  document, since nothing would notice when it no longer is so. What was measured on a day is no such count (DATED), and
+  what docs/crates.py writes is compared by it.
 - A document of docs/ and the README have at most so many words (WORDS; those of MORE_WORDS more, each with its reason),
   and no line of text is longer than anybody reads (LONGEST).
 - A function of sshc_sample_snippets that a document quotes has to stand there as it is quoted.
@@ -244,7 +245,7 @@ def main():
             most = MORE_WORDS.get(name, (WORDS,))[0]
             if len(text.split()) > most:
                 report(name, len(lines), f"more than {most} words: {len(text.split())}")
-        in_claims = False
+        in_claims = is_written = False
         for at, line in enumerate(lines, 1):
             wrong = [path for path in PATH.findall(line) if path.removeprefix("./").removeprefix("../").removeprefix("../") not in ends and "*" not in path]
             if name != "CHANGELOG.md":
@@ -266,7 +267,8 @@ def main():
                 if in_claims:
                     seen = crates.seen(name.split("/")[1])
                     wrong += [f"{word} is in no crate that this one uses" for cell in cells_of(line)[1:] for code in CODE.findall(cell) for word in names_of(code) if word not in seen and word in words]
-            if not name.startswith(DATED):
+            is_written = "written by docs/crates.py -->" in line or is_written and not line.startswith("<!-- end")
+            if not name.startswith(DATED) and not is_written:
                 for number, thing in COUNT.findall(line):
                     count = int(number.replace(",", "")) if number[0].isdigit() else SMALL + 1
                     if count > SMALL and count != right.get(thing.lower()):
