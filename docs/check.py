@@ -14,8 +14,8 @@
 - A count of the repository's crates or edits has to be right, and no other count of what is in it may stand in a
   document, since nothing would notice when it no longer is so. What was measured on a day is no such count (DATED), and
   what docs/crates.py writes is compared by it.
-- A document of docs/ and the README have at most so many words (WORDS; those of MORE_WORDS more, each with its reason),
-  and no line of text is longer than anybody reads (LONGEST).
+- A document of docs/ and of the top has at most so many words (WORDS; those of MORE_WORDS more, each with its reason;
+  those of FEWER_WORDS fewer), and no line of text is longer than anybody reads (LONGEST).
 - A function of sshc_sample_snippets that a document quotes has to stand there as it is quoted.
 - Each wrong body and each must-fail edit has to apply, and docs/WRONG_BODIES.md to be what their files say, which
   tests/wrong_bodies.py compares.
@@ -34,15 +34,17 @@ TOP = pathlib.Path(__file__).resolve().parent.parent
 OTHERS = ("CHANGELOG.md", "docs/DIFFERENCES.md", "docs/WRONG_BODIES.md", "docs/DECISIONS.md", "bench/")
 # Documents of what was measured or tried on a day.
 DATED = ("CHANGELOG.md", "docs/WRONG_BODIES.md", "docs/HOSTILE.md", "bench/")
-# The most words of a document of docs/ and of the README.
+# The most words of a document of docs/ and of the top.
 WORDS = 2500
+# Those that a stranger reads first.
+FEWER_WORDS = {"README.md": 2500, "SECURITY.md": 400, "docs/TRUST.md": 700}
 # Those that may have more, and why.
 MORE_WORDS = {
     "docs/WRONG_BODIES.md": (10000, "a table, written from the files of wrong bodies"),
     "docs/DECISIONS.md": (17500, "a list of entries, looked up by what they decide"),
     "docs/DEFINITIONS.md": (6500, "a table of every definition that a promise rests on"),
     "docs/DIFFERENCES.md": (4500, "a table of what differs from russh, call by call"),
-    "docs/ARCHITECTURE.md": (4000, "a table of the crates, and guides to changes"),
+    "docs/ARCHITECTURE.md": (3200, "a table of every crate and of what it depends on"),
     "docs/FORMATS.md": (3500, "tables of bytes, kind by kind"),
     "docs/PROOF_GUIDE.md": (3200, "hints by the kind of proof, looked up one at a time"),
     "docs/HOSTILE.md": (3200, "tables of faults and of what each refusal leaves"),
@@ -241,8 +243,8 @@ def main():
         lines = without_blocks(text).splitlines()
         for at, what in misquoted(text, snippets):
             report(name, at, what)
-        if name == "README.md" or name.startswith("docs/"):
-            most = MORE_WORDS.get(name, (WORDS,))[0]
+        if name.startswith("docs/") or "/" not in name and name != "CHANGELOG.md":
+            most = FEWER_WORDS.get(name) or MORE_WORDS.get(name, (WORDS,))[0]
             if len(text.split()) > most:
                 report(name, len(lines), f"more than {most} words: {len(text.split())}")
         in_claims = is_written = False
