@@ -37,14 +37,14 @@ DATED = ("CHANGELOG.md", "docs/WRONG_BODIES.md", "docs/HOSTILE.md", "bench/")
 # The most words of a document of docs/ and of the top.
 WORDS = 2500
 # Those that a stranger reads first.
-FEWER_WORDS = {"README.md": 2500, "SECURITY.md": 400, "docs/TRUST.md": 700}
+FEWER_WORDS = {"README.md": 1000, "SECURITY.md": 400, "docs/TRUST.md": 700}
 # Those that may have more, and why.
 MORE_WORDS = {
     "docs/WRONG_BODIES.md": (10000, "a table, written from the files of wrong bodies"),
     "docs/DECISIONS.md": (17500, "a list of entries, looked up by what they decide"),
     "docs/DEFINITIONS.md": (6500, "a table of every definition that a promise rests on"),
     "docs/DIFFERENCES.md": (4500, "a table of what differs from russh, call by call"),
-    "docs/ARCHITECTURE.md": (3200, "a table of every crate and of what it depends on"),
+    "docs/ARCHITECTURE.md": (3300, "a table of every crate and of what it depends on"),
     "docs/FORMATS.md": (3500, "tables of bytes, kind by kind"),
     "docs/PROOF_GUIDE.md": (3200, "hints by the kind of proof, looked up one at a time"),
     "docs/HOSTILE.md": (3200, "tables of faults and of what each refusal leaves"),

@@ -1,6 +1,6 @@
 #!/usr/bin/env python3
-"""Writes the list of crates into README.md, a table of them and a diagram of their families into docs/ARCHITECTURE.md,
-all from crates.txt, and into docs/DEFINITIONS.md how much a promise rests on, counted along all that its definitions name
+"""Writes the families of crates, a diagram of them and a table of the crates into docs/ARCHITECTURE.md, all from
+crates.txt, and into docs/DEFINITIONS.md how much a promise rests on, counted along all that its definitions name
 (docs/closure.py).
 
     python3 docs/crates.py           writes them
@@ -16,6 +16,7 @@ import closure
 
 TOP = pathlib.Path(__file__).resolve().parent.parent
 BEGIN, END = "<!-- crates: written by docs/crates.py -->", "<!-- end of crates -->"
+FAMILIES, FAMILIES_END = "<!-- families: written by docs/crates.py -->", "<!-- end of families -->"
 DIAGRAM, DIAGRAM_END = "<!-- diagram: written by docs/crates.py -->", "<!-- end of diagram -->"
 # Families that only stand on the others: they are left out of the diagram and of the table of what depends on what.
 LEAVES = ("Samples", "Worked rows", "Tests", "Measurements")
@@ -38,7 +39,8 @@ def groups():
     return found
 
 
-def readme():
+def families():
+    """A line for each family: what its first crate is, and the others."""
     out = []
     for title, crates in groups():
         (first, said, _), rest = crates[0], crates[1:]
@@ -148,12 +150,12 @@ def definitions():
 
 def diagram():
     """The families, with an arrow from each to those further down the list that use it, but for arrows that others imply."""
-    families = [(title.split(":")[0], crates) for title, crates in groups() if not title.startswith(LEAVES)]
-    home = {name: title for title, crates in families for name, _, _ in crates}
-    order = [title for title, _ in families]
+    all_families = [(title.split(":")[0], crates) for title, crates in groups() if not title.startswith(LEAVES)]
+    home = {name: title for title, crates in all_families for name, _, _ in crates}
+    order = [title for title, _ in all_families]
     below = {
         title: {home[x] for _, _, libraries in crates for x in libraries if x in home} & set(order[: order.index(title)])
-        for title, crates in families
+        for title, crates in all_families
     }
 
     def all_below(title, seen):
@@ -183,7 +185,7 @@ def diagram():
 def main():
     wrong = []
     texts = [
-        ("README.md", BEGIN, END, readme()),
+        ("docs/ARCHITECTURE.md", FAMILIES, FAMILIES_END, families() + "\n"),
         ("docs/ARCHITECTURE.md", BEGIN, END, architecture()),
         ("docs/ARCHITECTURE.md", DIAGRAM, DIAGRAM_END, diagram()),
         ("docs/DEFINITIONS.md", BEGIN, END, definitions()),
