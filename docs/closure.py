@@ -48,14 +48,15 @@ class File:
             if line.startswith("unfolding "):
                 marks.append(line)
                 continue
-            head = HEAD.match(line) if not line.startswith((" ", "}")) else None
+            # A line at the margin begins a definition, or a case of one; all others go on with it.
             first = line.split()[0]
-            if head and first not in self.lines:
+            head = None if line[0] in " }])" else HEAD.match(line)
+            if head and first in self.lines:
+                current = first
+            elif head:
                 current = head[1]
                 self.lines.setdefault(current, []).extend(marks)
                 marks = []
-            elif first in self.lines:
-                current = first
             self.lines[current].append(line)
             case = re.match(r"  (?:pub )?([^\s:()]+) : ", line)
             if case and re.match(r"(?:pub )?data ", self.lines[current][0]):
@@ -110,6 +111,12 @@ def is_case(file, name):
     return bool(home and (left or what in home.homes))
 
 
+def is_used(operator, piece):
+    """Whether a piece uses an operator: it has each of its parts, or is a `do` block, which is read by `>>=`."""
+    parts = [part for part in operator.split("◌") if part]
+    return all(f" {part} " in piece for part in parts) or operator == "◌>>=◌" and re.search(r"\bdo\b", piece)
+
+
 def names_in(file, piece, function):
     """The names of one type or case that aren't bound in it."""
     bound = set()
@@ -120,7 +127,8 @@ def names_in(file, piece, function):
         for group in groups:
             bound |= set(re.findall(r"[\w']+", group))
     names = IDENTIFIER.findall(FIELD.sub("", piece))
-    return [name for name in names if name.split(".")[0] not in bound]
+    operators = [name for name in {**file.lines, **file.imports} if "◌" in name and is_used(name, piece)]
+    return [name for name in names if name.split(".")[0] not in bound] + operators
 
 
 def named_by(file, name):
