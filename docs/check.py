@@ -12,9 +12,10 @@
 - In docs/DEFINITIONS.md each definition has to be a word of the files that its row names; in a crate's table of claims
   the calls and clauses have to be words of that crate, or of a crate that it uses.
 - A count of the repository's crates or edits has to be right, and no other count of what is in it may stand in a
-  document, since nothing would notice when it no longer is so. What was measured on a day is no such count (DATED).
-- A document of docs/ and the README have at most so many words (WORDS; those of MORE_WORDS more, each with its reason),
-  and no line of text is longer than anybody reads (LONGEST).
+  document, since nothing would notice when it no longer is so. What was measured on a day is no such count (DATED), and
+  what docs/crates.py writes is compared by it.
+- A document of docs/ and of the top has at most so many words (WORDS; those of MORE_WORDS more, each with its reason;
+  those of FEWER_WORDS fewer), and no line of text is longer than anybody reads (LONGEST).
 - A function of sshc_sample_snippets that a document quotes has to stand there as it is quoted.
 - Each wrong body and each must-fail edit has to apply, and docs/WRONG_BODIES.md to be what their files say, which
   tests/wrong_bodies.py compares.
@@ -33,15 +34,17 @@ TOP = pathlib.Path(__file__).resolve().parent.parent
 OTHERS = ("CHANGELOG.md", "docs/DIFFERENCES.md", "docs/WRONG_BODIES.md", "docs/DECISIONS.md", "bench/")
 # Documents of what was measured or tried on a day.
 DATED = ("CHANGELOG.md", "docs/WRONG_BODIES.md", "docs/HOSTILE.md", "bench/")
-# The most words of a document of docs/ and of the README.
+# The most words of a document of docs/ and of the top.
 WORDS = 2500
+# Those that a stranger reads first.
+FEWER_WORDS = {"README.md": 1000, "SECURITY.md": 400, "docs/TRUST.md": 700}
 # Those that may have more, and why.
 MORE_WORDS = {
     "docs/WRONG_BODIES.md": (10000, "a table, written from the files of wrong bodies"),
     "docs/DECISIONS.md": (17500, "a list of entries, looked up by what they decide"),
-    "docs/DEFINITIONS.md": (6500, "a table of every definition that a promise rests on"),
+    "docs/DEFINITIONS.md": (7000, "a glossary, and a table of every definition that a promise rests on"),
     "docs/DIFFERENCES.md": (4500, "a table of what differs from russh, call by call"),
-    "docs/ARCHITECTURE.md": (4000, "a table of the crates, and guides to changes"),
+    "docs/ARCHITECTURE.md": (3300, "a table of every crate and of what it depends on"),
     "docs/FORMATS.md": (3500, "tables of bytes, kind by kind"),
     "docs/PROOF_GUIDE.md": (3200, "hints by the kind of proof, looked up one at a time"),
     "docs/HOSTILE.md": (3200, "tables of faults and of what each refusal leaves"),
@@ -240,11 +243,11 @@ def main():
         lines = without_blocks(text).splitlines()
         for at, what in misquoted(text, snippets):
             report(name, at, what)
-        if name == "README.md" or name.startswith("docs/"):
-            most = MORE_WORDS.get(name, (WORDS,))[0]
+        if name.startswith("docs/") or "/" not in name and name != "CHANGELOG.md":
+            most = FEWER_WORDS.get(name) or MORE_WORDS.get(name, (WORDS,))[0]
             if len(text.split()) > most:
                 report(name, len(lines), f"more than {most} words: {len(text.split())}")
-        in_claims = False
+        in_claims = is_written = False
         for at, line in enumerate(lines, 1):
             wrong = [path for path in PATH.findall(line) if path.removeprefix("./").removeprefix("../").removeprefix("../") not in ends and "*" not in path]
             if name != "CHANGELOG.md":
@@ -266,7 +269,8 @@ def main():
                 if in_claims:
                     seen = crates.seen(name.split("/")[1])
                     wrong += [f"{word} is in no crate that this one uses" for cell in cells_of(line)[1:] for code in CODE.findall(cell) for word in names_of(code) if word not in seen and word in words]
-            if not name.startswith(DATED):
+            is_written = "written by docs/crates.py -->" in line or is_written and not line.startswith("<!-- end")
+            if not name.startswith(DATED) and not is_written:
                 for number, thing in COUNT.findall(line):
                     count = int(number.replace(",", "")) if number[0].isdigit() else SMALL + 1
                     if count > SMALL and count != right.get(thing.lower()):
