@@ -47,6 +47,14 @@ static void note_nearest(known_keys *it) {
   }
 }
 
+/* A comment's length, cut at a character's end (in UTF-8) where it is longer than is kept. */
+static size_t kept_len(slice comment) {
+  if (comment.len <= LONGEST_COMMENT) return comment.len;
+  size_t len = LONGEST_COMMENT;
+  while (len != 0 && (comment.at[len] & 0xc0) == 0x80) len--;
+  return len;
+}
+
 void keys_add(known_keys *it, slice blob, slice comment, uint64_t deadline) {
   size_t at = find_from(it, 0, blob);
   if (at == it->count) {
@@ -60,7 +68,7 @@ void keys_add(known_keys *it, slice blob, slice comment, uint64_t deadline) {
   }
   known_key *key = &it->at[at];
   bytes_free(&key->comment);
-  put(&key->comment, comment.at, comment.len < LONGEST_COMMENT ? comment.len : LONGEST_COMMENT);
+  put(&key->comment, comment.at, kept_len(comment));
   key->deadline = deadline;
   note_nearest(it);
 }

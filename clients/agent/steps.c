@@ -131,13 +131,18 @@ static void answer_client(server *it, connection *of, slice frame, uint64_t now)
   bytes_free(&answer);
 }
 
+/* How many bytes a control character has that begins here (U+0000 to U+001F, U+007F to U+009F), or 0. */
+static size_t control_len(const uint8_t *at, size_t left) {
+  if (*at < 0x20 || *at == 0x7f) return 1;
+  return *at == 0xc2 && left > 1 && at[1] >= 0x80 && at[1] < 0xa0 ? 2 : 0;
+}
+
 /* A prompt is shown to a person: control characters of a comment's, which could feign other text, aren't. */
 static void put_shown(bytes *to, slice text) {
-  for (size_t i = 0; i < text.len; i++) {
-    uint8_t byte = text.at[i];
-    bool is_control = byte < 0x20 || byte == 0x7f;
-    bool is_later_control = byte >= 0x80 && byte < 0xa0 && i != 0 && text.at[i - 1] == 0xc2; /* U+0080 to U+009F */
-    put_u8(to, is_control || is_later_control ? '?' : byte);
+  for (size_t i = 0; i < text.len;) {
+    size_t control = control_len(text.at + i, text.len - i);
+    put_u8(to, control == 0 ? text.at[i] : '?');
+    i += control == 0 ? 1 : control;
   }
 }
 
