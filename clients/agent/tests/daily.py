@@ -3,13 +3,11 @@
 
     daily.py AGENT"""
 import os
-import signal
-import struct
 import subprocess
 import time
 
 from scratch import ADD_IDENTITY, ADD_ID_CONSTRAINED, EXTENSION, FAILURE, KINDS, LOCK, REMOVE_ALL, SIGN_RESPONSE, SUCCESS, UNLOCK
-from scratch import private_parts, sign_request, strings, strings_front, tests_of, text, until, want
+from scratch import private_parts, sign_request, strings, tests_of, text, until, want
 
 
 def keys_of_each_kind(scratch):

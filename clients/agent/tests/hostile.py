@@ -10,11 +10,10 @@ import socket
 import struct
 import subprocess
 import sys
-import threading
 import time
 
-from scratch import ADD_IDENTITY, FAILURE, IDENTITIES_ANSWER, LOCK, PLAIN, REMOVE_ALL, SIGN_RESPONSE, SUCCESS, UNLOCK
-from scratch import Agent, Line, private_parts, sign_request, tests_of, text, until, want
+from scratch import FAILURE, IDENTITIES_ANSWER, LOCK, PLAIN, REMOVE_ALL, SIGN_RESPONSE, SUCCESS, UNLOCK
+from scratch import Line, private_parts, sign_request, tests_of, text, until, want
 
 IS_CHECKED = sys.argv[1].endswith(".by") if len(sys.argv) > 1 else False
 

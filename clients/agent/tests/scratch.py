@@ -20,7 +20,7 @@ PLAIN = {name: value for name, value in os.environ.items() if name not in SETTIN
 
 def want(got, wanted, what):
     if got != wanted:
-        sys.exit(f"{what}: {got!r:.400} and not {wanted!r:.400}")
+        sys.exit(f"{what:.2000}: {got!r:.400} and not {wanted!r:.400}")
 
 
 def until(holds, what, seconds=20):

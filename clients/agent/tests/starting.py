@@ -5,7 +5,6 @@
 import os
 import signal
 import subprocess
-import sys
 import time
 
 from scratch import PLAIN, tests_of, until, want
