@@ -68,5 +68,6 @@ if [ -f /usr/include/openssl/evp.h ]; then
     python3 "$top/clients/c/tests/bad_servers.py" "$out/client"
     done="$done logins bad-servers"
   fi
+  make -s -C "$top/clients/agent" OUT="$out" LIB="$out/libsazhonthil.a" test; done="$done agent"
 fi
 echo "bindings: all well:$done"

@@ -82,6 +82,7 @@ static sigset_t ending_signals(void) {
 
 static int serve_at(place *at, const options *asked, const sigset_t *ending) {
   signal(SIGPIPE, SIG_IGN);
+  signal(SIGCHLD, SIG_DFL); /* whoever started it may have it ignored, and then no child's end is told */
   server agent = {.lifetime = asked->lifetime, .is_debugging = asked->is_debugging};
   int signals = signals_of(ending);
   bool is_served = signals >= 0 && keep_secret() && server_start(&agent) && serve(&agent, at->listener, signals);

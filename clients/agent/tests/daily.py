@@ -3,6 +3,7 @@
 
     daily.py AGENT"""
 import os
+import signal
 import subprocess
 import time
 
@@ -159,6 +160,14 @@ def confirmations(scratch):
         want(signs_with(scratch, env), wanted, f"a signature with {env}")
 
 
+def asked_though_ignored(scratch):
+    """An agent that is started with SIGCHLD ignored sees the end of the program that asks."""
+    agent = scratch.start(env=asker(scratch, "exit 0"), preexec_fn=lambda: signal.signal(signal.SIGCHLD, signal.SIG_IGN))
+    agent.add(scratch.key("ed25519"), "-c")
+    want(agent.signs("ed25519"), True, "a signature")
+    agent.end()
+
+
 def feigned_comments(scratch):
     """No control character of a comment's is shown to the user."""
     agent = scratch.start(env=asker(scratch, "exit 1"))
@@ -285,4 +294,4 @@ def same_key_again(scratch):
 
 
 if __name__ == "__main__":
-    tests_of([keys_of_each_kind, hashes_of_rsa, lifetimes, lock, wrong_words, confirmations, feigned_comments, others_while_asked, gone_while_asked, certificates, bad_pairs, same_key_again])
+    tests_of([keys_of_each_kind, hashes_of_rsa, lifetimes, lock, wrong_words, confirmations, asked_though_ignored, feigned_comments, others_while_asked, gone_while_asked, certificates, bad_pairs, same_key_again])
