@@ -4,7 +4,7 @@
 #include <stdlib.h>
 #include <string.h>
 
-enum { LEAST_ROOM = 64 };
+enum { LEAST_ROOM = 64, MOST_BYTES = 1 << 30 };
 
 slice slice_of(const void *at, size_t len) { return (slice){at, len}; }
 
@@ -58,9 +58,8 @@ uint8_t *bytes_room(bytes *it, size_t count) {
   if (it->failed) return NULL;
   if (it->room - it->len < count && it->from != 0) close_up(it);
   if (it->room - it->len < count) {
-    size_t room = it->room < LEAST_ROOM ? LEAST_ROOM : it->room;
-    while (room - it->len < count && room <= SIZE_MAX / 2) room *= 2;
-    if (room - it->len < count || !move_to(it, room)) {
+    size_t len = it->len + count;
+    if (len > MOST_BYTES || !move_to(it, len + len / 4 + LEAST_ROOM)) {
       it->failed = true;
       return NULL;
     }

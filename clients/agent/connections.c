@@ -8,7 +8,7 @@
 #include <sys/socket.h>
 #include <unistd.h>
 
-enum { READ_AT_ONCE = 16384 };
+enum { READ_AT_LEAST = 4096, READ_AT_MOST = 65536 };
 
 /* ---- a connection comes and goes */
 
@@ -117,9 +117,18 @@ short connection_events(const connection *it) {
   return (short)((may_read(it) ? POLLIN : 0) | (bytes_count(&it->out) != 0 ? POLLOUT : 0));
 }
 
+/* How much is read at once: of a long frame what is missing, so that little more than a frame is kept. */
+static size_t read_size(const bytes *in) {
+  reader from = read_slice(bytes_slice(in));
+  uint32_t len = get_u32(&from);
+  if (from.bad || len > LONGEST_FRAME || len - from.left <= READ_AT_LEAST) return READ_AT_LEAST;
+  return len - from.left < READ_AT_MOST ? len - from.left : READ_AT_MOST;
+}
+
 static void read_some(connection *it) {
-  uint8_t *room = bytes_room(&it->in, READ_AT_ONCE);
-  ssize_t got = room == NULL ? 0 : recv(it->socket, room, READ_AT_ONCE, MSG_DONTWAIT);
+  size_t size = read_size(&it->in);
+  uint8_t *room = bytes_room(&it->in, size);
+  ssize_t got = room == NULL ? 0 : recv(it->socket, room, size, MSG_DONTWAIT);
   if (room == NULL)
     it->is_over = true;
   else if (got > 0)

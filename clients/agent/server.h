@@ -11,7 +11,7 @@
 typedef struct connection {
   int socket;
   uint32_t number; /* by which the library knows it */
-  bytes in;        /* what came and wasn't handed in yet: at most a frame */
+  bytes in;        /* what came and wasn't handed in yet: little more than a frame */
   bytes out;       /* what isn't sent yet. While there is some, nothing is read and nothing handed in */
   bool has_ended;  /* the client sends no more */
   bool is_closing; /* the library closes it: it ends once what is in `out` is sent */

@@ -13,7 +13,7 @@ import sys
 import time
 
 from scratch import FAILURE, IDENTITIES_ANSWER, LOCK, PLAIN, REMOVE_ALL, SIGN_RESPONSE, SUCCESS, UNLOCK
-from scratch import Line, private_parts, sign_request, tests_of, text, until, want
+from scratch import Line, private_parts, sign_request, strings, tests_of, text, until, want
 
 IS_CHECKED = sys.argv[1].endswith(".by") if len(sys.argv) > 1 else False
 
@@ -210,6 +210,38 @@ def garbage(scratch):
     agent.end()
 
 
+def memory_runs_out(scratch):
+    """Requests for memory are refused now and then: connections may end, the agent doesn't, and afterwards all is well."""
+    if not IS_CHECKED:
+        return "passed over: the build under AddressSanitizer alone refuses memory"
+    pairs = [private_parts(scratch.key(kind))[0] for kind in ("ed25519", "ecdsa256", "rsa")]
+    rounds = 0
+    for one_of in (300, 60, 15):
+        agent = scratch.start(env={"REFUSE_MEMORY": f"30000 {one_of} 200000"})
+        for kind in ("ed25519", "ecdsa256", "rsa"):
+            agent.add(scratch.at(kind))
+            want(agent.signs(kind), True, "a signature while there is memory")
+        begun = time.monotonic()
+        while time.monotonic() < begun + 8:
+            rounds += 1
+            with agent.line() as line:
+                sent = [bytes([17]) + pair + text(b"comment") for pair in pairs] + [b"\x0b"] + [sign_request(strings(pair)[1], b"x") for pair in pairs[:1]]
+                sent += [bytes([LOCK]) + text(b"word"), bytes([UNLOCK]) + text(b"word"), bytes([REMOVE_ALL])]
+                try:
+                    for body in sent:
+                        if line.ask(body) is None:
+                            break
+                except BrokenPipeError:
+                    pass
+        with agent.line() as line:
+            line.ask(bytes([UNLOCK]) + text(b"word"))
+        agent.run("ssh-add", "-D")
+        until(lambda: agent.run("ssh-add", scratch.at("ed25519"))[0] == 0, "an addition after that")
+        want((agent.listing(), agent.signs("ed25519")), ([scratch.public("ed25519")], True), "a key after that")
+        agent.end()
+    return f"{rounds} rounds"
+
+
 # ---- where it listens
 
 
@@ -397,4 +429,4 @@ def secrets_are_wiped(scratch):
 
 
 if __name__ == "__main__":
-    tests_of([frames_in_pieces, clients_that_dont_read, signatures_beside_idle_clients, slow_signatures_dont_stop_others, more_clients_than_fit, clients_of_other_users, garbage, folders_of_others, same_place_again, two_at_once, ends, closed_descriptors, no_core_dumps, secrets_are_wiped])
+    tests_of([frames_in_pieces, clients_that_dont_read, signatures_beside_idle_clients, slow_signatures_dont_stop_others, more_clients_than_fit, clients_of_other_users, garbage, memory_runs_out, folders_of_others, same_place_again, two_at_once, ends, closed_descriptors, no_core_dumps, secrets_are_wiped])

@@ -130,9 +130,11 @@ class Scratch:
         self.folder = tempfile.mkdtemp(prefix="agent-test-")
         return self
 
-    def __exit__(self, *_):
+    def __exit__(self, why, *_):
         for one in self.started:
             one.end(checks=False)
+            if why is not None:
+                print(f"{one.error_text():.4000}", file=sys.stderr)
         shutil.rmtree(self.folder, ignore_errors=True)
 
     def at(self, name):
