@@ -14,7 +14,7 @@
 #include <sys/un.h>
 #include <unistd.h>
 
-enum { CLIENTS_QUEUED = 128, OWNER_ALONE = 0700, SOCKET_UMASK = 0177, OTHERS_ENTER_OR_WRITE = 033 };
+enum { SOCKET_UMASK = 0177, OTHERS_ENTER_OR_WRITE = 033 };
 
 /* ---- the path */
 
@@ -136,7 +136,7 @@ static bool listen_here(place *it) {
   if (is_bound && fstatat(it->folder, it->name, &there, AT_SYMLINK_NOFOLLOW) == 0) {
     it->device = there.st_dev;
     it->inode = there.st_ino;
-    if (listen(it->listener, CLIENTS_QUEUED) == 0) return true;
+    if (listen(it->listener, SOMAXCONN) == 0) return true;
   }
   complain("no socket at %s: %s", it->path, strerror(errno));
   return false;

@@ -12,7 +12,7 @@
 #include <unistd.h>
 
 /* Connections at once; fewer where the process may open fewer files. Besides, files for the program itself. */
-enum { MOST_CONNECTIONS = 1024, LEAST_CONNECTIONS = 4, OWN_FILES = 16 };
+enum { MOST_CONNECTIONS = 1024, LEAST_CONNECTIONS = 4, OWN_FILES = 16, ACCEPTED_AT_ONCE = 64 };
 /* How long no connection is accepted where none could be, and how often a key's deadline is looked at: `poll` doesn't
  * count the time that the machine sleeps. */
 enum { ACCEPT_PAUSE_MS = 1000, DEADLINE_MS = 30000 };
@@ -41,13 +41,15 @@ static bool is_own_user(int line) {
   return getsockopt(line, SOL_SOCKET, SO_PEERCRED, &peer, &len) == 0 && len == sizeof peer && (peer.uid == geteuid() || peer.uid == 0);
 }
 
-static void accept_one(loop *it) {
-  int line = accept4(it->listener, NULL, NULL, SOCK_NONBLOCK | SOCK_CLOEXEC);
-  if (line < 0) {
-    if (errno != EAGAIN && errno != EINTR && errno != ECONNABORTED) it->accept_from = now_ms() + ACCEPT_PAUSE_MS;
-    return;
+static void accept_some(loop *it) {
+  for (int i = 0; i < ACCEPTED_AT_ONCE && it->server->count < it->server->most; i++) {
+    int line = accept4(it->listener, NULL, NULL, SOCK_NONBLOCK | SOCK_CLOEXEC);
+    if (line < 0) {
+      if (errno != EAGAIN && errno != EINTR && errno != ECONNABORTED) it->accept_from = now_ms() + ACCEPT_PAUSE_MS;
+      return;
+    }
+    if (!is_own_user(line) || !connection_add(it->server, line)) close(line);
   }
-  if (!is_own_user(line) || !connection_add(it->server, line)) close(line);
 }
 
 /* ---- what is waited for */
@@ -99,7 +101,7 @@ static void serve_round(loop *it) {
   for (size_t i = 0; i < polled; i++) connection_serve(server, server->connections[i], it->polls[OWN_POLLS + i].revents);
   questions_ask(server);
   connections_sweep(server);
-  if (it->polls[LISTENER].revents != 0) accept_one(it);
+  if (it->polls[LISTENER].revents != 0) accept_some(it);
 }
 
 bool serve(server *it, int listener, int signals) {
