@@ -89,7 +89,7 @@ static void take_option(options *to, int option) {
   case 'c': to->shell = C_SHELL; break;
   case 's': to->shell = BOURNE_SHELL; break;
   case 'k': to->kills = true; break;
-  case 'd': to->is_debugging = true; /* and so in the foreground */ /* fall through */
+  case 'd': to->is_debugging = to->is_foreground = true; break;
   case 'D': to->is_foreground = true; break;
   case 'a': to->socket = optarg; break;
   case 't':

@@ -56,13 +56,15 @@ def hashes_of_rsa(scratch):
 
 
 def lifetimes(scratch):
-    agent = scratch.start("-t", "1")
-    agent.add(scratch.key("ed25519"))
-    agent.add(scratch.key("ecdsa256"), "-t", "1h")
-    agent.add(scratch.key("rsa"), "-t", "1", "-c")
+    for kind in ("ed25519", "ecdsa256", "rsa"):
+        scratch.key(kind)
+    agent = scratch.start("-t", "3")
+    agent.add(scratch.at("ed25519"))
+    agent.add(scratch.at("ecdsa256"), "-t", "1h")
+    agent.add(scratch.at("rsa"), "-t", "2", "-c")
     want(len(agent.listing()), 3, "keys at first")
-    time.sleep(1.2)
-    want(agent.listing(), [scratch.public("ecdsa256")], "keys after a second")
+    time.sleep(3.2)
+    want(agent.listing(), [scratch.public("ecdsa256")], "keys after three seconds")
     want(agent.signs("ed25519"), False, "a signature by a key that expired")
     want(agent.signs("ecdsa256"), True, "a signature by a key with a longer lifetime")
     agent.end()
@@ -281,10 +283,10 @@ def same_key_again(scratch):
     with agent.line() as line:
         for pair in pairs:
             line.ask(bytes([ADD_IDENTITY]) + pair + text(b"first"))
-        line.ask(bytes([ADD_ID_CONSTRAINED]) + pairs[1] + text(b"second") + b"\1\0\0\0\1")
+        line.ask(bytes([ADD_ID_CONSTRAINED]) + pairs[1] + text(b"second") + b"\1\0\0\0\2")
         want(strings(line.ask(bytes([11]))[5:])[1::2], [b"first", b"second", b"first"], "the comments")
-        time.sleep(1.2)
-        want(strings(line.ask(bytes([11]))[5:])[1::2], [b"first", b"first"], "the comments after a second")
+        time.sleep(2.2)
+        want(strings(line.ask(bytes([11]))[5:])[1::2], [b"first", b"first"], "the comments after two seconds")
         want(line.ask(bytes([REMOVE_ALL]))[0], SUCCESS, "a removal of all")
         many = text(b"c" * 200000)
         for pair in pairs:

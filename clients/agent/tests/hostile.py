@@ -130,7 +130,7 @@ def slow_signatures_dont_stop_others(scratch):
             slowest = max(slowest, time.monotonic() - begun)
         for _ in range(300):
             want(busy.take()[0], SIGN_RESPONSE, "a signature")
-    want(slowest < 1, True, f"the slowest listing beside signatures: {slowest}")
+    want(slowest < 3, True, f"the slowest listing beside signatures: {slowest}")
     agent.end()
     return f"the slowest listing {1000 * slowest:.0f} ms"
 
@@ -424,7 +424,7 @@ def secrets_are_wiped(scratch):
         want(found_in_memory(agent, [*secrets, b"word to lock by"]), [0] * (len(secrets) + 1), "what is in the memory afterwards")
         pair = private_parts(scratch.at("ed25519"))[0]
         line.ask(bytes([25]) + pair + text(b"") + b"\1\0\0\0\1")
-    until(lambda: found_in_memory(agent, secrets[:1]) == [0], "an expired key that nobody asks for: out of the memory", 5)
+    until(lambda: found_in_memory(agent, secrets[:1]) == [0], "an expired key that nobody asks for: out of the memory", 10)
     agent.end()
 
 
