@@ -67,6 +67,15 @@ static int kill_agent(const options *asked) {
 
 /* ---- the process that serves */
 
+/* Closes what was open in whoever started it: a pipe would never end there, since this process lasts. */
+static void close_others(const place *at) {
+  unsigned first = (unsigned)(at->listener < at->folder ? at->listener : at->folder);
+  unsigned second = (unsigned)(at->listener < at->folder ? at->folder : at->listener);
+  if (first > STDERR_FILENO + 1) close_range(STDERR_FILENO + 1, first - 1, 0);
+  if (second > first + 1) close_range(first + 1, second - 1, 0);
+  close_range(second + 1, UINT_MAX, 0);
+}
+
 /* They are read from a descriptor, between two steps. */
 static int signals_of(const sigset_t *which) { return signalfd(-1, which, SFD_NONBLOCK | SFD_CLOEXEC); }
 
@@ -81,6 +90,7 @@ static sigset_t ending_signals(void) {
 }
 
 static int serve_at(place *at, const options *asked, const sigset_t *ending) {
+  close_others(at);
   signal(SIGPIPE, SIG_IGN);
   signal(SIGCHLD, SIG_DFL); /* whoever started it may have it ignored, and then no child's end is told */
   server agent = {.lifetime = asked->lifetime, .is_debugging = asked->is_debugging};

@@ -3,6 +3,7 @@
 
     starting.py AGENT"""
 import os
+import select
 import signal
 import subprocess
 import time
@@ -116,6 +117,18 @@ def debugging(scratch):
     want(("message 17: answered" in said, "message 13: answered" in said, "word to lock by" in said), (True, True, False), f"what -d says: {said}")
 
 
+def lets_go(scratch):
+    """The agent in the background holds no descriptor of whoever started it."""
+    ours, theirs = os.pipe()
+    ran = subprocess.run([scratch.agent, "-s"], pass_fds=[theirs], capture_output=True, text=True, env={**PLAIN, "TMPDIR": scratch.folder}, timeout=60)
+    os.close(theirs)
+    want(bool(select.select([ours], [], [], 20)[0]), True, "the end of a pipe of whoever started it")
+    os.close(ours)
+    number = int(ran.stdout.split("SSH_AGENT_PID=")[1].split(";")[0])
+    os.kill(number, signal.SIGTERM)
+    until(lambda: not left(scratch), "the folder's removal")
+
+
 def relative_socket(scratch):
     status, said, errors = shell(scratch, 'eval $("$AGENT" -s -a agent); echo $SSH_AUTH_SOCK; cd /; ssh-add -l; "$AGENT" -k > /dev/null')
     want((scratch.at("agent") in said, "no identities" in said), (True, True), f"a socket by a relative path: {said} {errors}")
@@ -123,4 +136,4 @@ def relative_socket(scratch):
 
 
 if __name__ == "__main__":
-    tests_of([by_eval, lines_for_shells, names_that_a_shell_reads, with_a_command, usage, lifetimes_in_words, debugging, relative_socket])
+    tests_of([by_eval, lines_for_shells, names_that_a_shell_reads, with_a_command, usage, lifetimes_in_words, debugging, lets_go, relative_socket])
