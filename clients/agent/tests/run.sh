@@ -5,7 +5,7 @@ set -eu
 here=$(cd "$(dirname "$0")" && pwd)
 export PYTHONDONTWRITEBYTECODE=1
 command -v ssh-add > /dev/null || { echo "passed over: no ssh-add"; exit 0; }
-parts="daily starting hostile logins"
+parts="daily starting hostile beside logins"
 case $1 in *.by) ;; *) parts="$parts valgrinded" ;; esac
 for part in $parts; do
   echo "$part $1"
