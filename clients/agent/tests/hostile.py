@@ -72,7 +72,7 @@ def clients_that_dont_read(scratch):
         agent.add(scratch.key("ecdsa521", f"k{i}"))
     with agent.line() as other:
         other.blobs()
-        before, sent, lines = memory_kb(agent), [], [agent.line() for _ in range(8)]
+        before, sent, lines = memory_kb(agent), [], [agent.line() for _ in range(4)]
         for line in lines:
             line.socket.setblocking(False)
             count = 0
