@@ -108,10 +108,7 @@ uint64_t connections_unlock_moment(const server *it) {
 
 /* ---- reading, handing in, sending */
 
-bool connection_is_ready(const server *it, const connection *of) {
-  (void)it;
-  return may_go_on(of) && of->unlock_turn == 0 && has_frame(of);
-}
+bool connection_is_ready(const connection *it) { return may_go_on(it) && it->unlock_turn == 0 && has_frame(it); }
 
 short connection_events(const connection *it) {
   return (short)((may_read(it) ? POLLIN : 0) | (bytes_count(&it->out) != 0 ? POLLOUT : 0));

@@ -76,10 +76,8 @@ static void close_others(const place *at) {
   close_range(second + 1, UINT_MAX, 0);
 }
 
-/* They are read from a descriptor, between two steps. */
-static int signals_of(const sigset_t *which) { return signalfd(-1, which, SFD_NONBLOCK | SFD_CLOEXEC); }
-
-static sigset_t ending_signals(void) {
+/* The signals that end it, and that of a child's end. They are read from a descriptor, between two steps. */
+static sigset_t awaited_signals(void) {
   sigset_t which;
   sigemptyset(&which);
   sigaddset(&which, SIGTERM);
@@ -89,14 +87,14 @@ static sigset_t ending_signals(void) {
   return which;
 }
 
-static int serve_at(place *at, const options *asked, const sigset_t *ending) {
+static int serve_at(place *at, const options *asked, const sigset_t *awaited) {
   close_others(at);
   signal(SIGPIPE, SIG_IGN);
   signal(SIGCHLD, SIG_DFL); /* whoever started it may have it ignored, and then no child's end is told */
   server agent = {.lifetime = asked->lifetime, .is_debugging = asked->is_debugging};
-  int signals = signals_of(ending);
+  int signals = signalfd(-1, awaited, SFD_NONBLOCK | SFD_CLOEXEC);
   bool is_served = signals >= 0 && keep_secret() && server_start(&agent) && serve(&agent, at->listener, signals);
-  if (!is_served) complain("the agent can't begin: %s", strerror(errno));
+  if (!is_served) complain("the agent can't begin");
   if (signals >= 0) close(signals);
   place_remove(at);
   return is_served ? DONE : FAILED;
@@ -111,13 +109,13 @@ static void leave_terminal(void) {
   if (nothing > STDERR_FILENO) close(nothing);
 }
 
-static int in_background(place *at, const options *asked, const sigset_t *ending, pid_t parent) {
+static int in_background(place *at, const options *asked, const sigset_t *awaited, pid_t parent) {
   if (asked->command != NULL) {
     prctl(PR_SET_PDEATHSIG, SIGTERM); /* COMMAND is the parent: the agent ends when it ends */
     if (getppid() != parent) raise(SIGTERM);
   }
   leave_terminal();
-  return serve_at(at, asked, ending);
+  return serve_at(at, asked, awaited);
 }
 
 /* ---- the process that was started */
@@ -140,16 +138,16 @@ static int run_command(const options *asked, const place *at, pid_t agent) {
 }
 
 static int start(const options *asked) {
-  sigset_t ending = ending_signals(), before;
-  sigprocmask(SIG_BLOCK, &ending, &before); /* so that none ends this process and leaves the socket */
+  sigset_t awaited = awaited_signals(), before;
+  sigprocmask(SIG_BLOCK, &awaited, &before); /* so that none ends this process and leaves the socket */
   place at;
   if (!place_make(&at, asked->socket)) return FAILED;
   if (asked->is_foreground) {
     print_agent(asked, &at, getpid());
-    return serve_at(&at, asked, &ending);
+    return serve_at(&at, asked, &awaited);
   }
   pid_t self = getpid(), agent = fork();
-  if (agent == 0) return in_background(&at, asked, &ending, self);
+  if (agent == 0) return in_background(&at, asked, &awaited, self);
   if (agent < 0) {
     complain("no process can be made: %s", strerror(errno));
     place_remove(&at);

@@ -60,7 +60,7 @@ static uint64_t nearer(uint64_t one, uint64_t other) { return one == 0 || (other
 static int patience(const loop *it, uint64_t now) {
   const server *server = it->server;
   for (size_t i = 0; i < server->count; i++)
-    if (connection_is_ready(server, server->connections[i])) return 0;
+    if (connection_is_ready(server->connections[i])) return 0;
   uint64_t moment = nearer(connections_unlock_moment(server), it->accept_from);
   if (server->keys.nearest != 0) moment = nearer(moment, nearer(server->keys.nearest, now + DEADLINE_MS));
   if (moment == 0) return -1;

@@ -46,7 +46,7 @@ void note(const server *it, const char *format, ...) __attribute__((format(print
 
 /* ---- steps.c: what is handed in to the library */
 
-/* Makes the agent without keys. */
+/* Makes the agent without keys. False where memory ran out, or the library is another one than its header's. */
 bool server_start(server *it);
 void server_end(server *it);
 /* Hands in an input of a connection, and does what the library answers. */
@@ -66,7 +66,7 @@ connection *connection_numbered(const server *it, uint32_t number);
 /* What is to be polled of it. */
 short connection_events(const connection *it);
 /* Whether a whole frame can be handed in now. */
-bool connection_is_ready(const server *it, const connection *of);
+bool connection_is_ready(const connection *it);
 /* Reads, hands in at most one frame, and sends, by what `poll` returned of it. */
 void connection_serve(server *it, connection *of, short returned);
 /* Removes those that are over. */
