@@ -101,9 +101,16 @@ static void note_unlock(server *it, bool is_right, uint64_t now) {
   }
 }
 
-static void note_answer(server *it, slice frame, slice answer, uint64_t now) {
-  if (frame.len == 0 || answer.len <= LENGTH_BYTES) return;
-  bool is_success = answer.at[LENGTH_BYTES] == SUCCESS;
+/* Whether the last answer is SUCCESS. It takes no memory, so that what is remembered here stays right where that ends. */
+static bool is_success_answered(server *it) {
+  uint8_t answer[LENGTH_BYTES + 1];
+  size_t size = 0;
+  return sshc_agent_answer(&it->agent, answer, sizeof answer, &size) == SSHC_OK && size == sizeof answer && answer[LENGTH_BYTES] == SUCCESS;
+}
+
+static void note_answer(server *it, slice frame, uint64_t now) {
+  if (frame.len == 0) return;
+  bool is_success = is_success_answered(it);
   if (frame.at[0] == UNLOCK) note_unlock(it, is_success, now);
   if (!is_success) return;
   switch (frame.at[0]) {
@@ -120,9 +127,9 @@ static void note_answer(server *it, slice frame, slice answer, uint64_t now) {
 
 static void answer_client(server *it, connection *of, slice frame, uint64_t now) {
   bytes answer = {0};
+  note_answer(it, frame, now);
   if (!copy_answer(it, &answer)) of->is_over = true;
   slice made = bytes_slice(&answer);
-  note_answer(it, frame, made, now);
   if (made.len > LENGTH_BYTES && made.at[LENGTH_BYTES] == IDENTITIES_ANSWER)
     put_listing(&it->keys, made, &of->out);
   else
