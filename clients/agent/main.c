@@ -154,10 +154,13 @@ static int start(const options *asked) {
     return FAILED;
   }
   sigprocmask(SIG_SETMASK, &before, NULL);
-  if (asked->command != NULL) return run_command(asked, &at, agent);
-  print_agent(asked, &at, agent);
+  int status = DONE;
+  if (asked->command != NULL)
+    status = run_command(asked, &at, agent);
+  else
+    print_agent(asked, &at, agent);
   place_leave(&at);
-  return DONE;
+  return status;
 }
 
 int main(int count, char **words) {
