@@ -347,7 +347,7 @@ def closed_descriptors(scratch):
     until(lambda: os.path.exists(agent), "the socket")
     with Line(agent) as line:
         want(line.blobs(), [], "a listing")
-        for number in range(3):
+        for number in range(3 if os.geteuid() == 0 else 0):
             want(os.readlink(f"/proc/{started.pid}/fd/{number}"), "/dev/null", "a descriptor that was closed")
     started.terminate()
     want(started.wait(60), 0, "its end")
@@ -355,7 +355,8 @@ def closed_descriptors(scratch):
     number = int(said.stdout.split("SSH_AGENT_PID=")[1].split(";")[0])
     with Line(agent) as line:
         want(line.blobs(), [], "a listing")
-        want({os.readlink(f"/proc/{number}/fd/{it}") for it in range(3)}, {"/dev/null"}, "the descriptors in the background")
+        if os.geteuid() == 0:
+            want({os.readlink(f"/proc/{number}/fd/{it}") for it in range(3)}, {"/dev/null"}, "the descriptors in the background")
     os.kill(number, signal.SIGTERM)
     until(lambda: not os.path.exists(agent), "the socket's removal")
 
@@ -366,9 +367,11 @@ def no_core_dumps(scratch):
         line.blobs()
     with open(f"/proc/{agent.process.pid}/limits") as file:
         want([line.split()[4:6] for line in file if line.startswith("Max core")], [["0", "0"]], "the limit of core files")
+    if os.geteuid() != 0:
+        want(os.access(f"/proc/{agent.process.pid}/mem", os.R_OK), False, "its memory, for a process of the same user's")
     agent.end()
     if os.geteuid() != 0:
-        return "the limit alone: not root"
+        return "its memory isn't to be read"
     folder = scratch.at("nobody")
     os.chmod(scratch.folder, 0o755)
     os.mkdir(folder, 0o700)

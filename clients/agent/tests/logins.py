@@ -1,6 +1,6 @@
 #!/usr/bin/env python3
 """Logins by ssh and git with the agent's keys, at a server of Debian's on a high port of the loopback, as the user who runs
-this. As root, since the server wants it; no user is made, and the machine's own server and its files aren't touched.
+this: no user is made, and the machine's own server and its files aren't touched. Passed over where this user may not log in.
 
     logins.py AGENT"""
 import os
@@ -39,7 +39,8 @@ class Server:
         scratch.write("authorized_keys", "".join(scratch.public(scratch.key(kind).rsplit("/", 1)[1]) + "\n" for kind in KINDS))
         scratch.write("known_hosts", f"[127.0.0.1]:{self.port} {scratch.public('host')}\n")
         scratch.write("config", SERVER.format(port=self.port, folder=scratch.folder, pam=pam))
-        os.makedirs("/run/sshd", exist_ok=True)
+        if os.geteuid() == 0:
+            os.makedirs("/run/sshd", exist_ok=True)  # the server wants this folder
         self.process = subprocess.Popen(["/usr/sbin/sshd", "-D", "-f", scratch.at("config"), "-E", scratch.at("log")], env=PLAIN)
         until(self.answers, "the server")
 
@@ -62,8 +63,8 @@ class Server:
 
 def with_server(scratch, test):
     """Runs a test with a server that lets this user in."""
-    if os.geteuid() != 0 or not os.path.exists("/usr/sbin/sshd"):
-        return "passed over: not root, or no sshd"
+    if not os.path.exists("/usr/sbin/sshd"):
+        return "passed over: no sshd"
     agent = scratch.start()
     for pam in ("no", "yes"):
         server = Server(scratch, pam)
@@ -74,6 +75,8 @@ def with_server(scratch, test):
             break
         server.end()
     else:
+        if os.geteuid() != 0:
+            return "passed over: this user can't log in"
         sys.exit(f"no login: {said}\n{scratch.read('log')}")
     try:
         said = test(scratch, agent, server)
