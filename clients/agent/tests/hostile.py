@@ -378,16 +378,15 @@ def no_core_dumps(scratch):
     shutil.copy(scratch.agent, scratch.at("copy"))
     os.chmod(scratch.at("copy"), 0o755)
     os.chown(folder, 65534, 65534)
-    nobody = subprocess.Popen([scratch.at("copy"), "-D", "-a", f"{folder}/agent"], env=PLAIN, stdout=subprocess.PIPE, preexec_fn=lambda: (os.setgid(65534), os.setuid(65534)))
-    nobody.stdout.read(10)
-    until(lambda: os.path.exists(f"{folder}/agent"), "the socket")
-    with Line(f"{folder}/agent") as line:
-        want(line.blobs(), [], "a listing of another user's agent, by root")
-    want(os.stat(f"/proc/{nobody.pid}/mem").st_uid, 0, "whose memory's file is, of a process that may not be dumped")
-    nobody.terminate()
-    nobody.wait(60)
-    nobody.stdout.close()
-    os.chmod(scratch.folder, 0o700)
+    nobody = subprocess.Popen([scratch.at("copy"), "-D", "-a", f"{folder}/agent"], env=PLAIN, stdout=subprocess.DEVNULL, preexec_fn=lambda: (os.setgid(65534), os.setuid(65534)))
+    try:
+        until(lambda: os.path.exists(f"{folder}/agent"), "the socket")
+        with Line(f"{folder}/agent") as line:
+            want(line.blobs(), [], "a listing of another user's agent, by root")
+        want(os.stat(f"/proc/{nobody.pid}/mem").st_uid, 0, "whose memory's file is, of a process that may not be dumped")
+    finally:
+        nobody.terminate()
+        nobody.wait(60)
 
 
 def found_in_memory(agent, words):

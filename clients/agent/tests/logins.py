@@ -66,7 +66,7 @@ def with_server(scratch, test):
     if not os.path.exists("/usr/sbin/sshd"):
         return "passed over: no sshd"
     agent = scratch.start()
-    for pam in ("no", "yes"):
+    for pam in ("no", "yes") if os.geteuid() == 0 else ("no",):
         server = Server(scratch, pam)
         agent.add(scratch.at("ed25519"))
         status, _, said = agent.run(*server.words(), "true")
