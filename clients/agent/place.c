@@ -121,8 +121,10 @@ static bool make_way(const place *it) {
     complain("%s is there already, and is no socket", it->path);
   else if (is_live(it->name))
     complain("another agent answers at %s: end it first (sazh-agent -k), or name another socket", it->path);
+  else if (unlinkat(it->folder, it->name, 0) == 0)
+    return true;
   else
-    return unlinkat(it->folder, it->name, 0) == 0;
+    complain("%s can't be removed: %s", it->path, strerror(errno));
   return false;
 }
 
