@@ -1,6 +1,7 @@
-// Asks an agent at a Unix socket for listings: agents SOCKET CONNECTIONS SECONDS PID. One thread asks again on each
-// connection once it has its answer. Prints the listings a second, and the processor time of process PID for each listing
-// in microseconds and its resident memory in kB before and after.
+// Asks an agent at a Unix socket: agents SOCKET CONNECTIONS SECONDS PID [FRAME], for listings or for what the file FRAME
+// has, a request with its length. One thread asks again on each connection once it has its answer. Prints the answers a
+// second, and the processor time of process PID for each of them in microseconds and its resident memory in kB before and
+// after.
 #include <stdint.h>
 #include <stdio.h>
 #include <stdlib.h>
@@ -41,9 +42,14 @@ static long memory(int pid) {
 struct stream { int at; uint32_t have, want; };
 
 int main(int count, char **words) {
-    static const unsigned char listing[] = {0, 0, 0, 1, 11};
-    static unsigned char piece[65536];
+    static unsigned char piece[65536], request[65536] = {0, 0, 0, 1, 11};
+    ssize_t length = 5;
     struct sockaddr_un address = {.sun_family = AF_UNIX};
+    if (count == 6) {
+        FILE *f = fopen(words[5], "r");
+        if (!f || (length = fread(request, 1, sizeof request, f)) == 0 || fclose(f)) return perror(words[5]), 1;
+        count--;
+    }
     if (count != 5 || strlen(words[1]) >= sizeof address.sun_path) return 2;
     strcpy(address.sun_path, words[1]);
     int connections = atoi(words[2]), pid = atoi(words[4]), poll = epoll_create1(0);
@@ -57,7 +63,7 @@ int main(int count, char **words) {
     }
     long answered = 0, before = memory(pid);
     for (int i = 0; i < connections; i++)
-        if (write(streams[i].at, listing, sizeof listing) != sizeof listing) return perror("write"), 1;
+        if (write(streams[i].at, request, length) != length) return perror("write"), 1;
     double start = now(), spent = used(pid);
     while (now() < start + seconds) {
         struct epoll_event events[256];
@@ -72,7 +78,7 @@ int main(int count, char **words) {
             if (s->have < s->want) continue;
             s->have = s->want = 0;
             answered++;
-            if (write(s->at, listing, sizeof listing) != sizeof listing) return perror("write"), 1;
+            if (write(s->at, request, length) != length) return perror("write"), 1;
         }
     }
     double took = now() - start;

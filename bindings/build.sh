@@ -97,7 +97,9 @@ if [ -f /usr/include/openssl/evp.h ] && command -v make > /dev/null; then
   else
     left="$left logins (--with-servers)"
   fi
+  make -s -C "$top/clients/agent" OUT="$out" LIB="$out/libsazhonthil.a" test
+  done="$done agent"
 else
-  left="$left client bad-servers logins"
+  left="$left client bad-servers logins agent"
 fi
 echo "bindings: all well:$done${left:+; left out:$left}"
