@@ -324,12 +324,14 @@ sazh_code sazh_channel_wait(sazh_channel *it) {
   if (it == NULL || it->of->inside) return SAZH_MISUSE;
   sazh_code code = until(it->of, is_settled, it);
   if (code == SAZH_AGAIN) return code;
-  if (it->of->phase == PHASE_OVER) return it->of->failed.error.code;
-  if (it->is_refused) return it->of->failed.error.code == SAZH_CHANNEL_REFUSED ? SAZH_CHANNEL_REFUSED : note(it->of, SAZH_CHANNEL_REFUSED, "%s", sazh_code_text(SAZH_CHANNEL_REFUSED));
+  bool is_answered = it->is_open && it->answered >= it->asked; /* also where the connection ended right after the answer */
+  if (it->of->phase == PHASE_OVER && !is_answered) return it->of->failed.error.code;
+  if (it->is_refused && it->of->failed.error.code == SAZH_CHANNEL_REFUSED) return SAZH_CHANNEL_REFUSED; /* with the server's words */
+  if (it->is_refused) return note(it->of, SAZH_CHANNEL_REFUSED, "%s", sazh_code_text(SAZH_CHANNEL_REFUSED));
   bool was_refused = it->refused != 0;
   it->refused = 0;
   if (was_refused) return note(it->of, SAZH_REQUEST_REFUSED, "%s", sazh_code_text(SAZH_REQUEST_REFUSED));
-  if (it->answered < it->asked) return note(it->of, SAZH_CHANNEL_CLOSED, "%s", sazh_code_text(SAZH_CHANNEL_CLOSED));
+  if (!is_answered) return note(it->of, SAZH_CHANNEL_CLOSED, "%s", sazh_code_text(SAZH_CHANNEL_CLOSED));
   return SAZH_OK;
 }
 

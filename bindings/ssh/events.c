@@ -250,6 +250,8 @@ static void take_end(sazh_connection *it) {
     core_event(&it->core, SSHC_EVENT_TRANSPORT_FAILED);
     core_take(&it->core);
   }
+  if (it->jump_channel != NULL && it->jump_channel->is_refused)
+    end(it, SAZH_NO_CONNECTION, "%s port %u: %s", it->host, (unsigned)it->port, sazh_error_of(it->jump)->text);
   end(it, it->line.code, "%s", it->line.failure);
   it->failed.error.system = it->line.system;
 }

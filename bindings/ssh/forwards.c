@@ -109,10 +109,12 @@ static void set_port(struct addrinfo *at, uint16_t port) {
 /* A listener for each address of the name; one that can't be had is passed over if another can. errno where none can. */
 static void listen_tcp(sazh_forward *it) {
   char service[8];
-  struct addrinfo hints = {.ai_family = it->of->set.family, .ai_socktype = SOCK_STREAM, .ai_flags = AI_PASSIVE}, *found = NULL;
+  const char *host = it->listens.host;
+  bool is_every = host[0] == 0, is_loopback = strcmp(host, "localhost") == 0; /* no name: both families, whatever /etc/hosts has */
+  struct addrinfo hints = {.ai_family = it->of->set.family, .ai_socktype = SOCK_STREAM, .ai_flags = is_every ? AI_PASSIVE : 0}, *found = NULL;
   snprintf(service, sizeof service, "%u", (unsigned)it->port);
   errno = EADDRNOTAVAIL;
-  if (getaddrinfo(it->listens.host[0] == 0 ? NULL : it->listens.host, service, &hints, &found) != 0) return;
+  if (getaddrinfo(is_every || is_loopback ? NULL : host, service, &hints, &found) != 0) return;
   int error = 0;
   for (struct addrinfo *at = found; at != NULL && it->count < MOST_LISTENERS; at = at->ai_next) {
     if (it->count != 0) set_port(at, it->port); /* the port that the system chose for the first */

@@ -14,7 +14,6 @@ static sazh_code may_request(sazh_channel *it) {
 static sazh_code request(sazh_channel *it, bytes *body, bool is_answered) {
   if (is_answered) it->asked++;
   channel_ask(it, body);
-  if (it->of->phase == PHASE_OVER) return it->of->failed.error.code;
   return is_answered ? sazh_channel_wait(it) : SAZH_OK;
 }
 

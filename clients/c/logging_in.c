@@ -67,6 +67,8 @@ static sazh_settings settings_of(const options *by) {
   made.connect_seconds = (uint32_t)by->connect_timeout;
   made.keepalive_seconds = (uint32_t)by->alive_interval;
   made.keepalive_max = (uint32_t)by->alive_max;
+  /* no keepalive may go while keys are exchanged, so an exchange has as long as the keepalives would have */
+  if (by->alive_interval > 0 && by->alive_max > 0) made.exchange_seconds = (uint32_t)by->alive_interval * (uint32_t)by->alive_max;
   if (by->rekey_bytes > 0) made.rekey_bytes = (uint64_t)by->rekey_bytes;
   if (by->rekey_seconds > 0) made.rekey_seconds = (uint32_t)by->rekey_seconds;
   made.banner = show_banner;

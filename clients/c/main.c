@@ -99,11 +99,8 @@ static int stream(sazh_connection *at, sazh_channel *with, const options *by, bo
   if (how.is_terminal) terminal_raw();
   sazh_code code = stream_until_closed(&how);
   terminal_restore();
-  if (code == SAZH_SYSTEM) return FAILED;
-  if (sazh_is_over(at)) {
-    print_error(at);
-    return FAILED;
-  }
+  if (code != SAZH_OK && code != SAZH_SYSTEM && sazh_is_over(at)) print_error(at);
+  if (code != SAZH_OK && (code == SAZH_SYSTEM || sazh_is_over(at))) return FAILED;
   if (how.is_terminal && !by->is_quiet) fprintf(stderr, "Connection to %s closed.\n", by->given);
   return with == NULL || by->stdio != NULL ? 0 : status_of(with, by);
 }

@@ -148,6 +148,24 @@ static void pass_size(const streaming *how) {
   sazh_window_change(how->channel, columns, rows);
 }
 
+static bool is_closing(const streaming *how) { return sazh_is_over(how->of) || (how->channel != NULL && sazh_is_closed(how->channel)); }
+
+/* Whether the last step brought what no descriptor will tell of. */
+static bool has_news(const state *it) {
+  const sazh_channel *from = it->how->channel;
+  if (is_closing(it->how) && is_written(it)) return true;
+  return from != NULL && ((it->out.at == it->out.len && sazh_readable(from, SAZH_OUT) != 0) || (it->err.at == it->err.len && sazh_readable(from, SAZH_ERR) != 0));
+}
+
+/* A connection that ends after the server closed the channel has lost nothing of it. */
+static sazh_code how_it_ended(const streaming *how) {
+  unsigned char none;
+  size_t got;
+  if (how->channel == NULL) return sazh_error_of(how->of)->code;
+  sazh_code code = sazh_read(how->channel, SAZH_OUT, &none, 1, &got);
+  return code == SAZH_EOF ? SAZH_OK : code;
+}
+
 sazh_code stream_until_closed(const streaming *how) {
   static state it; /* 64 KiB of buffers */
   it = (state){.how = how, .line_begins = true};
@@ -160,12 +178,11 @@ sazh_code stream_until_closed(const streaming *how) {
   for (;;) {
     sazh_step(how->of);
     if (!drain(how, &it.out) || !drain(how, &it.err)) return SAZH_SYSTEM;
-    bool is_over = sazh_is_over(how->of), is_closed = how->channel != NULL && sazh_is_closed(how->channel);
-    if (how->channel != NULL && !is_closed) take_input(&it);
+    if (is_closing(how) && is_written(&it)) return how_it_ended(how);
+    if (how->channel != NULL && !sazh_is_closed(how->channel)) take_input(&it);
     if (it.leaves) return SAZH_CLOSED;
     pass_size(how);
-    if ((is_over || is_closed) && is_written(&it)) return is_closed && !is_over ? SAZH_OK : sazh_error_of(how->of)->code;
     sazh_step(how->of);
-    wait_for_more(&it);
+    if (!has_news(&it)) wait_for_more(&it);
   }
 }
