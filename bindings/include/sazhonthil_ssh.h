@@ -275,8 +275,11 @@ typedef struct sazh_exit {
   const char *message; /* the server's words, with ? for control characters */
   bool core_dumped;
 } sazh_exit;
-/* What became of the command. Wait for SAZH_EOF or sazh_is_closed first: it is told before the channel is closed. */
+/* What became of the command, as far as the server has told by now: after the end of its output, before it closes the
+ * channel. */
 sazh_exit sazh_exit_of(const sazh_channel *it);
+/* The same once the server has told it or has closed the channel; SAZH_AGAIN where the connection doesn't block. */
+sazh_code sazh_wait_exit(sazh_channel *it, sazh_exit *to);
 
 /* ---- forwards: they last until the connection is freed, and work while sazh_step is called */
 

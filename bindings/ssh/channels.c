@@ -331,7 +331,9 @@ sazh_code sazh_channel_wait(sazh_channel *it) {
   bool was_refused = it->refused != 0;
   it->refused = 0;
   if (was_refused) return note(it->of, SAZH_REQUEST_REFUSED, "%s", sazh_code_text(SAZH_REQUEST_REFUSED));
-  if (!is_answered) return note(it->of, SAZH_CHANNEL_CLOSED, "%s", sazh_code_text(SAZH_CHANNEL_CLOSED));
+  /* some servers close before they answer: what came tells that the request was taken */
+  bool has_begun = it->exit.has_status || it->exit.has_signal || unread(it) != 0;
+  if (!is_answered && !has_begun) return note(it->of, SAZH_CHANNEL_CLOSED, "%s", sazh_code_text(SAZH_CHANNEL_CLOSED));
   return SAZH_OK;
 }
 

@@ -151,6 +151,19 @@ sazh_code sazh_write(sazh_channel *it, const void *from, size_t count, size_t *t
   return SAZH_OK;
 }
 
+static bool has_exited(const void *of) {
+  const sazh_channel *it = of;
+  return it->exit.has_status || it->exit.has_signal || sazh_is_closed(it) || it->of->phase == PHASE_OVER;
+}
+
+sazh_code sazh_wait_exit(sazh_channel *it, sazh_exit *to) {
+  if (it == NULL || it->of->inside) return SAZH_MISUSE;
+  bool waits = !has_exited(it) && until(it->of, has_exited, it) == SAZH_AGAIN;
+  *to = it->exit;
+  if (waits) return SAZH_AGAIN;
+  return it->of->phase == PHASE_OVER && !it->ended_well && !it->exit.has_status && !it->exit.has_signal ? it->of->failed.error.code : SAZH_OK;
+}
+
 static sazh_code end_by(sazh_channel *it, uint8_t what) {
   if (it == NULL || it->of->inside) return SAZH_MISUSE;
   if (it->of->phase == PHASE_OVER) return it->of->failed.error.code;

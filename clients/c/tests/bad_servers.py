@@ -180,7 +180,7 @@ class Peer:
         self.receive()
         self.end_at("cut-before-service")
         self.send(bytes([SERVICE_ACCEPT]) + string(b"ssh-userauth"))
-        self.receive()
+        request = self.receive()
         for _ in range(100000 if self.mode == "banners" else 0):
             self.send(bytes([BANNER]) + string(b"hello\n") + string(b""))
         self.end_at("cut-within-login")
@@ -190,6 +190,9 @@ class Peer:
         if self.mode == "names-password":
             self.send(bytes([USERAUTH_FAILURE]) + string(b"password") + b"\0")
             self.receive()
+        if self.mode == "takes-a-password" and b"secret" not in request:
+            self.send(bytes([USERAUTH_FAILURE]) + string(b"password") + b"\0")
+            raise EOFError
         if self.mode == "no-methods":
             self.send(bytes([USERAUTH_FAILURE]) + string(b"telepathy") + b"\0")
         if self.mode == "cut-failure":

@@ -364,7 +364,7 @@ def secrets_are_wiped_before_they_are_freed(place):
         listener = Answering(lambda line: bad_servers.Peer(line, "names-password").run())
         path = place.write("asks", f"[127.0.0.1]:{listener.port} ssh-ed25519 {bad_servers.host_line()}\n")
         words = ["-F", "none", "-p", str(listener.port), "-o", f"UserKnownHostsFile={path}", "-o", "PubkeyAuthentication=no", "-w", place.path("secret"), "me@127.0.0.1", "x"]
-        ran = subprocess.run([f"{folder}/sazh", *words], stdin=subprocess.DEVNULL, capture_output=True, env={**place.environment, "LOOKED_FOR": secret}, timeout=30)
+        ran = subprocess.run([f"{folder}/sazh", *words], stdin=subprocess.DEVNULL, capture_output=True, env={**place.environment, "LOOKED_FOR": place.path("secret")}, timeout=30)
         want((ran.returncode, b"looked at" in ran.stderr, b"found" in ran.stderr), (0, True, False), f"a password: {ran.stderr}")
 
 

@@ -1,4 +1,5 @@
-"""Starts servers on the loopback for the client's tests, each with keys and a user of its own, and stops them. As root."""
+"""Starts servers on the loopback for the client's tests, with keys and a user that is made for them and deleted after them,
+and stops them. As root; only for runs with --with-servers."""
 import os
 import secrets
 import shutil
@@ -47,10 +48,10 @@ class Scratch:
     """A folder with host keys, a user with a password and a key in an agent."""
 
     def __enter__(self):
-        self.folder, self.user = tempfile.mkdtemp(prefix="client-test-"), "sshc-client"
+        # a name that no user has: useradd refuses one that is there, and only what was made here is deleted
+        self.folder, self.user = tempfile.mkdtemp(prefix="client-test-"), f"sazh-{secrets.token_hex(4)}"
         os.chmod(self.folder, 0o755)
         self.password, self.processes = secrets.token_hex(8), []
-        subprocess.run(["userdel", "--remove", self.user], capture_output=True)
         subprocess.run(["useradd", "--create-home", "--shell", "/bin/sh", self.user], check=True)
         subprocess.run(["chpasswd"], input=f"{self.user}:{self.password}\n", text=True, check=True)
         for kind in ("ed25519", "ecdsa", "rsa"):
