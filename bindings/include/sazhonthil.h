@@ -1,9 +1,34 @@
 /* sazhonthil.h: a proved SSH client core for C, C++, and whatever calls C.
  *
  * The library does no I/O, starts no thread, takes no lock, keeps no global state and computes no cryptography but the
- * HMAC-SHA1 of hashed known hosts lines. Events go in as bytes, records come out as bytes; docs/FORMATS.md has both. The
- * key exchange, the ciphers and the check of the server's signature over the exchange hash are the caller's: see "What a
- * driver has to do" there.
+ * HMAC-SHA1 of hashed known hosts lines. Events go in as bytes, records come out as bytes; their numbers are below, and
+ * docs/FORMATS.md has the fields of each. Whoever calls this is a driver: it brings the transport. sazhonthil_ssh.h has one
+ * ready, and no program that uses it needs this header.
+ *
+ * What a driver has to do. Nothing here checks it.
+ *
+ * 1. IT VERIFIES THE SERVER'S SIGNATURE OVER THE EXCHANGE HASH, with the host key that EXCHANGE_DONE names, before it hands
+ *    in EXCHANGE_DONE (RFC 4253, section 8). The field for the signature is read and not verified. A driver that leaves
+ *    this out has no server authentication at all, whatever the known hosts say.
+ * 2. It does the key exchange, the ciphers and the version lines (RFC 4253, sections 4 to 8), and hands in PEER_KEXINIT when
+ *    the server's KEXINIT is there, and EXCHANGE_DONE when the new keys are used in both directions. At the start an
+ *    exchange of ours runs, without a record that asks for it. The hash of the first exchange is the session's id.
+ * 3. It hands in each decrypted packet, but those numbered 20 to 49, as PAYLOAD, in the order in which they came; those
+ *    that came before EXCHANGE_DONE before it.
+ * 4. It sends the packets of PAYLOAD records in their order, and begins a key exchange at BEGIN_EXCHANGE. While an exchange
+ *    of ours runs it holds these packets back, and sends them once the new keys are used (RFC 4253, section 7.1).
+ * 5. It answers SIGN_KEY and SIGN_CERTIFICATE with the very bytes that were handed out and the signature after them.
+ * 6. It reads all records of a `_take` before the next one, which drops those that are left: a packet would be missing.
+ * 7. It has the timers (KEEPALIVE_TIMER, INACTIVITY_TIMER, REKEY_LIMIT) and a clock that isn't set back.
+ *
+ * Limits. Each of these ends the session for good:
+ *
+ * - SSHC_BAD_EVENT: an event above SSHC_LONGEST_EVENT bytes, fields that are broken or left over, and a moment below the
+ *   last one. So data is cut into pieces, and the moments are those of a monotonic clock.
+ * - SSHC_OUT_OF_TURN: an event of the user while keys are exchanged (from BEGIN_EXCHANGE or PEER_KEXINIT to EXCHANGE_DONE, and
+ *   from the start); a packet or a timer while an answer is awaited (after SIGN_KEY, SIGN_CERTIFICATE or PROMPTS); a
+ *   second PEER_KEXINIT, or an EXCHANGE_DONE without one.
+ * - SSHC_SCRIPT_TOO_LONG: more than max_events events, at most 4,294,967,295. At 3,800 packets a second that is 13 days.
  *
  * Each call below has a contract in crates/sazhonthil that is proved. What a contract can't check, the caller owes:
  *
@@ -264,7 +289,14 @@ enum {
 /* An event is at most this long, with its length field: data for a channel is cut into pieces below it. */
 #define SSHC_LONGEST_EVENT (4u + 262144u)
 
-/* ---- known hosts */
+/* ---- known hosts
+ *
+ * What differs from OpenSSH, and matters: hosts are compared byte by byte, so hand in lower case (`Host` isn't `host`).
+ * Patterns (*, ?, !) aren't read: a line for *.example.org is a line for a host of that very name, and a pattern marked
+ * @revoked revokes nothing. Lines marked @cert-authority aren't read. Fields are parted by one space: a tab, two spaces or a
+ * blank in front hide a line. One byte that isn't UTF-8, anywhere in the text, refuses every host (SSHC_NOT_TEXT). A line for
+ * the host whose key isn't base64, or is of a type that isn't known here, refuses the host (SSHC_DECODE, SSHC_SSH_KEY) where
+ * OpenSSH passes over it. */
 
 /* Whether the known hosts text accepts the key (its blob, RFC 4253, section 6.6) for the host at the port: SSHC_OK,
  * SSHC_UNKNOWN, SSHC_KEY_CHANGED or SSHC_REVOKED with the line's number from 1 in *line, SSHC_DECODE, SSHC_SSH_KEY,
@@ -273,7 +305,9 @@ sshc_status sshc_known_hosts_check(const uint8_t *host, size_t host_len, uint16_
                                    const uint8_t *key, size_t key_len, uint64_t *line);
 
 /* Copies what is to be added at the end of the known hosts text so that it has the key: SSHC_OK, SSHC_NO_ROOM,
- * SSHC_BAD_KEY, SSHC_NOT_TEXT, SSHC_NO_MEMORY. Nothing is judged: check first. *size is set with the first two alone. */
+ * SSHC_BAD_KEY, SSHC_NOT_TEXT, SSHC_NO_MEMORY. Nothing is judged: check first. *size is set with the first two alone. THE
+ * HOST IS WRITTEN AS IT IS: the caller sees to it that it is one name, without comma, space, line feed, or a sign of
+ * patterns and markers (* ? ! | @ #) in it, since "x,github.com" would be a line for github.com too. */
 sshc_status sshc_known_hosts_learn(const uint8_t *host, size_t host_len, uint16_t port, const uint8_t *known, size_t known_len,
                                    const uint8_t *key, size_t key_len, uint8_t *to, size_t to_len, size_t *size);
 
