@@ -121,9 +121,11 @@ void channel_opened(sazh_channel *it, uint32_t number) {
   bytes_free(&it->waiting);
 }
 
-void channel_open_failed(sazh_channel *it) {
+void channel_open_failed(sazh_channel *it, uint32_t reason) {
   it->ticket = 0;
   it->is_refused = it->eof_in = true;
+  it->reason = reason;
+  it->of->refused = it;
 }
 
 /* ---- what the core reports */
@@ -146,20 +148,11 @@ static void exited(sazh_channel *it, uint8_t kind, reader *fields) {
   copy_safe(it->message, sizeof it->message, get_string(fields));
 }
 
-/* The words of a refusal come before the ticket's answer or after it, so both leave what they know. */
-static void refused(sazh_connection *it, uint32_t reason, slice words) {
-  char safe[256];
-  copy_safe(safe, sizeof safe, words);
-  note(it, SAZH_CHANNEL_REFUSED, "%s: %s (reason %u)", sazh_code_text(SAZH_CHANNEL_REFUSED), safe, (unsigned)reason);
-  it->failed.error.reason = reason;
-  memcpy(it->failed.words, safe, sizeof safe);
-}
-
 void channel_record(sazh_connection *it, uint8_t kind, reader *fields) {
   uint32_t number = get_u32(fields);
-  if (kind == SSHC_RECORD_CHANNEL_OPEN_FAILURE) {
-    uint32_t reason = get_u32(fields);
-    refused(it, reason, get_string(fields));
+  if (kind == SSHC_RECORD_CHANNEL_OPEN_FAILURE && it->refused != NULL) {
+    get_u32(fields); /* the reason was in the ticket's answer */
+    copy_safe(it->refused->message, sizeof it->refused->message, get_string(fields));
     return;
   }
   sazh_channel *at = channel_of(it, number);
@@ -320,14 +313,21 @@ static bool is_settled(const void *of) {
   return it->is_closed || it->is_refused || (it->is_open && it->answered >= it->asked);
 }
 
+static sazh_code note_refusal(sazh_channel *it) {
+  sazh_code code = note(it->of, SAZH_CHANNEL_REFUSED, "%s: %s (reason %u)", sazh_code_text(SAZH_CHANNEL_REFUSED), it->message, (unsigned)it->reason);
+  if (code != SAZH_CHANNEL_REFUSED) return code;
+  it->of->failed.error.reason = it->reason;
+  memcpy(it->of->failed.words, it->message, sizeof it->message);
+  return code;
+}
+
 sazh_code sazh_channel_wait(sazh_channel *it) {
   if (it == NULL || it->of->inside) return SAZH_MISUSE;
   sazh_code code = until(it->of, is_settled, it);
   if (code == SAZH_AGAIN) return code;
   bool is_answered = it->is_open && it->answered >= it->asked; /* also where the connection ended right after the answer */
   if (it->of->phase == PHASE_OVER && !is_answered) return it->of->failed.error.code;
-  if (it->is_refused && it->of->failed.error.code == SAZH_CHANNEL_REFUSED) return SAZH_CHANNEL_REFUSED; /* with the server's words */
-  if (it->is_refused) return note(it->of, SAZH_CHANNEL_REFUSED, "%s", sazh_code_text(SAZH_CHANNEL_REFUSED));
+  if (it->is_refused) return note_refusal(it);
   bool was_refused = it->refused != 0;
   it->refused = 0;
   if (was_refused) return note(it->of, SAZH_REQUEST_REFUSED, "%s", sazh_code_text(SAZH_REQUEST_REFUSED));

@@ -74,6 +74,7 @@ struct sazh_channel {
   uint32_t asked, answered, refused;
   sazh_exit exit;
   char signal[32], message[256];
+  uint32_t reason; /* why it was refused; the words are in `message` */
 };
 
 typedef enum forward_kind { FORWARD_LOCAL, FORWARD_DYNAMIC, FORWARD_REMOTE } forward_kind;
@@ -140,6 +141,7 @@ struct sazh_connection {
   opening last;
 
   sazh_channel *channels;
+  sazh_channel *refused; /* the channel whose open was just refused, until its words come */
   sazh_forward *forwards;
   join *joins;
   size_t join_count;
@@ -184,7 +186,7 @@ void login_free(login *it);
 sazh_channel *channel_new(sazh_connection *it);
 sazh_channel *channel_of_peer(sazh_connection *it, uint32_t peer);
 void channel_opened(sazh_channel *it, uint32_t number);
-void channel_open_failed(sazh_channel *it);
+void channel_open_failed(sazh_channel *it, uint32_t reason);
 void channel_record(sazh_connection *it, uint8_t kind, reader *fields);
 /* Hands in as many bytes as may go now; how many. */
 size_t channel_put(sazh_channel *it, const uint8_t *from, size_t count);

@@ -82,7 +82,7 @@ static void resolved(sazh_connection *it, reader *fields) {
     if (at->ticket != ticket) continue;
     uint32_t number = get_u32(fields);
     if (how == SSHC_RESOLVED_CHANNEL_OPENED) channel_opened(at, number);
-    else channel_open_failed(at);
+    else channel_open_failed(at, number);
     return;
   }
 }
@@ -112,6 +112,7 @@ bool deliver(sazh_connection *it) {
   uint64_t detail = it->core.detail;
   slice record;
   while (core_record(&it->core, &record)) take_record(it, record);
+  it->refused = NULL;
   if (it->core.no_memory) status = SSHC_NO_MEMORY;
   if (it->line.ended) end(it, it->line.code, "%s", it->line.failure);
   if (status == SSHC_OK) return it->phase != PHASE_OVER;
@@ -251,7 +252,7 @@ static void take_end(sazh_connection *it) {
     core_take(&it->core);
   }
   if (it->jump_channel != NULL && it->jump_channel->is_refused)
-    end(it, SAZH_NO_CONNECTION, "%s port %u: %s", it->host, (unsigned)it->port, sazh_error_of(it->jump)->text);
+    end(it, SAZH_NO_CONNECTION, "the jump host can't connect to %s port %u: %s", it->host, (unsigned)it->port, it->jump_channel->message);
   end(it, it->line.code, "%s", it->line.failure);
   it->failed.error.system = it->line.system;
 }

@@ -168,7 +168,7 @@ static void take_target(sazh_connection *it, join *at) {
   get_u8(&in);
   bool is_read = read_target(&in, host, sizeof host);
   slice port = get_bytes(&in, 2);
-  if (in.bad && at->head.len < 300) return;
+  if (in.bad && bytes_count(&at->head) < 300) return; /* not whole yet: none is longer */
   if (in.bad || !is_read || command != CONNECT) {
     socks_reply(at, command != CONNECT ? BAD_COMMAND : BAD_ADDRESS);
     at->in_ended = true;

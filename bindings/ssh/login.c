@@ -17,7 +17,7 @@ static void forget_agent(login *it) {
 }
 
 void login_free(login *it) {
-  if (it->agent.socket > 0) forget_agent(it);
+  if (it->agent.socket >= 0) forget_agent(it);
   free(it->user);
   *it = (login){.agent = {.socket = -1}};
 }

@@ -205,7 +205,11 @@ static sazh_code try_next_key(attempt *it) {
     tell(by, "trying the keys of the agent at %s", agent);
     return sazh_login_agent(it->at, by->user, agent);
   }
-  if (it->next_key < by->identities.count) return try_key(it, by->identities.at[it->next_key++]);
+  while (it->next_key < by->identities.count) {
+    const char *path = by->identities.at[it->next_key++];
+    if (it->next_key > by->named_identities && access(path, F_OK) != 0) continue;
+    return try_key(it, path);
+  }
   return SAZH_NO_KEY;
 }
 

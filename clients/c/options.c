@@ -303,6 +303,7 @@ void options_read(options *to, int count, char **words) {
     if (at_end || optind >= count || words[optind][0] != '-') break;
   }
   if (to->given == NULL) usage_error("%s", USAGE);
+  to->named_identities = to->identities.count;
   if (optind < count) to->command = joined(count - optind, words + optind);
   if (to->is_subsystem && to->command == NULL) usage_error("-s wants the name of a subsystem");
 }

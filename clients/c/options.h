@@ -30,6 +30,7 @@ typedef struct options {
   int identities_only, forward_agent, batch, pubkey, password, prompts, exit_on_failure, clear_forwards, strict, terminal;
   long long rekey_bytes, rekey_seconds;
   names identities, sent, environment;
+  size_t named_identities; /* those of the command line come first; others may be missing */
   forward_wish forwards[MOST_FORWARDS];
   size_t forward_count;
   bool is_subsystem, no_command, is_quiet, no_input, in_background, prints_options;

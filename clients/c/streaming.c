@@ -3,7 +3,7 @@
 #include "terminal.h"
 
 #include <errno.h>
-#include <limits.h>
+#include <fcntl.h>
 #include <stdio.h>
 #include <string.h>
 #include <sys/socket.h>
@@ -26,6 +26,7 @@ typedef struct state {
   const streaming *how;
   outlet out, err;
   bool input_ended, input_waits; /* input_waits: poll said that there is something */
+  bool output_ended;
   bool line_begins, has_tilde, leaves;
 } state;
 
@@ -157,6 +158,15 @@ static bool has_news(const state *it) {
   return from != NULL && ((it->out.at == it->out.len && sazh_readable(from, SAZH_OUT) != 0) || (it->err.at == it->err.len && sazh_readable(from, SAZH_ERR) != 0));
 }
 
+/* Whoever reads our output is told its end, also while input still goes. */
+static void pass_end(state *it) {
+  const streaming *how = it->how;
+  if (it->output_ended || how->is_terminal || how->channel == NULL || it->out.at != it->out.len || !sazh_at_eof(how->channel, SAZH_OUT)) return;
+  it->output_ended = true;
+  int nowhere = open("/dev/null", O_WRONLY | O_CLOEXEC);
+  if (nowhere >= 0) dup2(nowhere, 1), close(nowhere);
+}
+
 /* A connection that ends after the server closed the channel has lost nothing of it. */
 static sazh_code how_it_ended(const streaming *how) {
   unsigned char none;
@@ -178,6 +188,7 @@ sazh_code stream_until_closed(const streaming *how) {
   for (;;) {
     sazh_step(how->of);
     if (!drain(how, &it.out) || !drain(how, &it.err)) return SAZH_SYSTEM;
+    pass_end(&it);
     if (is_closing(how) && is_written(&it)) return how_it_ended(how);
     if (how->channel != NULL && !sazh_is_closed(how->channel)) take_input(&it);
     if (it.leaves) return SAZH_CLOSED;
