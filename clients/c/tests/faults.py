@@ -19,6 +19,7 @@ import time
 
 import bad_servers
 from local_sshd import Answering, Place, can_connect, echo, free_port, run_all, said_back, until, want
+from terminals import Terminal
 
 HERE = os.path.dirname(os.path.abspath(__file__))
 
@@ -147,25 +148,12 @@ def a_signal_at_the_password_prompt_brings_the_echo_back(place):
 
     listener = Answering(serve)
     path = place.write("asks", f"[127.0.0.1]:{listener.port} ssh-ed25519 {bad_servers.host_line()}\n")
-    mine, theirs = pty.openpty()
     words = [place.client, "-F", "none", "-p", str(listener.port), "-o", f"UserKnownHostsFile={path}", "-o", "PubkeyAuthentication=no", "me@127.0.0.1", "x"]
-
-    def own_terminal():
-        os.setsid()
-        fcntl.ioctl(0, termios.TIOCSCTTY, 0)
-
-    process = subprocess.Popen(words, stdin=theirs, stdout=theirs, stderr=theirs, env=place.environment, preexec_fn=own_terminal)
-    said = b""
-    while b"password" not in said:
-        said += os.read(mine, 1000)
-    want(b"me@127.0.0.1's password" in said, True, "whose password is asked for")
-    echoes = lambda: bool(termios.tcgetattr(theirs)[3] & termios.ECHO)
-    until(lambda: not echoes(), "the echo is off")
-    os.write(mine, b"\x03")
-    process.wait(10)
-    want((process.returncode, echoes()), (-signal.SIGINT, True), "Ctrl-C at the prompt")
-    os.close(mine)
-    os.close(theirs)
+    with Terminal(place, words) as it:
+        it.until("assword")
+        until(lambda: not termios.tcgetattr(it.theirs)[3] & termios.ECHO, "the echo is off")
+        it.type("\x03")
+        want((it.ended(), it.is_as_before()), (-signal.SIGINT, True), "Ctrl-C at the prompt")
 
 
 # ---- forwards
@@ -366,6 +354,15 @@ def secrets_are_wiped_before_they_are_freed(place):
         words = ["-F", "none", "-p", str(listener.port), "-o", f"UserKnownHostsFile={path}", "-o", "PubkeyAuthentication=no", "-w", place.path("secret"), "me@127.0.0.1", "x"]
         ran = subprocess.run([f"{folder}/sazh", *words], stdin=subprocess.DEVNULL, capture_output=True, env={**place.environment, "LOOKED_FOR": place.path("secret")}, timeout=30)
         want((ran.returncode, b"looked at" in ran.stderr, b"found" in ran.stderr), (0, True, False), f"a password: {ran.stderr}")
+        place.make_key("sealed", "ed25519", secret)
+        place.write("authorized_keys", place.read("authorized_keys") + place.read("sealed.pub"))
+        words = [f"{folder}/sazh", *place.words(PORT, key="sealed")[1:], "localhost", "echo in"]
+        with Terminal(place, words, LOOKED_FOR=place.path("secret")) as it:
+            it.until("Passphrase of ")
+            it.type(secret + "\r")
+            it.until("in\r\n")
+            it.until("looked at")
+            want((it.ended(), b"found" in it.seen), (0, False), f"a passphrase: {it.seen}")
 
 
 def it_is_built_and_installed_as_packages_want(place):
