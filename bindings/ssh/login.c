@@ -179,8 +179,9 @@ void login_resolved(sazh_connection *it, uint8_t how, reader *fields) {
     it->login.partial = get_bool(fields);
     it->login.broken = SAZH_DENIED;
   }
-  bool has_agent = it->login.agent.socket >= 0;
-  if (has_agent && !it->login.partial && list_has(text_of(it->login.methods), text_of("publickey")) && try_next_key(it)) return;
+  bool has_agent = it->login.agent.socket >= 0; /* a key that it doesn't sign with (Dropped) leaves the others */
+  bool may_go_on = how != SSHC_RESOLVED_AUTH_FAILURE || list_has(text_of(it->login.methods), text_of("publickey"));
+  if (has_agent && !it->login.partial && may_go_on && try_next_key(it)) return;
   finish(it, it->login.broken);
 }
 

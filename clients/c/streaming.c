@@ -101,13 +101,16 @@ static size_t without_escapes(state *it, unsigned char *bytes, size_t count, uns
   return made;
 }
 
+/* How many bytes may be read now. Of what is typed each may become two. */
+static size_t may_take(const streaming *how) { return how->is_terminal ? sazh_writable(how->channel) / 2 : sazh_writable(how->channel); }
+
 static void take_input(state *it) {
   const streaming *how = it->how;
-  unsigned char typed[16384], sent[2 * sizeof typed];
-  size_t may = sazh_writable(how->channel), taken;
-  if (it->input_ended || may < 2 || !it->input_waits) return;
+  unsigned char typed[32768], sent[2 * sizeof typed];
+  size_t may = may_take(how), taken;
+  if (it->input_ended || may == 0 || !it->input_waits) return;
   it->input_waits = false;
-  ssize_t got = read(0, typed, may / 2 < sizeof typed ? may / 2 : sizeof typed);
+  ssize_t got = read(0, typed, may < sizeof typed ? may : sizeof typed);
   if (got < 0 && (errno == EAGAIN || errno == EWOULDBLOCK || errno == EINTR)) return;
   if (got <= 0) {
     it->input_ended = true;
@@ -134,7 +137,7 @@ static void wait_for_more(state *it) {
   size_t count = sazh_poll(how->of, all, MOST_POLLS);
   if (count > MOST_POLLS) count = MOST_POLLS;
   size_t input = count;
-  bool reads = how->channel != NULL && !it->input_ended && sazh_writable(how->channel) >= 2;
+  bool reads = how->channel != NULL && !it->input_ended && may_take(how) != 0;
   if (reads) all[count++] = (struct pollfd){.fd = 0, .events = POLLIN};
   if (it->out.at != it->out.len) all[count++] = (struct pollfd){.fd = it->out.file, .events = POLLOUT};
   if (it->err.at != it->err.len) all[count++] = (struct pollfd){.fd = it->err.file, .events = POLLOUT};

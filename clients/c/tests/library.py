@@ -17,13 +17,13 @@ BINDINGS = os.path.abspath(f"{HERE}/../../../bindings")
 ARCHIVE = os.environ.get("SAZHONTHIL_ARCHIVE")
 
 
-def built(place, source):
+def built(place, source, *more):
     program = place.path(os.path.basename(source)[:-2])
     library = place.path("libsazhonthil_ssh.a")
     if not os.path.exists(library):
         subprocess.run(["make", "-s", "-C", f"{BINDINGS}/ssh", f"OUT={place.folder}", "CFLAGS=-g -O1 -fsanitize=address,undefined", "HARDENING="], check=True)
     words = ["cc", "-std=c11", "-g", "-Wall", "-Wextra", "-Wpedantic", "-fsanitize=address,undefined", f"-I{BINDINGS}/include", source, f"{BINDINGS}/runtime/runtime.c", library, ARCHIVE]
-    subprocess.run([*words, "-lcrypto", "-o", program], check=True)
+    subprocess.run([*words, *more, "-lcrypto", "-o", program], check=True)
     return program
 
 
@@ -67,10 +67,17 @@ def calls_in_and_out_of_order(place):
     want((ran.returncode, ran.stdout, ran.stderr), (0, "library: calls in and out of order; wrong: 0\n", ""), "calls")
 
 
+def each_request_for_memory_refused(place):
+    program = built(place, f"{HERE}/refused_memory.c", "-Wl,--wrap=malloc,--wrap=calloc")
+    words = [program, str(PORT), place.user, place.path("user_ed25519"), place.path("known_hosts"), "5"]
+    ran = subprocess.run(words, capture_output=True, text=True, timeout=600)
+    want((ran.returncode, ran.stderr, ran.stdout.endswith("once more: well\n")), (0, "", True), f"refused memory: {ran.stdout}")
+
+
 if __name__ == "__main__":
     TESTS = [the_header_stands_alone, examples_are_short]
-    TESTS += [a_command_by_a_key_file, a_command_by_a_password, calls_in_and_out_of_order] if ARCHIVE else []
+    TESTS += [a_command_by_a_key_file, a_command_by_a_password, calls_in_and_out_of_order, each_request_for_memory_refused] if ARCHIVE else []
     with Place(sys.argv[0]) as place:
         PORT = place.sshd()
         place.known(PORT, "ed25519", "ecdsa", "rsa")
-        sys.exit(run_all(TESTS, place, "library"))
+        sys.exit(run_all([it for it in TESTS if len(sys.argv) < 2 or it.__name__ in sys.argv[1:]], place, "library"))
