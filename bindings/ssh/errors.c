@@ -6,46 +6,48 @@
 #include <stdio.h>
 #include <string.h>
 
+static const char *const TEXTS[] = {
+    [SAZH_OK] = "all is well",
+    [SAZH_AGAIN] = "not yet",
+    [SAZH_EOF] = "the end of the stream",
+    [SAZH_MISUSE] = "this call can't be made now, or not with these values",
+    [SAZH_NO_MEMORY] = "out of memory",
+    [SAZH_CRYPTO] = "libcrypto failed",
+    [SAZH_SYSTEM] = "a call of the system failed",
+    [SAZH_BAD_NAME] = "the host's name has a sign that no name has",
+    [SAZH_NO_ADDRESS] = "the host's name has no address",
+    [SAZH_NO_CONNECTION] = "the host takes no connection",
+    [SAZH_TIMEOUT] = "the server took too long",
+    [SAZH_CLOSED] = "the server closed the connection",
+    [SAZH_BAD_PACKET] = "the server sent what the transport can't take",
+    [SAZH_NO_ALGORITHM] = "no algorithm in common with the server",
+    [SAZH_BAD_SIGNATURE] = "the server doesn't have the host key that it showed",
+    [SAZH_HOST_UNKNOWN] = "the server's host key isn't in the known hosts",
+    [SAZH_HOST_CHANGED] = "the known hosts have another host key",
+    [SAZH_HOST_REVOKED] = "the server's host key is revoked",
+    [SAZH_HOST_REKEYED] = "the server showed another host key later",
+    [SAZH_HOSTS_FILE] = "the known hosts can't be read or written",
+    [SAZH_REFUSED_BY_CORE] = "the server sent what it may not send",
+    [SAZH_DISCONNECTED] = "the server ended the session",
+    [SAZH_NO_ANSWER] = "the server doesn't answer any more",
+    [SAZH_DENIED] = "permission denied",
+    [SAZH_NO_METHOD] = "the server names no method of logging in that is known",
+    [SAZH_NO_AGENT] = "there is no agent",
+    [SAZH_NO_KEY] = "the agent has no key that can be tried",
+    [SAZH_KEY_FILE] = "the file isn't a private key that can be read",
+    [SAZH_PASSPHRASE] = "the passphrase is wrong, or there is none",
+    [SAZH_SIGNING] = "the key didn't sign",
+    [SAZH_NO_ANSWERS] = "there were no answers to the server's prompts",
+    [SAZH_CHANNEL_REFUSED] = "the server opens no such channel",
+    [SAZH_REQUEST_REFUSED] = "the server refused the request",
+    [SAZH_CHANNEL_CLOSED] = "the channel is closed",
+    [SAZH_FORWARD_REFUSED] = "the server forwards no port",
+    [SAZH_CANNOT_LISTEN] = "can't listen there",
+};
+
 const char *sazh_code_text(sazh_code code) {
-  switch (code) {
-  case SAZH_OK: return "all is well";
-  case SAZH_AGAIN: return "not yet";
-  case SAZH_EOF: return "the end of the stream";
-  case SAZH_MISUSE: return "this call can't be made now, or not with these values";
-  case SAZH_NO_MEMORY: return "out of memory";
-  case SAZH_CRYPTO: return "libcrypto failed";
-  case SAZH_SYSTEM: return "a call of the system failed";
-  case SAZH_BAD_NAME: return "the host's name has a sign that no name has";
-  case SAZH_NO_ADDRESS: return "the host's name has no address";
-  case SAZH_NO_CONNECTION: return "the host takes no connection";
-  case SAZH_TIMEOUT: return "the server took too long";
-  case SAZH_CLOSED: return "the server closed the connection";
-  case SAZH_BAD_PACKET: return "the server sent what the transport can't take";
-  case SAZH_NO_ALGORITHM: return "no algorithm in common with the server";
-  case SAZH_BAD_SIGNATURE: return "the server doesn't have the host key that it showed";
-  case SAZH_HOST_UNKNOWN: return "the server's host key isn't in the known hosts";
-  case SAZH_HOST_CHANGED: return "the known hosts have another host key";
-  case SAZH_HOST_REVOKED: return "the server's host key is revoked";
-  case SAZH_HOST_REKEYED: return "the server showed another host key later";
-  case SAZH_HOSTS_FILE: return "the known hosts can't be read or written";
-  case SAZH_REFUSED_BY_CORE: return "the server sent what it may not send";
-  case SAZH_DISCONNECTED: return "the server ended the session";
-  case SAZH_NO_ANSWER: return "the server doesn't answer any more";
-  case SAZH_DENIED: return "permission denied";
-  case SAZH_NO_METHOD: return "the server names no method of logging in that is known";
-  case SAZH_NO_AGENT: return "there is no agent";
-  case SAZH_NO_KEY: return "the agent has no key that can be tried";
-  case SAZH_KEY_FILE: return "the file isn't a private key that can be read";
-  case SAZH_PASSPHRASE: return "the passphrase is wrong, or there is none";
-  case SAZH_SIGNING: return "the key didn't sign";
-  case SAZH_NO_ANSWERS: return "there were no answers to the server's prompts";
-  case SAZH_CHANNEL_REFUSED: return "the server opens no such channel";
-  case SAZH_REQUEST_REFUSED: return "the server refused the request";
-  case SAZH_CHANNEL_CLOSED: return "the channel is closed";
-  case SAZH_FORWARD_REFUSED: return "the server forwards no port";
-  case SAZH_CANNOT_LISTEN: return "can't listen there";
-  }
-  return "an unknown error";
+  size_t at = (size_t)code;
+  return at < sizeof TEXTS / sizeof *TEXTS ? TEXTS[at] : "an unknown error";
 }
 
 static void fill(sazh_connection *it, sazh_code code, const char *format, va_list given) {
