@@ -15,6 +15,7 @@ sazh_channel *channel_new(sazh_connection *it) {
   made->of = it;
   made->is_owned = true;
   made->most = CHUNK;
+  made->told = it->set.window;
   made->exit.signal = made->signal;
   made->exit.message = made->message;
   made->next = it->channels;
@@ -73,6 +74,7 @@ static void give(sazh_channel *it) {
   uint8_t packet[9] = {CHANNEL_WINDOW_ADJUST};
   store_u32(packet + 1, it->peer);
   store_u32(packet + 5, it->owed);
+  it->told += it->owed;
   it->owed = 0;
   transport_send(&it->of->line, slice_of(packet, sizeof packet));
 }
@@ -130,7 +132,13 @@ void channel_open_failed(sazh_channel *it, uint32_t reason) {
 
 /* ---- what the core reports */
 
+/* The core's window is ahead of what the server was told, so that a server which sends more than that is found out here. */
 static void put_data(sazh_channel *it, sazh_stream to, slice data) {
+  if (data.len > it->told) {
+    end(it->of, SAZH_BAD_PACKET, "the server sent more than a channel's window");
+    return;
+  }
+  it->told -= data.len;
   if (!it->is_owned) return; /* nobody reads it */
   put(&it->in[to], data.at, data.len);
   if (it->in[to].bad) end_no_memory(it->of);

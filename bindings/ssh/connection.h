@@ -70,6 +70,7 @@ struct sazh_channel {
   uint64_t window; /* how many bytes may be handed in */
   bytes in[2];
   uint32_t owed;   /* window that the core gave back, and that the server isn't told of yet */
+  uint64_t told;   /* how many bytes the server may send by what it was told */
   bytes waiting;   /* what was asked before it was open: a string each */
   uint32_t asked, answered, refused;
   sazh_exit exit;

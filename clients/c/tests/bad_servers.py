@@ -219,6 +219,9 @@ class Peer:
             time.sleep(20)
         self.send(b"\x63" + struct.pack(">I", 1))
         self.send(b"\x5e" + struct.pack(">I", 1) + string(b"well\n"))
+        if self.mode == "beyond-the-window":
+            for _ in range(400):
+                self.send(b"\x5e" + struct.pack(">I", 1) + string(b"x" * 32768))
         if self.mode != "no-exit-status":
             self.send(b"\x62" + struct.pack(">I", 1) + string(b"exit-status") + b"\0" + struct.pack(">I", 0))
         self.send(b"\x61" + struct.pack(">I", 1))

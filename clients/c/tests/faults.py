@@ -205,6 +205,17 @@ def a_forward_whose_reader_pauses_stops_no_other(place):
                 got += len(line.recv(1 << 20))
 
 
+def a_server_that_sends_beyond_the_window_is_left(place):
+    """Nobody reads the output, and the server goes on without being given more of the window."""
+    listener = Answering(lambda line: bad_servers.Peer(line, "beyond-the-window").run())
+    path = place.write("floods", f"[127.0.0.1]:{listener.port} ssh-ed25519 {bad_servers.host_line()}\n")
+    words = [place.client, "-F", "none", "-p", str(listener.port), "-o", f"UserKnownHostsFile={path}", "-w", place.write("secret", "secret\n"), "127.0.0.1", "x"]
+    process = subprocess.Popen(words, stdin=subprocess.DEVNULL, stdout=subprocess.PIPE, stderr=subprocess.PIPE, env=place.environment)
+    time.sleep(3)
+    output, said = process.communicate(timeout=30)
+    want((process.returncode, b"more than a channel's window" in said, len(output) < 8 << 20), (255, True, True), f"a flood: {len(output)} bytes, {said}")
+
+
 def a_local_forward_listens_in_both_families(place):
     other = Answering(echo)
     for form in ("{}:127.0.0.1:{}", "*:{}:127.0.0.1:{}", ":{}:127.0.0.1:{}"):
@@ -378,6 +389,7 @@ def it_is_built_and_installed_as_packages_want(place):
 if __name__ == "__main__":
     TESTS = [a_closed_descriptor_is_no_socket, output_that_cant_be_written_is_an_error, standard_descriptors_are_left_as_they_are, whole_packets_before_the_end_are_read,
              a_signal_at_the_password_prompt_brings_the_echo_back, a_forward_whose_reader_breaks_is_closed, a_forward_whose_reader_pauses_stops_no_other,
+             a_server_that_sends_beyond_the_window_is_left,
              a_local_forward_listens_in_both_families, a_remote_forward_tells_its_port, a_host_that_takes_nothing_holds_no_other, a_host_is_known_by_any_of_its_keys,
              errors_name_key_file_line_and_words, wrong_words_are_refused, a_server_that_exchanges_no_keys_is_left, secrets_are_wiped_before_they_are_freed,
              it_is_built_and_installed_as_packages_want]
