@@ -177,9 +177,12 @@ int hosts_learn(hosts *it, slice host, uint16_t port, slice key, bool write_it) 
   if (line == NULL) return ENOMEM;
   sshc_status made = sshc_known_hosts_learn(host.at, host.len, port, old.at, old.len, key.at, key.len, line, room, &size);
   int error = made == SSHC_OK ? 0 : made == SSHC_NO_MEMORY ? ENOMEM : EINVAL;
-  if (error == 0) put(&it->text, line, size);
+  /* the line feed in front ends a last line that has none; an empty file has no such line */
+  size_t skipped = error == 0 && old.len == 0 && size != 0 && line[0] == '\n' ? 1 : 0;
+  slice added = slice_of(line + skipped, error == 0 ? size - skipped : 0);
+  put(&it->text, added.at, added.len);
   if (error == 0 && it->text.bad) error = ENOMEM;
-  if (error == 0 && write_it) error = it->count == 0 ? ENOENT : append(it->files[0].path, slice_of(line, size));
+  if (error == 0 && write_it) error = it->count == 0 ? ENOENT : append(it->files[0].path, added);
   free(line);
   return error;
 }

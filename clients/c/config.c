@@ -179,6 +179,12 @@ static void replace(const options *from, char **text) {
   *text = made;
 }
 
+static void leave_out_none(char **text) {
+  if (*text == NULL || strcasecmp(*text, "none") != 0) return;
+  free(*text);
+  *text = NULL;
+}
+
 void options_complete(options *to) {
   read_files(to);
   int *const flags[] = {&to->identities_only, &to->forward_agent, &to->batch, &to->exit_on_failure, &to->clear_forwards};
@@ -202,9 +208,9 @@ void options_complete(options *to) {
   for (size_t i = 0; i < to->identities.count; i++) replace(to, &to->identities.at[i]);
   if (to->identities.count == 0) default_identities(to);
   if (to->agent != NULL) replace(to, &to->agent);
-  if (to->jump != NULL && strcasecmp(to->jump, "none") == 0) to->jump = NULL;
-  if (to->proxy_command != NULL && strcasecmp(to->proxy_command, "none") == 0) to->proxy_command = NULL;
-  if (to->remote_command != NULL && strcasecmp(to->remote_command, "none") == 0) to->remote_command = NULL;
+  leave_out_none(&to->jump);
+  leave_out_none(&to->proxy_command);
+  leave_out_none(&to->remote_command);
   if (to->command == NULL && to->remote_command != NULL && !to->no_command) to->command = expanded(to, to->remote_command);
   if (to->clear_forwards == 1) to->forward_count = 0;
 }

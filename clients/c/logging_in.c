@@ -323,8 +323,9 @@ static bool open_hops(route *to, const char *jumps, const options *from) {
   char *all = copied(jumps), *rest = NULL;
   bool done = true;
   for (char *at = strtok_r(all, ",", &rest); done && at != NULL; at = strtok_r(NULL, ",", &rest)) {
-    options *hop = calloc(1, sizeof *hop); /* the connection's callbacks have it until the end */
-    if (hop == NULL || to->count == MOST_HOPS) usage_error("too many hosts to jump over");
+    options *hop = calloc(1, sizeof *hop);
+    if (hop == NULL || to->asked == MOST_HOPS) usage_error("too many hosts to jump over, or %s is reached through itself", at);
+    to->hops[to->asked++] = hop;
     options_begin(hop);
     hop->config = from->config;
     hop->password_file = from->password_file;
@@ -333,7 +334,8 @@ static bool open_hops(route *to, const char *jumps, const options *from) {
     hop->batch = from->batch;
     option_target(hop, at, true);
     options_complete(hop);
-    if (hop->jump != NULL && to->count == 0) done = open_hops(to, hop->jump, hop);
+    bool is_itself = hop->jump != NULL && strcmp(hop->jump, at) == 0; /* Host * with a ProxyJump */
+    if (hop->jump != NULL && !is_itself && to->count == 0) done = open_hops(to, hop->jump, hop);
     sazh_connection *made = done ? open_one(hop, to->count == 0 ? NULL : to->at[to->count - 1]) : NULL;
     if (made != NULL) to->at[to->count++] = made;
     done = made != NULL;

@@ -9,6 +9,8 @@ enum { MOST_HOPS = 8 };
 /* A connection with those that it runs through, the outermost first. */
 typedef struct route {
   sazh_connection *at[MOST_HOPS + 1];
+  options *hops[MOST_HOPS]; /* the callbacks of the connections have them */
+  size_t asked;             /* hops that were read; more than there may be is a circle */
   size_t count;
 } route;
 

@@ -298,7 +298,7 @@ WANTED = {
     "cut-before-service": ENDED,
     "banners": "too many banners",
     "cut-within-login": ENDED,
-    "no-methods": "permission denied ()",
+    "no-methods": "the server names no method of logging in that is known",
     "names-no-password": "permission denied (publickey,hostbased)",
     "cut-failure": "the server sent a packet that can't be read",
     "cut-before-channel": ENDED,

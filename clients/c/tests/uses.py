@@ -146,6 +146,9 @@ Host *
     want(run("-W", f"127.0.0.1:{PORT}", "hop", input=b"").stdout[:8], b"SSH-2.0-", "-W")
     got = run("-o", f"ProxyCommand={place.client} -F {config} -W %h:%p hop", "-o", "ProxyJump=none", "last", "echo by a program")
     want(got.stdout, b"by a program\n", "ProxyCommand")
+    circle = place.write("circle", f"Host one\n  ProxyJump two\nHost two\n  ProxyJump one\n")
+    ran = subprocess.run([place.client, "-F", circle, "one", "true"], capture_output=True, env=place.environment, timeout=20)
+    want((ran.returncode, b"through itself" in ran.stderr), (255, True), "a circle of jump hosts")
     want(run("-J", "hop", "-p", str(free_port()), "127.0.0.1", "true").returncode, 255, "nothing listens behind the jump host")
 
 
