@@ -179,7 +179,8 @@ typedef struct sazh_names {
 } sazh_names;
 sazh_names sazh_names_of(const sazh_connection *it);
 
-/* ---- logging in: each call tries one method. SAZH_OK: in. SAZH_DENIED: not so; sazh_methods has what may be tried next. */
+/* ---- logging in: each call tries one method. SAZH_OK: in. SAZH_DENIED: not so; sazh_methods has what may be tried next.
+ * There is no limit of time for the server's answer, since some ask a person first; who wants one doesn't block. */
 
 /* Asks which methods there are (RFC 4252, section 5.2): SAZH_DENIED and the methods, mostly. */
 sazh_code sazh_login_none(sazh_connection *it, const char *user);

@@ -196,11 +196,16 @@ static sazh_code try_key(attempt *it, const char *path) {
   return code;
 }
 
+const char *agent_of(const options *by) {
+  const char *path = by->agent != NULL && strcmp(by->agent, "SSH_AUTH_SOCK") != 0 ? by->agent : getenv("SSH_AUTH_SOCK");
+  return path == NULL || *path == 0 || strcasecmp(path, "none") == 0 ? NULL : path;
+}
+
 /* The keys of the agent, and then those of files, one a call; SAZH_NO_KEY after the last one. */
 static sazh_code try_next_key(attempt *it) {
   const options *by = it->by;
-  const char *agent = by->agent != NULL && strcmp(by->agent, "SSH_AUTH_SOCK") != 0 ? by->agent : getenv("SSH_AUTH_SOCK");
-  if (!it->tried_agent && !by->identities_only && agent != NULL && *agent != 0 && strcasecmp(agent, "none") != 0) {
+  const char *agent = agent_of(by);
+  if (!it->tried_agent && !by->identities_only && agent != NULL) {
     it->tried_agent = true;
     tell(by, "trying the keys of the agent at %s", agent);
     return sazh_login_agent(it->at, by->user, agent);

@@ -20,6 +20,8 @@ bool route_open(route *to, const options *wanted);
 void route_free(route *it);
 /* Prints an error of a connection, and what to do about it. */
 void print_error(const sazh_connection *of);
+/* The agent's socket that the options name, or NULL. */
+const char *agent_of(const options *by);
 /* A line of -v. */
 void tell(const options *by, const char *format, ...) __attribute__((format(printf, 2, 3)));
 

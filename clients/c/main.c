@@ -67,10 +67,10 @@ static void send_environment(sazh_channel *to, const options *by) {
   }
 }
 
-/* Asks for the terminal, the agent and the environment; false where the server refuses what can't be left out. */
-static bool prepare(sazh_channel *to, const options *by, bool *is_terminal) {
-  const char *agent = by->agent != NULL ? by->agent : getenv("SSH_AUTH_SOCK");
-  if (by->forward_agent && agent != NULL && *agent != 0 && sazh_forward_agent(to, agent) != SAZH_OK && !by->is_quiet)
+/* Asks for the agent, the terminal and the environment; a session can do without each. */
+static void prepare(sazh_channel *to, const options *by, bool *is_terminal) {
+  const char *agent = agent_of(by);
+  if (by->forward_agent && agent != NULL && sazh_forward_agent(to, agent) != SAZH_OK && !by->is_quiet)
     fprintf(stderr, "sazh: the server doesn't forward the agent\n");
   if (*is_terminal) {
     sazh_mode modes[64];
@@ -83,7 +83,6 @@ static bool prepare(sazh_channel *to, const options *by, bool *is_terminal) {
     }
   }
   send_environment(to, by);
-  return true;
 }
 
 static int status_of(const sazh_channel *from, const options *by) {

@@ -313,7 +313,7 @@ def errors_name_key_file_line_and_words(place):
 def wrong_words_are_refused(place):
     for words in (["-p", "twenty"], ["-p", "70000"], ["-o", "ServerAliveInterval=x"], ["-L", "1:2"], ["-L", "8080"], ["-o", "BatchMode=maybe"], ["-o", "Port"]):
         status, _, said = place.run(PORT, *words)
-        want((status, said.startswith("sazh: ")), (255, True), f"{words}: {said}")
+        want((status, words[-1].split("=")[-1] in said), (255, True), f"{words}: {said}")
     if os.geteuid() == 0:
         ran = subprocess.run([place.client, "-F", "none", "localhost", "true"], preexec_fn=lambda: os.setuid(54321), capture_output=True, env={"HOME": "/"}, timeout=20)
         want((ran.returncode, b"no name for this user" in ran.stderr), (255, True), "a user without a name")
