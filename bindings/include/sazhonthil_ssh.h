@@ -253,8 +253,11 @@ sazh_code sazh_signal(sazh_channel *it, const char *name); /* TERM, INT ..; neve
 sazh_code sazh_forward_agent(sazh_channel *it, const char *socket_path);
 
 typedef enum sazh_stream { SAZH_OUT = 0, SAZH_ERR = 1 } sazh_stream;
-/* Reads what came on a stream: SAZH_OK and 1 to `room` bytes; SAZH_EOF at its end. Waits where the connection blocks. */
+/* Reads what came on a stream: SAZH_OK and 1 to `room` bytes; SAZH_EOF at its end. Waits where the connection blocks. Both
+ * streams share the channel's window: one that isn't read stops the other once a window of it waits. */
 sazh_code sazh_read(sazh_channel *it, sazh_stream from, void *to, size_t room, size_t *got);
+/* Drops what came on a stream, and what still comes. */
+void sazh_ignore(sazh_channel *it, sazh_stream from);
 /* Hands in bytes: SAZH_OK and how many were taken, all of them where the connection blocks. SAZH_CHANNEL_CLOSED. */
 sazh_code sazh_write(sazh_channel *it, const void *from, size_t count, size_t *taken);
 /* No more bytes follow. */

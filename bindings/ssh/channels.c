@@ -64,10 +64,7 @@ sazh_channel *channel_of_peer(sazh_connection *it, uint32_t peer) {
 
 static size_t unread(const sazh_channel *it) { return bytes_count(&it->in[0]) + bytes_count(&it->in[1]); }
 
-bool channel_holds(sazh_channel *it, uint32_t window) {
-  it->owed += window;
-  return true;
-}
+void channel_hold(sazh_channel *it, uint32_t window) { it->owed += window; }
 
 static void give(sazh_channel *it) {
   if (it->owed == 0 || it->is_closed || it->close_sent || unread(it) > it->of->set.window / 2) return;
@@ -139,7 +136,7 @@ static void put_data(sazh_channel *it, sazh_stream to, slice data) {
     return;
   }
   it->told -= data.len;
-  if (!it->is_owned) return; /* nobody reads it */
+  if (!it->is_owned || it->ignored[to]) return; /* nobody reads it */
   put(&it->in[to], data.at, data.len);
   if (it->in[to].bad) end_no_memory(it->of);
 }
@@ -207,6 +204,11 @@ size_t channel_put(sazh_channel *it, const uint8_t *from, size_t count) {
     if (!deliver(it->of)) break;
   }
   return done;
+}
+
+void sazh_ignore(sazh_channel *it, sazh_stream from) {
+  it->ignored[from == SAZH_ERR] = true;
+  bytes_free(&it->in[from == SAZH_ERR]);
 }
 
 size_t sazh_readable(const sazh_channel *it, sazh_stream from) { return bytes_count(&it->in[from == SAZH_ERR]); }

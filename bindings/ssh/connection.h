@@ -69,6 +69,7 @@ struct sazh_channel {
   uint32_t number, peer, most;
   uint64_t window; /* how many bytes may be handed in */
   bytes in[2];
+  bool ignored[2]; /* what comes is dropped */
   uint32_t owed;   /* window that the core gave back, and that the server isn't told of yet */
   uint64_t told;   /* how many bytes the server may send by what it was told */
   bytes waiting;   /* what was asked before it was open: a string each */
@@ -194,8 +195,8 @@ size_t channel_put(sazh_channel *it, const uint8_t *from, size_t count);
 void channel_ask_plain(sazh_channel *it, uint8_t what);
 /* Asks something of a channel: a sort and its fields, which are freed; it waits until the channel is open. */
 void channel_ask(sazh_channel *it, bytes *body);
-/* Holds a window back while bytes wait, and gives it once they were read. */
-bool channel_holds(sazh_channel *it, uint32_t window);
+/* Holds a window back that the core gives; the second gives what is held where few bytes wait to be read. */
+void channel_hold(sazh_channel *it, uint32_t window);
 void channels_give(sazh_connection *it);
 void channels_sweep(sazh_connection *it);
 void channels_end(sazh_connection *it);

@@ -53,7 +53,10 @@ void run_todo(sazh_connection *it) {
 static void send_packet(sazh_connection *it, slice packet) {
   if (packet.len >= 9 && packet.at[0] == CHANNEL_WINDOW_ADJUST) {
     sazh_channel *at = channel_of_peer(it, load_u32(packet.at + 1));
-    if (at != NULL && channel_holds(at, load_u32(packet.at + 5))) return;
+    if (at != NULL) {
+      channel_hold(at, load_u32(packet.at + 5));
+      return;
+    }
   }
   if (packet.len >= 5 && packet.at[0] == CHANNEL_CLOSE) {
     sazh_channel *at = channel_of_peer(it, load_u32(packet.at + 1));

@@ -2,7 +2,6 @@
 #include <sazhonthil_ssh.h>
 #include <stdio.h>
 #include <stdlib.h>
-
 static sazh_connection *connection;
 static void check(sazh_code code) {
   if (code == SAZH_OK) return;
@@ -24,6 +23,7 @@ int main(int count, char **words) {
   check(sazh_login_key(connection, words[3], key));
   check(sazh_open_session(connection, &channel));
   check(sazh_command(channel, words[6]));
+  sazh_ignore(channel, SAZH_ERR); /* or read it as well: both streams share a window */
   while (sazh_read(channel, SAZH_OUT, bytes, sizeof bytes, &got) == SAZH_OK) fwrite(bytes, 1, got, stdout);
   check(sazh_wait_exit(channel, &how));
   return sazh_free(connection), sazh_key_free(key), how.has_status ? (int)how.status : 255;

@@ -3,7 +3,6 @@
 #include <stdio.h>
 #include <stdlib.h>
 #include <string.h>
-
 static sazh_connection *connection;
 static void check(sazh_code code) {
   if (code == SAZH_OK) return;
@@ -24,6 +23,7 @@ int main(int count, char **words) {
   check(sazh_login_password(connection, words[3], password));
   check(sazh_open_session(connection, &channel));
   check(sazh_command(channel, words[5]));
+  sazh_ignore(channel, SAZH_ERR); /* or read it as well: both streams share a window */
   while (sazh_read(channel, SAZH_OUT, bytes, sizeof bytes, &got) == SAZH_OK) fwrite(bytes, 1, got, stdout);
   check(sazh_wait_exit(channel, &how));
   return sazh_free(connection), how.has_status ? (int)how.status : 255;

@@ -146,6 +146,19 @@ static void channels(void) {
   sazh_free(it);
 }
 
+/* A stream that isn't read stops the other, unless it is ignored. */
+static void ignored_streams(void) {
+  sazh_connection *it = logged_in();
+  sazh_channel *one = NULL;
+  char text[200];
+  check(sazh_open_session(it, &one) == SAZH_OK && sazh_command(one, "head -c 9000000 /dev/zero >&2; echo done") == SAZH_OK, "many bytes of errors");
+  sazh_ignore(one, SAZH_ERR);
+  read_all(one, SAZH_OUT, text, sizeof text);
+  check(strcmp(text, "done\n") == 0 && sazh_readable(one, SAZH_ERR) == 0, "the output after them");
+  sazh_channel_free(one);
+  sazh_free(it);
+}
+
 /* ---- without waiting: a megabyte there and back, with new keys in the middle */
 
 static char sent[1 << 20], came[1 << 20];
@@ -194,6 +207,7 @@ int main(int count, char **given) {
   unknown_hosts();
   logins();
   channels();
+  ignored_streams();
   without_waiting();
   printf("library: calls in and out of order; wrong: %d\n", wrong);
   return wrong != 0;
