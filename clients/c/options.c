@@ -127,6 +127,14 @@ static const keyword KEYWORDS[] = {
     {"ClearAllForwardings", KIND_FLAG, offsetof(options, clear_forwards)},
 };
 
+/* Only those that are named are tried; their order here is always the same. */
+static void set_methods(options *to, const char *value) {
+  int *const flags[] = {&to->pubkey, &to->password, &to->prompts};
+  static const char *const NAMES[] = {"publickey", "password", "keyboard-interactive"};
+  for (size_t i = 0; i < 3; i++)
+    if (*flags[i] == UNSET && strstr(value, NAMES[i]) == NULL) *flags[i] = 0;
+}
+
 /* Those that have values of their own; false where it is none of them. */
 static bool set_special(options *to, const char *name, const char *value) {
   static const word STRICT[] = {{"ask", STRICT_ASK}, {"yes", STRICT_YES}, {"no", STRICT_NEW}, {"off", STRICT_NEW}, {"accept-new", STRICT_NEW}, {NULL, 0}};
@@ -140,6 +148,10 @@ static bool set_special(options *to, const char *name, const char *value) {
     if (to->family == UNSET) to->family = word_of(name, value, FAMILY);
   } else if (strcasecmp(name, "ForwardAgent") == 0) {
     if (to->forward_agent == UNSET) to->forward_agent = strcasecmp(value, "no") != 0;
+  } else if (strcasecmp(name, "LogLevel") == 0) {
+    if (strcasecmp(value, "QUIET") == 0 || strcasecmp(value, "FATAL") == 0 || strcasecmp(value, "ERROR") == 0) to->is_quiet = true;
+  } else if (strcasecmp(name, "PreferredAuthentications") == 0) {
+    set_methods(to, value);
   } else if (strcasecmp(name, "RekeyLimit") == 0) {
     set_rekey(to, value);
   } else if (strcasecmp(name, "IdentityFile") == 0) {

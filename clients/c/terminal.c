@@ -43,7 +43,7 @@ static void open_standard(void) {
 }
 
 void terminal_begin(void) {
-  static const int ENDING[] = {SIGINT, SIGTERM, SIGHUP, SIGQUIT};
+  static const int ENDING[] = {SIGINT, SIGTERM, SIGHUP, SIGQUIT, SIGALRM, SIGUSR1, SIGUSR2};
   open_standard();
   signal(SIGPIPE, SIG_IGN);
   for (size_t i = 0; i < sizeof ENDING / sizeof *ENDING; i++)

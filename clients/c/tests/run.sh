@@ -17,6 +17,7 @@ export PYTHONDONTWRITEBYTECODE=1 PYTHONPATH="$here"
 python3 -c 'import cryptography' 2> /dev/null || { echo "client: no tests, since python3-cryptography isn't installed"; exit 0; }
 if [ -n "${SAZHONTHIL_ARCHIVE:-}" ]; then
   folder=$(mktemp -d)
+  chmod 755 "$folder" # a test runs it as another user
   trap 'rm -rf "$folder"' EXIT
   make -s -C "$here/.." OUT="$folder" LIB="$SAZHONTHIL_ARCHIVE" CFLAGS="-g -O1 -fsanitize=address,undefined" HARDENING= LDHARDENING=
   tested=$folder/sazh

@@ -105,7 +105,7 @@ def a_login_shell_without_a_command(place):
 
 
 def the_terminal_is_put_back_after_a_signal(place):
-    for number in (signal.SIGTERM, signal.SIGHUP, signal.SIGINT, signal.SIGQUIT):
+    for number in (signal.SIGTERM, signal.SIGHUP, signal.SIGINT, signal.SIGQUIT, signal.SIGUSR1):
         with Terminal(place, shell(place)) as it:
             it.until("ready> ")
             it.process.send_signal(number)
