@@ -1,9 +1,11 @@
 /* Calls of the library in their order and out of it, blocking and not: library_calls PORT USER KEY OTHER_KEY KNOWN_HOSTS */
 #include <sazhonthil_ssh.h>
 
+#include <arpa/inet.h>
 #include <stdio.h>
 #include <stdlib.h>
 #include <string.h>
+#include <sys/socket.h>
 
 static int wrong;
 static char **words;
@@ -29,14 +31,20 @@ static sazh_key *key_of(const char *path) {
   return key;
 }
 
-static sazh_connection *logged_in(void) {
-  sazh_connection *it = made(NULL, words[5]);
+/* Over a socket of our own where `own` says so. */
+static sazh_connection *logged_in_by(const sazh_settings *settings, int own) {
+  sazh_connection *it = made(settings, words[5]);
   sazh_key *key = key_of(words[3]);
-  check(sazh_connect(it, "localhost", port()) == SAZH_OK, "connect");
+  struct sockaddr_in at = {.sin_family = AF_INET, .sin_port = htons(port()), .sin_addr.s_addr = htonl(INADDR_LOOPBACK)};
+  int file = own ? socket(AF_INET, SOCK_STREAM, 0) : -1;
+  check(!own || connect(file, (struct sockaddr *)&at, sizeof at) == 0, "a socket");
+  check((own ? sazh_connect_fd(it, file, "localhost", port()) : sazh_connect(it, "localhost", port())) == SAZH_OK, "connect");
   check(sazh_login_key(it, words[2], key) == SAZH_OK, "a login by key");
   sazh_key_free(key);
   return it;
 }
+
+static sazh_connection *logged_in(void) { return logged_in_by(NULL, 0); }
 
 /* ---- errors as values */
 
@@ -159,6 +167,22 @@ static void ignored_streams(void) {
   sazh_free(it);
 }
 
+/* Over a socket of our own, with new keys after each 40 packets, of which there are some ninety. */
+static void keys_by_packets(void) {
+  sazh_settings settings;
+  sazh_settings_default(&settings);
+  settings.rekey_packets = 40;
+  sazh_connection *it = logged_in_by(&settings, 1);
+  sazh_channel *one = NULL;
+  static char bytes[65536];
+  size_t all = 0, got;
+  check(sazh_open_session(it, &one) == SAZH_OK && sazh_command(one, "head -c 3000000 /dev/zero") == SAZH_OK, "many packets");
+  while (sazh_read(one, SAZH_OUT, bytes, sizeof bytes, &got) == SAZH_OK) all += got;
+  check(all == 3000000 && !sazh_is_over(it), "new keys after so many packets");
+  sazh_channel_free(one);
+  sazh_free(it);
+}
+
 /* ---- without waiting: a megabyte there and back, with new keys in the middle */
 
 static char sent[1 << 20], came[1 << 20];
@@ -208,6 +232,7 @@ int main(int count, char **given) {
   logins();
   channels();
   ignored_streams();
+  keys_by_packets();
   without_waiting();
   printf("library: calls in and out of order; wrong: %d\n", wrong);
   return wrong != 0;

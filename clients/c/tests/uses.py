@@ -53,6 +53,10 @@ def certificates(place):
     port = place.sshd(more=f"TrustedUserCAKeys {place.path('authority.pub')}")
     place.known(port, "ed25519", name="certified_hosts")
     want(place.run(port, key="certified", known="certified_hosts", command="echo in")[:2], (0, b"in\n"), "a certificate")
+    with Agent(place) as agent:
+        agent.only("certified")
+        words = ["-o", f"IdentityAgent={agent.socket}"]
+        want(place.run(port, *words, key="nothing", known="certified_hosts", command="echo in")[:2], (0, b"in\n"), "a certificate in an agent")
     os.remove(place.path("certified-cert.pub"))
     want(place.run(port, key="certified", known="certified_hosts", command="echo in")[0], 255, "the key without its certificate")
 
@@ -77,6 +81,9 @@ class Agent:
 
     def __exit__(self, *_):
         self.process.terminate()
+        self.process.wait()
+        if os.path.exists(self.socket):
+            os.remove(self.socket)
 
     def only(self, *names):
         env = {**os.environ, "SSH_AUTH_SOCK": self.socket}
