@@ -145,6 +145,10 @@ void sazh_free(sazh_connection *it);
  * as empty, unless must_exist. SAZH_HOSTS_FILE, SAZH_NO_MEMORY, SAZH_MISUSE. */
 sazh_code sazh_hosts_file(sazh_connection *it, const char *path, bool must_exist);
 
+/* Whether a text can be a host's name or address, and be only itself in a line of known hosts: letters, digits, and - . _ : %
+ * + ~, without a - in front. Hosts are refused otherwise (SAZH_BAD_NAME). */
+bool sazh_is_host_name(const char *text);
+
 /* Connects to the host, both address families tried, and exchanges keys. SAZH_OK: the server has the host key that it
  * showed, and the known hosts accept it. SAZH_HOST_UNKNOWN: it has the key, but no line has it; ask the user, and go on
  * with sazh_host_accept, or free the connection. All other errors end the connection. */

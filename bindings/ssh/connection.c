@@ -104,6 +104,8 @@ sazh_code sazh_hosts_file(sazh_connection *it, const char *path, bool must_exist
 
 /* ---- connecting */
 
+bool sazh_is_host_name(const char *text) { return text != NULL && host_is_name(text_of(text)); }
+
 /* Names are looked up in lower case, as OpenSSH writes them; the core compares byte by byte. */
 static void lower(char *text) {
   for (; *text != 0; text++)

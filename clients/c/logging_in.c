@@ -268,9 +268,16 @@ static sazh_code log_in(attempt *it) {
 
 /* ---- connecting */
 
+/* Names come from URLs and scripts, and the shell reads them: none may say more to it than a name. */
+static void check_names(const options *by) {
+  if (!sazh_is_host_name(by->hostname) || !sazh_is_host_name(by->given)) usage_error("%s is no name that a ProxyCommand may get", by->hostname);
+  if (by->user[0] == '-' || strpbrk(by->user, "'`\"\\;&<>|(){}$\n ") != NULL) usage_error("%s is no user that a ProxyCommand may get", by->user);
+}
+
 /* A program whose standard input and output are the connection (ssh_config(5), ProxyCommand). */
 static int proxy_socket(const options *by) {
   int pair[2];
+  check_names(by);
   char *command = expanded(by, by->proxy_command);
   if (socketpair(AF_UNIX, SOCK_STREAM | SOCK_CLOEXEC, 0, pair) != 0) usage_error("no socket for the ProxyCommand");
   pid_t child = fork();
@@ -333,7 +340,6 @@ static bool open_hops(route *to, const char *jumps, const options *from) {
     to->hops[to->asked++] = hop;
     options_begin(hop);
     hop->config = from->config;
-    hop->password_file = from->password_file;
     hop->verbose = from->verbose;
     hop->is_quiet = from->is_quiet;
     hop->batch = from->batch;

@@ -168,7 +168,13 @@ static bool set_special(options *to, const char *name, const char *value) {
   return true;
 }
 
+/* Of the two ways to another host the one that is said first counts, as with ssh. */
+static bool is_late_way(const options *to, const char *name) {
+  return (strcasecmp(name, "ProxyJump") == 0 && to->proxy_command != NULL) || (strcasecmp(name, "ProxyCommand") == 0 && to->jump != NULL);
+}
+
 bool option_set(options *to, const char *name, const char *value) {
+  if (is_late_way(to, name)) return true;
   for (size_t i = 0; i < sizeof KEYWORDS / sizeof *KEYWORDS; i++) {
     if (strcasecmp(KEYWORDS[i].name, name) != 0) continue;
     char *at = (char *)to + KEYWORDS[i].at;

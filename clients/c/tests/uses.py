@@ -151,8 +151,11 @@ Host *
     want(place.read("jump_hosts").count("\n"), 2, "a line for each host")
     want(run("-J", "hop,hop", "-p", str(PORT), "127.0.0.1", "echo far").stdout, b"far\n", "two hops")
     want(run("-W", f"127.0.0.1:{PORT}", "hop", input=b"").stdout[:8], b"SSH-2.0-", "-W")
-    got = run("-o", f"ProxyCommand={place.client} -F {config} -W %h:%p hop", "-o", "ProxyJump=none", "last", "echo by a program")
+    got = run("-o", f"ProxyCommand={place.client} -F {config} -W %h:%p hop", "last", "echo by a program")
     want(got.stdout, b"by a program\n", "ProxyCommand")
+    for words in ("$(touch x)", "a;b", "`x`"):
+        ran = run("-o", f"ProxyCommand=touch {place.path('touched')} %h", "-o", f"HostName={words}", "last", "true")
+        want((ran.returncode, os.path.exists(place.path("touched"))), (255, False), f"a ProxyCommand for {words}")
     circle = place.write("circle", f"Host one\n  ProxyJump two\nHost two\n  ProxyJump one\n")
     ran = subprocess.run([place.client, "-F", circle, "one", "true"], capture_output=True, env=place.environment, timeout=20)
     want((ran.returncode, b"through itself" in ran.stderr), (255, True), "a circle of jump hosts")
