@@ -127,7 +127,7 @@ typedef struct sazh_settings {
   uint64_t rekey_bytes;            /* new keys after so many bytes (2^30), */
   uint64_t rekey_packets;          /* so many packets (2^31), */
   uint32_t rekey_seconds;          /* or so many seconds (3600); 0 in any of the three: the default */
-  uint32_t window;                 /* how many bytes may wait in each channel that isn't read (2097152) */
+  uint32_t window;                 /* each channel's (2097152): of one that isn't read at most one and a half wait here */
   void (*banner)(void *own, const char *text, size_t len); /* the server's words before the login, as they came; NULL */
   void *own;
 } sazh_settings;
