@@ -52,7 +52,7 @@ class Beside:
     def words(self, name, cipher):
         scratch = self.scratch
         if name == "client":
-            return [CLIENT, "-p", str(self.port), "-l", scratch.user, "-k", f"{scratch.folder}/known_hosts", "-c", cipher, "localhost"]
+            return [CLIENT, "-F", "none", "-p", str(self.port), "-l", scratch.user, "-o", f"UserKnownHostsFile={scratch.folder}/known_hosts", "-c", cipher, "localhost"]
         options = ["UserKnownHostsFile=" + f"{scratch.folder}/known_hosts", "GlobalKnownHostsFile=/dev/null", "ControlMaster=no", "KexAlgorithms=curve25519-sha256"]
         options += ["MACs=hmac-sha2-256-etm@openssh.com", "StrictHostKeyChecking=yes", "IdentityFile=none", "Compression=no"]
         return ["ssh", "-F", "/dev/null", "-p", str(self.port), "-l", scratch.user, "-c", cipher, *[it for option in options for it in ("-o", option)], "localhost"]

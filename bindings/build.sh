@@ -84,22 +84,13 @@ done="$done snippets"
 
 if [ -f /usr/include/openssl/evp.h ] && command -v make > /dev/null; then
   make -s -C "$top/clients/c" OUT="$out" LIB="$out/libsazhonthil.a"
+  with=""
+  [ $servers = yes ] && with=--with-servers || left="$left logins (--with-servers)"
+  SAZHONTHIL_ARCHIVE="$out/libsazhonthil.a" sh "$top/clients/c/tests/run.sh" "$out/sazh" $with
   done="$done client"
-  if python3 -c 'import cryptography' 2> /dev/null; then
-    python3 "$top/clients/c/tests/bad_servers.py" "$out/client"
-    done="$done bad-servers"
-  else
-    left="$left bad-servers"
-  fi
-  if [ $servers = yes ]; then
-    python3 "$top/clients/c/tests/logins.py" "$out/client"
-    done="$done logins"
-  else
-    left="$left logins (--with-servers)"
-  fi
   make -s -C "$top/clients/agent" OUT="$out" LIB="$out/libsazhonthil.a" test
   done="$done agent"
 else
-  left="$left client bad-servers logins agent"
+  left="$left client agent"
 fi
 echo "bindings: all well:$done${left:+; left out:$left}"

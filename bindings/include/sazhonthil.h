@@ -1,9 +1,34 @@
 /* sazhonthil.h: a proved SSH client core for C, C++, and whatever calls C.
  *
  * The library does no I/O, starts no thread, takes no lock, keeps no global state and computes no cryptography but the
- * HMAC-SHA1 of hashed known hosts lines. Events go in as bytes, records come out as bytes; docs/FORMATS.md has both. The
- * key exchange, the ciphers and the check of the server's signature over the exchange hash are the caller's: see "What a
- * driver has to do" there.
+ * HMAC-SHA1 of hashed known hosts lines. Events go in as bytes, records come out as bytes; their numbers are below, and
+ * docs/FORMATS.md has the fields of each. Whoever calls this is a driver: it brings the transport. sazhonthil_ssh.h has one
+ * ready, and no program that uses it needs this header.
+ *
+ * What a driver has to do. Nothing here checks it.
+ *
+ * 1. IT VERIFIES THE SERVER'S SIGNATURE OVER THE EXCHANGE HASH, with the host key that EXCHANGE_DONE names, before it hands
+ *    in EXCHANGE_DONE (RFC 4253, section 8). The field for the signature is read and not verified. A driver that leaves
+ *    this out has no server authentication at all, whatever the known hosts say.
+ * 2. It does the key exchange, the ciphers and the version lines (RFC 4253, sections 4 to 8), and hands in PEER_KEXINIT when
+ *    the server's KEXINIT is there, and EXCHANGE_DONE when the new keys are used in both directions. At the start an
+ *    exchange of ours runs, without a record that asks for it. The hash of the first exchange is the session's id.
+ * 3. It hands in each decrypted packet, but those numbered 20 to 49, as PAYLOAD, in the order in which they came; those
+ *    that came before EXCHANGE_DONE before it.
+ * 4. It sends the packets of PAYLOAD records in their order, and begins a key exchange at BEGIN_EXCHANGE. While an exchange
+ *    of ours runs it holds these packets back, and sends them once the new keys are used (RFC 4253, section 7.1).
+ * 5. It answers SIGN_KEY and SIGN_CERTIFICATE with the very bytes that were handed out and the signature after them.
+ * 6. It reads all records of a `_take` before the next one, which drops those that are left: a packet would be missing.
+ * 7. It has the timers (KEEPALIVE_TIMER, INACTIVITY_TIMER, REKEY_LIMIT) and a clock that isn't set back.
+ *
+ * Limits. Each of these ends the session for good:
+ *
+ * - SSHC_BAD_EVENT: an event above SSHC_LONGEST_EVENT bytes, fields that are broken or left over, and a moment below the
+ *   last one. So data is cut into pieces, and the moments are those of a monotonic clock.
+ * - SSHC_OUT_OF_TURN: an event of the user while keys are exchanged (from BEGIN_EXCHANGE or PEER_KEXINIT to EXCHANGE_DONE, and
+ *   from the start); a packet or a timer while an answer is awaited (after SIGN_KEY, SIGN_CERTIFICATE or PROMPTS); a
+ *   second PEER_KEXINIT, or an EXCHANGE_DONE without one.
+ * - SSHC_SCRIPT_TOO_LONG: more than max_events events, at most 4,294,967,295. At 3,800 packets a second that is 13 days.
  *
  * Each call below has a contract in crates/sazhonthil that is proved. What a contract can't check, the caller owes:
  *
@@ -89,7 +114,189 @@ enum {
   SSHC_REKEY_KEY = 43          /* a later exchange has another host key than the first */
 };
 
-/* ---- known hosts */
+/* What a status says, as a line without its end; never NULL. In runtime.c, and not among the library's exports. */
+const char *sshc_status_text(sshc_status status);
+
+/* ---- the numbers of events and records (docs/FORMATS.md has the fields of each) */
+
+/* Kinds of events. */
+enum {
+  SSHC_EVENT_PEER_KEXINIT = 0x01,     /* the peer's KEXINIT came */
+  SSHC_EVENT_EXCHANGE_DONE = 0x02,    /* a key exchange is done, and the server's signature over its hash is verified */
+  SSHC_EVENT_PAYLOAD = 0x03,          /* a decrypted packet, but those numbered 20 to 49 */
+  SSHC_EVENT_TRANSPORT_FAILED = 0x04,
+  SSHC_EVENT_REKEY_LIMIT = 0x05,      /* the keys have done enough (RFC 4253, section 9) */
+  SSHC_EVENT_KEEPALIVE_TIMER = 0x08,
+  SSHC_EVENT_INACTIVITY_TIMER = 0x09,
+  SSHC_EVENT_AUTHENTICATE = 0x10,     /* by an SSHC_METHOD */
+  SSHC_EVENT_AUTH_INFO_RESPONSE = 0x11,
+  SSHC_EVENT_AUTH_GSSAPI_TOKEN = 0x12,
+  SSHC_EVENT_AUTH_GSSAPI_MIC = 0x13,
+  SSHC_EVENT_AUTH_GSSAPI_COMPLETE = 0x14,
+  SSHC_EVENT_SIGNED = 0x15,           /* the answer to SSHC_RECORD_SIGN_KEY and _SIGN_CERTIFICATE */
+  SSHC_EVENT_SIGN_FAILED = 0x16,
+  SSHC_EVENT_OPEN_SESSION = 0x17,
+  SSHC_EVENT_OPEN_X11 = 0x18,
+  SSHC_EVENT_OPEN_DIRECT_TCPIP = 0x19,
+  SSHC_EVENT_OPEN_DIRECT_STREAMLOCAL = 0x1a,
+  SSHC_EVENT_TCPIP_FORWARD = 0x1b,
+  SSHC_EVENT_CANCEL_TCPIP_FORWARD = 0x1c,
+  SSHC_EVENT_STREAMLOCAL_FORWARD = 0x1d,
+  SSHC_EVENT_CANCEL_STREAMLOCAL_FORWARD = 0x1e,
+  SSHC_EVENT_CLOSE = 0x1f,
+  SSHC_EVENT_DISCONNECT = 0x20,       /* with an SSHC_DISCONNECT reason */
+  SSHC_EVENT_CHANNEL = 0x21,          /* something of a channel: an SSHC_ASK */
+  SSHC_EVENT_SERVER_OPEN_REPLY = 0x22,
+  SSHC_EVENT_REKEY = 0x24,
+  SSHC_EVENT_AWAIT_EXTENSION_INFO = 0x25,
+  SSHC_EVENT_GET_SERVER_SIG_ALGS = 0x26,
+  SSHC_EVENT_KEEPALIVE = 0x27,
+  SSHC_EVENT_PING = 0x28,
+  SSHC_EVENT_NO_MORE_SESSIONS = 0x29,
+  SSHC_EVENT_HOSTKEYS_PROVE = 0x2a,
+  SSHC_EVENT_GLOBAL_REQUEST = 0x2b,
+  SSHC_EVENT_GONE = 0x2f,
+  SSHC_EVENT_AGENT_BYTES = 0x40,
+  SSHC_EVENT_AGENT_REQUEST_ANSWER = 0x41,
+  SSHC_EVENT_AGENT_KEY_ANSWER = 0x42,
+  SSHC_EVENT_AGENT_CLOSE = 0x43
+};
+
+/* How AUTHENTICATE logs in. 2 and 3, pairs at hand, end in SSHC_SIGNER_FAULT here. */
+enum {
+  SSHC_METHOD_NONE = 0,
+  SSHC_METHOD_PASSWORD = 1,
+  SSHC_METHOD_PAIR = 2,
+  SSHC_METHOD_PAIR_CERTIFICATE = 3,
+  SSHC_METHOD_KEY = 4,                /* a key that an outside signer has: SSHC_RECORD_SIGN_KEY follows */
+  SSHC_METHOD_CERTIFICATE = 5,
+  SSHC_METHOD_PROMPTS = 6,
+  SSHC_METHOD_GSSAPI = 7
+};
+
+/* Hashes of signatures by RSA. */
+enum { SSHC_HASH_NONE = 0, SSHC_HASH_SHA256 = 1, SSHC_HASH_SHA512 = 2 };
+
+/* What CHANNEL asks of a channel (RFC 4254, sections 5 and 6). */
+enum {
+  SSHC_ASK_DATA = 0,
+  SSHC_ASK_EXTENDED_DATA = 1,
+  SSHC_ASK_EOF = 2,
+  SSHC_ASK_CLOSE = 3,
+  SSHC_ASK_TERMINAL = 4,
+  SSHC_ASK_TERMINAL_SIZE = 5,
+  SSHC_ASK_X11 = 6,
+  SSHC_ASK_ENVIRONMENT = 7,
+  SSHC_ASK_SHELL = 8,
+  SSHC_ASK_COMMAND = 9,
+  SSHC_ASK_SIGNAL = 10,
+  SSHC_ASK_SUBSYSTEM = 11,
+  SSHC_ASK_AGENT = 12
+};
+
+/* Kinds of records. */
+enum {
+  SSHC_RECORD_PAYLOAD = 0x01,          /* a packet to encrypt and send; held while an exchange of ours runs */
+  SSHC_RECORD_BEGIN_EXCHANGE = 0x02,   /* send KEXINIT */
+  SSHC_RECORD_OPENED = 0x03,           /* the user is in */
+  SSHC_RECORD_RESOLVED = 0x04,         /* a ticket's answer: an SSHC_RESOLVED */
+  SSHC_RECORD_SIGN_KEY = 0x05,
+  SSHC_RECORD_SIGN_CERTIFICATE = 0x06,
+  SSHC_RECORD_PROMPTS = 0x07,
+  SSHC_RECORD_GSSAPI_MECHANISM = 0x08,
+  SSHC_RECORD_GSSAPI_TOKEN = 0x09,
+  SSHC_RECORD_GSSAPI_ERROR = 0x0a,
+  SSHC_RECORD_GSSAPI_ERROR_TOKEN = 0x0b,
+  SSHC_RECORD_KEX_DONE = 0x20,
+  SSHC_RECORD_AUTH_BANNER = 0x21,
+  SSHC_RECORD_CHANNEL_OPEN = 0x22,
+  SSHC_RECORD_CHANNEL_SUCCESS = 0x23,
+  SSHC_RECORD_CHANNEL_FAILURE = 0x24,
+  SSHC_RECORD_CHANNEL_CLOSE = 0x25,
+  SSHC_RECORD_CHANNEL_EOF = 0x26,
+  SSHC_RECORD_CHANNEL_OPEN_FAILURE = 0x27,
+  SSHC_RECORD_SERVER_OPENED = 0x28,    /* a channel of an SSHC_OPENED type: SERVER_OPEN_REPLY answers it */
+  SSHC_RECORD_CHANNEL_DATA = 0x29,
+  SSHC_RECORD_CHANNEL_EXTENDED_DATA = 0x2a,
+  SSHC_RECORD_CHANNEL_XON_XOFF = 0x2b,
+  SSHC_RECORD_CHANNEL_EXIT_STATUS = 0x2c,
+  SSHC_RECORD_CHANNEL_EXIT_SIGNAL = 0x2d,
+  SSHC_RECORD_CHANNEL_WINDOW_ADJUSTED = 0x2e,
+  SSHC_RECORD_HOST_KEYS_ANNOUNCED = 0x2f,
+  SSHC_RECORD_AGENT_ANSWER = 0x40,
+  SSHC_RECORD_AGENT_ASK_REQUEST = 0x41,
+  SSHC_RECORD_AGENT_ASK_KEY = 0x42,
+  SSHC_RECORD_AGENT_CLOSED = 0x43
+};
+
+/* What becomes of a ticket. */
+enum {
+  SSHC_RESOLVED_AUTH_SUCCESS = 0x00,
+  SSHC_RESOLVED_AUTH_FAILURE = 0x01,
+  SSHC_RESOLVED_EXT_INFO_SEEN = 0x02,
+  SSHC_RESOLVED_SIG_ALGS = 0x03,
+  SSHC_RESOLVED_CHANNEL_OPENED = 0x04,
+  SSHC_RESOLVED_CHANNEL_OPEN_FAILED = 0x05,
+  SSHC_RESOLVED_FORWARD_PORT = 0x06,
+  SSHC_RESOLVED_DONE = 0x07,
+  SSHC_RESOLVED_DENIED = 0x08,
+  SSHC_RESOLVED_PONG = 0x09,
+  SSHC_RESOLVED_HOST_KEYS_PROVED = 0x0a,
+  SSHC_RESOLVED_HOST_KEYS_REFUSED = 0x0b,
+  SSHC_RESOLVED_GLOBAL_REPLY = 0x0c,
+  SSHC_RESOLVED_DROPPED = 0x0d
+};
+
+/* Types of the channels that a server opens. */
+enum {
+  SSHC_OPENED_SESSION = 0,
+  SSHC_OPENED_DIRECT_TCPIP = 1,
+  SSHC_OPENED_DIRECT_STREAMLOCAL = 2,
+  SSHC_OPENED_X11 = 3,
+  SSHC_OPENED_FORWARDED_TCPIP = 4,
+  SSHC_OPENED_FORWARDED_STREAMLOCAL = 5,
+  SSHC_OPENED_AGENT = 6,
+  SSHC_OPENED_UNKNOWN = 7
+};
+
+/* Why a channel isn't opened (RFC 4254, section 5.1). */
+enum {
+  SSHC_OPEN_PROHIBITED = 1,
+  SSHC_OPEN_CONNECT_FAILED = 2,
+  SSHC_OPEN_UNKNOWN_TYPE = 3,
+  SSHC_OPEN_RESOURCE_SHORTAGE = 4
+};
+
+/* Why a session is ended (RFC 4253, section 11.1). */
+enum {
+  SSHC_DISCONNECT_HOST_NOT_ALLOWED_TO_CONNECT = 1,
+  SSHC_DISCONNECT_PROTOCOL_ERROR = 2,
+  SSHC_DISCONNECT_KEY_EXCHANGE_FAILED = 3,
+  SSHC_DISCONNECT_RESERVED = 4,
+  SSHC_DISCONNECT_MAC_ERROR = 5,
+  SSHC_DISCONNECT_COMPRESSION_ERROR = 6,
+  SSHC_DISCONNECT_SERVICE_NOT_AVAILABLE = 7,
+  SSHC_DISCONNECT_PROTOCOL_VERSION_NOT_SUPPORTED = 8,
+  SSHC_DISCONNECT_HOST_KEY_NOT_VERIFIABLE = 9,
+  SSHC_DISCONNECT_CONNECTION_LOST = 10,
+  SSHC_DISCONNECT_BY_APPLICATION = 11,
+  SSHC_DISCONNECT_TOO_MANY_CONNECTIONS = 12,
+  SSHC_DISCONNECT_AUTH_CANCELLED_BY_USER = 13,
+  SSHC_DISCONNECT_NO_MORE_AUTH_METHODS_AVAILABLE = 14,
+  SSHC_DISCONNECT_ILLEGAL_USER_NAME = 15
+};
+
+/* An event is at most this long, with its length field: data for a channel is cut into pieces below it. */
+#define SSHC_LONGEST_EVENT (4u + 262144u)
+
+/* ---- known hosts
+ *
+ * What differs from OpenSSH, and matters: hosts are compared byte by byte, so hand in lower case (`Host` isn't `host`).
+ * Patterns (*, ?, !) aren't read: a line for *.example.org is a line for a host of that very name, and a pattern marked
+ * @revoked revokes nothing. Lines marked @cert-authority aren't read. Fields are parted by one space: a tab, two spaces or a
+ * blank in front hide a line. One byte that isn't UTF-8, anywhere in the text, refuses every host (SSHC_NOT_TEXT). A line for
+ * the host whose key isn't base64, or is of a type that isn't known here, refuses the host (SSHC_DECODE, SSHC_SSH_KEY) where
+ * OpenSSH passes over it. */
 
 /* Whether the known hosts text accepts the key (its blob, RFC 4253, section 6.6) for the host at the port: SSHC_OK,
  * SSHC_UNKNOWN, SSHC_KEY_CHANGED or SSHC_REVOKED with the line's number from 1 in *line, SSHC_DECODE, SSHC_SSH_KEY,
@@ -98,7 +305,9 @@ sshc_status sshc_known_hosts_check(const uint8_t *host, size_t host_len, uint16_
                                    const uint8_t *key, size_t key_len, uint64_t *line);
 
 /* Copies what is to be added at the end of the known hosts text so that it has the key: SSHC_OK, SSHC_NO_ROOM,
- * SSHC_BAD_KEY, SSHC_NOT_TEXT, SSHC_NO_MEMORY. Nothing is judged: check first. *size is set with the first two alone. */
+ * SSHC_BAD_KEY, SSHC_NOT_TEXT, SSHC_NO_MEMORY. Nothing is judged: check first. *size is set with the first two alone. THE
+ * HOST IS WRITTEN AS IT IS: the caller sees to it that it is one name, without comma, space, line feed, or a sign of
+ * patterns and markers (* ? ! | @ #) in it, since "x,github.com" would be a line for github.com too. */
 sshc_status sshc_known_hosts_learn(const uint8_t *host, size_t host_len, uint16_t port, const uint8_t *known, size_t known_len,
                                    const uint8_t *key, size_t key_len, uint8_t *to, size_t to_len, size_t *size);
 

@@ -98,8 +98,16 @@ static void hosts(void) {
   check(sshc_known_hosts_learn(HOST, 9, 22, NULL, 0, HOST, 9, to, sizeof to, &size) == SSHC_BAD_KEY, "no key to learn");
 }
 
+static void texts(void) {
+  for (sshc_status status = 0; status <= SSHC_REKEY_KEY; status++) {
+    int is_one = status <= SSHC_CLOSED_REFUSED || (status >= SSHC_NO_MEMORY && status != 41);
+    check((strcmp(sshc_status_text(status), "an unknown status") != 0) == is_one, "a text for each status, and for no other");
+  }
+}
+
 int main(void) {
   check(sshc_abi() == SSHC_ABI, "the number of the interface");
+  texts();
   sessions();
   rooms();
   agents();

@@ -1,5 +1,5 @@
 #!/usr/bin/env python3
-"""The client against servers that do wrong: each ends it with status 255 and an error by name, soon, and without a fault.
+"""The client against servers that do wrong: each ends it with status 255 and an error in words, soon, and without a fault.
 
     bad_servers.py CLIENT
 
@@ -13,13 +13,13 @@ import subprocess
 import sys
 import tempfile
 import threading
+import time
 
 from cryptography.hazmat.primitives.asymmetric.ed25519 import Ed25519PrivateKey
 from cryptography.hazmat.primitives.asymmetric.x25519 import X25519PrivateKey, X25519PublicKey
 from cryptography.hazmat.primitives.ciphers.aead import AESGCM
 from cryptography.hazmat.primitives.serialization import Encoding, PublicFormat
 
-CLIENT = os.path.abspath(sys.argv[1])
 KEXINIT, NEWKEYS, ECDH_INIT, ECDH_REPLY = 20, 21, 30, 31
 DISCONNECT, SERVICE_ACCEPT, USERAUTH_FAILURE, USERAUTH_SUCCESS, BANNER = 1, 6, 51, 52, 53
 
@@ -47,6 +47,10 @@ HOST, OTHER = Ed25519PrivateKey.generate(), Ed25519PrivateKey.generate()
 
 def blob(key):
     return string(b"ssh-ed25519") + string(raw(key.public_key()))
+
+
+def host_line():
+    return base64.b64encode(blob(HOST)).decode()
 
 
 class Peer:
@@ -176,13 +180,19 @@ class Peer:
         self.receive()
         self.end_at("cut-before-service")
         self.send(bytes([SERVICE_ACCEPT]) + string(b"ssh-userauth"))
-        self.receive()
+        request = self.receive()
         for _ in range(100000 if self.mode == "banners" else 0):
             self.send(bytes([BANNER]) + string(b"hello\n") + string(b""))
         self.end_at("cut-within-login")
         if self.mode == "names-no-password":
             self.send(bytes([USERAUTH_FAILURE]) + string(b"publickey,hostbased") + b"\0")
             assert self.receive()[0] == DISCONNECT, "the password was sent"
+        if self.mode == "names-password":
+            self.send(bytes([USERAUTH_FAILURE]) + string(b"password") + b"\0")
+            self.receive()
+        if self.mode == "takes-a-password" and b"secret" not in request:
+            self.send(bytes([USERAUTH_FAILURE]) + string(b"password") + b"\0")
+            raise EOFError
         if self.mode == "no-methods":
             self.send(bytes([USERAUTH_FAILURE]) + string(b"telepathy") + b"\0")
         if self.mode == "cut-failure":
@@ -204,8 +214,14 @@ class Peer:
         self.end_at("cut-within-command")
         if self.mode == "other-key-later":
             self.rekey()
+        if self.mode == "never-rekeys":
+            self.send(b"\x63" + struct.pack(">I", 1))
+            time.sleep(20)
         self.send(b"\x63" + struct.pack(">I", 1))
         self.send(b"\x5e" + struct.pack(">I", 1) + string(b"well\n"))
+        if self.mode == "beyond-the-window":
+            for _ in range(400):
+                self.send(b"\x5e" + struct.pack(">I", 1) + string(b"x" * 32768))
         if self.mode != "no-exit-status":
             self.send(b"\x62" + struct.pack(">I", 1) + string(b"exit-status") + b"\0" + struct.pack(">I", 0))
         self.send(b"\x61" + struct.pack(">I", 1))
@@ -248,6 +264,8 @@ class Peer:
 
 
 ENDED = "the server closed the connection"
+WRONG = "the server sent what it may not send now"
+CHANGED = "the known hosts have another host key: ssh-ed25519 FINGERPRINT of NAME; FILE line 1 has another key of this type: the host was set up anew, or somebody is in between"
 # what the server does wrong, and what the client says then; "" is nothing, with status 0, and None nothing, with 255
 WANTED = {
     "nothing": "",
@@ -268,56 +286,65 @@ WANTED = {
     "other-signer": "the server's signature over the key exchange is wrong",
     "other-hash": "the server's signature over the key exchange is wrong",
     "other-signature-name": "the server's signature over the key exchange is wrong",
-    "other-host-key": "key-changed 1",
+    "other-host-key": CHANGED,
     "cut-after-reply": ENDED,
     "cut-after-newkeys": ENDED,
-    "success-unasked": "inconsistent",
-    "data-before-login": "inconsistent",
+    "success-unasked": WRONG,
+    "data-before-login": WRONG,
     "bad-tag": "a packet with a bad tag",
     "reply-again": "a reply without an exchange",
     "empty-packet": "an empty packet",
-    "disconnects": "remote-disconnect",
+    "disconnects": "the server ended the session: go away",
     "cut-before-service": ENDED,
     "banners": "too many banners",
     "cut-within-login": ENDED,
-    "no-methods": "permission denied ()",
+    "no-methods": "the server names no method of logging in that is known",
     "names-no-password": "permission denied (publickey,hostbased)",
-    "cut-failure": "ssh-encoding",
+    "cut-failure": "the server sent a packet that can't be read",
     "cut-before-channel": ENDED,
-    "other-channel": "inconsistent",
-    "no-channel": "the server opens no session (reason 1)",
-    "command-refused": "the server doesn't start the command",
+    "other-channel": WRONG,
+    "no-channel": "the server opens no such channel: no (reason 1)",
+    "command-refused": "the server refused the request",
     "cut-within-command": ENDED,
-    "other-key-later": "rekey-key",
+    "other-key-later": "the server showed another host key later: ssh-ed25519 FINGERPRINT",
     "no-exit-status": None,
 }
 
 
-def run(mode, folder):
+def fingerprint(key):
+    return "SHA256:" + base64.b64encode(hashlib.sha256(blob(key)).digest()).decode().rstrip("=")
+
+
+def run(client, mode, folder):
+    """Status, standard output, and the first line of standard error without the program's name."""
     listener = socket.create_server(("127.0.0.1", 0))
     port = listener.getsockname()[1]
     threading.Thread(target=lambda: Peer(listener.accept()[0], mode).run(), daemon=True).start()
     with open(f"{folder}/known_hosts", "w") as file:
-        file.write(f"[127.0.0.1]:{port} ssh-ed25519 {base64.b64encode(blob(HOST)).decode()}\n")
-    words = [CLIENT, "-q", "-p", str(port), "-l", "user", "-k", f"{folder}/known_hosts", "-w", f"{folder}/password", "127.0.0.1", "command"]
-    ran = subprocess.run(words, capture_output=True, text=True, timeout=60, env={**os.environ, "SSH_AUTH_SOCK": ""}, stdin=subprocess.DEVNULL)
+        file.write(f"[127.0.0.1]:{port} ssh-ed25519 {host_line()}\n")
+    words = [client, "-q", "-F", "none", "-p", str(port), "-l", "user", "-o", f"UserKnownHostsFile={folder}/known_hosts", "-w", f"{folder}/password", "-o", "PubkeyAuthentication=no"]
+    ran = subprocess.run([*words, "127.0.0.1", "command"], capture_output=True, text=True, timeout=60, env={**os.environ, "SSH_AUTH_SOCK": ""}, stdin=subprocess.DEVNULL)
     listener.close()
-    return ran.returncode, ran.stdout, ran.stderr.strip()
+    said = ran.stderr.split("\n")[0]
+    for words, name in ((fingerprint(HOST), "FINGERPRINT"), (fingerprint(OTHER), "FINGERPRINT"), (f"[127.0.0.1]:{port}", "NAME"), (f"{folder}/known_hosts", "FILE")):
+        said = said.replace(words, name)
+    return ran.returncode, ran.stdout, said
 
 
-def main():
+def main(client):
     wrong = 0
     with tempfile.TemporaryDirectory() as folder:
         with open(f"{folder}/password", "w") as file:
             file.write("secret\n")
         for mode, said in WANTED.items():
-            got = run(mode, folder)
-            wanted = (255, "", f"client: {said}") if said else (0 if said == "" else 255, "well\n", "")
+            got = run(client, mode, folder)
+            wanted = (255, "", f"sazh: {said}") if said else (0 if said == "" else 255, "well\n", "")
             if got != wanted:
                 wrong += 1
-                print(f"{mode}: {got!r:.300} and not {wanted}")
+                print(f"{mode}: {got!r:.400} and not {wanted}")
     print(f"client: {len(WANTED) - 1} servers that do wrong and one that doesn't; {wrong} ended otherwise than they are to")
     return wrong != 0
 
 
-sys.exit(main())
+if __name__ == "__main__":
+    sys.exit(main(os.path.abspath(sys.argv[1])))

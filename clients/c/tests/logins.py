@@ -1,5 +1,6 @@
 #!/usr/bin/env python3
-"""The client against Debian's servers, each of which is passed over where it isn't installed.
+"""The client against Debian's servers, each of which is passed over where it isn't installed. As root: it makes a user, and
+deletes it at the end.
 
     logins.py CLIENT"""
 import os
@@ -20,8 +21,9 @@ MANY = os.urandom(1 << 20) * 20
 
 def client(scratch, port, *words, input=b"", agent=True, wait=True):
     """Runs the client, and returns its status, standard output and standard error."""
-    base = [CLIENT, "-p", str(port), "-l", scratch.user, "-k", f"{scratch.folder}/known_hosts", "-w", f"{scratch.folder}/password"]
-    env = {**os.environ, "SSH_AUTH_SOCK": scratch.socket if agent else ""}
+    base = [CLIENT, "-F", "none", *words[: -2 if len(words) > 1 else 0], "-p", str(port), "-l", scratch.user, "-o", f"UserKnownHostsFile={scratch.folder}/known_hosts", "-w", f"{scratch.folder}/password"]
+    words = words[-2 if len(words) > 1 else 0 :]
+    env = {**os.environ, "HOME": scratch.folder, "SSH_AUTH_SOCK": scratch.socket if agent else ""}
     if not wait:
         return subprocess.Popen([*base, *words], stdin=subprocess.DEVNULL, env=env)
     ran = subprocess.run([*base, *words], input=input, capture_output=True, env=env, timeout=120)
@@ -40,23 +42,23 @@ def logins(scratch, port):
         scratch.add_key(kind)
         want(client(scratch, port, "localhost", "id -un")[:2], (0, scratch.user.encode() + b"\n"), f"an agent's {kind} key")
     want(client(scratch, port, "localhost", "echo to >&2; kill -9 $$")[0], 255, "a command that is killed")
-    scratch.write("wrong", "wrong\n")
-    words = [CLIENT, "-p", str(port), "-l", scratch.user, "-k", f"{scratch.folder}/known_hosts", "-w", f"{scratch.folder}/wrong", "localhost", "true"]
-    ran = subprocess.run(words, env={**os.environ, "SSH_AUTH_SOCK": ""}, capture_output=True, text=True, timeout=60)
-    want((ran.returncode, "permission denied" in ran.stderr), (255, True), "a wrong password")
+    scratch.write("password", "wrong\n")
+    status, _, said = client(scratch, port, "localhost", "true", agent=False)
+    want((status, "permission denied" in said), (255, True), "a wrong password")
+    scratch.write("password", scratch.password + "\n")
 
 
 def transports(scratch, port):
     for cipher in CIPHERS:
         for key in HOST_KEYS:
-            want(client(scratch, port, "-c", cipher, "-a", key, "localhost", "wc -c", input=MANY[:100000])[:2], (0, b"100000\n"), f"{cipher} {key}")
-        status, output, _ = client(scratch, port, "-c", cipher, "-r", "3000000", "localhost", "cat", input=MANY)
+            want(client(scratch, port, "-c", cipher, "-o", f"HostKeyAlgorithms={key}", "localhost", "wc -c", input=MANY[:100000])[:2], (0, b"100000\n"), f"{cipher} {key}")
+        status, output, _ = client(scratch, port, "-c", cipher, "-o", "RekeyLimit=3000000", "localhost", "cat", input=MANY)
         want((status, output == MANY), (0, True), f"{cipher}, 20 MB there and back with new keys at each 3 MB")
 
 
 def sftp(scratch, port):
-    words = f"{CLIENT} -p {port} -l {scratch.user} -k {scratch.folder}/known_hosts -s localhost sftp"
-    scratch.write("sftp", f"#!/bin/sh\nexec {words}\n")
+    words = f"{CLIENT} -F none -p {port} -l {scratch.user} -o UserKnownHostsFile={scratch.folder}/known_hosts"
+    scratch.write("sftp", f'#!/bin/sh\nexec {words} "$@"\n')
     os.chmod(f"{scratch.folder}/sftp", 0o755)
     scratch.write("batch", f"get /etc/services {scratch.folder}/got\n")
     env = {**os.environ, "SSH_AUTH_SOCK": scratch.socket}
@@ -118,19 +120,8 @@ def curves(scratch):
     port = scratch.sshd(more=f"KexAlgorithms ecdh-sha2-nistp256\n{keys}")
     scratch.know(port, "ed25519", "ecdsa384", "ecdsa521")
     for key in ("ssh-ed25519", "ecdsa-sha2-nistp384", "ecdsa-sha2-nistp521"):
-        want(client(scratch, port, "-a", key, "localhost", "echo hello")[:2], (0, b"hello\n"), f"ecdh-sha2-nistp256 {key}")
-    want(client(scratch, port, "-c", "aes128-ctr", "localhost", "true")[::2], (255, "client: aes128-ctr is no cipher that the client has\n"), "another cipher")
-    want(client(scratch, port, "-k", "/", "localhost", "true")[0], 255, "known hosts that can't be read")
-
-
-def hosts(scratch, port):
-    scratch.know(port)
-    want(client(scratch, port, "localhost", "true")[::2], (255, "client: unknown-key\n"), "no known host")
-    other = scratch.read("user_ed25519.pub").split()[:2]
-    scratch.write("known_hosts", f"# none\n[localhost]:{port} {' '.join(other)}\n")
-    want(client(scratch, port, "localhost", "true")[::2], (255, "client: key-changed 2\n"), "another key")
-    scratch.write("known_hosts", f"@revoked [localhost]:{port} {' '.join(scratch.read('host_ed25519.pub').split()[:2])}\n")
-    want(client(scratch, port, "localhost", "true")[::2], (255, "client: revoked 1\n"), "a revoked key")
+        want(client(scratch, port, "-o", f"HostKeyAlgorithms={key}", "localhost", "echo hello")[:2], (0, b"hello\n"), f"ecdh-sha2-nistp256 {key}")
+    want(client(scratch, port, "-o", "UserKnownHostsFile=/", "localhost", "true")[0], 255, "known hosts that can't be read")
 
 
 def simple(scratch, port, name, by_password=True):
@@ -155,7 +146,6 @@ def main():
         transports(scratch, port)
         sftp(scratch, port)
         forwards(scratch, port)
-        hosts(scratch, port)
         prompts = scratch.sshd(password="no")
         scratch.know(prompts, "ed25519")
         want(client(scratch, prompts, "localhost", "echo hello", agent=False)[:2], (0, b"hello\n"), "prompts")
@@ -173,7 +163,7 @@ def main():
                 shutil.copy(f"{scratch.folder}/host_ed25519.pub", f"{scratch.folder}/host_{name}.pub")
                 simple(scratch, port, name)
                 ran.append(name)
-    print(f"client: logins, commands, ciphers, host keys, new keys, sftp, -L, -R, known hosts against {', '.join(ran)}")
+    print(f"client: logins, commands, ciphers, host keys, new keys, sftp, -L, -R against {', '.join(ran)}")
 
 
 main()

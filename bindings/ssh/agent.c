@@ -1,6 +1,7 @@
 #include "agent.h"
 
-#include <stdlib.h>
+#include <errno.h>
+#include <fcntl.h>
 #include <string.h>
 #include <sys/socket.h>
 #include <sys/un.h>
@@ -8,17 +9,24 @@
 
 enum { REQUEST_IDENTITIES = 11, IDENTITIES_ANSWER = 12, SIGN_REQUEST = 13, SIGN_RESPONSE = 14, LONGEST_ANSWER = 262144 };
 
-void agent_connect(agent *it) {
-  *it = (agent){.socket = -1};
-  const char *path = getenv("SSH_AUTH_SOCK");
+int connect_unix(const char *path, bool waits) {
   struct sockaddr_un at = {.sun_family = AF_UNIX};
-  if (path == NULL || strlen(path) >= sizeof at.sun_path) return;
+  if (path == NULL || *path == 0 || strlen(path) >= sizeof at.sun_path) {
+    errno = ENAMETOOLONG;
+    return -1;
+  }
   strcpy(at.sun_path, path);
-  int made = socket(AF_UNIX, SOCK_STREAM, 0);
-  if (made >= 0 && connect(made, (struct sockaddr *)&at, sizeof at) == 0)
-    it->socket = made;
-  else if (made >= 0)
-    close(made);
+  int made = socket(AF_UNIX, SOCK_STREAM | SOCK_CLOEXEC | (waits ? 0 : SOCK_NONBLOCK), 0);
+  if (made < 0 || connect(made, (struct sockaddr *)&at, sizeof at) == 0) return made;
+  int error = errno;
+  close(made);
+  errno = error;
+  return -1;
+}
+
+bool agent_connect(agent *it, const char *path) {
+  *it = (agent){.socket = connect_unix(path, true)};
+  return it->socket >= 0;
 }
 
 void agent_close(agent *it) {
@@ -29,7 +37,8 @@ void agent_close(agent *it) {
 
 static bool write_all(int to, slice it) {
   while (it.len != 0) {
-    ssize_t written = write(to, it.at, it.len);
+    ssize_t written = send(to, it.at, it.len, MSG_NOSIGNAL);
+    if (written < 0 && errno == EINTR) continue;
     if (written <= 0) return false;
     it = slice_of(it.at + written, it.len - (size_t)written);
   }
@@ -39,6 +48,7 @@ static bool write_all(int to, slice it) {
 static bool read_all(int from, uint8_t *to, size_t count) {
   while (count != 0) {
     ssize_t got = read(from, to, count);
+    if (got < 0 && errno == EINTR) continue;
     if (got <= 0) return false;
     to += got;
     count -= (size_t)got;
@@ -54,28 +64,29 @@ static bool ask(agent *it, const bytes *request) {
   bytes_free(&frame);
   uint8_t head[4];
   if (!sent || !read_all(it->socket, head, 4)) return false;
-  reader length = read_slice(slice_of(head, 4));
-  uint32_t count = get_u32(&length);
+  uint32_t count = load_u32(head);
   if (count == 0 || count > LONGEST_ANSWER) return false;
   bytes_clear(&it->answer);
-  if (!read_all(it->socket, bytes_room(&it->answer, count), count)) return false;
+  uint8_t *at = bytes_room(&it->answer, count);
+  if (at == NULL || !read_all(it->socket, at, count)) return false;
   bytes_grew(&it->answer, count);
   return true;
 }
 
-void agent_keys(agent *it, bytes *keys) {
+bool agent_keys(agent *it, bytes *keys) {
   bytes request = {0};
   put_u8(&request, REQUEST_IDENTITIES);
   bool answered = ask(it, &request);
   bytes_free(&request);
-  if (!answered) return;
+  if (!answered) return false;
   reader answer = read_slice(bytes_slice(&it->answer));
-  if (get_u8(&answer) != IDENTITIES_ANSWER) return;
+  if (get_u8(&answer) != IDENTITIES_ANSWER) return false;
   for (uint32_t left = get_u32(&answer); left != 0 && !answer.bad; left--) {
     slice key = get_string(&answer);
     get_string(&answer);
     if (!answer.bad) put_string(keys, key);
   }
+  return true;
 }
 
 bool agent_sign(agent *it, slice key, uint8_t hash, slice over, bytes *signature) {
@@ -91,5 +102,5 @@ bool agent_sign(agent *it, slice key, uint8_t hash, slice over, bytes *signature
   slice made = get_string(&answer);
   if (answer.bad) return false;
   put(signature, made.at, made.len);
-  return true;
+  return !signature->bad;
 }

@@ -1,10 +1,13 @@
 /* The transport of an SSH connection (RFC 4253): version lines, packets, key exchange, strict key exchange. What the
  * packets mean is the core's: this hands it each packet but those of the key exchange. */
-#ifndef CLIENT_TRANSPORT_H
-#define CLIENT_TRANSPORT_H
+#ifndef SAZHONTHIL_SSH_TRANSPORT_H
+#define SAZHONTHIL_SSH_TRANSPORT_H
 
 #include "bytes.h"
 #include "crypto.h"
+#include "wire.h"
+
+#include <sazhonthil_ssh.h>
 
 typedef enum kex_state {
   KEX_IDLE,      /* no exchange runs */
@@ -32,9 +35,13 @@ typedef struct names {
 } names;
 
 typedef struct transport {
-  int socket;
-  bool ended;
-  char *failure; /* why it failed, or NULL */
+  wire wire;
+  bool ended;          /* it failed: nothing is read or sent any more */
+  bool closed;         /* the peer closed; packets that came before may still be in `in` */
+  bool cant_write;     /* nothing can be sent any more, but what came can be read */
+  sazh_code code;      /* why it failed */
+  char failure[256];
+  int system;          /* errno where the system failed */
 
   bytes in, out, held;
   size_t taken; /* of `in`, by the packet that was lent last */
@@ -56,13 +63,13 @@ typedef struct transport {
   const char *ciphers, *host_key_algorithms;
 } transport;
 
-/* Over a connected socket that doesn't block; `ciphers` and the algorithms are lists of names, best first. */
-void transport_start(transport *it, int socket, const char *ciphers, const char *host_key_algorithms);
+/* Over a wire that doesn't block; `ciphers` and the algorithms are lists of names, best first, that outlive it. */
+void transport_start(transport *it, wire over, const char *ciphers, const char *host_key_algorithms);
 void transport_free(transport *it);
 
 /* Whether there is something to write, and how much. */
 size_t transport_waiting(const transport *it);
-/* Reads and writes what the socket has and takes. */
+/* Reads and writes what the wire has and takes. */
 void transport_read(transport *it);
 void transport_write(transport *it);
 
@@ -74,7 +81,12 @@ void transport_send(transport *it, slice packet);
 void transport_release(transport *it);
 /* Sends our KEXINIT, unless an exchange runs. */
 void transport_begin_exchange(transport *it);
-/* Whether the keys have done enough (RFC 4253, section 9), by bytes or packets. */
-bool transport_is_worn(const transport *it);
+/* Once it is `closed`, and all packets that came before were taken. */
+void transport_end(transport *it);
+/* Whether the keys have done enough (RFC 4253, section 9): so many bytes or packets. */
+bool transport_is_worn(const transport *it, uint64_t most_bytes, uint64_t most_packets);
+bool cipher_names_known(slice list);
+bool host_key_names_known(slice list);
+extern const char DEFAULT_CIPHERS[], DEFAULT_HOST_KEYS[];
 
 #endif
