@@ -36,17 +36,17 @@ class Asker:
         chance = self.chance
         pair, fields = chance.choice(self.pairs)
         sort = chance.randrange(100)
-        if sort < 25:
+        if sort < 30:
             return self.addition(pair)
-        if sort < 40:
+        if sort < 42:
             return bytes([REQUEST_IDENTITIES])
-        if sort < 75:
+        if sort < 80:
             return sign_request(blob_of(fields), chance.randbytes(chance.randrange(300)), chance.choice([0, 2, 4, 6]))
         if sort < 86:
             return bytes([REMOVE_IDENTITY]) + text(chance.choice([blob_of(fields), blob_of(fields), b"", b"none"]))
-        if sort < 88:
+        if sort < 87:
             return bytes([REMOVE_ALL])
-        if sort < 91 or (self.is_locked and sort < 96):
+        if sort < 88 or (self.is_locked and sort < 97):
             self.is_locked = not self.is_locked
             return bytes([LOCK if self.is_locked else UNLOCK]) + text(b"word")
         return chance.choice([b"\1", b"\xff", bytes([27]) + text(b"no@extension"), bytes([17]) + pair[:40], bytes([18]), bytes([20]) + text(b"reader")])

@@ -3,6 +3,7 @@
 
     hostile.py AGENT"""
 import os
+import random
 import resource
 import shutil
 import signal
@@ -182,8 +183,6 @@ def clients_of_other_users(scratch):
 
 def garbage(scratch):
     """Random bytes and frames on many connections; the agent goes on."""
-    import random
-
     agent, chance = scratch.start(), random.Random(7)
     agent.add(scratch.key("ed25519"))
     pair = private_parts(scratch.at("ed25519"))[0]

@@ -1,4 +1,5 @@
 """An agent in a folder of its own, Debian's programs beside it, and the agent's protocol by hand."""
+import base64
 import os
 import select
 import shutil
@@ -46,6 +47,11 @@ def strings(it):
         found.append(it[4 : 4 + size])
         it = it[4 + size :]
     return found
+
+
+def strings_front(it):
+    """The string with which the bytes begin."""
+    return it[4 : 4 + struct.unpack(">I", it[:4])[0]]
 
 
 class Line:
@@ -98,8 +104,6 @@ def sign_request(blob, over, flags=0):
 
 def private_parts(path):
     """The pair in the file of a key without a passphrase, as ADD_IDENTITY has it, and the fields of it."""
-    import base64
-
     with open(path) as file:
         raw = base64.b64decode("".join(file.read().splitlines()[1:-1]))
     body = raw[len("openssh-key-v1\0") :]
@@ -111,10 +115,6 @@ def private_parts(path):
         fields.append(strings_front(private))
         private = private[4 + len(fields[-1]) :]
     return b"".join(map(text, fields)), fields
-
-
-def strings_front(it):
-    return it[4 : 4 + struct.unpack(">I", it[:4])[0]]
 
 
 # ---- an agent
