@@ -23,7 +23,8 @@
  * Threads. One connection with its channels and forwards, and a key: one thread at a time. Two connections: any two
  * threads at once, unless one runs through the other (sazh_connect_through). getaddrinfo is called, and blocks.
  *
- * Signals. Sockets are written with MSG_NOSIGNAL. Nothing else is written.
+ * Signals. Sockets are written with MSG_NOSIGNAL. The one file that is written is the known hosts file, by
+ * sazh_host_accept.
  *
  * Secrets. Passwords, answers, passphrases, private keys, derived keys, and the memory of events and records that held
  * them are overwritten before they are freed. What the caller owns is the caller's to wipe.
@@ -83,7 +84,7 @@ typedef enum sazh_code {
   SAZH_KEY_FILE,          /* the file isn't a private key that the library reads */
   SAZH_PASSPHRASE,        /* the passphrase is wrong, or there is none */
   SAZH_SIGNING,           /* the key didn't sign */
-  SAZH_NO_ANSWERS,        /* the callback gave no answers to the server's prompts */
+  SAZH_NO_ANSWERS,        /* the callback gave no answers to the server's prompts, which ends the connection */
   SAZH_CHANNEL_REFUSED,   /* the server opens no such channel; `reason` (RFC 4254, section 5.1) and its words are there */
   SAZH_REQUEST_REFUSED,   /* the server refused what was asked of the channel */
   SAZH_CHANNEL_CLOSED,    /* the channel is closed */
@@ -176,7 +177,7 @@ sazh_host_key sazh_host_key_of(const sazh_connection *it);
  * file is made with mode 0600 where it isn't there. SAZH_HOSTS_FILE: it wasn't written, but the connection goes on. */
 sazh_code sazh_host_accept(sazh_connection *it, bool learn);
 
-/* What the two sides agreed on, for those who want to see it. All "" before. */
+/* What the two sides agreed on, for those who want to see it. All "" before. The version is the server's, as it came. */
 typedef struct sazh_names {
   const char *server_version, *kex, *host_key, *cipher_out, *cipher_in, *mac_out, *mac_in;
   bool is_strict; /* strict key exchange (OpenSSH's PROTOCOL, 1.9) */

@@ -266,11 +266,12 @@ bool kex_secret(kex_kind kind, EVP_PKEY *ours, slice theirs, bytes *secret) {
 typedef struct curve {
   const char *type, *name, *group;
   const EVP_MD *(*digest)(void);
+  size_t point_len; /* not compressed */
 } curve;
 
-static const curve CURVES[] = {{"ecdsa-sha2-nistp256", "nistp256", "P-256", EVP_sha256},
-                               {"ecdsa-sha2-nistp384", "nistp384", "P-384", EVP_sha384},
-                               {"ecdsa-sha2-nistp521", "nistp521", "P-521", EVP_sha512}};
+static const curve CURVES[] = {{"ecdsa-sha2-nistp256", "nistp256", "P-256", EVP_sha256, 65},
+                               {"ecdsa-sha2-nistp384", "nistp384", "P-384", EVP_sha384, 97},
+                               {"ecdsa-sha2-nistp521", "nistp521", "P-521", EVP_sha512, 133}};
 
 static const curve *curve_named(slice type) {
   for (size_t i = 0; i < sizeof CURVES / sizeof *CURVES; i++)
@@ -287,6 +288,8 @@ static EVP_PKEY *ed25519_key(reader *blob) {
 static EVP_PKEY *ecdsa_key(reader *blob, const curve *on) {
   slice name = get_string(blob), point = get_string(blob);
   if (blob->bad || blob->left != 0 || !slice_is(name, on->name)) return NULL;
+  /* libcrypto reads other forms of the same point too, and a key has one blob */
+  if (point.len != on->point_len || point.at[0] != 4) return NULL;
   return curve_key(on->group, point);
 }
 

@@ -50,15 +50,12 @@ def relay(port, seen):
 def a_closed_descriptor_is_no_socket(place):
     seen = []
     between = relay(PORT, seen)
+    place.known(between.port, "ed25519", name="known_relay")
     for number, command in ((1, "echo SECRET-WORDS"), (2, "echo SECRET-WORDS >&2"), (0, "cat")):
-        words = [*place.words(between.port, "-o", f"HostKeyAlias=[localhost]:{PORT}"), "localhost", command]
-        words[words.index(f"HostKeyAlias=[localhost]:{PORT}")] = "HostKeyAlias=alias"
-        place.write("known_hosts_alias", f"alias {place.read('host_ed25519.pub')}")
-        words = [it.replace(place.path("known_hosts"), place.path("known_hosts_alias")) for it in words]
-        ran = subprocess.run(words, stdin=None if number == 0 else subprocess.DEVNULL, preexec_fn=lambda: os.close(number), env=place.environment, timeout=20,
-                             **{name: subprocess.DEVNULL for at, name in ((1, "stdout"), (2, "stderr")) if at != number})
-        want(ran.returncode, 0, f"descriptor {number} is closed")
-    want(b"SECRET" in b"".join(seen), False, "output in the connection, as it is")
+        words = [*place.words(between.port, known="known_relay"), "localhost", command]
+        others = {name: subprocess.DEVNULL for at, name in enumerate(("stdin", "stdout", "stderr")) if at != number}
+        ran = subprocess.run(words, preexec_fn=lambda: os.close(number), env=place.environment, timeout=20, **others)
+        want((ran.returncode, b"SECRET" in b"".join(seen)), (0, False), f"descriptor {number} is closed: its status, and output in the connection as it is")
 
 
 def output_that_cant_be_written_is_an_error(place):

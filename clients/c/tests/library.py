@@ -74,9 +74,16 @@ def each_request_for_memory_refused(place):
     want((ran.returncode, ran.stderr, ran.stdout.endswith("once more: well\n")), (0, "", True), f"refused memory: {ran.stdout}")
 
 
+def mutated_signatures_and_keys(place):
+    program = built(place, f"{HERE}/mutated_signatures.c", f"-I{BINDINGS}/ssh")
+    keys = [place.path("user_ed25519"), place.path("user_rsa"), *[place.make_key(f"curve{bits}", "ecdsa", "", "-b", str(bits)) for bits in (256, 384, 521)]]
+    ran = subprocess.run([program, "400", *keys], capture_output=True, text=True, timeout=600)
+    want((ran.returncode, ran.stdout, ran.stderr), (0, "library: 4000 mutated signatures; wrong: 0\n", ""), "mutated signatures")
+
+
 if __name__ == "__main__":
     TESTS = [the_header_stands_alone, examples_are_short]
-    TESTS += [a_command_by_a_key_file, a_command_by_a_password, calls_in_and_out_of_order, each_request_for_memory_refused] if ARCHIVE else []
+    TESTS += [a_command_by_a_key_file, a_command_by_a_password, calls_in_and_out_of_order, each_request_for_memory_refused, mutated_signatures_and_keys] if ARCHIVE else []
     with Place(sys.argv[0]) as place:
         PORT = place.sshd()
         place.known(PORT, "ed25519", "ecdsa", "rsa")
