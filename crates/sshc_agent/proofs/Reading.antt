@@ -9,7 +9,7 @@ use Rattle.sshc_wire.specs.ContentsLaws.{prepend-nothing, prepend-prepend}
 use Rattle.sshc_wire.specs.Faults.{Rose}
 use Rattle.sshc_wire.specs.Reads.{number_at}
 use Rattle.sshc_agent_core.specs.declared.input.AgentInput.{AgentInput}
-use Rattle.sshc_key.specs.declared.agent_msg.TheConstants.{MAX_AGENT_FRAME_LEN}
+use Rattle.sshc_key.specs.AgentNumbers.{MAX_AGENT_FRAME_LEN}
 use Rattle.sshc_agent_core.specs.AgentFrames.{FrameBytes, framed_by, framed_in as given_in, next_in, pushed}
 use Rattle.sshc_agent_core.specs.FrameLaws.{pushed_on}
 use Rattle.std.proofs.lemmas.List.{append-nil}

@@ -13,7 +13,7 @@ use Rattle.sshc_wire.specs.declared.error.WireError.{WireError}
 use Rattle.sshc_wire.specs.declared.message_type.MessageType.{MessageType}
 use Rattle.sshc_wire.specs.Reads.{number_at, string_at}
 use Rattle.sshc_key.specs.Asking.{Asking, SignRequest, asks, done}
-use Rattle.sshc_key.specs.declared.agent_msg.TheConstants.{SIGN_REQUEST}
+use Rattle.sshc_key.specs.AgentNumbers.{SIGN_REQUEST}
 use Rattle.sshc_agent_core.specs.declared.connections.Standing.{Standing}
 use Rattle.sshc_agent_core.specs.declared.connections.Standing.TheVariants as standings
 use Rattle.sshc_agent_core.specs.declared.input.AgentInput.{AgentInput}

@@ -10,7 +10,7 @@ use Rattle.std.proofs.lemmas.List.Sums.{sum_by-cons, sum_by-le-sum_by, sum_by-se
 use Rattle.std.proofs.lemmas.Slice.Eq.{bytes_eq-Decides}
 use Rattle.sshc_wire.specs.Wire.{counted_text, string_text, u32_text}
 use Rattle.sshc_agent_core.specs.declared.key_list.HeldKey.{HeldKey}
-use Rattle.sshc_key.specs.declared.agent_msg.TheConstants.{MAX_AGENT_FRAME_LEN}
+use Rattle.sshc_key.specs.AgentNumbers.{MAX_AGENT_FRAME_LEN}
 use Rattle.sshc_agent_core.specs.KeyList.{AreListable, has_room, held, identity_text, is_key, listed, listing, put_at, unexpired, with_key, without_key}
 use Rattle.sshc_agent_core.proofs.Listings.{nowhere}
 

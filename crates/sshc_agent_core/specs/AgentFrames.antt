@@ -8,7 +8,7 @@ use Rattle.sshc_wire.specs.declared.error.WireError.{WireError}
 use Rattle.sshc_wire.specs.Reads.{number_at}
 use Rattle.sshc_agent_core.specs.declared.input.AgentInput.{AgentInput}
 use Rattle.sshc_agent_core.specs.declared.input.AgentInput.TheVariants.{Frame, Oversize}
-use Rattle.sshc_key.specs.declared.agent_msg.TheConstants.{MAX_AGENT_FRAME_LEN}
+use Rattle.sshc_key.specs.AgentNumbers.{MAX_AGENT_FRAME_LEN}
 
 -- the bytes that are in no frame yet, and whether a length above the limit came
 pub record FrameBytes : Type 0 where

@@ -12,7 +12,7 @@ use Rattle.sshc_agent_core.specs.declared.input.AgentInput.{AgentInput}
 use Rattle.sshc_agent_core.specs.declared.input.AgentInput.TheVariants as inputs
 use Rattle.sshc_agent_core.specs.declared.input.AgentOutput.{AgentOutput}
 use Rattle.sshc_agent_core.specs.declared.input.AgentOutput.TheVariants as outputs
-use Rattle.sshc_key.specs.declared.agent_msg.TheConstants.{FAILURE, SIGN_REQUEST, SIGN_RESPONSE, SUCCESS, UNLOCK}
+use Rattle.sshc_key.specs.AgentNumbers.{FAILURE, SIGN_REQUEST, SIGN_RESPONSE, SUCCESS, UNLOCK}
 use Rattle.sshc_agent_core.specs.AgentList.{AgentList, aged, empty_list}
 use Rattle.sshc_key.specs.declared.signer.Asker.{Asker}
 use Rattle.sshc_key.specs.declared.signer.Asker.TheVariants.{Agent}

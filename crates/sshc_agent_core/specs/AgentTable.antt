@@ -23,7 +23,7 @@ use Rattle.sshc_agent_core.specs.declared.input.AgentOutput.{AgentOutput}
 use Rattle.sshc_agent_core.specs.declared.input.AgentOutput.TheVariants as outputs
 use Rattle.sshc_agent_core.specs.declared.input.Cause.TheVariants as causes
 use Rattle.sshc_agent_core.specs.declared.key_list.HeldKey.{HeldKey}
-use Rattle.sshc_key.specs.declared.agent_msg.TheConstants.{ADD_ID_CONSTRAINED}
+use Rattle.sshc_key.specs.AgentNumbers.{ADD_ID_CONSTRAINED}
 use Rattle.sshc_agent_core.specs.AgentList.{AgentList, aged, seen, standing, starved}
 use Rattle.sshc_agent_core.specs.Connections.{standing_of}
 use Rattle.sshc_agent_core.specs.Messages.{message_of}

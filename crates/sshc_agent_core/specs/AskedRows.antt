@@ -6,7 +6,7 @@ use Rattle.std.specs.Option.{is_some}
 use Rattle.sshc_wire.specs.declared.error.WireError.{WireError}
 use Rattle.sshc_wire.specs.Reads.{number_at, string_at}
 use Rattle.sshc_key.specs.Asking.{SignRequest}
-use Rattle.sshc_key.specs.declared.agent_msg.TheConstants.{SIGN_REQUEST}
+use Rattle.sshc_key.specs.AgentNumbers.{SIGN_REQUEST}
 use Rattle.sshc_key.specs.declared.signer.Asker.TheVariants.{Agent}
 use Rattle.sshc_agent_core.specs.declared.connections.Standing.{Standing}
 use Rattle.sshc_agent_core.specs.declared.connections.Standing.TheVariants as standings

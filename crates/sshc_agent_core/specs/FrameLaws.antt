@@ -11,7 +11,7 @@ use Rattle.sshc_wire.specs.FormatLaws.{ok_is}
 use Rattle.sshc_wire.specs.Reads.{number_at}
 use Rattle.sshc_agent_core.specs.declared.input.AgentInput.{AgentInput}
 use Rattle.sshc_agent_core.specs.declared.input.AgentInput.TheVariants.{Frame, Oversize}
-use Rattle.sshc_key.specs.declared.agent_msg.TheConstants.{MAX_AGENT_FRAME_LEN}
+use Rattle.sshc_key.specs.AgentNumbers.{MAX_AGENT_FRAME_LEN}
 use Rattle.sshc_agent_core.specs.AgentFrames.{FrameBytes, Gives, GivesAll, framed_by, framed_in, next_in, pushed}
 
 pub number_by : (b : Bool) (n : ℕ) (front rest : List ℕ) (x : ℕ × List ℕ) → cond {A = Result (ℕ × List ℕ) WireError} b (Err Short) (Ok (from_be_bytes w32 front, rest)) ≡ Ok x → (b ≡ false) × (from_be_bytes w32 front ≡ x.0) × (rest ≡ x.1)

@@ -4,7 +4,7 @@ use Rattle.std.specs.Prelude.{ℕ, ◌+◌, ◌*◌, ◌-◌, ◌^◌, ◌≤◌
 use Rattle.std.specs.Option.{is_some}
 use Rattle.sshc_wire.specs.Wire.{counted_text, string_text}
 use Rattle.sshc_agent_core.specs.declared.key_list.HeldKey.{HeldKey}
-use Rattle.sshc_key.specs.declared.agent_msg.TheConstants.{IDENTITIES_ANSWER, MAX_AGENT_FRAME_LEN}
+use Rattle.sshc_key.specs.AgentNumbers.{IDENTITIES_ANSWER, MAX_AGENT_FRAME_LEN}
 
 abbrev pub is_key : List ℕ → HeldKey → Bool
 is_key blob key = bytes_eq key.blob blob

@@ -4,7 +4,7 @@
 use Rattle.std.specs.Prelude.{◌≡◌, ℕ, Bool, List, ◌∷◌, ◌++◌, Option, Some, None, Ok}
 use Rattle.sshc_wire.specs.Reads.{string_at}
 use Rattle.sshc_agent_core.specs.declared.entry.Entry.{Entry}
-use Rattle.sshc_key.specs.declared.agent_msg.TheConstants.{LOCK}
+use Rattle.sshc_key.specs.AgentNumbers.{LOCK}
 use Rattle.sshc_agent_core.specs.AgentHistory.{AreLockedOut, IsEntry, Leads, NoneUnlocks, aged_along, request_of, stands_in, success}
 use Rattle.sshc_agent_core.specs.AgentList.{AgentList, empty_list}
 

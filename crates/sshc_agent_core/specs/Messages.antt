@@ -2,7 +2,7 @@
 use Rattle.std.specs.Prelude.{ℕ, Option, Some, None, ◌==◌, if◌then◌else◌}
 use Rattle.sshc_wire.specs.declared.message_type.MessageType.{MessageType}
 use Rattle.sshc_wire.specs.declared.message_type.MessageType.TheVariants.{RequestKeys, AddKeys, RemoveKeys, RemoveAllKeys, Sign, Lock, Unlock}
-use Rattle.sshc_key.specs.declared.agent_msg.TheConstants.{REQUEST_IDENTITIES, SIGN_REQUEST, ADD_IDENTITY, REMOVE_IDENTITY, REMOVE_ALL_IDENTITIES, LOCK, UNLOCK, ADD_ID_CONSTRAINED}
+use Rattle.sshc_key.specs.AgentNumbers.{REQUEST_IDENTITIES, SIGN_REQUEST, ADD_IDENTITY, REMOVE_IDENTITY, REMOVE_ALL_IDENTITIES, LOCK, UNLOCK, ADD_ID_CONSTRAINED}
 
 -- the kind of the message with this number
 unfoldable pub message_of : ℕ → Option MessageType

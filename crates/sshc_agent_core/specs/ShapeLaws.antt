@@ -28,7 +28,7 @@ use Rattle.sshc_agent_core.specs.declared.input.AgentOutput.{AgentOutput}
 use Rattle.sshc_agent_core.specs.declared.input.AgentOutput.TheVariants as outputs
 use Rattle.sshc_agent_core.specs.declared.input.Cause.TheVariants as causes
 use Rattle.sshc_agent_core.specs.declared.key_list.HeldKey.{HeldKey}
-use Rattle.sshc_key.specs.declared.agent_msg.TheConstants.{ADD_ID_CONSTRAINED, LOCK, SIGN_REQUEST, UNLOCK}
+use Rattle.sshc_key.specs.AgentNumbers.{ADD_ID_CONSTRAINED, LOCK, SIGN_REQUEST, UNLOCK}
 use Rattle.sshc_agent_core.specs.AgentHistory.{IsPermitted, IsUnlock, MaySign, request_of, stands_in}
 use Rattle.sshc_agent_core.specs.AgentList.{AgentList, aged, standing}
 use Rattle.sshc_agent_core.specs.AgentTable.{Shows, Steps, agent_row, asked_turn, frame_turn, is_refused, key_answer_turn, message_turn, request_answer_turn, seen_row, standing_row, tested_turn, turned}

@@ -6,7 +6,7 @@ use Rattle.sshc_wire.specs.declared.message_type.MessageType.{MessageType}
 use Rattle.sshc_key.specs.Asking.{Answer, Asking, SignRequest, asks, call_of, done}
 use Rattle.sshc_key.specs.Signers.{SignCall}
 use Rattle.sshc_key.specs.declared.signer.Asker.TheVariants.{Agent}
-use Rattle.sshc_key.specs.declared.agent_msg.TheConstants.{FAILURE, SIGN_RESPONSE}
+use Rattle.sshc_key.specs.AgentNumbers.{FAILURE, SIGN_RESPONSE}
 use Rattle.sshc_agent_core.specs.declared.connections.Standing.{Standing}
 use Rattle.sshc_agent_core.specs.declared.connections.Standing.TheVariants as standings
 use Rattle.sshc_agent_core.specs.declared.input.AgentInput.{AgentInput}

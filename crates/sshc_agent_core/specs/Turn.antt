@@ -14,7 +14,7 @@ use Rattle.sshc_agent_core.specs.declared.input.AgentOutput.{AgentOutput}
 use Rattle.sshc_agent_core.specs.declared.input.AgentOutput.TheVariants as outputs
 use Rattle.sshc_agent_core.specs.declared.input.Cause.{Cause}
 use Rattle.sshc_agent_core.specs.declared.key_list.HeldKey.{HeldKey}
-use Rattle.sshc_key.specs.declared.agent_msg.TheConstants.{FAILURE, SUCCESS}
+use Rattle.sshc_key.specs.AgentNumbers.{FAILURE, SUCCESS}
 use Rattle.sshc_agent_core.specs.AgentList.{AgentList}
 
 pub data Turn : Type 0 where

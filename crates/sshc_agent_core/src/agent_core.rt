@@ -14,12 +14,11 @@ ghost use Rattle.sshc_agent_core.specs.Connections.{awaits_in, standing_of};
 ghost use Rattle.sshc_agent_core.specs.Turn.{Follows, answered};
 
 use crate::connections::{Connections, Standing};
-use crate::frame::framed;
 use crate::input::AgentOutput;
 use crate::key_list::KeyList;
 use crate::message::message_type;
 use sshc_key::agent_msg;
-use sshc_wire::{List, MessageType, NoMemory, Octets};
+use sshc_wire::{List, MessageType, NoMemory, Octets, framed};
 use std::alloc::Global;
 use std::collections::BTreeMap;
 use std::marker::Model;

@@ -7,7 +7,6 @@ mod connections;
 mod constraints;
 mod entry;
 mod error;
-mod frame;
 mod frames;
 mod input;
 mod key_list;

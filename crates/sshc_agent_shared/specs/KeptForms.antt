@@ -2,7 +2,7 @@
 -- without their bytes.
 use Rattle.std.specs.Prelude.{[], ◌∷◌}
 use Rattle.std.specs.Arc.{arc_value}
-use Rattle.sshc_key.specs.declared.agent_msg.TheConstants.{FAILURE, SUCCESS}
+use Rattle.sshc_key.specs.AgentNumbers.{FAILURE, SUCCESS}
 use Rattle.sshc_agent_core.specs.declared.input.AgentInput.{AgentInput}
 use Rattle.sshc_agent_core.specs.declared.input.AgentInput.TheVariants as inputs
 use Rattle.sshc_agent_core.specs.declared.input.AgentOutput.{AgentOutput}

@@ -8,7 +8,7 @@ use Rattle.sshc_wire.specs.Faults.{Rose}
 use Rattle.sshc_wire.specs.Wire.{string_text, u32_text}
 use Rattle.sshc_key.specs.declared.error.Error.{Error}
 use Rattle.sshc_key.specs.declared.error.Error.TheVariants.{NoMemory, ReadFault, UnexpectedEnd}
-use Rattle.sshc_key.specs.declared.agent_msg.TheConstants.{MAX_AGENT_FRAME_LEN}
+use Rattle.sshc_key.specs.AgentNumbers.{MAX_AGENT_FRAME_LEN}
 use Rattle.sshc_ask.specs.SourceState.{SourceState, TakesWhole, StopsBy, ReadsPart, ReadsAnswer}
 
 -- bytes after bytes

@@ -1,5 +1,4 @@
 mod MessageLemmas
-mod LengthLemmas
 mod AnswerLemmas
 mod CallLemmas
 mod Lists

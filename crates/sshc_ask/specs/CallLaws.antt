@@ -9,7 +9,7 @@ use Rattle.sshc_wire.specs.FormatLaws.{ok_is}
 use Rattle.sshc_wire.specs.PartsLaws.{number32, strings}
 use Rattle.sshc_wire.specs.Reads.{number_at, string_at}
 use Rattle.sshc_wire.specs.Wire.{IsShort, string_text, u32_text}
-use Rattle.sshc_key.specs.declared.agent_msg.TheConstants.{MAX_AGENT_FRAME_LEN}
+use Rattle.sshc_key.specs.AgentNumbers.{MAX_AGENT_FRAME_LEN}
 use Rattle.sshc_ask.specs.AgentCalls.{Course, Finds, IsComplete, IsCourse, answered, oversized, taken, unheard, unsent}
 
 -- ---- numbers and strings at the front are what they are

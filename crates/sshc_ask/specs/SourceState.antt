@@ -7,7 +7,7 @@ use Rattle.sshc_wire.specs.Faults.{Rose}
 use Rattle.sshc_wire.specs.Wire.{string_text, u32_text}
 use Rattle.sshc_key.specs.declared.error.Error.{Error}
 use Rattle.sshc_key.specs.declared.error.Error.TheVariants.{AgentProtocolError, NoMemory, ReadFault, UnexpectedEnd, WriteFault}
-use Rattle.sshc_key.specs.declared.agent_msg.TheConstants.{MAX_AGENT_FRAME_LEN}
+use Rattle.sshc_key.specs.AgentNumbers.{MAX_AGENT_FRAME_LEN}
 
 pub record SourceState : Type 0 where
   -- the remaining bytes, if contracts see them

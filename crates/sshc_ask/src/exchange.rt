@@ -1,13 +1,12 @@
 //! Sends a frame and reads its answer (draft-miller-ssh-agent, section 3).
 
 ghost use Rattle.std.specs.Prelude.{◌≡◌, ◌+◌, ◌≤◌, length};
-ghost use Rattle.sshc_wire.specs.Wire.{u32_text};
 ghost use Rattle.sshc_ask.specs.SourceState.{sink_state, source_state, ReadsAnswer, ReadsLength, ReadsPart};
 ghost use Rattle.sshc_ask.specs.SourceState.{WritesFrame};
 
 use sshc_key::Error;
 use sshc_key::agent_msg::MAX_AGENT_FRAME_LEN;
-use sshc_wire::{Cursor, Failed, Sink, Source, read_up_to, write_whole};
+use sshc_wire::{Failed, Sink, Source, frame_length, read_up_to, write_whole};
 use std::alloc::Global;
 
 /// Writes a frame.
@@ -45,17 +44,6 @@ fn read_part<S: Source>(alloc: Global, source: &mut S, count: usize) -> Result<V
     }
 }
 
-/// The number in four bytes, most significant byte first.
-#[tactic(auto, using(crate::proofs::LengthLemmas::four_bytes))]
-fn number_of(bytes: &[u8]) -> u32
-    requires { length bytes.now ≡ 4 }
-    ensures { bytes.now ≡ u32_text result }
-{
-    // The contract of the cursor ensures that what it reads are bytes.
-    let bytes = Cursor::new(bytes).rest();
-    u32::from_be_bytes([bytes[0], bytes[1], bytes[2], bytes[3]])
-}
-
 /// Reads the length of an answer.
 fn read_length<S: Source>(alloc: Global, source: &mut S) -> Result<u32, Error>
     ensures read { ReadsLength (source_state (S.left source.old) (S.reads source.old) (S.faults source.old))
@@ -63,7 +51,7 @@ fn read_length<S: Source>(alloc: Global, source: &mut S) -> Result<u32, Error>
     ensures apart { S.beside source.new ≡ S.beside source.old }
 {
     let bytes = read_part(alloc, source, 4)?;
-    Ok(number_of(&bytes))
+    Ok(frame_length(&bytes))
 }
 
 /// Reads an answer. Nothing is allocated for a length above the limit.

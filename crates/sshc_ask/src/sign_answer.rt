@@ -1,14 +1,13 @@
 //! How the calls read the answer to a sign request (draft-miller-ssh-agent, section 3.6; RFC 8332).
 
-ghost use Rattle.std.specs.Prelude.{◌≡◌, ◌++◌, IfOk, OnOk, Ok, string_bytes};
-ghost use Rattle.sshc_wire.specs.Wire.{string_text};
+ghost use Rattle.std.specs.Prelude.{◌≡◌, IfOk, Ok, string_bytes};
 ghost use Rattle.sshc_key.specs.Gives.{GivesAll};
 ghost use Rattle.sshc_ask.specs.AgentCalls.Readings.{asked_signature, base64_reading, is_asked, sign_reading};
 ghost use Rattle.sshc_ask.specs.AgentCalls.Readings.{signature_reading, signature_text_in};
 
 use base64::engine::general_purpose::STANDARD_NO_PAD;
 use sshc_key::{Error, HashAlg, Signature, agent_msg, read_signature};
-use sshc_wire::{Cursor, NoMemory, put_bytes};
+use sshc_wire::{Cursor, NoMemory, put_string};
 use std::alloc::Global;
 
 /// Whether a signature of this name may answer a request that asked for this hash.
@@ -45,16 +44,6 @@ fn signature_text(alloc: Global, asked: Option<HashAlg>, body: &[u8]) -> Result<
     let text = Cursor::new(body).bytes()?;
     signature_of(alloc, asked, text)?;
     Ok(text)
-}
-
-/// Appends a string. One of 2^32 bytes or more counts as out of memory.
-fn put_string(out: &mut Vec<u8>, text: &[u8]) -> Result<(), NoMemory>
-    ensures { OnOk result (out.new.items ≡ out.old.items ++ string_text text.now) }
-{
-    if text.len() >= 1 << 32 {
-        return Err(NoMemory);
-    }
-    put_bytes(out, text)
 }
 
 /// The bytes that were to be signed, followed by the signature of the answer as a string.

@@ -19,7 +19,7 @@ use Rattle.sshc_key.specs.KeyLaws.Keys.{signatures}
 use Rattle.sshc_key.specs.KeyReading.{octets_at, utf8_at}
 use Rattle.sshc_key.specs.Nesting.{blob_key, key_or_fault}
 use Rattle.sshc_agent_core.specs.declared.key_list.HeldKey.{HeldKey}
-use Rattle.sshc_key.specs.declared.agent_msg.TheConstants.{MAX_AGENT_FRAME_LEN}
+use Rattle.sshc_key.specs.AgentNumbers.{MAX_AGENT_FRAME_LEN}
 use Rattle.sshc_agent_core.specs.KeyList.{identity_text, listing}
 use Rattle.sshc_ask.specs.AgentCalls.Readings.{asked_signature, base64_reading, extension_reading, identities_reading, identity_at, identity_of, is_asked, listed, query_reading, sign_reading, signature_reading, signature_text_in, success_reading}
 use Rattle.sshc_ask_laws.specs.AgentRound.{ReadsAnswers, readable_keys, signed_answer}

@@ -23,7 +23,7 @@ use Rattle.sshc_agent_core.specs.declared.connections.Standing.TheVariants as st
 use Rattle.sshc_agent_core.specs.declared.input.AgentInput.TheVariants as inputs
 use Rattle.sshc_agent_core.specs.declared.input.AgentOutput.TheVariants as outputs
 use Rattle.sshc_agent_core.specs.declared.key_list.HeldKey.{HeldKey}
-use Rattle.sshc_key.specs.declared.agent_msg.TheConstants.{ADD_ID_CONSTRAINED, LOCK, REMOVE_IDENTITY, SIGN_REQUEST, UNLOCK, MAX_AGENT_FRAME_LEN}
+use Rattle.sshc_key.specs.AgentNumbers.{ADD_ID_CONSTRAINED, LOCK, REMOVE_IDENTITY, SIGN_REQUEST, UNLOCK, MAX_AGENT_FRAME_LEN}
 use Rattle.sshc_agent_core.specs.AgentList.{AgentList, aged, seen}
 use Rattle.sshc_agent_core.specs.AgentTable.{agent_row, asked_turn, frame_turn, is_refused, message_turn, seen_row, standing_row, turned}
 use Rattle.sshc_agent_core.specs.AgentTable.Add.{add_turn, added_turn, commented_turn, constraints_in, pair_turn, unconstrained}

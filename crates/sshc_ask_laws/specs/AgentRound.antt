@@ -19,7 +19,7 @@ use Rattle.sshc_agent_core.specs.declared.connections.Standing.TheVariants as st
 use Rattle.sshc_agent_core.specs.declared.constraints.Constraints.{Constraints}
 use Rattle.sshc_agent_core.specs.declared.input.AgentInput.TheVariants as inputs
 use Rattle.sshc_agent_core.specs.declared.key_list.HeldKey.{HeldKey}
-use Rattle.sshc_key.specs.declared.agent_msg.TheConstants.{FAILURE, SUCCESS, SIGN_RESPONSE, MAX_AGENT_FRAME_LEN}
+use Rattle.sshc_key.specs.AgentNumbers.{FAILURE, SUCCESS, SIGN_RESPONSE, MAX_AGENT_FRAME_LEN}
 use Rattle.sshc_agent_core.specs.AgentList.{AgentList, aged, seen}
 use Rattle.sshc_agent_core.specs.AgentTable.{agent_row, turned}
 use Rattle.sshc_agent_core.specs.AgentTable.Add.{added_turn, and_so, unconstrained, with_one}

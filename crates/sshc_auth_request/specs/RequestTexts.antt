@@ -5,7 +5,7 @@ use Rattle.std.specs.List.{flat_map}
 use Rattle.sshc_wire.specs.Wire.{u32_text, string_text}
 use Rattle.sshc_wire.specs.Reasons.{disconnect_code}
 use Rattle.sshc_wire.specs.declared.disconnect.Disconnect.{Disconnect}
-use Rattle.sshc_wire.specs.declared.msg.TheConstants.{DISCONNECT, SERVICE_REQUEST, USERAUTH_REQUEST, USERAUTH_INFO_RESPONSE, USERAUTH_GSSAPI_TOKEN, USERAUTH_GSSAPI_EXCHANGE_COMPLETE, USERAUTH_GSSAPI_MIC}
+use Rattle.sshc_wire.specs.MessageNumbers.{DISCONNECT, SERVICE_REQUEST, USERAUTH_REQUEST, USERAUTH_INFO_RESPONSE, USERAUTH_GSSAPI_TOKEN, USERAUTH_GSSAPI_EXCHANGE_COMPLETE, USERAUTH_GSSAPI_MIC}
 use Rattle.sshc_key.specs.KeyGrammar.{Key, key_text}
 use Rattle.sshc_wire.specs.declared.hash_alg.HashAlg.{HashAlg}
 use Rattle.sshc_key.specs.declared.identity.PublicKeyOrCertificate.{PublicKeyOrCertificate}

@@ -2,7 +2,7 @@
 use Rattle.std.specs.Prelude.{◌≡◌, ℕ, ◌==◌, nat_le, true, false, List, length, Option, Some, None, if◌then◌else◌}
 use Rattle.sshc_agent_core.specs.declared.input.AgentInput.{AgentInput}
 use Rattle.sshc_agent_core.specs.declared.input.AgentInput.TheVariants as inputs
-use Rattle.sshc_key.specs.declared.agent_msg.TheConstants.{MAX_AGENT_FRAME_LEN}
+use Rattle.sshc_key.specs.AgentNumbers.{MAX_AGENT_FRAME_LEN}
 
 -- a frame without its length, unless it is too long
 abbrev pub frame_of : List ℕ → Option AgentInput

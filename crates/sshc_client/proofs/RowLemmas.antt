@@ -5,7 +5,7 @@ use Rattle.sshc_transport.specs.declared.exchange.ExchangeFlag.TheVariants.{Idle
 use Rattle.sshc_auth.specs.OpeningTable.Packets.{counted_with, is_ignored, waits_for_exchange}
 use Rattle.sshc_auth.specs.declared.error.Error.{Error}
 use Rattle.sshc_client_packets.specs.HostKeyProof.{Accepts}
-use Rattle.sshc_wire.specs.declared.msg.TheConstants.{DISCONNECT, GLOBAL_REQUEST}
+use Rattle.sshc_wire.specs.MessageNumbers.{DISCONNECT, GLOBAL_REQUEST}
 use Rattle.std.specs.Prelude.{◌==◌, length}
 use Rattle.sshc_client_table.specs.SessionState.{SessionState, is_live}
 use Rattle.sshc_client_table.specs.Moves.{Counts, Hears, Move, after}

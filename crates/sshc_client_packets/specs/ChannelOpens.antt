@@ -4,7 +4,7 @@ use Rattle.std.specs.Prelude.{ℕ, List, [], ◌∷◌, ◌++◌, codes}
 use Rattle.sshc_wire.specs.Wire.{string_text, u32_text}
 use Rattle.sshc_wire.specs.Reasons.{open_failure_code, open_failure_description}
 use Rattle.sshc_wire.specs.declared.channel_open_failure.ChannelOpenFailure.{ChannelOpenFailure}
-use Rattle.sshc_wire.specs.declared.msg.TheConstants.{CHANNEL_OPEN, CHANNEL_OPEN_CONFIRMATION, CHANNEL_OPEN_FAILURE}
+use Rattle.sshc_wire.specs.MessageNumbers.{CHANNEL_OPEN, CHANNEL_OPEN_CONFIRMATION, CHANNEL_OPEN_FAILURE}
 use Rattle.sshc_client_packets.specs.declared.channel_open.ChannelOpen.{ChannelOpen as Lent}
 use Rattle.sshc_client_packets.specs.declared.channel_open.ChannelOpen.TheVariants as lent
 use Rattle.sshc_client_packets.specs.declared.channel_open.Sender.{Sender}

@@ -4,7 +4,7 @@ use Rattle.std.specs.Prelude.{ℕ, Bool, false, List, [], ◌∷◌, ◌++◌, c
 use Rattle.std.specs.List.{flat_map}
 use Rattle.sshc_wire.specs.Signals.{signal_name}
 use Rattle.sshc_wire.specs.Wire.{bool_text, string_text, u32_text}
-use Rattle.sshc_wire.specs.declared.msg.TheConstants.{CHANNEL_REQUEST}
+use Rattle.sshc_wire.specs.MessageNumbers.{CHANNEL_REQUEST}
 use Rattle.sshc_wire.specs.declared.pty.Pty.{Pty}
 use Rattle.sshc_wire.specs.declared.signal.Sig.{Sig}
 use Rattle.sshc_client_packets.specs.declared.channel_request.ChannelRequest.{ChannelRequest as Lent}

@@ -3,7 +3,7 @@
 use Rattle.std.specs.Prelude.{ℕ, Bool, List, [], ◌∷◌, ◌++◌, codes}
 use Rattle.std.specs.List.{flat_map}
 use Rattle.sshc_wire.specs.Wire.{bool_text, string_text, u32_text}
-use Rattle.sshc_wire.specs.declared.msg.TheConstants.{GLOBAL_REQUEST}
+use Rattle.sshc_wire.specs.MessageNumbers.{GLOBAL_REQUEST}
 use Rattle.sshc_key.specs.KeyGrammar.{Key, key_text}
 use Rattle.sshc_client_packets.specs.declared.global_request.GlobalRequest.{GlobalRequest as Lent}
 use Rattle.sshc_client_packets.specs.declared.global_request.GlobalRequest.TheVariants as lent

@@ -3,7 +3,7 @@
 use Rattle.std.specs.Prelude.{ℕ, Bool, List, [], ◌∷◌}
 use Rattle.sshc_wire.specs.Wire.{u32_text}
 use Rattle.sshc_wire.specs.declared.channel_open_failure.ChannelOpenFailure.{ChannelOpenFailure}
-use Rattle.sshc_wire.specs.declared.msg.TheConstants.{REQUEST_SUCCESS, REQUEST_FAILURE, CHANNEL_SUCCESS, CHANNEL_FAILURE}
+use Rattle.sshc_wire.specs.MessageNumbers.{REQUEST_SUCCESS, REQUEST_FAILURE, CHANNEL_SUCCESS, CHANNEL_FAILURE}
 use Rattle.sshc_client_packets.specs.declared.channel_open.Sender.{Sender}
 use Rattle.sshc_client_packets.specs.declared.channel_open.Confirmation.{Confirmation}
 use Rattle.sshc_client_packets.specs.GlobalRequests.{GlobalRequest, global_request_text}

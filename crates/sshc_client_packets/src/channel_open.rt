@@ -5,8 +5,8 @@ ghost use Rattle.sshc_wire.specs.Wire.{string_text, u32_text};
 ghost use Rattle.sshc_client_packets.specs.ChannelOpens.{channel_open, channel_open_text, confirmation_text};
 ghost use Rattle.sshc_client_packets.specs.ChannelOpens.{open_failure_text, open_fields, open_type, sender_text};
 
-use crate::putting::{ADDRESSED, address_size, put_address, put_addressed, put_string, put_words};
-use sshc_wire::{ChannelOpenFailure, NoMemory, Octets, msg, put_u32};
+use crate::putting::{ADDRESSED, address_size, put_address, put_addressed, put_words};
+use sshc_wire::{ChannelOpenFailure, NoMemory, Octets, msg, put_string, put_u32};
 use std::alloc::Global;
 
 /// A channel that is asked for, by its type.

@@ -8,9 +8,10 @@ ghost use Rattle.sshc_client_packets.specs.ChannelRequests.{modes_text, request_
 ghost use Rattle.sshc_client_packets.specs.ChannelRequests.{wants_reply};
 ghost use Rattle.sshc_client_packets.specs.Messages.{channel_failure_text, channel_success_text};
 
-use crate::putting::{ADDRESSED, put_addressed, put_string, put_words};
+use crate::putting::{ADDRESSED, put_addressed, put_words};
 use sshc_wire::{
-    NoMemory, Octets, Pty, Sig, begin_string, end_string, msg, put_bool, put_u32, string_size,
+    NoMemory, Octets, Pty, Sig, begin_string, end_string, msg, put_bool, put_string, put_u32,
+    string_size,
 };
 use std::alloc::Global;
 

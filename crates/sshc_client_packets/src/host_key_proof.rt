@@ -7,9 +7,9 @@ ghost use Rattle.sshc_client_packets.specs.GlobalRequests.{blob_text};
 ghost use Rattle.sshc_client_packets.specs.HostKeyProof.{JudgedIsProof, proof_bytes, proof_judged, signature_judged};
 
 use crate::global_request::put_blob;
-use crate::putting::{put_string, put_words};
+use crate::putting::put_words;
 use sshc_key::{Error, PublicKey, Signature, Verifier, read_signature};
-use sshc_wire::{Cursor, HostKeysFault, NoMemory, string_size};
+use sshc_wire::{Cursor, HostKeysFault, NoMemory, put_string, string_size};
 use std::alloc::Global;
 
 /// How many bytes the request's name takes before the bytes that are signed.

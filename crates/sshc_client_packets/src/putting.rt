@@ -3,7 +3,7 @@
 ghost use Rattle.std.specs.Prelude.{◌≡◌, ◌∷◌, ◌++◌, OnOk};
 ghost use Rattle.sshc_wire.specs.Wire.{string_text, u32_text};
 
-use sshc_wire::{NoMemory, put_bytes, put_u32};
+use sshc_wire::{NoMemory, put_string, put_u32};
 
 /// How many bytes a message's number and the recipient's number of a channel take.
 pub(crate) const ADDRESSED: usize = 5;
@@ -11,16 +11,6 @@ pub(crate) const ADDRESSED: usize = 5;
 /// How many bytes an address and a port take.
 pub(crate) fn address_size(address: &str) -> usize {
     address.len().saturating_add(8)
-}
-
-/// A string of these bytes.
-pub(crate) fn put_string(out: &mut Vec<u8>, bytes: &[u8]) -> Result<(), NoMemory>
-    ensures { OnOk result (out.new.items ≡ out.old.items ++ string_text bytes.now) }
-{
-    if bytes.len() >= 1 << 32 {
-        return Err(NoMemory);
-    }
-    put_bytes(out, bytes)
 }
 
 /// A string of this text.

@@ -2,7 +2,7 @@
 use Rattle.std.proofs.Common.{◌≡◌, ◌⊎◌, inl, inr, ℕ, Bool, true, false, List, [], ◌∷◌, ◌++◌, length, drop, Option, Some, None, refl, ap, sym, subst, ◌∙◌}
 use Rattle.std.specs.Prelude.{if◌then◌else◌}
 use Rattle.std.proofs.lemmas.List.{append-nil}
-use Rattle.sshc_wire.specs.declared.msg.TheConstants.{REQUEST_SUCCESS, REQUEST_FAILURE, CHANNEL_OPEN_CONFIRMATION, CHANNEL_OPEN_FAILURE}
+use Rattle.sshc_wire.specs.MessageNumbers.{REQUEST_SUCCESS, REQUEST_FAILURE, CHANNEL_OPEN_CONFIRMATION, CHANNEL_OPEN_FAILURE}
 use Rattle.sshc_wire.specs.declared.record.Record.{Record}
 use Rattle.sshc_auth_event.specs.declared.event.Event.TheVariants as events
 use Rattle.sshc_transport.specs.declared.exchange.ExchangeFlag.{ExchangeFlag}

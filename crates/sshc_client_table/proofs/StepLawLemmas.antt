@@ -5,7 +5,7 @@ use Rattle.std.proofs.lemmas.Bool.Decides.{nat_tests}
 use Rattle.std.specs.List.{AllByRecursion}
 use Rattle.sshc_wire.specs.declared.channel_open_failure.ChannelOpenFailure.{ChannelOpenFailure}
 use Rattle.sshc_wire.specs.declared.error.WireError.{WireError}
-use Rattle.sshc_wire.specs.declared.msg.TheConstants.{CHANNEL_OPEN_CONFIRMATION, CHANNEL_OPEN_FAILURE}
+use Rattle.sshc_wire.specs.MessageNumbers.{CHANNEL_OPEN_CONFIRMATION, CHANNEL_OPEN_FAILURE}
 use Rattle.sshc_wire.specs.declared.record.Record.{Record}
 use Rattle.sshc_wire.specs.declared.record.Record.TheVariants.{Resolved}
 use Rattle.sshc_wire.specs.declared.resolution.Resolution.{Resolution}

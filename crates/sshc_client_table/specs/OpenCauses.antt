@@ -2,7 +2,7 @@
 -- RFC 4254; OpenSSH's PROTOCOL). Stated apart from the table of rows, so that an error made in both shows; which
 -- packets can't be read follows from the packets' grammar.
 use Rattle.std.specs.Prelude.{◌≡◌, ◌≢◌, ◌⊎◌, ℕ, ◌+◌, ◌-◌, ◌^◌, ◌<◌, ◌≤◌, min, Bool, true, false, List, [], ◌∷◌, None, is_some, Result, Ok, Err}
-use Rattle.sshc_wire.specs.declared.msg.TheConstants.{DISCONNECT, GLOBAL_REQUEST, REQUEST_SUCCESS, REQUEST_FAILURE, CHANNEL_OPEN, CHANNEL_OPEN_CONFIRMATION, CHANNEL_OPEN_FAILURE, CHANNEL_WINDOW_ADJUST, CHANNEL_DATA, CHANNEL_EXTENDED_DATA, CHANNEL_EOF, CHANNEL_CLOSE, CHANNEL_REQUEST, CHANNEL_SUCCESS, CHANNEL_FAILURE}
+use Rattle.sshc_wire.specs.MessageNumbers.{DISCONNECT, GLOBAL_REQUEST, REQUEST_SUCCESS, REQUEST_FAILURE, CHANNEL_OPEN, CHANNEL_OPEN_CONFIRMATION, CHANNEL_OPEN_FAILURE, CHANNEL_WINDOW_ADJUST, CHANNEL_DATA, CHANNEL_EXTENDED_DATA, CHANNEL_EOF, CHANNEL_CLOSE, CHANNEL_REQUEST, CHANNEL_SUCCESS, CHANNEL_FAILURE}
 use Rattle.sshc_wire.specs.declared.error.WireError.{WireError}
 use Rattle.sshc_auth_event.specs.declared.event.Event.{Event}
 use Rattle.sshc_auth_event.specs.declared.event.Event.TheVariants as events

@@ -10,7 +10,7 @@ use Rattle.sshc_wire.specs.declared.auth_record.GssapiRecord.TheVariants as gssa
 use Rattle.sshc_wire.specs.declared.disconnect.Disconnect.{Disconnect}
 use Rattle.sshc_wire.specs.declared.error.WireError.{WireError}
 use Rattle.sshc_wire.specs.declared.methods.MethodKind.{MethodKind}
-use Rattle.sshc_wire.specs.declared.msg.TheConstants.{DISCONNECT, EXT_INFO, SERVICE_ACCEPT, USERAUTH_FAILURE, USERAUTH_SUCCESS, USERAUTH_BANNER, USERAUTH_PK_OK, USERAUTH_GSSAPI_TOKEN, USERAUTH_GSSAPI_ERROR, USERAUTH_GSSAPI_ERRTOK}
+use Rattle.sshc_wire.specs.MessageNumbers.{DISCONNECT, EXT_INFO, SERVICE_ACCEPT, USERAUTH_FAILURE, USERAUTH_SUCCESS, USERAUTH_BANNER, USERAUTH_PK_OK, USERAUTH_GSSAPI_TOKEN, USERAUTH_GSSAPI_ERROR, USERAUTH_GSSAPI_ERRTOK}
 use Rattle.sshc_wire.specs.declared.record.Record.TheVariants.{Opened, Payload}
 use Rattle.sshc_wire.specs.declared.resolution.Resolution.TheVariants.{AuthSuccess, Dropped, ExtInfoSeen}
 use Rattle.sshc_wire.specs.declared.ticket.Ticket.{Ticket}

@@ -2,7 +2,7 @@
 -- answered only by the peer's reply, an open of ours only by its own packet, what waits on channels is sent anew only after
 -- an exchange, and a row neither leaves nor stops the session.
 use Rattle.std.specs.Prelude.{◌≡◌, ◌⊎◌, ℕ, ◌∷◌}
-use Rattle.sshc_wire.specs.declared.msg.TheConstants.{REQUEST_SUCCESS, REQUEST_FAILURE, CHANNEL_OPEN_CONFIRMATION, CHANNEL_OPEN_FAILURE}
+use Rattle.sshc_wire.specs.MessageNumbers.{REQUEST_SUCCESS, REQUEST_FAILURE, CHANNEL_OPEN_CONFIRMATION, CHANNEL_OPEN_FAILURE}
 use Rattle.sshc_wire.specs.declared.record.Record.{Record}
 use Rattle.sshc_wire.specs.declared.record.Record.TheVariants as output
 use Rattle.sshc_auth_event.specs.declared.event.Event.{Event}

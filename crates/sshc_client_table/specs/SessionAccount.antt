@@ -4,7 +4,7 @@
 use Rattle.std.specs.Prelude.{◌≡◌, ℕ, Bool, true, false, ◌&&◌, List, [], ◌∷◌, ◌++◌, if◌then◌else◌, nat_le, Some}
 use Rattle.sshc_wire.specs.declared.record.Record.{Record}
 use Rattle.sshc_wire.specs.declared.record.Record.TheVariants.{Payload}
-use Rattle.sshc_wire.specs.declared.msg.TheConstants.{CHANNEL_WINDOW_ADJUST, CHANNEL_CLOSE}
+use Rattle.sshc_wire.specs.MessageNumbers.{CHANNEL_WINDOW_ADJUST, CHANNEL_CLOSE}
 use Rattle.sshc_mux.specs.ChannelState.{channel_of}
 use Rattle.sshc_mux.specs.ChannelTable.{ChannelPacket}
 use Rattle.sshc_mux.specs.ChannelAccount.{Account, Call, Life, born, called, may_send, no_channels, ran}

@@ -7,7 +7,7 @@ use Rattle.std.specs.Int.{w32, from_be_bytes}
 use Rattle.std.specs.List.{AllByRecursion}
 use Rattle.sshc_wire.specs.Wire.{IsBytes}
 use Rattle.sshc_wire.specs.declared.error.WireError.{WireError}
-use Rattle.sshc_wire.specs.declared.msg.TheConstants.{USERAUTH_REQUEST, REQUEST_SUCCESS, REQUEST_FAILURE, CHANNEL_OPEN_CONFIRMATION, CHANNEL_OPEN_FAILURE, CHANNEL_DATA, CHANNEL_EXTENDED_DATA}
+use Rattle.sshc_wire.specs.MessageNumbers.{USERAUTH_REQUEST, REQUEST_SUCCESS, REQUEST_FAILURE, CHANNEL_OPEN_CONFIRMATION, CHANNEL_OPEN_FAILURE, CHANNEL_DATA, CHANNEL_EXTENDED_DATA}
 use Rattle.sshc_wire.specs.declared.record.Record.{Record}
 use Rattle.sshc_wire.specs.declared.record.Record.TheVariants.{Auth, Opened, Payload, Resolved}
 use Rattle.sshc_wire.specs.declared.resolution.HostKeysFault.{HostKeysFault}

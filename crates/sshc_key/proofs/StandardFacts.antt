@@ -3,6 +3,8 @@ use Rattle.std.proofs.Common.{◌≡◌, ℕ, List, [], ◌∷◌, ◌++◌, tru
 use Rattle.std.specs.Prelude.{codes}
 use Rattle.sshc_wire.specs.Wire.{string_text}
 use Rattle.sshc_wire.specs.declared.hash_alg.HashAlg.TheVariants.{Sha256, Sha512}
+use Rattle.sshc_key.specs.AgentNumbers as standard
+use Rattle.sshc_key.specs.declared.agent_msg.TheConstants as code
 use Rattle.sshc_key.specs.AlgorithmNames.{certificate_name, parted}
 use Rattle.sshc_key.specs.declared.kind.Known.TheVariants as known
 use Rattle.sshc_key.specs.declared.kind.Kind.TheVariants as kinds
@@ -42,3 +44,24 @@ certificate_names = (refl, refl)
 opaque_certificate : certificate_name (kinds.Opaque (codes "ssh-new@example.com")) ≡ codes "ssh-new-cert-v01@example.com"
 unfolding parted
 opaque_certificate = refl
+
+-- the code's numbers of the agent's protocol are the draft's
+agent_numbers :
+    (code.FAILURE ≡ standard.FAILURE) × (code.SUCCESS ≡ standard.SUCCESS)
+    × (code.REQUEST_IDENTITIES ≡ standard.REQUEST_IDENTITIES)
+    × (code.IDENTITIES_ANSWER ≡ standard.IDENTITIES_ANSWER) × (code.SIGN_REQUEST ≡ standard.SIGN_REQUEST)
+    × (code.SIGN_RESPONSE ≡ standard.SIGN_RESPONSE) × (code.ADD_IDENTITY ≡ standard.ADD_IDENTITY)
+    × (code.REMOVE_IDENTITY ≡ standard.REMOVE_IDENTITY)
+    × (code.REMOVE_ALL_IDENTITIES ≡ standard.REMOVE_ALL_IDENTITIES)
+    × (code.ADD_SMARTCARD_KEY ≡ standard.ADD_SMARTCARD_KEY)
+    × (code.REMOVE_SMARTCARD_KEY ≡ standard.REMOVE_SMARTCARD_KEY) × (code.LOCK ≡ standard.LOCK)
+    × (code.UNLOCK ≡ standard.UNLOCK) × (code.ADD_ID_CONSTRAINED ≡ standard.ADD_ID_CONSTRAINED)
+    × (code.ADD_SMARTCARD_KEY_CONSTRAINED ≡ standard.ADD_SMARTCARD_KEY_CONSTRAINED)
+    × (code.EXTENSION ≡ standard.EXTENSION) × (code.EXTENSION_RESPONSE ≡ standard.EXTENSION_RESPONSE)
+    × (code.CONSTRAIN_LIFETIME ≡ standard.CONSTRAIN_LIFETIME)
+    × (code.CONSTRAIN_CONFIRM ≡ standard.CONSTRAIN_CONFIRM)
+    × (code.CONSTRAIN_EXTENSION ≡ standard.CONSTRAIN_EXTENSION)
+    × (code.SSH_AGENT_RSA_SHA2_256 ≡ standard.SSH_AGENT_RSA_SHA2_256)
+    × (code.SSH_AGENT_RSA_SHA2_512 ≡ standard.SSH_AGENT_RSA_SHA2_512)
+    × (code.MAX_AGENT_FRAME_LEN ≡ standard.MAX_AGENT_FRAME_LEN)
+agent_numbers = (refl, refl, refl, refl, refl, refl, refl, refl, refl, refl, refl, refl, refl, refl, refl, refl, refl, refl, refl, refl, refl, refl, refl)

@@ -1,3 +1,4 @@
+pub mod AgentNumbers
 pub mod AlgorithmNames
 pub mod KeyGrammar
 pub mod Gives

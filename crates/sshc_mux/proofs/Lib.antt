@@ -1,5 +1,6 @@
 mod StandardFacts
 mod RefusedFacts
+mod AddingLemmas
 mod PieceLemmas
 mod SendingLemmas
 mod FlushLemmas

@@ -1,12 +1,13 @@
 -- Pieces of one call's bytes, one after the other.
-use Rattle.std.proofs.Common.{◌≡◌, ℕ, zero, suc, ◌<◌, ◌≤◌, min, List, [], ◌∷◌, ◌++◌, length, take, drop, refl, ap, sym, ◌∙◌, arith, length-drop, append_assoc, inl, inr}
-use Rattle.std.proofs.lemmas.List.{append-nil}
+use Rattle.std.proofs.Common.{◌≡◌, ℕ, zero, suc, ◌<◌, ◌≤◌, min, List, [], ◌∷◌, ◌++◌, length, take, drop, refl, ap, sym, ◌∙◌, arith, length-drop, inl, inr}
 use Rattle.std.proofs.lemmas.Bool.{cases_lt}
+use Rattle.sshc_wire.specs.Outgoing.{Outgoing}
 use Rattle.sshc_wire.specs.declared.record.Record.{Record}
 use Rattle.sshc_wire.specs.declared.record.Record.TheVariants.{Payload}
 use Rattle.sshc_mux.specs.declared.chunk.Stream.{Stream}
-use Rattle.sshc_mux.specs.Packets.{Packet, Piece, packet_text, payloads}
+use Rattle.sshc_mux.specs.Packets.{Packet, Piece, adding, packet_text, payloads}
 use Rattle.sshc_mux.specs.ChannelTable.Sending.{cut, cut_up_to, pieces_of}
+use Rattle.sshc_mux.proofs.AddingLemmas.{adding-append, adding-nil}
 
 -- more pieces than bytes aren't needed
 enough : (n m size : ℕ) (bytes : List ℕ) → 0 < size → length bytes ≤ n → length bytes ≤ m → cut_up_to n size bytes ≡ cut_up_to m size bytes
@@ -64,24 +65,24 @@ drop-min n count bytes is =
     ]
 
 -- one more piece, and the records that were written so far
-pub piece_more : (recipient size count : ℕ) (stream : Stream) (bytes piece rest : List ℕ) (before after whole : List Record) →
+pub piece_more : (recipient size count : ℕ) (stream : Stream) (bytes piece rest : List ℕ) (before after whole : Outgoing) →
     0 < length bytes → (0 < length bytes → 0 < size) → count ≡ min (length bytes) size → piece ≡ take count bytes → rest ≡ drop count bytes →
-    after ≡ before ++ Payload (packet_text recipient (Piece stream piece)) ∷ [] →
-    before ++ payloads recipient (pieces_of stream (cut size bytes)) ≡ whole →
-    after ++ payloads recipient (pieces_of stream (cut size rest)) ≡ whole
+    after ≡ adding before (payloads recipient (Piece stream piece ∷ [])) →
+    adding before (payloads recipient (pieces_of stream (cut size bytes))) ≡ whole →
+    adding after (payloads recipient (pieces_of stream (cut size rest))) ≡ whole
 piece_more recipient size count stream bytes piece rest before after whole more some is first behind pushed so_far =
     let front : take size bytes ≡ piece = take-min size count bytes is ∙ sym first in
     let back : drop size bytes ≡ rest = drop-min size count bytes is ∙ sym behind in
     let next : cut size bytes ≡ piece ∷ cut size rest =
     cut-more size bytes (some more) more ∙ ap (λ (p : List ℕ). p ∷ cut size (drop size bytes)) front ∙ ap (λ (r : List ℕ). piece ∷ cut size r) back in
-    ap (λ (rs : List Record). rs ++ payloads recipient (pieces_of stream (cut size rest))) pushed
-    ∙ append_assoc before (Payload (packet_text recipient (Piece stream piece)) ∷ []) (payloads recipient (pieces_of stream (cut size rest)))
-    ∙ ap (λ (ps : List (List ℕ)). before ++ payloads recipient (pieces_of stream ps)) (sym next)
+    ap (λ (o : Outgoing). adding o (payloads recipient (pieces_of stream (cut size rest)))) pushed
+    ∙ adding-append before (payloads recipient (Piece stream piece ∷ [])) (payloads recipient (pieces_of stream (cut size rest)))
+    ∙ ap (λ (ps : List (List ℕ)). adding before (payloads recipient (pieces_of stream ps))) (sym next)
     ∙ so_far
 
 -- no more pieces
-pub pieces_done : (recipient size : ℕ) (stream : Stream) (bytes : List ℕ) (before whole : List Record) → length bytes ≡ 0 →
-    before ++ payloads recipient (pieces_of stream (cut size bytes)) ≡ whole → before ≡ whole
+pub pieces_done : (recipient size : ℕ) (stream : Stream) (bytes : List ℕ) (before whole : Outgoing) → length bytes ≡ 0 →
+    adding before (payloads recipient (pieces_of stream (cut size bytes))) ≡ whole → before ≡ whole
 unfolding cut
-pieces_done recipient size stream [] before whole none so_far = sym (append-nil before) ∙ so_far
+pieces_done recipient size stream [] before whole none so_far = sym (adding-nil before) ∙ so_far
 pieces_done recipient size stream (b ∷ bytes) before whole none so_far = absurd (omega arith)

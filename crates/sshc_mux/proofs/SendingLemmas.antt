@@ -1,13 +1,15 @@
 -- What is sent of the bytes that wait, and what remains, one call's bytes after the other.
-use Rattle.std.proofs.Common.{◌≡◌, ℕ, ◌+◌, ◌-◌, ◌<◌, ◌≤◌, Bool, false, List, [], ◌∷◌, ◌++◌, length, take, drop, get_or, eqb, if◌then◌else◌, refl, ap, sym, ◌∙◌, arith, append_assoc}
+use Rattle.std.proofs.Common.{◌≡◌, ℕ, ◌+◌, ◌-◌, ◌<◌, ◌≤◌, Bool, false, List, [], ◌∷◌, ◌++◌, length, take, drop, get_or, eqb, if◌then◌else◌, refl, ap, sym, ◌∙◌, arith}
 use Rattle.std.proofs.lemmas.List.{append-nil, drop_more}
 use Rattle.std.proofs.lemmas.Bool.{le-leb, lt-leb}
 use Rattle.std.proofs.Math.Dec.{eqb-suc-zero}
+use Rattle.sshc_wire.specs.Outgoing.{Outgoing}
 use Rattle.sshc_wire.specs.declared.record.Record.{Record}
 use Rattle.sshc_mux.specs.declared.chunk.Stream.{Stream}
 use Rattle.sshc_mux.specs.ChannelState.{Waiting}
-use Rattle.sshc_mux.specs.Packets.{Packet, payloads}
+use Rattle.sshc_mux.specs.Packets.{Packet, adding, payloads}
 use Rattle.sshc_mux.specs.ChannelTable.Sending.{cut, pieces_of, sent_of, left_of}
+use Rattle.sshc_mux.proofs.AddingLemmas.{adding-append}
 use Rattle.sshc_mux.proofs.PieceLemmas.{payloads-append, take-past, cut-nothing}
 
 pub left-whole : (room : ℕ) (w : Waiting) (ws : List Waiting) → length w.bytes ≤ room → left_of room (w ∷ ws) ≡ left_of (room - length w.bytes) ws
@@ -38,27 +40,27 @@ sent-part size room w ws short =
     ∙ append-nil (pieces_of w.stream (cut size (take room w.bytes)))
 
 -- all bytes of one more call are written
-pub whole_more : (recipient size room : ℕ) (w : Waiting) (left ws : List Waiting) (before after whole : List Record) →
+pub whole_more : (recipient size room : ℕ) (w : Waiting) (left ws : List Waiting) (before after whole : Outgoing) →
     left ≡ w ∷ ws → length w.bytes ≤ room →
-    after ≡ before ++ payloads recipient (pieces_of w.stream (cut size w.bytes)) →
-    before ++ payloads recipient (sent_of size room left) ≡ whole →
-    after ++ payloads recipient (sent_of size (room - length w.bytes) ws) ≡ whole
+    after ≡ adding before (payloads recipient (pieces_of w.stream (cut size w.bytes))) →
+    adding before (payloads recipient (sent_of size room left)) ≡ whole →
+    adding after (payloads recipient (sent_of size (room - length w.bytes) ws)) ≡ whole
 whole_more recipient size room w left ws before after whole place fits pushed so_far =
-    ap (λ (rs : List Record). rs ++ payloads recipient (sent_of size (room - length w.bytes) ws)) pushed
-    ∙ append_assoc before (payloads recipient (pieces_of w.stream (cut size w.bytes))) (payloads recipient (sent_of size (room - length w.bytes) ws))
-    ∙ ap (λ (rs : List Record). before ++ rs)
+    ap (λ (o : Outgoing). adding o (payloads recipient (sent_of size (room - length w.bytes) ws))) pushed
+    ∙ adding-append before (payloads recipient (pieces_of w.stream (cut size w.bytes))) (payloads recipient (sent_of size (room - length w.bytes) ws))
+    ∙ ap (λ (rs : List Record). adding before rs)
     (sym (payloads-append recipient (pieces_of w.stream (cut size w.bytes)) (sent_of size (room - length w.bytes) ws))
     ∙ ap (λ (ps : List Packet). payloads recipient ps) (sym (sent-whole size room w ws fits) ∙ ap (λ (l : List Waiting). sent_of size room l) (sym place)))
     ∙ so_far
 
 -- the front of one call's bytes is the last piece that is written
-pub part_done : (recipient size room : ℕ) (w : Waiting) (left ws : List Waiting) (before after whole : List Record) →
+pub part_done : (recipient size room : ℕ) (w : Waiting) (left ws : List Waiting) (before after whole : Outgoing) →
     left ≡ w ∷ ws → room < length w.bytes →
-    after ≡ before ++ payloads recipient (pieces_of w.stream (cut size (take room w.bytes))) →
-    before ++ payloads recipient (sent_of size room left) ≡ whole → after ≡ whole
+    after ≡ adding before (payloads recipient (pieces_of w.stream (cut size (take room w.bytes)))) →
+    adding before (payloads recipient (sent_of size room left)) ≡ whole → after ≡ whole
 part_done recipient size room w left ws before after whole place short pushed so_far =
     pushed
-    ∙ ap (λ (ps : List Packet). before ++ payloads recipient ps) (sym (sent-part size room w ws short) ∙ ap (λ (l : List Waiting). sent_of size room l) (sym place))
+    ∙ ap (λ (ps : List Packet). adding before (payloads recipient ps)) (sym (sent-part size room w ws short) ∙ ap (λ (l : List Waiting). sent_of size room l) (sym place))
     ∙ so_far
 
 -- whether some bytes remain
@@ -84,15 +86,15 @@ module _ (recipient size room at : ℕ) (stream : Stream) (bytes : List ℕ) (w 
   next : drop at ws ≡ w ∷ drop (at + 1) ws
   next = drop_more ws at w within ∙ ap (λ (v : Waiting). v ∷ drop (at + 1) ws) (sym place)
 
-  pub whole_at : (before after whole : List Record) → length bytes ≤ room →
-      after ≡ before ++ payloads recipient (pieces_of stream (cut size bytes)) →
-      before ++ payloads recipient (sent_of size room (drop at ws)) ≡ whole →
-      after ++ payloads recipient (sent_of size (room - length bytes) (drop (at + 1) ws)) ≡ whole
+  pub whole_at : (before after whole : Outgoing) → length bytes ≤ room →
+      after ≡ adding before (payloads recipient (pieces_of stream (cut size bytes))) →
+      adding before (payloads recipient (sent_of size room (drop at ws))) ≡ whole →
+      adding after (payloads recipient (sent_of size (room - length bytes) (drop (at + 1) ws))) ≡ whole
   whole_at before after whole fits pushed so_far =
       let fit : length w.bytes ≤ room = omega (arith, ap length bytes_is) in
-      let output : after ≡ before ++ payloads recipient (pieces_of w.stream (cut size w.bytes)) =
-      pushed ∙ ap (λ (s : Stream). before ++ payloads recipient (pieces_of s (cut size bytes))) stream_is ∙ ap (λ (bs : List ℕ). before ++ payloads recipient (pieces_of w.stream (cut size bs))) bytes_is in
-      ap (λ (bs : List ℕ). after ++ payloads recipient (sent_of size (room - length bs) (drop (at + 1) ws))) bytes_is
+      let output : after ≡ adding before (payloads recipient (pieces_of w.stream (cut size w.bytes))) =
+      pushed ∙ ap (λ (s : Stream). adding before (payloads recipient (pieces_of s (cut size bytes)))) stream_is ∙ ap (λ (bs : List ℕ). adding before (payloads recipient (pieces_of w.stream (cut size bs)))) bytes_is in
+      ap (λ (bs : List ℕ). adding after (payloads recipient (sent_of size (room - length bs) (drop (at + 1) ws)))) bytes_is
       ∙ whole_more recipient size room w (drop at ws) (drop (at + 1) ws) before after whole next fit output so_far
 
   pub rest_at : (all : List Waiting) → length bytes ≤ room → left_of room (drop at ws) ≡ all → left_of (room - length bytes) (drop (at + 1) ws) ≡ all
@@ -101,13 +103,13 @@ module _ (recipient size room at : ℕ) (stream : Stream) (bytes : List ℕ) (w 
       ap (λ (bs : List ℕ). left_of (room - length bs) (drop (at + 1) ws)) bytes_is
       ∙ sym (left-whole room w (drop (at + 1) ws) fit) ∙ ap (λ (l : List Waiting). left_of room l) (sym next) ∙ is
 
-  pub part_at : (part : List ℕ) (before after whole : List Record) → room < length bytes → part ≡ take room bytes →
-      after ≡ before ++ payloads recipient (pieces_of stream (cut size part)) →
-      before ++ payloads recipient (sent_of size room (drop at ws)) ≡ whole → after ≡ whole
+  pub part_at : (part : List ℕ) (before after whole : Outgoing) → room < length bytes → part ≡ take room bytes →
+      after ≡ adding before (payloads recipient (pieces_of stream (cut size part))) →
+      adding before (payloads recipient (sent_of size room (drop at ws))) ≡ whole → after ≡ whole
   part_at part before after whole short front pushed so_far =
       let shorter : room < length w.bytes = omega (arith, ap length bytes_is) in
-      let output : after ≡ before ++ payloads recipient (pieces_of w.stream (cut size (take room w.bytes))) =
-      pushed ∙ ap (λ (bs : List ℕ). before ++ payloads recipient (pieces_of stream (cut size bs))) front ∙ ap (λ (s : Stream). before ++ payloads recipient (pieces_of s (cut size (take room bytes)))) stream_is ∙ ap (λ (bs : List ℕ). before ++ payloads recipient (pieces_of w.stream (cut size (take room bs)))) bytes_is in
+      let output : after ≡ adding before (payloads recipient (pieces_of w.stream (cut size (take room w.bytes)))) =
+      pushed ∙ ap (λ (bs : List ℕ). adding before (payloads recipient (pieces_of stream (cut size bs)))) front ∙ ap (λ (s : Stream). adding before (payloads recipient (pieces_of s (cut size (take room bytes))))) stream_is ∙ ap (λ (bs : List ℕ). adding before (payloads recipient (pieces_of w.stream (cut size (take room bs))))) bytes_is in
       part_done recipient size room w (drop at ws) (drop (at + 1) ws) before after whole next shorter output so_far
 
   pub some_at : (all : List Waiting) → room < length bytes → left_of room (drop at ws) ≡ all → eqb (length all) 0 ≡ false

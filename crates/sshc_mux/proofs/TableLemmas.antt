@@ -1,5 +1,5 @@
 -- A table's turn from its channel's turn.
-use Rattle.std.proofs.Common.{◌≡◌, ℕ, zero, suc, ◌+◌, ◌<◌, Bool, true, false, ◌||◌, if◌then◌else◌, List, [], ◌∷◌, ◌++◌, length, take, drop, map, set, get_or, Option, Some, None, Result, Ok, Err, refl, ap, sym, subst, ◌∙◌, arith, add-one, append_assoc}
+use Rattle.std.proofs.Common.{◌≡◌, ℕ, zero, suc, ◌+◌, ◌<◌, Bool, true, false, ◌||◌, if◌then◌else◌, List, [], ◌∷◌, ◌++◌, length, take, drop, map, set, get_or, Option, Some, None, Result, Ok, Err, refl, ap, sym, subst, ◌∙◌, arith, add-one}
 use mir.Val.{bool_byte}
 use Rattle.std.proofs.lemmas.List.{drop_more, append-nil, set-get_or}
 use Rattle.sshc_wire.specs.declared.error.NoMemory.{NoMemory}
@@ -7,10 +7,11 @@ use Rattle.sshc_wire.specs.declared.record.Record.{Record}
 use Rattle.sshc_wire.specs.declared.record.Record.TheVariants.{Payload}
 use Rattle.sshc_wire.specs.Outgoing.{Outgoing, shown}
 use Rattle.sshc_mux.specs.ChannelState.{ChannelState, TableState, channel_of, without}
-use Rattle.sshc_mux.specs.Packets.{Packet, packet_text, payloads}
+use Rattle.sshc_mux.specs.Packets.{Packet, adding, packet_text, payloads}
 use Rattle.sshc_mux.specs.ChannelTable.{flush, waits, any_waits, ChannelPacket, Effect, said_by, records_of, turned, turn_at, removed, taken_away, take_at, no_packets_of, accept_turn, settle, unmoved, all_said, CameAbout, Turned, Turn, flush_turn}
 use Rattle.sshc_mux.specs.ChannelTable.Opens.{accepted, is_reserved}
 use Rattle.sshc_mux.specs.Places.{Slots, present, IsPlace, flushed_slot, waiting_of}
+use Rattle.sshc_mux.proofs.AddingLemmas.{adding-append}
 use Rattle.sshc_mux.proofs.PlaceLemmas.{or_none, present-append}
 use Rattle.sshc_mux.proofs.IndexLemmas.{present-flushed}
 
@@ -70,15 +71,15 @@ slot_said (Some c) slots =
     ap (λ (s : List ChannelPacket). records_of s ++ records_of (all_said (present slots))) (append-nil output) ∙ sym (records-append output (all_said (present slots)))
 
 -- a slot's packets were added after the others'
-pub said_more : (at : ℕ) (slots : Slots) (slot : Option ChannelState) (before after whole : List Record) → at < length slots → slot ≡ get_or slots at slot →
-    after ≡ before ++ records_of (all_said (present (slot ∷ []))) →
-    before ++ records_of (all_said (present (drop at slots))) ≡ whole → after ++ records_of (all_said (present (drop (at + 1) slots))) ≡ whole
+pub said_more : (at : ℕ) (slots : Slots) (slot : Option ChannelState) (before after whole : Outgoing) → at < length slots → slot ≡ get_or slots at slot →
+    after ≡ adding before (records_of (all_said (present (slot ∷ [])))) →
+    adding before (records_of (all_said (present (drop at slots)))) ≡ whole → adding after (records_of (all_said (present (drop (at + 1) slots)))) ≡ whole
 said_more at slots slot before after whole within item pushed so_far =
     let rest : List Record = records_of (all_said (present (drop (at + 1) slots))) in
     let next : drop at slots ≡ slot ∷ drop (at + 1) slots = drop_more slots at slot within ∙ ap (λ (o : Option ChannelState). o ∷ drop (at + 1) slots) (sym item) in
-    ap (λ (rs : List Record). rs ++ rest) pushed
-    ∙ append_assoc before (records_of (all_said (present (slot ∷ [])))) rest
-    ∙ ap (λ (rs : List Record). before ++ rs) (slot_said slot (drop (at + 1) slots) ∙ ap (λ (s : Slots). records_of (all_said (present s))) (sym next))
+    ap (λ (o : Outgoing). adding o rest) pushed
+    ∙ adding-append before (records_of (all_said (present (slot ∷ [])))) rest
+    ∙ ap (λ (rs : List Record). adding before rs) (slot_said slot (drop (at + 1) slots) ∙ ap (λ (s : Slots). records_of (all_said (present s))) (sym next))
     ∙ so_far
 
 -- nothing is written

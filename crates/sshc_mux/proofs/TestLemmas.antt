@@ -1,5 +1,5 @@
 -- Tests that are true.
-use Rattle.std.proofs.Common.{◌≡◌, ℕ, suc, ◌<◌, ◌≤◌, Bool, true, false, not, ◌&&◌, List, [], ◌∷◌, length, eqb, if◌then◌else◌, refl, arith}
+use Rattle.std.proofs.Common.{◌≡◌, ℕ, suc, ◌<◌, ◌≤◌, Bool, true, false, ◌&&◌, List, [], ◌∷◌, length, eqb, if◌then◌else◌, refl, arith}
 use Rattle.std.proofs.Math.Dec.{eqb-suc-zero}
 
 pub and_left : (a b : Bool) → (a && b) ≡ true → a ≡ true

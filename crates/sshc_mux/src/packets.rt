@@ -1,119 +1,148 @@
 //! The packets of a channel as records (RFC 4254, sections 5.2 and 5.3).
 
-ghost use Rattle.std.specs.Prelude.{◌≡◌, ◌++◌, ◌<◌, ◌^◌, [], length, IfOk, OnOk, IsOk};
-ghost use Rattle.sshc_mux.specs.Packets.{packet_text, piece_text, Piece, Eof, Close, Adjust, payloads};
+ghost use Rattle.std.specs.Prelude.{◌≡◌, ◌∷◌, ◌++◌, ◌<◌, ◌^◌, [], length, IfOk, OnOk, OnErr, IsOk};
+ghost use Rattle.sshc_wire.specs.MessageNumbers.{CHANNEL_EXTENDED_DATA};
+ghost use Rattle.sshc_wire.specs.Outgoing.{Grows};
+ghost use Rattle.sshc_wire.specs.Wire.{u32_text};
+ghost use Rattle.sshc_mux.specs.Packets.{adding, packet_text, Piece, Eof, Close, Adjust, payloads};
 ghost use Rattle.sshc_mux.specs.ChannelTable.Sending.{cut, pieces_of};
 
 use crate::chunk::Stream;
-use sshc_wire::{NoMemory, Octets, Record, msg, put_bytes, put_u32};
-use std::alloc::Global;
+use sshc_wire::{NoMemory, Outbox, msg};
 
-/// How many bytes of a data packet precede the piece: its number, the recipient and the length.
-const DATA_HEAD: usize = 9;
+/// A message's number and the recipient.
+#[tactic(auto, unfolding(sshc_wire::specs::Wire::u32_text))]
+fn addressed(number: u8, recipient: u32) -> [u8; 5]
+    ensures { result ≡ number ∷ u32_text recipient }
+{
+    let r = recipient.to_be_bytes();
+    [number, r[0], r[1], r[2], r[3]]
+}
 
-/// The same for an extended data packet, which has a code too.
-const EXTENDED_HEAD: usize = 13;
+/// The same, and a number.
+#[tactic(auto, unfolding(sshc_wire::specs::Wire::u32_text))]
+fn numbered(number: u8, recipient: u32, amount: u32) -> [u8; 9]
+    ensures { result ≡ number ∷ u32_text recipient ++ u32_text amount }
+{
+    let r = recipient.to_be_bytes();
+    let a = amount.to_be_bytes();
+    [number, r[0], r[1], r[2], r[3], a[0], a[1], a[2], a[3]]
+}
 
-/// How many bytes an end or a close has: its number and the recipient.
-const ADDRESSED: usize = 5;
+/// What precedes the bytes of an extended data packet.
+#[tactic(auto, unfolding(sshc_wire::specs::Wire::u32_text))]
+fn extended_head(recipient: u32, code: u32, size: u32) -> [u8; 13]
+    ensures { result ≡ CHANNEL_EXTENDED_DATA ∷ u32_text recipient ++ u32_text code ++ u32_text size }
+{
+    let r = recipient.to_be_bytes();
+    let c = code.to_be_bytes();
+    let s = size.to_be_bytes();
+    [
+        msg::CHANNEL_EXTENDED_DATA,
+        r[0],
+        r[1],
+        r[2],
+        r[3],
+        c[0],
+        c[1],
+        c[2],
+        c[3],
+        s[0],
+        s[1],
+        s[2],
+        s[3],
+    ]
+}
 
-/// How many bytes an adjustment of a window has: those, and the amount.
-const ADJUSTED: usize = 9;
-
-/// A piece of a channel's bytes, each of which is written once.
-fn piece_record(
-    alloc: Global,
+/// Adds a piece of a channel's bytes, which are copied once, or changes nothing.
+fn push_piece(
     recipient: u32,
     stream: Stream,
     piece: &[u8],
-) -> Result<Record, NoMemory>
+    out: &mut Outbox,
+) -> Result<(), NoMemory>
     requires { length piece.now < 2 ^ 32 }
-    ensures { IfOk result (λ r. r ≡ Record.Payload (packet_text recipient (Piece stream piece.now))) }
+    ensures ok { OnOk result (out.new ≡ adding out.old (payloads recipient (Piece stream piece.now ∷ []))) }
+    ensures err { OnErr result (out.new ≡ out.old) }
 {
     match stream {
-        Stream::Data => data_record(alloc, recipient, piece),
-        Stream::Extended(code) => extended_record(alloc, recipient, code, piece),
+        Stream::Data => push_data(recipient, piece, out),
+        Stream::Extended(code) => push_extended(recipient, code, piece, out),
     }
 }
 
-fn data_record(alloc: Global, recipient: u32, piece: &[u8]) -> Result<Record, NoMemory>
+#[tactic(auto, unfolding(sshc_wire::specs::Wire::string_text, sshc_wire::specs::Wire::u32_text, crate::specs::Packets::adding), using(crate::proofs::AddingLemmas::is_adding, crate::proofs::AddingLemmas::is_same))]
+fn push_data(recipient: u32, piece: &[u8], out: &mut Outbox) -> Result<(), NoMemory>
     requires { length piece.now < 2 ^ 32 }
-    ensures { IfOk result (λ r. r ≡ Record.Payload (piece_text recipient Stream.Data piece.now)) }
+    ensures ok { OnOk result (out.new ≡ adding out.old (payloads recipient (Piece Stream.Data piece.now ∷ []))) }
+    ensures err { OnErr result (out.new ≡ out.old) }
 {
-    let mut packet = Vec::with_capacity(alloc, DATA_HEAD + piece.len())?;
-    packet.push(msg::CHANNEL_DATA)?;
-    put_u32(&mut packet, recipient)?;
-    put_bytes(&mut packet, piece)?;
-    Ok(Record::Payload(Octets::from_vec(packet)?))
+    let head = numbered(msg::CHANNEL_DATA, recipient, piece.len() as u32);
+    out.push_packet(&head, piece)
 }
 
-fn extended_record(
-    alloc: Global,
-    recipient: u32,
-    code: u32,
-    piece: &[u8],
-) -> Result<Record, NoMemory>
+#[tactic(auto, using(crate::proofs::AddingLemmas::is_same))]
+fn push_extended(recipient: u32, code: u32, piece: &[u8], out: &mut Outbox) -> Result<(), NoMemory>
     requires { length piece.now < 2 ^ 32 }
-    ensures { IfOk result (λ r. r ≡ Record.Payload (piece_text recipient (Stream.Extended code) piece.now)) }
+    ensures ok { OnOk result
+        (out.new ≡ adding out.old (payloads recipient (Piece (Stream.Extended code) piece.now ∷ []))) }
+    ensures err { OnErr result (out.new ≡ out.old) }
 {
-    let mut packet = Vec::with_capacity(alloc, EXTENDED_HEAD + piece.len())?;
-    packet.push(msg::CHANNEL_EXTENDED_DATA)?;
-    put_u32(&mut packet, recipient)?;
-    put_u32(&mut packet, code)?;
-    put_bytes(&mut packet, piece)?;
-    Ok(Record::Payload(Octets::from_vec(packet)?))
+    let head = extended_head(recipient, code, piece.len() as u32);
+    out.push_packet(&head, piece)?;
+    Ok(())
 }
 
-/// The end of a channel's bytes.
-pub(crate) fn eof_record(alloc: Global, recipient: u32) -> Result<Record, NoMemory>
-    ensures { IfOk result (λ r. r ≡ Record.Payload (packet_text recipient Eof)) }
+/// Adds the end of a channel's bytes, or changes nothing.
+#[tactic(auto, unfolding(sshc_wire::specs::Wire::u32_text, crate::specs::Packets::adding), using(crate::proofs::AddingLemmas::is_adding, crate::proofs::AddingLemmas::is_same))]
+pub(crate) fn push_eof(recipient: u32, out: &mut Outbox) -> Result<(), NoMemory>
+    ensures ok { OnOk result (out.new ≡ adding out.old (payloads recipient (Eof ∷ []))) }
+    ensures err { OnErr result (out.new ≡ out.old) }
 {
-    let mut packet = Vec::with_capacity(alloc, ADDRESSED)?;
-    packet.push(msg::CHANNEL_EOF)?;
-    put_u32(&mut packet, recipient)?;
-    Ok(Record::Payload(Octets::from_vec(packet)?))
+    out.push_packet(&addressed(msg::CHANNEL_EOF, recipient), &[])
 }
 
-/// Our close.
-pub(crate) fn close_record(alloc: Global, recipient: u32) -> Result<Record, NoMemory>
-    ensures { IfOk result (λ r. r ≡ Record.Payload (packet_text recipient Close)) }
+/// Adds our close, or changes nothing.
+#[tactic(auto, unfolding(sshc_wire::specs::Wire::u32_text, crate::specs::Packets::adding), using(crate::proofs::AddingLemmas::is_adding, crate::proofs::AddingLemmas::is_same))]
+pub(crate) fn push_close(recipient: u32, out: &mut Outbox) -> Result<(), NoMemory>
+    ensures ok { OnOk result (out.new ≡ adding out.old (payloads recipient (Close ∷ []))) }
+    ensures err { OnErr result (out.new ≡ out.old) }
 {
-    let mut packet = Vec::with_capacity(alloc, ADDRESSED)?;
-    packet.push(msg::CHANNEL_CLOSE)?;
-    put_u32(&mut packet, recipient)?;
-    Ok(Record::Payload(Octets::from_vec(packet)?))
+    out.push_packet(&addressed(msg::CHANNEL_CLOSE, recipient), &[])
 }
 
-/// More room in our window.
-pub(crate) fn adjust_record(alloc: Global, recipient: u32, amount: u32) -> Result<Record, NoMemory>
-    ensures { IfOk result (λ r. r ≡ Record.Payload (packet_text recipient (Adjust amount))) }
+/// Adds more room in our window, or changes nothing.
+#[tactic(auto, unfolding(sshc_wire::specs::Wire::u32_text, crate::specs::Packets::adding), using(crate::proofs::AddingLemmas::is_adding, crate::proofs::AddingLemmas::is_same))]
+pub(crate) fn push_adjust(recipient: u32, amount: u32, out: &mut Outbox) -> Result<(), NoMemory>
+    ensures ok { OnOk result (out.new ≡ adding out.old (payloads recipient (Adjust amount ∷ []))) }
+    ensures err { OnErr result (out.new ≡ out.old) }
 {
-    let mut packet = Vec::with_capacity(alloc, ADJUSTED)?;
-    packet.push(msg::CHANNEL_WINDOW_ADJUST)?;
-    put_u32(&mut packet, recipient)?;
-    put_u32(&mut packet, amount)?;
-    Ok(Record::Payload(Octets::from_vec(packet)?))
+    out.push_packet(
+        &numbered(msg::CHANNEL_WINDOW_ADJUST, recipient, amount),
+        &[],
+    )
 }
 
-/// The bytes in pieces of at most `size`.
+/// Adds the bytes in pieces of at most `size`. Out of memory, some of them may be added.
 pub(crate) fn push_pieces(
-    alloc: Global,
     recipient: u32,
     size: u32,
     stream: Stream,
     part: &[u8],
-    output: &mut Vec<Record>,
+    out: &mut Outbox,
 ) -> Result<(), NoMemory>
     requires { 0 < length part.now → 0 < size }
-    ensures output { OnOk result (output.new.items ≡ output.old.items
-        ++ payloads recipient (pieces_of stream (cut size part.now))) }
+    ensures output { OnOk result
+        (out.new ≡ adding out.old (payloads recipient (pieces_of stream (cut size part.now)))) }
+    ensures some { OnErr result (Grows out.old.records out.new.records) }
+    ensures same { out.new.muted ≡ out.old.muted }
     ensures succeeds { part.now ≡ [] → IsOk result }
 {
     let mut rest = part;
     while rest.len() > 0 {
         let count = rest.len().min(size as usize);
         let (piece, more) = rest.split_at(count);
-        output.push(piece_record(alloc, recipient, stream, piece)?)?;
+        push_piece(recipient, stream, piece, out)?;
         rest = more;
     }
     Ok(())

@@ -18,7 +18,7 @@ ghost use Rattle.sshc_mux.specs.Places.{IsPlace, IsIndexed, HasNumbers, Apart, n
 
 use crate::channel::Channel;
 use bytes::Bytes;
-use sshc_wire::{ChannelId, Record, Ticket};
+use sshc_wire::{ChannelId, Ticket};
 use std::alloc::Global;
 use std::collections::HashMap;
 use std::marker::Model;
@@ -34,8 +34,6 @@ pub struct ChannelTable {
     /// On how many channels bytes wait.
     waiting: usize,
     last: u32,
-    /// The records of a call before they go out. Its memory is kept from one call to the next.
-    output: Vec<Record>,
     alloc: Global,
 }
 
@@ -70,7 +68,6 @@ impl ChannelTable {
             index: HashMap::new(alloc),
             waiting: 0,
             last: last.0,
-            output: Vec::new(alloc),
             alloc,
         }
     }

@@ -1,28 +1,29 @@
 //! A channel's waiting bytes: what is sent of them, and what remains (RFC 4254, section 5.2).
 
-ghost use Rattle.std.specs.Prelude.{◌≡◌, ◌-◌, ◌++◌, ◌<◌, ◌≤◌, ◌==◌, length, slice_index_or, [], IfOk, OnOk, IsOk};
+ghost use Rattle.std.specs.Prelude.{◌≡◌, ◌-◌, ◌++◌, ◌<◌, ◌≤◌, ◌==◌, length, slice_index_or, [], IfOk, OnOk, OnErr, IsOk};
+ghost use Rattle.sshc_wire.specs.Outgoing.{Grows};
 ghost use Rattle.sshc_mux.specs.ChannelState.{Waiting};
-ghost use Rattle.sshc_mux.specs.Packets.{payloads};
+ghost use Rattle.sshc_mux.specs.Packets.{adding, payloads};
 ghost use Rattle.sshc_mux.specs.ChannelTable.Sending.{sent_of, left_of, count_of};
 
 use crate::chunk::Chunk;
 use crate::packets::push_pieces;
-use sshc_wire::{NoMemory, Record};
-use std::alloc::Global;
+use sshc_wire::{NoMemory, Outbox};
 use std::collections::VecDeque;
 
-/// Adds what there is room for. Returns whether no bytes remain.
+/// Adds what there is room for. Returns whether no bytes remain. Out of memory, some of it may be added.
+#[tactic(auto, unfolding(crate::specs::Packets::adding))]
 pub(crate) fn push_sent(
-    alloc: Global,
     recipient: u32,
     size: u32,
     room: usize,
     pending: &VecDeque<Chunk>,
-    output: &mut Vec<Record>,
+    out: &mut Outbox,
 ) -> Result<bool, NoMemory>
     requires { 0 < room → 0 < size }
-    ensures output { OnOk result (output.new.items ≡ output.old.items
-        ++ payloads recipient (sent_of size room pending.now.items)) }
+    ensures output { OnOk result (out.new ≡ adding out.old (payloads recipient (sent_of size room pending.now.items))) }
+    ensures some { OnErr result (Grows out.old.records out.new.records) }
+    ensures same { out.new.muted ≡ out.old.muted }
     ensures succeeds { sent_of size room pending.now.items ≡ [] → IsOk result }
     ensures all { IfOk result (λ all. all ≡ (length (left_of room pending.now.items) == 0)) }
 {
@@ -32,17 +33,10 @@ pub(crate) fn push_sent(
         let chunk = &pending[at];
         let bytes = chunk.bytes();
         if bytes.len() > left {
-            push_pieces(
-                alloc,
-                recipient,
-                size,
-                chunk.stream(),
-                bytes.split_at(left).0,
-                output,
-            )?;
+            push_pieces(recipient, size, chunk.stream(), bytes.split_at(left).0, out)?;
             return Ok(false);
         }
-        push_pieces(alloc, recipient, size, chunk.stream(), bytes, output)?;
+        push_pieces(recipient, size, chunk.stream(), bytes, out)?;
         left -= bytes.len();
         at += 1;
     }

@@ -1,23 +1,14 @@
 -- A frame is read by its length and then its bytes.
 use Rattle.std.proofs.Common.{◌≡◌, ◌≢◌, ℕ, ◌<◌, ◌≤◌, List, [], ◌++◌, length, Option, Some, None, Result, Ok, Err, true, refl, sym, ap, subst, ◌∙◌, arith, length-append, inl, inr}
-use Rattle.std.specs.Int.{w32, from_be_bytes}
-use Rattle.std.proofs.lemmas.Nat.{be_bytes_4}
 use Rattle.sshc_wire.specs.Contents.{prepend}
 use Rattle.sshc_wire.specs.ContentsLaws.{prepend-nothing, prepend-prepend}
 use Rattle.sshc_wire.specs.Faults.{Rose}
-use Rattle.sshc_wire.specs.Wire.{IsBytes, string_text, u32_text}
-use Rattle.sshc_key.specs.declared.agent_msg.TheConstants.{MAX_AGENT_FRAME_LEN}
+use Rattle.sshc_wire.specs.Wire.{string_text, u32_text}
+use Rattle.sshc_key.specs.AgentNumbers.{MAX_AGENT_FRAME_LEN}
 use Rattle.sshc_wire.specs.declared.source.Failed.TheVariants as failures
 use Rattle.sshc_proxy.specs.declared.broken.Broken.{Broken}
 use Rattle.sshc_proxy.specs.declared.broken.Broken.TheVariants as broken
 use Rattle.sshc_proxy.specs.Frames.{IsRead, IsReadFault, LengthIn, ReadsBody, ReadsFrame, ReadsLength, ReadsPiece, Stream}
-
--- ---- numbers of four bytes
-
--- written, the number is these bytes again
-pub four_bytes : (bytes : List ℕ) → length bytes ≡ 4 → IsBytes bytes → bytes ≡ u32_text (from_be_bytes w32 bytes)
-unfolding u32_text
-four_bytes bytes len fits = sym (be_bytes_4 bytes _ len fits refl)
 
 four : (n : ℕ) → length (u32_text n) ≡ 4
 unfolding u32_text

@@ -3,7 +3,7 @@ use Rattle.std.proofs.Common.{◌≡◌, ℕ, List, [], ◌∷◌, ◌++◌, Opt
 use Rattle.std.specs.Prelude.{if◌then◌else◌, ◌==◌, IfOk}
 use Rattle.std.proofs.lemmas.Bool.{cases_eq, cond-true, cond-false, cond_both, eq-eqb, ne_eqb}
 use Rattle.sshc_key.specs.declared.error.Error.{Error}
-use Rattle.sshc_key.specs.declared.agent_msg.TheConstants.{IDENTITIES_ANSWER, SIGN_RESPONSE}
+use Rattle.sshc_key.specs.AgentNumbers.{IDENTITIES_ANSWER, SIGN_RESPONSE}
 use Rattle.sshc_wire.specs.declared.error.NoMemory.{NoMemory}
 use Rattle.sshc_wire.specs.Wire.{string_text, u32_text}
 use Rattle.sshc_proxy.specs.declared.input.ProxyInput.{ProxyInput}

@@ -5,7 +5,7 @@ use Rattle.std.proofs.lemmas.Bool.{cond-true, cond_both, eqb-true}
 use Rattle.sshc_wire.specs.declared.error.WireError.{WireError}
 use Rattle.sshc_wire.specs.Reads.{string_at}
 use Rattle.sshc_key.specs.declared.error.Error.{Error}
-use Rattle.sshc_key.specs.declared.agent_msg.TheConstants.{EXTENSION, IDENTITIES_ANSWER, REQUEST_IDENTITIES, SIGN_REQUEST, SIGN_RESPONSE}
+use Rattle.sshc_key.specs.AgentNumbers.{EXTENSION, IDENTITIES_ANSWER, REQUEST_IDENTITIES, SIGN_REQUEST, SIGN_RESPONSE}
 use Rattle.sshc_proxy.specs.declared.input.ProxyInput.{ProxyInput}
 use Rattle.sshc_proxy.specs.declared.input.ProxyInput.TheVariants as inputs
 use Rattle.sshc_proxy.specs.declared.input.ProxyOutput.{ProxyOutput}

@@ -4,7 +4,7 @@
 use Rattle.std.specs.Prelude.{ℕ, Bool, false, List, [], ◌∷◌, Option, Some, None, Result, Ok, Err, codes, bytes_eq, ◌==◌, if◌then◌else◌}
 use Rattle.sshc_wire.specs.declared.error.WireError.{WireError}
 use Rattle.sshc_wire.specs.Reads.{Reader, boolean_at, string_at, ◌>>=◌}
-use Rattle.sshc_key.specs.declared.agent_msg.TheConstants.{EXTENSION}
+use Rattle.sshc_key.specs.AgentNumbers.{EXTENSION}
 use Rattle.sshc_key.specs.declared.signature.Signature.{Signature}
 use Rattle.sshc_key.specs.Algorithms.{is_accepted, whole_signature}
 use Rattle.sshc_key.specs.KeyGrammar.{Key, plain}

@@ -7,7 +7,7 @@ use Rattle.sshc_wire.specs.declared.source.Failed.TheVariants as failures
 use Rattle.sshc_wire.specs.Contents.{IsAtEnd, append, prepend}
 use Rattle.sshc_wire.specs.Faults.{Rose}
 use Rattle.sshc_wire.specs.Wire.{string_text, u32_text}
-use Rattle.sshc_key.specs.declared.agent_msg.TheConstants.{MAX_AGENT_FRAME_LEN}
+use Rattle.sshc_key.specs.AgentNumbers.{MAX_AGENT_FRAME_LEN}
 use Rattle.sshc_ask.specs.SourceState.{IsCut}
 use Rattle.sshc_proxy.specs.declared.broken.Broken.{Broken}
 use Rattle.sshc_proxy.specs.declared.broken.Broken.TheVariants as broken

@@ -5,7 +5,7 @@ use Rattle.sshc_wire.specs.Counted.{times_at}
 use Rattle.sshc_wire.specs.Reads.{Reader, ◌>>=◌}
 use Rattle.sshc_wire.specs.Wire.{counted_text, string_text}
 use Rattle.sshc_key.specs.declared.error.Error.{Error}
-use Rattle.sshc_key.specs.declared.agent_msg.TheConstants.{IDENTITIES_ANSWER}
+use Rattle.sshc_key.specs.AgentNumbers.{IDENTITIES_ANSWER}
 use Rattle.sshc_key.specs.KeyReading.{octets_at, u32_at, utf8_at}
 use Rattle.sshc_key.specs.Nesting.{blob_key, key_or_fault}
 use Rattle.sshc_proxy.specs.declared.listing.Listed.{Listed as Lent}

@@ -3,7 +3,7 @@
 use Rattle.std.specs.Prelude.{◌≡◌, ◌≢◌, ◌⊎◌, ◌==◌, ℕ, List, [], ◌∷◌, ◌++◌, All, Contains, Option, Some, None, Ok, fold, option_map, if◌then◌else◌, true}
 use Rattle.sshc_wire.specs.Reads.{string_at}
 use Rattle.sshc_wire.specs.Wire.{string_text}
-use Rattle.sshc_key.specs.declared.agent_msg.TheConstants.{FAILURE, IDENTITIES_ANSWER, REQUEST_IDENTITIES, SIGN_REQUEST, SIGN_RESPONSE, SUCCESS}
+use Rattle.sshc_key.specs.AgentNumbers.{FAILURE, IDENTITIES_ANSWER, REQUEST_IDENTITIES, SIGN_REQUEST, SIGN_RESPONSE, SUCCESS}
 use Rattle.sshc_proxy.specs.declared.input.ProxyInput.{ProxyInput}
 use Rattle.sshc_proxy.specs.declared.input.ProxyInput.TheVariants as inputs
 use Rattle.sshc_proxy.specs.declared.input.ProxyOutput.{ProxyOutput}

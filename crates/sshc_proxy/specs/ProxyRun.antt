@@ -6,7 +6,7 @@ use Rattle.std.specs.List.{flat_map}
 use Rattle.sshc_wire.specs.Contents.{IsAtEnd, append, prepend}
 use Rattle.sshc_wire.specs.Faults.{Rose}
 use Rattle.sshc_wire.specs.Wire.{string_text, u32_text}
-use Rattle.sshc_key.specs.declared.agent_msg.TheConstants.{MAX_AGENT_FRAME_LEN}
+use Rattle.sshc_key.specs.AgentNumbers.{MAX_AGENT_FRAME_LEN}
 use Rattle.sshc_ask.specs.SourceState.{IsCut}
 use Rattle.sshc_proxy.specs.declared.error.ProxyError.{ProxyError}
 use Rattle.sshc_proxy.specs.declared.error.ProxyError.TheVariants as errors

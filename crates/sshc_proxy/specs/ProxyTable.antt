@@ -10,7 +10,7 @@ use Rattle.sshc_wire.specs.declared.error.WireError.{WireError}
 use Rattle.sshc_wire.specs.Reads.{string_at}
 use Rattle.sshc_wire.specs.Wire.{string_text}
 use Rattle.sshc_key.specs.declared.error.Error.{Error}
-use Rattle.sshc_key.specs.declared.agent_msg.TheConstants.{EXTENSION, FAILURE, IDENTITIES_ANSWER, REQUEST_IDENTITIES, SIGN_REQUEST, SIGN_RESPONSE, SUCCESS}
+use Rattle.sshc_key.specs.AgentNumbers.{EXTENSION, FAILURE, IDENTITIES_ANSWER, REQUEST_IDENTITIES, SIGN_REQUEST, SIGN_RESPONSE, SUCCESS}
 use Rattle.sshc_proxy.specs.declared.input.ProxyInput.{ProxyInput}
 use Rattle.sshc_proxy.specs.declared.input.ProxyInput.TheVariants as inputs
 use Rattle.sshc_proxy.specs.declared.input.ProxyOutput.{ProxyOutput}

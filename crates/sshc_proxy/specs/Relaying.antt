@@ -3,7 +3,7 @@ use Rattle.std.specs.Prelude.{◌≡◌, ◌≤◌, ℕ, Bool, true, false, List
 use Rattle.sshc_wire.specs.declared.source.Failed.{Failed}
 use Rattle.sshc_wire.specs.declared.source.Failed.TheVariants as failures
 use Rattle.sshc_wire.specs.Wire.{string_text}
-use Rattle.sshc_key.specs.declared.agent_msg.TheConstants.{MAX_AGENT_FRAME_LEN}
+use Rattle.sshc_key.specs.AgentNumbers.{MAX_AGENT_FRAME_LEN}
 use Rattle.sshc_proxy.specs.declared.broken.Broken.{Broken}
 use Rattle.sshc_proxy.specs.declared.broken.Broken.TheVariants as broken
 use Rattle.sshc_proxy.specs.declared.error.ProxyError.{ProxyError}

@@ -5,7 +5,6 @@ mod binding;
 mod bound_hosts;
 mod broken;
 mod error;
-mod frame;
 mod input;
 mod listing;
 mod policy;

@@ -7,11 +7,10 @@ ghost use Rattle.sshc_key.specs.Gives.{Gives, GivesAll};
 ghost use Rattle.sshc_proxy.specs.Policy.{allowed};
 ghost use Rattle.sshc_proxy.specs.Listing.{keys_seen, listed_at, listed_keys, listed_seen, listed_text, listing};
 
-use crate::frame::framed;
 use crate::policy::Policy;
 use sshc_key::agent_msg::IDENTITIES_ANSWER;
 use sshc_key::{Error, parse_public_key};
-use sshc_wire::{Cursor, NoMemory, Octets, put_bytes, put_u32};
+use sshc_wire::{Cursor, NoMemory, Octets, framed, put_string, put_u32};
 use std::alloc::Global;
 
 /// A key of a listing.
@@ -60,16 +59,6 @@ pub(crate) fn keep_allowed(keys: &mut Vec<Listed<'_>>, policy: &Policy, hosts: &
     ensures { keys_seen keys.new.items ≡ filter (λ key. allowed policy.now hosts.now key.0) (keys_seen keys.old.items) }
 {
     keys.retain(|key| policy.allows(hosts, key.blob));
-}
-
-/// Appends a string. More than 2^32 - 1 bytes count as out of memory.
-fn put_string(out: &mut Vec<u8>, bytes: &[u8]) -> Result<(), NoMemory>
-    ensures { OnOk result (out.new.items ≡ out.old.items ++ string_text bytes.now) }
-{
-    if bytes.len() >= 1 << 32 {
-        return Err(NoMemory);
-    }
-    put_bytes(out, bytes)
 }
 
 /// Appends a key of a listing.

@@ -9,12 +9,11 @@ ghost use Rattle.sshc_proxy.specs.declared.input.ProxyInput.TheVariants as input
 ghost use Rattle.sshc_proxy.specs.declared.input.ProxyOutput.TheVariants as outputs;
 
 use crate::bound_hosts::BoundHosts;
-use crate::frame::framed;
 use crate::input::{ProxyInput, ProxyOutput};
 use crate::policy::Policy;
 use crate::waiting::Waiting;
 use sshc_key::{Verifier, agent_msg};
-use sshc_wire::NoMemory;
+use sshc_wire::{NoMemory, framed};
 use std::alloc::Global;
 use std::marker::Model;
 

@@ -3,12 +3,11 @@
 ghost use Rattle.std.specs.Prelude.{◌≡◌, ◌+◌, ◌<◌, ◌≤◌, ℕ, List, OnErr, OnOk, length};
 ghost use Rattle.sshc_wire.specs.Contents.{IsAtEnd, prepend};
 ghost use Rattle.sshc_wire.specs.Faults.{HasCause};
-ghost use Rattle.sshc_wire.specs.Wire.{u32_text};
 ghost use Rattle.sshc_proxy.specs.Frames.{LengthIn, ReadsBody, ReadsFrame, ReadsLength, ReadsPiece, stream};
 
 use crate::broken::Broken;
 use sshc_key::agent_msg::MAX_AGENT_FRAME_LEN;
-use sshc_wire::{AgentStream, Cursor, Failed, read_into};
+use sshc_wire::{AgentStream, Failed, frame_length, read_into};
 
 /// How many bytes a length has.
 const LENGTH_BYTES: usize = 4;
@@ -48,17 +47,6 @@ fn read_piece<S: AgentStream>(
     read_bytes(source, piece, count)
 }
 
-/// The number in four bytes, most significant byte first.
-#[tactic(auto, using(crate::proofs::FrameLemmas::four_bytes))]
-fn number_of(bytes: &[u8]) -> u32
-    requires { length bytes.now ≡ 4 }
-    ensures { bytes.now ≡ u32_text result }
-{
-    // The contract of the cursor ensures that what it reads are bytes.
-    let bytes = Cursor::new(bytes).rest();
-    u32::from_be_bytes([bytes[0], bytes[1], bytes[2], bytes[3]])
-}
-
 /// The number in the bytes of a length.
 fn length_in(bytes: &[u8]) -> Result<Option<u32>, Broken>
     requires { length bytes.now ≤ 4 }
@@ -70,7 +58,7 @@ fn length_in(bytes: &[u8]) -> Result<Option<u32>, Broken>
     if bytes.len() < LENGTH_BYTES {
         return Err(Broken::UnexpectedEnd);
     }
-    let length = number_of(bytes);
+    let length = frame_length(bytes);
     if length > MAX_AGENT_FRAME_LEN {
         return Err(Broken::TooLong);
     }

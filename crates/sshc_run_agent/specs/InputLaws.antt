@@ -9,7 +9,7 @@ use Rattle.sshc_wire.specs.declared.error.WireError.{WireError}
 use Rattle.sshc_wire.specs.Reads.{number_at}
 use Rattle.sshc_agent_core.specs.declared.input.AgentInput.{AgentInput}
 use Rattle.sshc_agent_core.specs.declared.input.AgentInput.TheVariants.{Frame, Oversize}
-use Rattle.sshc_key.specs.declared.agent_msg.TheConstants.{MAX_AGENT_FRAME_LEN}
+use Rattle.sshc_key.specs.AgentNumbers.{MAX_AGENT_FRAME_LEN}
 use Rattle.sshc_agent_core.specs.AgentFrames.{FrameBytes, Gives, GivesAll, framed_by, framed_in, next_in, pushed}
 use Rattle.sshc_agent_core.specs.FrameLaws.{number_by, one_list, pieces}
 use Rattle.sshc_run_agent.specs.AgentTurns.{inputs_of, most, rest_of, taken_by, taken_in}

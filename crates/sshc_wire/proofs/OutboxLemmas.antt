@@ -97,6 +97,16 @@ pub rest_told : (held : List (List ℕ)) → AreTold held → AreTold (drop 1 he
 rest_told [] are = tt
 rest_told (t ∷ held) are = are.1
 
+pub first_told : (n : ℕ) (held : List (List ℕ)) → AreTold held → AreTold (take n held)
+first_told zero held are = tt
+first_told (suc n) [] are = tt
+first_told (suc n) (t ∷ held) are = (are.0, first_told n held are.1)
+
+pub first_records : (n : ℕ) (held : List (List ℕ)) → records_of (take n held) ≡ take n (records_of held)
+first_records zero held = refl
+first_records (suc n) [] = refl
+first_records (suc n) (t ∷ held) = ap (λ (rs : List Record). record_of t ∷ rs) (first_records n held)
+
 pub rest_records : (held : List (List ℕ)) → records_of (drop 1 held) ≡ drop 1 (records_of held)
 rest_records [] = refl
 rest_records (t ∷ held) = refl

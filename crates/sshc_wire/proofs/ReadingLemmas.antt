@@ -1,5 +1,8 @@
 -- Texts that were read as strings, and lists of which some values were read.
-use Rattle.std.proofs.Common.{◌≡◌, ℕ, suc, ◌+◌, ◌-◌, ◌<◌, Bool, true, false, cond, List, [], ◌∷◌, ◌++◌, Option, Some, None, Result, Ok, Err, refl, ap, sym, ◌∙◌, arith, append_assoc}
+use Rattle.std.proofs.Common.{◌≡◌, ℕ, suc, ◌+◌, ◌-◌, ◌<◌, Bool, true, false, cond, List, [], ◌∷◌, ◌++◌, length, Option, Some, None, Result, Ok, Err, refl, ap, sym, ◌∙◌, arith, append_assoc}
+use Rattle.std.specs.Int.{w32, from_be_bytes}
+use Rattle.std.proofs.lemmas.Nat.{be_bytes_4}
+use Rattle.sshc_wire.specs.Wire.{IsBytes, u32_text}
 use Rattle.std.proofs.lemmas.List.{append-nil}
 use Rattle.std.specs.Str.{is_utf8}
 use Rattle.std.specs.List.{cons_option, filter_map}
@@ -19,6 +22,11 @@ use Rattle.sshc_wire.specs.declared.error.WireError.TheVariants.{NotText}
 passed : {A : Type 0} (b : Bool) (x y : A) (e : WireError) → cond b (Ok x) (Err e) ≡ Ok y → x ≡ y
 passed true x y e h = cc
 passed false x y e h = absurd cc
+
+-- four bytes are those of the number that they encode
+pub four_bytes : (bytes : List ℕ) → length bytes ≡ 4 → IsBytes bytes → bytes ≡ u32_text (from_be_bytes w32 bytes)
+unfolding u32_text
+four_bytes bytes len fits = sym (be_bytes_4 bytes _ len fits refl)
 
 -- a text is a string
 pub text_string : (bytes t rest : List ℕ) → text_at bytes ≡ Ok (t, rest) → string_at bytes ≡ Ok (t, rest)

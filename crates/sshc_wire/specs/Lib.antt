@@ -1,3 +1,4 @@
+pub mod MessageNumbers
 pub mod Wire
 pub mod Reads
 pub mod Format

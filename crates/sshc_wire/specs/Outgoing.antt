@@ -29,6 +29,10 @@ abbrev pub Takes : Option Record → List Record → List Record → Type 0
 Takes None old new = (old ≡ []) × (new ≡ [])
 Takes (Some output) old new = old ≡ output ∷ new
 
+-- records to which some were added at the end
+abbrev pub Grows : List Record → List Record → Type 0
+Grows old new = (more : List Record) × (new ≡ old ++ more)
+
 -- an optional value as a list
 abbrev pub listed : {A : Type 0} → Option A → List A
 listed None = []

@@ -14,6 +14,7 @@ mod disconnect;
 mod error;
 mod files;
 mod fitting;
+mod frame;
 mod hash_alg;
 mod list;
 mod memory;
@@ -50,6 +51,7 @@ pub use digits::digit_line;
 pub use disconnect::Disconnect;
 pub use error::{NoMemory, RecordError, WireError};
 pub use files::{Files, Found};
+pub use frame::{frame_length, framed};
 pub use hash_alg::HashAlg;
 pub use list::List;
 pub use memory::{MemFiles, MemSink, MemSource};
@@ -60,7 +62,8 @@ pub use octets::Octets;
 pub use outbox::Outbox;
 pub use pty::Pty;
 pub use put::{
-    begin_string, end_string, put_bool, put_bytes, put_text, put_u32, put_u64, string_size,
+    begin_string, end_string, put_bool, put_bytes, put_string, put_text, put_u32, put_u64,
+    string_size,
 };
 pub use reading::read_record;
 pub use record::{Record, put_record};

@@ -1,6 +1,6 @@
 //! The records that a step says, in order, as one list of bytes.
 
-ghost use Rattle.std.specs.Prelude.{◌≡◌, ◌<◌, ◌^◌, [], ◌∷◌, ◌++◌, length, map, drop, slice_get, OnOk, OnErr, IfOk};
+ghost use Rattle.std.specs.Prelude.{◌≡◌, ◌<◌, ◌^◌, [], ◌∷◌, ◌++◌, length, map, drop, take, slice_get, OnOk, OnErr, IfOk};
 ghost use Rattle.std.specs.Prelude.{IfSome, IsOk, option_copied, Some, true, false};
 ghost use Rattle.std.specs.Option.{option_map};
 ghost use Rattle.sshc_wire.specs.Wire.{IsBytes};
@@ -66,6 +66,14 @@ impl Outbox {
     {
         self.texts.clear();
         self.is_muted = false;
+    }
+
+    /// Keeps the first records, so many of them. Takes no memory.
+    #[tactic(auto, using(crate::proofs::OutboxLemmas::first_records, crate::proofs::OutboxLemmas::first_told))]
+    pub fn truncate(&mut self, count: usize)
+        ensures { (self.new.records ≡ take count self.old.records) × (self.new.muted ≡ self.old.muted) }
+    {
+        self.texts.truncate(count);
     }
 
     /// How many records are held.

@@ -60,6 +60,17 @@ pub fn put_bytes(out: &mut Vec<u8>, bytes: &[u8]) -> Result<(), NoMemory>
     Ok(())
 }
 
+/// A string of any bytes. One of 2^32 bytes or more counts as out of memory.
+pub fn put_string(out: &mut Vec<u8>, bytes: &[u8]) -> Result<(), NoMemory>
+    ensures ok { OnOk result (out.new.items ≡ out.old.items ++ string_text bytes.now) }
+    ensures err { OnErr result (out.new.items ≡ out.old.items) }
+{
+    if bytes.len() >= TOO_LONG {
+        return Err(NoMemory);
+    }
+    put_bytes(out, bytes)
+}
+
 /// A byte, and then a number of four bytes. Out of memory, the byte may be written.
 #[tactic(auto, using(crate::proofs::Extended::extended, crate::proofs::Extended::unextended))]
 pub(crate) fn put_numbered(out: &mut Vec<u8>, kind: u8, n: u32) -> Result<(), NoMemory>

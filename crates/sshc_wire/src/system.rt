@@ -1,7 +1,9 @@
 //! Real streams and files, whose contents no contract knows. Each is proved against its trait; that the real thing
 //! behaves so is not.
 
-ghost use Rattle.std.specs.Prelude.{None, Err, OnErr, IfOk, IfSome, ◌≡◌, ◌≤◌, length};
+ghost use Rattle.std.specs.Prelude.{None, Err, OnErr, IfOk, IfSome, IsOk, ◌≡◌, ◌↔◌, ◌≤◌, length};
+ghost use Rattle.std.specs.IoError.{error_kind};
+ghost use Rattle.std.specs.declared.io.ErrorKind.TheVariants.{NotFound};
 ghost use Rattle.sshc_wire.specs.Beside.{no_side};
 ghost use Rattle.sshc_wire.specs.Faults.{CountsEmpty, HasCause, Rose};
 
@@ -259,14 +261,16 @@ fn text_of(bytes: Vec<u8>) -> Result<Found, Failed>
     }
 }
 
-/// What it means that a file can't be opened. One for which memory ran out isn't missing.
-fn not_opened(error: &io::Error) -> Result<Found, Failed>
-    ensures out { OnErr result (result ≡ Err Failed.NoMemory) }
+/// What it means that a file can't be opened: only one that isn't there is `NotOpened`. Every other refusal of the
+/// system is a counted fault, since a file that is there may hold a revoked key.
+fn not_opened(error: io::Error, faults: &mut u64) -> Result<Found, Failed>
+    ensures missing { IsOk result ↔ (error_kind error ≡ NotFound) }
+    ensures cause { HasCause faults.old faults.new result }
 {
-    if error.kind() == ErrorKind::OutOfMemory {
-        Err(Failed::NoMemory)
-    } else {
+    if error.kind() == ErrorKind::NotFound {
         Ok(Found::NotOpened)
+    } else {
+        Err(failed(error, faults))
     }
 }
 
@@ -291,7 +295,7 @@ impl<'a, R: std::rt::Files> Files for StdFiles<'a, R> {
     fn read_text(&mut self, path: &str) -> Result<Found, Failed> {
         match fs::open(self.system, path) {
             Ok(file) => read_file(self.alloc, file, &mut self.read_faults),
-            Err(error) => not_opened(&error),
+            Err(error) => not_opened(error, &mut self.read_faults),
         }
     }
 

@@ -12,7 +12,7 @@ use Rattle.sshc_key.specs.KeyGrammar.{key_text}
 use Rattle.sshc_key.specs.PairCode.{KeyPair}
 use Rattle.sshc_key.specs.PairGrammar.{key_pair, pair_at}
 use Rattle.sshc_agent_core.specs.declared.constraints.Constraints.{Constraints}
-use Rattle.sshc_key.specs.declared.agent_msg.TheConstants.{CONSTRAIN_LIFETIME, CONSTRAIN_CONFIRM}
+use Rattle.sshc_key.specs.AgentNumbers.{CONSTRAIN_LIFETIME, CONSTRAIN_CONFIRM}
 use Rattle.sshc_agent_core.specs.declared.key_list.HeldKey.{HeldKey}
 use Rattle.sshc_agent_core.specs.AgentList.{AgentList}
 use Rattle.sshc_agent_core.specs.KeyList.{deadline_of, has_room, with_key}

@@ -13,7 +13,7 @@ use Rattle.sshc_agent_core.specs.declared.connections.Standing.TheVariants.{Open
 use Rattle.sshc_agent_core.specs.declared.input.AgentOutput.TheVariants as outputs
 use Rattle.sshc_agent_core.specs.declared.input.Cause.TheVariants.{Unreadable, SignerRefused}
 use Rattle.sshc_agent_core.specs.declared.key_list.HeldKey.{HeldKey}
-use Rattle.sshc_key.specs.declared.agent_msg.TheConstants.{SIGN_REQUEST, SIGN_RESPONSE, SSH_AGENT_RSA_SHA2_256, SSH_AGENT_RSA_SHA2_512}
+use Rattle.sshc_key.specs.AgentNumbers.{SIGN_REQUEST, SIGN_RESPONSE, SSH_AGENT_RSA_SHA2_256, SSH_AGENT_RSA_SHA2_512}
 use Rattle.sshc_agent_core.specs.AgentList.{AgentList, standing}
 use Rattle.sshc_agent_core.specs.KeyList.{held}
 use Rattle.sshc_agent_core.specs.Turn.{Outcome, Turn, closes, fails, frame, says, signs}

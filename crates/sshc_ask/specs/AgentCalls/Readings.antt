@@ -20,7 +20,7 @@ use Rattle.sshc_key.specs.declared.signature.Signature.{Signature}
 use Rattle.sshc_key.specs.KeyGrammar.{Key, plain, certificate}
 use Rattle.sshc_key.specs.KeyReading.{octets_at, signature_at, u32_at, utf8_at}
 use Rattle.sshc_key.specs.Nesting.{blob_key, key_or_fault}
-use Rattle.sshc_key.specs.declared.agent_msg.TheConstants.{FAILURE, SUCCESS, IDENTITIES_ANSWER, SIGN_RESPONSE, EXTENSION_RESPONSE}
+use Rattle.sshc_key.specs.AgentNumbers.{FAILURE, SUCCESS, IDENTITIES_ANSWER, SIGN_RESPONSE, EXTENSION_RESPONSE}
 
 -- ---- acknowledgements
 

@@ -5,7 +5,7 @@ ghost use Rattle.sshc_wire.specs.Wire.{string_text, u32_text};
 ghost use Rattle.sshc_key.specs.Algorithms.{kept_hash};
 ghost use Rattle.sshc_key.specs.KeyGrammar.{key_text};
 ghost use Rattle.sshc_key.specs.View.{view};
-ghost use Rattle.sshc_key.specs.declared.agent_msg.TheConstants.{SIGN_REQUEST};
+ghost use Rattle.sshc_key.specs.AgentNumbers.{SIGN_REQUEST};
 ghost use Rattle.sshc_ask.specs.AgentCalls.Frames.{message, hash_flag, sent_hash, sign_request, signing_key};
 
 use crate::message::Message;

@@ -9,8 +9,8 @@ ghost use Rattle.sshc_mux.specs.ChannelTable.Ends.{takes, waiting_of, flush_with
 
 use crate::channel::Channel;
 use crate::chunk::{Chunk, Stream};
-use crate::packets::{close_record, push_pieces};
-use sshc_wire::{NoMemory, Outbox, Record};
+use crate::packets::{push_close, push_pieces};
+use sshc_wire::{NoMemory, Outbox};
 use std::alloc::Global;
 use std::collections::VecDeque;
 
@@ -29,7 +29,6 @@ impl Channel {
         stream: Stream,
         body: &[u8],
         exchanging: bool,
-        output: &mut Vec<Record>,
         out: &mut Outbox,
     ) -> Result<(), NoMemory>
         ensures turn { Turned (data_turn stream body.now exchanging self.old) self.old self.new out.old out.new result }
@@ -39,20 +38,20 @@ impl Channel {
             return Ok(());
         }
         if self.pending.len() == 0 {
-            self.send_front(alloc, stream, body, exchanging, output, out)
+            self.send_front(alloc, stream, body, exchanging, out)
         } else {
-            self.send_behind(alloc, stream, body, exchanging, output, out)
+            self.send_behind(alloc, stream, body, exchanging, out)
         }
     }
 
     /// Takes bytes when none wait: what there is room for is sent directly, and only the rest is copied.
+    #[tactic(auto, unfolding(crate::specs::Packets::adding), using(crate::proofs::AddingLemmas::cut_back))]
     fn send_front(
         &mut self,
         alloc: Global,
         stream: Stream,
         body: &[u8],
         exchanging: bool,
-        output: &mut Vec<Record>,
         out: &mut Outbox,
     ) -> Result<(), NoMemory>
         requires taken { takes self.old.flow ≡ true }
@@ -62,21 +61,20 @@ impl Channel {
     {
         let room = self.room(exchanging);
         let (front, rest) = body.split_at(body.len().min(room as usize));
-        output.clear();
-        push_pieces(
-            alloc,
-            self.recipient,
-            self.packet_size,
-            stream,
-            front,
-            output,
-        )?;
         let waiting = waiting_of(alloc, stream, rest)?;
         self.pending.reserve(1)?;
-        out.append(output)?;
-        keep(&mut self.pending, waiting);
-        self.window -= front.len() as u32;
-        Ok(())
+        let count = out.len();
+        match push_pieces(self.recipient, self.packet_size, stream, front, out) {
+            Ok(()) => {
+                keep(&mut self.pending, waiting);
+                self.window -= front.len() as u32;
+                Ok(())
+            }
+            Err(error) => {
+                out.truncate(count);
+                Err(error)
+            }
+        }
     }
 
     /// Takes bytes that wait after the others, and sends what may be sent.
@@ -86,14 +84,13 @@ impl Channel {
         stream: Stream,
         body: &[u8],
         exchanging: bool,
-        output: &mut Vec<Record>,
         out: &mut Outbox,
     ) -> Result<(), NoMemory>
         ensures { Turned (in_flow (flush_with stream body.now exchanging) self.old)
             self.old self.new out.old out.new result }
     {
         self.pending.push_back(Chunk::new(alloc, stream, body)?)?;
-        match self.flush(alloc, exchanging, output, out) {
+        match self.flush(exchanging, out) {
             Ok(()) => Ok(()),
             Err(error) => {
                 let _ = self.pending.pop_back();
@@ -103,12 +100,7 @@ impl Channel {
     }
 
     /// Asks for EOF, and sends it where no bytes wait.
-    pub(crate) fn ask_eof(
-        &mut self,
-        alloc: Global,
-        output: &mut Vec<Record>,
-        out: &mut Outbox,
-    ) -> Result<(), NoMemory>
+    pub(crate) fn ask_eof(&mut self, out: &mut Outbox) -> Result<(), NoMemory>
         ensures turn { Turned (eof_turn self.old) self.old self.new out.old out.new result }
         ensures succeeds { (eof_turn self.old).packets ≡ [] → IsOk result }
     {
@@ -116,7 +108,7 @@ impl Channel {
         if !self.close.is_sent() {
             self.eof = before.asked();
         }
-        match self.flush(alloc, true, output, out) {
+        match self.flush(true, out) {
             Ok(()) => Ok(()),
             Err(error) => {
                 self.eof = before;
@@ -126,18 +118,13 @@ impl Channel {
     }
 
     /// Asks for our close, and sends it where no bytes wait.
-    pub(crate) fn ask_close(
-        &mut self,
-        alloc: Global,
-        output: &mut Vec<Record>,
-        out: &mut Outbox,
-    ) -> Result<(), NoMemory>
+    pub(crate) fn ask_close(&mut self, out: &mut Outbox) -> Result<(), NoMemory>
         ensures turn { Turned (close_turn self.old) self.old self.new out.old out.new result }
         ensures succeeds { (close_turn self.old).packets ≡ [] → IsOk result }
     {
         let before = self.close;
         self.close = before.asked();
-        match self.flush(alloc, true, output, out) {
+        match self.flush(true, out) {
             Ok(()) => Ok(()),
             Err(error) => {
                 self.close = before;
@@ -147,7 +134,8 @@ impl Channel {
     }
 
     /// Answers the peer's close by ours, unless ours was sent.
-    pub(crate) fn push_last(&self, alloc: Global, out: &mut Outbox) -> Result<(), NoMemory>
+    #[tactic(auto, unfolding(crate::specs::Packets::adding))]
+    pub(crate) fn push_last(&self, out: &mut Outbox) -> Result<(), NoMemory>
         ensures ok { OnOk result (out.new.records ≡ out.old.records
             ++ shown out.old.muted (payloads self.now.head.recipient (last_packets self.now))) }
         ensures err { OnErr result (out.new.records ≡ out.old.records) }
@@ -157,7 +145,7 @@ impl Channel {
         if self.close.is_sent() {
             return Ok(());
         }
-        out.push(close_record(alloc, self.recipient)?)
+        push_close(self.recipient, out)
     }
 }
 

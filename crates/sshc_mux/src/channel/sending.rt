@@ -1,15 +1,15 @@
 //! What a channel sends: its waiting bytes, and then EOF and close if they are due (RFC 4254, sections 5.2 and 5.3).
 
-ghost use Rattle.std.specs.Prelude.{◌≡◌, ◌<◌, ◌≤◌, ◌++◌, [], ◌&&◌, if◌then◌else◌, OnOk, IsOk};
-ghost use Rattle.sshc_mux.specs.Packets.{payloads, Eof, Close};
+ghost use Rattle.std.specs.Prelude.{◌≡◌, ◌<◌, ◌≤◌, ◌++◌, [], ◌&&◌, if◌then◌else◌, OnOk, OnErr, IsOk};
+ghost use Rattle.sshc_wire.specs.Outgoing.{Grows};
+ghost use Rattle.sshc_mux.specs.Packets.{adding, payloads, Eof, Close};
 ghost use Rattle.sshc_mux.specs.ChannelTable.{Turned, in_flow};
 ghost use Rattle.sshc_mux.specs.ChannelTable.Sending.{room_of, emptied, ended, flushed, due_of};
 
 use crate::channel::Channel;
-use crate::packets::{close_record, eof_record};
+use crate::packets::{push_close, push_eof};
 use crate::waiting::{drop_sent, push_sent};
-use sshc_wire::{NoMemory, Outbox, Record};
-use std::alloc::Global;
+use sshc_wire::{NoMemory, Outbox};
 
 impl Channel {
     /// For how many bytes there is room now.
@@ -26,14 +26,12 @@ impl Channel {
     }
 
     /// Adds EOF and close if they are due, unless bytes wait.
-    fn push_ends(
-        &self,
-        alloc: Global,
-        is_empty: bool,
-        output: &mut Vec<Record>,
-    ) -> Result<(), NoMemory>
-        ensures output { OnOk result (output.new.items ≡ output.old.items ++ payloads self.now.head.recipient
-            (if self.now.head.established && is_empty then due_of self.now.flow else [])) }
+    #[tactic(auto, unfolding(crate::specs::Packets::adding))]
+    fn push_ends(&self, is_empty: bool, out: &mut Outbox) -> Result<(), NoMemory>
+        ensures output { OnOk result (out.new ≡ adding out.old (payloads self.now.head.recipient
+            (if self.now.head.established && is_empty then due_of self.now.flow else []))) }
+        ensures some { OnErr result (Grows out.old.records out.new.records) }
+        ensures same { out.new.muted ≡ out.old.muted }
         ensures succeeds { (if self.now.head.established && is_empty then due_of self.now.flow else []) ≡ []
             → IsOk result }
     {
@@ -41,35 +39,31 @@ impl Channel {
             return Ok(());
         }
         if self.eof.is_due() {
-            output.push(eof_record(alloc, self.recipient)?)?;
+            push_eof(self.recipient, out)?;
         }
         if self.close.is_due() {
-            output.push(close_record(alloc, self.recipient)?)?;
+            push_close(self.recipient, out)?;
         }
         Ok(())
     }
 
-    /// Adds what the channel may send now.
-    pub(crate) fn push_flushed(
-        &self,
-        alloc: Global,
-        exchanging: bool,
-        output: &mut Vec<Record>,
-    ) -> Result<(), NoMemory>
-        ensures output { OnOk result (output.new.items ≡ output.old.items
-            ++ payloads self.now.head.recipient (flushed exchanging self.now.head self.now.flow).packets) }
+    /// Adds what the channel may send now. Out of memory, some of it may be added.
+    pub(crate) fn push_flushed(&self, exchanging: bool, out: &mut Outbox) -> Result<(), NoMemory>
+        ensures output { OnOk result (out.new ≡ adding out.old
+            (payloads self.now.head.recipient (flushed exchanging self.now.head self.now.flow).packets)) }
+        ensures some { OnErr result (Grows out.old.records out.new.records) }
+        ensures same { out.new.muted ≡ out.old.muted }
         ensures succeeds { (flushed exchanging self.now.head self.now.flow).packets ≡ [] → IsOk result }
     {
         let room = self.room(exchanging);
         let is_empty = push_sent(
-            alloc,
             self.recipient,
             self.packet_size,
             room as usize,
             &self.pending,
-            output,
+            out,
         )?;
-        self.push_ends(alloc, is_empty, output)?;
+        self.push_ends(is_empty, out)?;
         Ok(())
     }
 
@@ -102,21 +96,22 @@ impl Channel {
         self.end();
     }
 
-    /// Sends what the channel may send now, or changes nothing. `output` lends its memory.
-    pub(crate) fn flush(
-        &mut self,
-        alloc: Global,
-        exchanging: bool,
-        output: &mut Vec<Record>,
-        out: &mut Outbox,
-    ) -> Result<(), NoMemory>
+    /// Sends what the channel may send now, or changes nothing.
+    #[tactic(auto, unfolding(crate::specs::Packets::adding), using(crate::proofs::AddingLemmas::cut_back))]
+    pub(crate) fn flush(&mut self, exchanging: bool, out: &mut Outbox) -> Result<(), NoMemory>
         ensures turn { Turned (in_flow (flushed exchanging) self.old) self.old self.new out.old out.new result }
         ensures succeeds { (flushed exchanging self.old.head self.old.flow).packets ≡ [] → IsOk result }
     {
-        output.clear();
-        self.push_flushed(alloc, exchanging, output)?;
-        out.append(output)?;
-        self.count_flushed(exchanging);
-        Ok(())
+        let count = out.len();
+        match self.push_flushed(exchanging, out) {
+            Ok(()) => {
+                self.count_flushed(exchanging);
+                Ok(())
+            }
+            Err(error) => {
+                out.truncate(count);
+                Err(error)
+            }
+        }
     }
 }

@@ -5,19 +5,16 @@ ghost use Rattle.sshc_mux.specs.ChannelTable.{Turned, grant_turn, received_turn,
 ghost use Rattle.sshc_mux.specs.ChannelTable.Windows.{adjusts};
 
 use crate::channel::Channel;
-use crate::packets::adjust_record;
-use sshc_wire::{NoMemory, Outbox, Record};
-use std::alloc::Global;
+use crate::packets::push_adjust;
+use sshc_wire::{NoMemory, Outbox};
 
 impl Channel {
     /// Takes a grant of the peer's, and sends what may then be sent. Returns the window after that, or `None` if the
     /// channel isn't established.
     pub(crate) fn grant(
         &mut self,
-        alloc: Global,
         amount: u32,
         exchanging: bool,
-        output: &mut Vec<Record>,
         out: &mut Outbox,
     ) -> Result<Option<u32>, NoMemory>
         ensures turn { Turned (grant_turn amount exchanging self.old) self.old self.new out.old out.new result }
@@ -29,7 +26,7 @@ impl Channel {
         }
         let before = self.window;
         self.window = before.saturating_add(amount);
-        match self.flush(alloc, exchanging, output, out) {
+        match self.flush(exchanging, out) {
             Ok(()) => Ok(Some(self.window)),
             Err(error) => {
                 self.window = before;
@@ -39,9 +36,9 @@ impl Channel {
     }
 
     /// Counts bytes of the peer's, and raises a low window to the target. Returns whether it wrote an adjust packet.
+    #[tactic(auto, unfolding(crate::specs::Packets::adding))]
     pub(crate) fn receive(
         &mut self,
-        alloc: Global,
         len: u64,
         target: u32,
         out: &mut Outbox,
@@ -55,7 +52,7 @@ impl Channel {
         }
         let left = u64::from(self.own_window).saturating_sub(len) as u32;
         if left < target / 2 {
-            out.push(adjust_record(alloc, self.recipient, target - left)?)?;
+            push_adjust(self.recipient, target - left, out)?;
             self.own_window = target;
             Ok(true)
         } else {

@@ -16,7 +16,6 @@ impl ChannelTable {
         ensures part { OnOk result (DidItsPart (AskEof id.0) self.old self.new) }
         ensures succeeds { WritesNothing (AskEof id.0) self.old → IsOk result }
     {
-        let alloc = self.alloc;
         let Some(at) = place(self.slots.as_slice(), &self.index, id.0) else {
             return Ok(());
         };
@@ -24,7 +23,7 @@ impl ChannelTable {
             return Ok(());
         };
         let waited = channel.waits();
-        let result = channel.ask_eof(alloc, &mut self.output, out);
+        let result = channel.ask_eof(out);
         self.waiting = recounted(self.waiting, waited, channel.waits());
         result
     }
@@ -36,7 +35,6 @@ impl ChannelTable {
         ensures part { OnOk result (DidItsPart (AskClose id.0) self.old self.new) }
         ensures succeeds { WritesNothing (AskClose id.0) self.old → IsOk result }
     {
-        let alloc = self.alloc;
         let Some(at) = place(self.slots.as_slice(), &self.index, id.0) else {
             return Ok(());
         };
@@ -44,7 +42,7 @@ impl ChannelTable {
             return Ok(());
         };
         let waited = channel.waits();
-        let result = channel.ask_close(alloc, &mut self.output, out);
+        let result = channel.ask_close(out);
         self.waiting = recounted(self.waiting, waited, channel.waits());
         result
     }
@@ -67,7 +65,7 @@ impl ChannelTable {
         if !channel.is_established() {
             return Ok(false);
         }
-        channel.push_last(self.alloc, out)?;
+        channel.push_last(out)?;
         self.waiting = recounted(self.waiting, channel.waits(), false);
         remove(&mut self.slots, &mut self.index, id.0, at);
         Ok(true)

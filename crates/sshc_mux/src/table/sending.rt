@@ -1,16 +1,16 @@
 //! Data, and the flush of all channels (RFC 4254, section 5.2).
 
 ghost use Rattle.std.specs.Prelude.{◌≡◌, ◌&&◌, ◌==◌, not, length, [], ◌∷◌, ◌++◌, map, OnOk, OnErr, IsOk, false};
-ghost use Rattle.sshc_wire.specs.Outgoing.{shown};
+ghost use Rattle.sshc_wire.specs.Outgoing.{Grows, shown};
 ghost use Rattle.sshc_mux.specs.ChannelAccount.{called, Did, DidItsPart, WritesNothing, Bytes, FlushAll};
 ghost use Rattle.sshc_mux.specs.ChannelTable.{all_said, any_waits, records_of, takes_at};
+ghost use Rattle.sshc_mux.specs.Packets.{adding};
 ghost use Rattle.sshc_mux.specs.Places.{present, flushed_slot, waiting_of};
 
 use crate::channel::Channel;
 use crate::chunk::Stream;
 use crate::table::{ChannelTable, place, recounted};
-use sshc_wire::{ChannelId, NoMemory, Outbox, Record};
-use std::alloc::Global;
+use sshc_wire::{ChannelId, NoMemory, Outbox};
 
 impl ChannelTable {
     /// Takes bytes to send. They are ignored if EOF or our close was asked for.
@@ -67,7 +67,7 @@ impl ChannelTable {
             return Ok(());
         };
         let waited = channel.waits();
-        let result = channel.data(alloc, stream, body, exchanging, &mut self.output, out);
+        let result = channel.data(alloc, stream, body, exchanging, out);
         self.waiting = recounted(self.waiting, waited, channel.waits());
         result
     }
@@ -79,56 +79,54 @@ impl ChannelTable {
         ensures part { OnOk result (DidItsPart FlushAll self.old self.new) }
         ensures succeeds { WritesNothing FlushAll self.old → IsOk result }
     {
-        say_flushed(self.alloc, self.slots.as_slice(), &mut self.output, out)?;
+        say_flushed(self.slots.as_slice(), out)?;
         self.waiting = count_all_flushed(&mut self.slots);
         Ok(())
     }
 }
 
-/// Says what each channel may send now, or nothing. `output` lends its memory.
-fn say_flushed(
-    alloc: Global,
-    slots: &[Option<Channel>],
-    output: &mut Vec<Record>,
-    out: &mut Outbox,
-) -> Result<(), NoMemory>
+/// Says what each channel may send now, or nothing.
+#[tactic(auto, unfolding(crate::specs::Packets::adding), using(crate::proofs::AddingLemmas::cut_back))]
+fn say_flushed(slots: &[Option<Channel>], out: &mut Outbox) -> Result<(), NoMemory>
     ensures ok { OnOk result (out.new.records ≡ out.old.records
         ++ shown out.old.muted (records_of (all_said (present slots.now)))) }
     ensures err { OnErr result (out.new.records ≡ out.old.records) }
     ensures same { out.new.muted ≡ out.old.muted }
     ensures succeeds { all_said (present slots.now) ≡ [] → IsOk result }
 {
-    output.clear();
-    push_flushed(alloc, slots, output)?;
-    out.append(output)
+    let count = out.len();
+    match push_flushed(slots, out) {
+        Ok(()) => Ok(()),
+        Err(error) => {
+            out.truncate(count);
+            Err(error)
+        }
+    }
 }
 
-/// Adds what each channel may send now.
-fn push_flushed(
-    alloc: Global,
-    slots: &[Option<Channel>],
-    output: &mut Vec<Record>,
-) -> Result<(), NoMemory>
-    ensures output { OnOk result (output.new.items ≡ output.old.items ++ records_of (all_said (present slots.now))) }
+/// Adds what each channel may send now. Out of memory, some of it may be added.
+#[tactic(auto, unfolding(crate::specs::Packets::adding))]
+fn push_flushed(slots: &[Option<Channel>], out: &mut Outbox) -> Result<(), NoMemory>
+    ensures output { OnOk result (out.new ≡ adding out.old (records_of (all_said (present slots.now)))) }
+    ensures some { OnErr result (Grows out.old.records out.new.records) }
+    ensures same { out.new.muted ≡ out.old.muted }
     ensures succeeds { all_said (present slots.now) ≡ [] → IsOk result }
 {
     for slot in slots {
-        push_slot(alloc, slot, output)?;
+        push_slot(slot, out)?;
     }
     Ok(())
 }
 
-fn push_slot(
-    alloc: Global,
-    slot: &Option<Channel>,
-    output: &mut Vec<Record>,
-) -> Result<(), NoMemory>
-    ensures output { OnOk result
-        (output.new.items ≡ output.old.items ++ records_of (all_said (present (slot.now ∷ [])))) }
+#[tactic(auto, unfolding(crate::specs::Packets::adding))]
+fn push_slot(slot: &Option<Channel>, out: &mut Outbox) -> Result<(), NoMemory>
+    ensures output { OnOk result (out.new ≡ adding out.old (records_of (all_said (present (slot.now ∷ []))))) }
+    ensures some { OnErr result (Grows out.old.records out.new.records) }
+    ensures same { out.new.muted ≡ out.old.muted }
     ensures succeeds { all_said (present (slot.now ∷ [])) ≡ [] → IsOk result }
 {
     match slot {
-        Some(channel) => channel.push_flushed(alloc, false, output),
+        Some(channel) => channel.push_flushed(false, out),
         None => Ok(()),
     }
 }

@@ -22,7 +22,6 @@ impl ChannelTable {
         ensures answer { IfOk result (λ left. left ≡ granted_at id.0 amount exchanging self.old) }
         ensures succeeds { WritesNothing (Grant id.0 amount exchanging) self.old → IsOk result }
     {
-        let alloc = self.alloc;
         let Some(at) = place(self.slots.as_slice(), &self.index, id.0) else {
             return Ok(None);
         };
@@ -30,7 +29,7 @@ impl ChannelTable {
             return Ok(None);
         };
         let waited = channel.waits();
-        let left = channel.grant(alloc, amount, exchanging, &mut self.output, out);
+        let left = channel.grant(amount, exchanging, out);
         self.waiting = recounted(self.waiting, waited, channel.waits());
         left
     }
@@ -49,13 +48,12 @@ impl ChannelTable {
         ensures answer { IfOk result (λ wrote. wrote ≡ adjusted_at id.0 len target self.old) }
         ensures succeeds { WritesNothing (Received id.0 len target) self.old → IsOk result }
     {
-        let alloc = self.alloc;
         let Some(at) = place(self.slots.as_slice(), &self.index, id.0) else {
             return Ok(false);
         };
         let Some(channel) = &mut self.slots[at] else {
             return Ok(false);
         };
-        channel.receive(alloc, len, target, out)
+        channel.receive(len, target, out)
     }
 }

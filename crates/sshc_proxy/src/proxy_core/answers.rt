@@ -6,12 +6,11 @@ ghost use Rattle.sshc_proxy.specs.Listing.{listed_keys};
 ghost use Rattle.sshc_proxy.specs.declared.input.ProxyInput.TheVariants.{Upstream};
 
 use super::ProxyCore;
-use crate::frame::framed;
 use crate::input::ProxyOutput;
 use crate::listing::{framed_listing, keep_allowed, listed_keys};
 use crate::waiting::Awaited;
 use sshc_key::{Error, agent_msg};
-use sshc_wire::NoMemory;
+use sshc_wire::{NoMemory, framed};
 
 impl ProxyCore {
     /// An answer, by what was asked for. None is awaited afterwards.

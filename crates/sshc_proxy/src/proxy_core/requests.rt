@@ -4,17 +4,16 @@ ghost use Rattle.std.specs.Prelude.{◌≡◌, ◌∷◌, Some};
 ghost use Rattle.sshc_proxy.specs.Binding.{binding_of, binding_seen, is_signed};
 ghost use Rattle.sshc_proxy.specs.ProxyTable.{Follows, asked_by, awaited_at, bound_at, extension_row, forwards};
 ghost use Rattle.sshc_proxy.specs.ProxyTable.{frame_row, sign_request_row, succeeds};
-ghost use Rattle.sshc_key.specs.declared.agent_msg.TheConstants.{EXTENSION};
+ghost use Rattle.sshc_key.specs.AgentNumbers.{EXTENSION};
 ghost use Rattle.sshc_proxy.specs.declared.input.ProxyInput.TheVariants.{Frame};
 ghost use Rattle.sshc_proxy.specs.declared.waiting.Awaited.TheVariants.{Signature};
 
 use super::ProxyCore;
 use crate::binding::{Binding, binding_in, is_signed};
-use crate::frame::framed;
 use crate::input::ProxyOutput;
 use crate::waiting::Awaited;
 use sshc_key::{Verifier, agent_msg};
-use sshc_wire::{Cursor, NoMemory, Octets};
+use sshc_wire::{Cursor, NoMemory, Octets, framed};
 
 /// The greatest number of hosts that are bound on one connection.
 const MOST_BOUND: usize = 256;

@@ -1,5 +1,6 @@
-use Rattle.std.proofs.Common.{◌≡◌, [], ◌++◌, ◌<◌, length}
-use Rattle.sshc_mux.specs.Packets.{payloads}
+use Rattle.std.proofs.Common.{◌≡◌, [], ◌<◌, length}
+use Rattle.sshc_wire.specs.Outgoing.{Grows}
+use Rattle.sshc_mux.specs.Packets.{adding, payloads}
 use Rattle.sshc_mux.specs.ChannelTable.Sending.{cut, pieces_of}
 use Rattle.sshc_mux.proofs.packets.push_pieces.Given as goal
 
@@ -8,7 +9,9 @@ invariant-loop-rest l =
     record {
       size : 0 < length l.rest → 0 < l.size;
       none : l.part ≡ [] → l.rest ≡ [];
-      output : l.output.items ++ payloads l.recipient (pieces_of l.stream (cut l.size l.rest)) ≡ l.initial.output.items ++ payloads l.recipient (pieces_of l.stream (cut l.size l.part));
+      output : adding l.out (payloads l.recipient (pieces_of l.stream (cut l.size l.rest))) ≡ adding l.initial.out (payloads l.recipient (pieces_of l.stream (cut l.size l.part)));
+      some : Grows l.initial.out.records l.out.records;
+      same : l.out.muted ≡ l.initial.out.muted;
     }
 
 abbrev pub decreases-loop-rest : goal.decreases-loop-rest

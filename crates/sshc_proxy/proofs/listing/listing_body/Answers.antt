@@ -2,7 +2,7 @@ use Rattle.std.proofs.Common.{◌≡◌, ◌∷◌, ◌++◌, List, ℕ, length,
 use Rattle.std.proofs.lemmas.Grind.{common_steps}
 use Rattle.std.specs.List.{flat_map}
 use Rattle.sshc_wire.specs.Wire.{counted_text, u32_text}
-use Rattle.sshc_key.specs.declared.agent_msg.TheConstants.{IDENTITIES_ANSWER}
+use Rattle.sshc_key.specs.AgentNumbers.{IDENTITIES_ANSWER}
 use Rattle.sshc_proxy.specs.Listing.{keys_seen, listed_seen, listed_text}
 use Rattle.sshc_proxy.proofs.ListingLemmas.{count_seen, text_seen}
 use Rattle.sshc_proxy.proofs.listing.listing_body.Goals as goal

@@ -1,4 +1,4 @@
-use Rattle.std.proofs.Common.{arith, rules, length, ◌-◌, ◌+◌, ◌≡◌, ◌≤◌, ◌<◌, take, ◌∙◌, length-take, length-drop}
+use Rattle.std.proofs.Common.{arith, rules, length, ◌-◌, ◌+◌, ◌≡◌, ◌≤◌, take, ◌∙◌, length-take, length-drop}
 use borrow.Rule.Slice.PartMut.{put_mid}
 use Rattle.std.proofs.lemmas.Grind.{common_steps}
 use Rattle.sshc_wire.proofs.Counts.{some_moved, still_cause}

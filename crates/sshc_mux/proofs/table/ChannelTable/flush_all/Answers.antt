@@ -4,8 +4,8 @@ use Rattle.sshc_mux.proofs.TableLemmas.{did_flush}
 use Rattle.sshc_mux.proofs.KeptLemmas.{kept_flush}
 use Rattle.sshc_mux.proofs.table.ChannelTable.flush_all.Goals as goal
 
-pub invariant_of-self-2 : goal.invariant_of-self-2
-invariant_of-self-2 c = kept_flush _ _ _ _ _ _ c.self.invariant c.count_all_flushed-self-inside.ensures.flushed c.count_all_flushed-self-inside.ensures.waiting
+pub invariant_of-self : goal.invariant_of-self
+invariant_of-self c = kept_flush _ _ _ _ _ _ c.self.invariant c.count_all_flushed-self-inside.ensures.flushed c.count_all_flushed-self-inside.ensures.waiting
 
 pub returns-clause-did : goal.returns-clause-did
 returns-clause-did c =

@@ -1,0 +1,106 @@
+-- Message numbers as their standards print them (RFC 4250, section 4.1.2; RFC 4252, section 7; RFC 4254, section 9; RFC 4256,
+-- section 5; RFC 4462, section 3; RFC 8308, section 2.3). Definitions take them from here and not from the code, whose
+-- constants equal them (`message_numbers` in proofs/StandardFacts.antt).
+use Rattle.std.specs.Prelude.{ℕ}
+
+abbrev pub DISCONNECT : ℕ
+DISCONNECT = 1
+
+abbrev pub IGNORE : ℕ
+IGNORE = 2
+
+abbrev pub UNIMPLEMENTED : ℕ
+UNIMPLEMENTED = 3
+
+abbrev pub DEBUG : ℕ
+DEBUG = 4
+
+abbrev pub SERVICE_REQUEST : ℕ
+SERVICE_REQUEST = 5
+
+abbrev pub SERVICE_ACCEPT : ℕ
+SERVICE_ACCEPT = 6
+
+abbrev pub EXT_INFO : ℕ
+EXT_INFO = 7
+
+abbrev pub USERAUTH_REQUEST : ℕ
+USERAUTH_REQUEST = 50
+
+abbrev pub USERAUTH_FAILURE : ℕ
+USERAUTH_FAILURE = 51
+
+abbrev pub USERAUTH_SUCCESS : ℕ
+USERAUTH_SUCCESS = 52
+
+abbrev pub USERAUTH_BANNER : ℕ
+USERAUTH_BANNER = 53
+
+abbrev pub USERAUTH_PK_OK : ℕ
+USERAUTH_PK_OK = 60
+
+abbrev pub USERAUTH_INFO_REQUEST : ℕ
+USERAUTH_INFO_REQUEST = 60
+
+abbrev pub USERAUTH_INFO_RESPONSE : ℕ
+USERAUTH_INFO_RESPONSE = 61
+
+abbrev pub USERAUTH_GSSAPI_RESPONSE : ℕ
+USERAUTH_GSSAPI_RESPONSE = 60
+
+abbrev pub USERAUTH_GSSAPI_TOKEN : ℕ
+USERAUTH_GSSAPI_TOKEN = 61
+
+abbrev pub USERAUTH_GSSAPI_EXCHANGE_COMPLETE : ℕ
+USERAUTH_GSSAPI_EXCHANGE_COMPLETE = 63
+
+abbrev pub USERAUTH_GSSAPI_ERROR : ℕ
+USERAUTH_GSSAPI_ERROR = 64
+
+abbrev pub USERAUTH_GSSAPI_ERRTOK : ℕ
+USERAUTH_GSSAPI_ERRTOK = 65
+
+abbrev pub USERAUTH_GSSAPI_MIC : ℕ
+USERAUTH_GSSAPI_MIC = 66
+
+abbrev pub GLOBAL_REQUEST : ℕ
+GLOBAL_REQUEST = 80
+
+abbrev pub REQUEST_SUCCESS : ℕ
+REQUEST_SUCCESS = 81
+
+abbrev pub REQUEST_FAILURE : ℕ
+REQUEST_FAILURE = 82
+
+abbrev pub CHANNEL_OPEN : ℕ
+CHANNEL_OPEN = 90
+
+abbrev pub CHANNEL_OPEN_CONFIRMATION : ℕ
+CHANNEL_OPEN_CONFIRMATION = 91
+
+abbrev pub CHANNEL_OPEN_FAILURE : ℕ
+CHANNEL_OPEN_FAILURE = 92
+
+abbrev pub CHANNEL_WINDOW_ADJUST : ℕ
+CHANNEL_WINDOW_ADJUST = 93
+
+abbrev pub CHANNEL_DATA : ℕ
+CHANNEL_DATA = 94
+
+abbrev pub CHANNEL_EXTENDED_DATA : ℕ
+CHANNEL_EXTENDED_DATA = 95
+
+abbrev pub CHANNEL_EOF : ℕ
+CHANNEL_EOF = 96
+
+abbrev pub CHANNEL_CLOSE : ℕ
+CHANNEL_CLOSE = 97
+
+abbrev pub CHANNEL_REQUEST : ℕ
+CHANNEL_REQUEST = 98
+
+abbrev pub CHANNEL_SUCCESS : ℕ
+CHANNEL_SUCCESS = 99
+
+abbrev pub CHANNEL_FAILURE : ℕ
+CHANNEL_FAILURE = 100
