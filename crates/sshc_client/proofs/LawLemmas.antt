@@ -67,8 +67,10 @@ stopped_laws accepts event s last laws = record {
   authenticates = laws.authenticates;
   replied = λ on. absurd cc;
   waits = laws.waits;
+  resolves = laws.resolves;
   opened = laws.opened;
   quiet = laws.quiet;
+  key = λ on. absurd cc;
 }
 
 module _ {E : Type 0} (accepts : Accepts) (event : Event) (old : SessionState) where

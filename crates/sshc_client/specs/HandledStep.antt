@@ -4,6 +4,7 @@
 use Rattle.std.specs.Prelude.{◌≡◌, ◌≤◌, ◌⊎◌, ℕ, Bool, true, false, ◌&&◌, not, List, [], ◌∷◌, Option, Some, None, Result, Ok, Err}
 use Rattle.sshc_wire.specs.Faults.{Rose}
 use Rattle.sshc_wire.specs.declared.record.Record.{Record}
+use Rattle.sshc_key.specs.Signers.{SignCall}
 use Rattle.sshc_key.specs.declared.identity.PublicKeyOrCertificate.{PublicKeyOrCertificate}
 use Rattle.sshc_transport.specs.declared.exchange.ExchangeResult.{ExchangeResult}
 use Rattle.sshc_auth_event.specs.declared.event.Event.{Event}
@@ -26,7 +27,7 @@ use Rattle.sshc_client_table.specs.SessionRow.{Banner, Callback, HostKey, KexDon
 use Rattle.sshc_client_table.specs.SessionTable.{session_row}
 use Rattle.sshc_client_table.specs.Grown.{Grown}
 use Rattle.sshc_client_table.specs.StepLaws.{OpenStepLaws}
-use Rattle.sshc_client_state.specs.OpeningStep.{Lent, StepsLent, goes_on}
+use Rattle.sshc_client_state.specs.OpeningStep.{Lent, StepsLent, goes_on, lent_session}
 use Rattle.sshc_client_rows.specs.declared.flow.RowFlow.{RowFlow}
 use Rattle.sshc_client_rows.specs.declared.flow.RowFlow.TheVariants as flows
 use Rattle.sshc_client.specs.declared.stop.Stop.{Stop}
@@ -34,6 +35,10 @@ use Rattle.sshc_client.specs.declared.stop.Stop.TheVariants.{Own, Handler}
 use Rattle.sshc_client.specs.Handling.{HandlerAt, HandlerHeard, HandlerKept, handler_at}
 use Rattle.sshc_client.specs.CausedStep.{IsCausedOpen}
 use Rattle.sshc_client.specs.HandledRow.{FollowsWith}
+
+-- a session, its signer and its handler at one moment
+abbrev pub lent_by : SessionState → List SignCall → ℕ → HandlerAt → Lent
+lent_by session calls refusals handler = lent_session session calls refusals handler.refusals handler.setting handler.heard
 
 -- the handler, as it is at one moment
 abbrev pub handler_of : Lent → HandlerAt

@@ -8,7 +8,7 @@ ghost use Rattle.sshc_key.specs.declared.identity.PublicKeyOrCertificate.{Public
 ghost use Rattle.sshc_auth.specs.declared.error.Error.{Error as Refusal};
 ghost use Rattle.sshc_client_table.specs.SessionRow.{Banner, Callback, Happened, HostKey, HostKeysAnnounced, KexDone};
 ghost use Rattle.sshc_client_table.specs.SessionRow.{ServerOpened, UnknownOffered, WindowRefilled};
-ghost use Rattle.sshc_client.specs.Handling.{Handles, Hears, Opines, ended_by, handler_at};
+ghost use Rattle.sshc_client.specs.Handling.{HandlerAt, Handles, Hears, Opines, ended_by};
 
 use crate::answers::DisconnectReason;
 use crate::session::Session;
@@ -26,21 +26,16 @@ use sshc_wire::{ChannelId, ChannelOpenFailure, Sig};
 pub trait Handler: Send {
     type Error: Drop;
 
-    /// What the handler judges host keys by. No call changes it.
-    ghost setting: { Self → List (List ℕ) };
+    /// What is known of the handler at one moment: how often it has refused, what it judges host keys by, which no call
+    /// changes, and the calls of it with their arguments, newest first, as far as it keeps them. A session makes only
+    /// calls that the row asks for.
+    ghost at: { Self → HandlerAt };
 
     /// What the handler may return for a host key.
     ghost judges: { Self → ServerKey → Result Bool Self.Error → Type 0 };
 
     /// The handler's error for an error of the session.
     ghost told_as: { Refusal → Self.Error };
-
-    /// How often the handler has refused.
-    ghost refusals: { Self → ℕ };
-
-    /// The calls of the handler with their arguments, newest first, as far as it keeps them. A session makes the calls
-    /// that the row asks for, and none else.
-    ghost heard: { Self → List Callback } = { λ _. [] };
 
     /// Whether the handler keeps the default bodies below: `Unit {0}` if it does, else `⊥`.
     ghost keeps_defaults: { Type 0 };
@@ -52,10 +47,10 @@ pub trait Handler: Send {
     /// Whether the host key of the first exchange is accepted.
     fn check_server_key(&mut self, key: &PublicKeyOrCertificate) -> Result<bool, Self::Error>
         ensures judged { judges self.old key.now result }
-        ensures cause { OnErr result (Rose (refusals self.old) (refusals self.new)) }
-        ensures later { refusals self.old ≤ refusals self.new }
-        ensures kept { setting self.new ≡ setting self.old }
-        ensures heard { Hears (HostKey key.now ∷ []) (heard self.old) (heard self.new) };
+        ensures cause { OnErr result (Rose (at self.old).refusals (at self.new).refusals) }
+        ensures later { (at self.old).refusals ≤ (at self.new).refusals }
+        ensures kept { (at self.new).setting ≡ (at self.old).setting }
+        ensures heard { Hears (HostKey key.now ∷ []) (at self.old).heard (at self.new).heard };
 
     /// The session has ended. Whoever runs a session calls it once, after the last step.
     fn disconnected(&mut self, reason: DisconnectReason<Self::Error>) -> Result<(), Self::Error>
@@ -72,8 +67,8 @@ pub trait Handler: Send {
     #[tactic(auto, using(crate::proofs::HandlerLemmas::opines_default))]
     fn should_accept_unknown_server_channel(&mut self, id: ChannelId, kind: &str) -> bool
         ensures { Opines keeps_defaults (UnknownOffered id.0 kind.now) false
-            (handler_at (refusals self.old) (setting self.old) (heard self.old))
-            (handler_at (refusals self.new) (setting self.new) (heard self.new))
+            (at self.old)
+            (at self.new)
             result }
     {
         false
@@ -84,8 +79,8 @@ pub trait Handler: Send {
     #[tactic(auto, using(crate::proofs::HandlerLemmas::opines_default))]
     fn adjust_window(&mut self, id: ChannelId, window: u32) -> u32
         ensures { Opines keeps_defaults (WindowRefilled id.0 window) window
-            (handler_at (refusals self.old) (setting self.old) (heard self.old))
-            (handler_at (refusals self.new) (setting self.new) (heard self.new))
+            (at self.old)
+            (at self.new)
             result }
     {
         window
@@ -95,8 +90,8 @@ pub trait Handler: Send {
     #[tactic(auto, using(crate::proofs::HandlerLemmas::does_nothing))]
     fn auth_banner(&mut self, banner: &str, session: &mut Session) -> Result<(), Self::Error>
         ensures { Handles keeps_defaults (Banner banner.now) (Ok tt)
-            (handler_at (refusals self.old) (setting self.old) (heard self.old))
-            (handler_at (refusals self.new) (setting self.new) (heard self.new))
+            (at self.old)
+            (at self.new)
             session.old session.new result }
     {
         Ok(())
@@ -112,8 +107,8 @@ pub trait Handler: Send {
         session: &mut Session,
     ) -> Result<(), Self::Error>
         ensures { Handles keeps_defaults (KexDone (option_copied shared_secret.entry) names.now) (Ok tt)
-            (handler_at (refusals self.old) (setting self.old) (heard self.old))
-            (handler_at (refusals self.new) (setting self.new) (heard self.new))
+            (at self.old)
+            (at self.new)
             session.old session.new result }
     {
         Ok(())
@@ -129,8 +124,8 @@ pub trait Handler: Send {
         session: &mut Session,
     ) -> Result<(), Self::Error>
         ensures { Handles keeps_defaults (Happened id.0 (happened.Open max_packet_size window_size)) (Ok tt)
-            (handler_at (refusals self.old) (setting self.old) (heard self.old))
-            (handler_at (refusals self.new) (setting self.new) (heard self.new))
+            (at self.old)
+            (at self.new)
             session.old session.new result }
     {
         Ok(())
@@ -144,8 +139,8 @@ pub trait Handler: Send {
         session: &mut Session,
     ) -> Result<(), Self::Error>
         ensures { Handles keeps_defaults (Happened channel.0 happened.Success) (Ok tt)
-            (handler_at (refusals self.old) (setting self.old) (heard self.old))
-            (handler_at (refusals self.new) (setting self.new) (heard self.new))
+            (at self.old)
+            (at self.new)
             session.old session.new result }
     {
         Ok(())
@@ -159,8 +154,8 @@ pub trait Handler: Send {
         session: &mut Session,
     ) -> Result<(), Self::Error>
         ensures { Handles keeps_defaults (Happened channel.0 happened.Failure) (Ok tt)
-            (handler_at (refusals self.old) (setting self.old) (heard self.old))
-            (handler_at (refusals self.new) (setting self.new) (heard self.new))
+            (at self.old)
+            (at self.new)
             session.old session.new result }
     {
         Ok(())
@@ -174,8 +169,8 @@ pub trait Handler: Send {
         session: &mut Session,
     ) -> Result<(), Self::Error>
         ensures { Handles keeps_defaults (Happened channel.0 happened.Close) (Ok tt)
-            (handler_at (refusals self.old) (setting self.old) (heard self.old))
-            (handler_at (refusals self.new) (setting self.new) (heard self.new))
+            (at self.old)
+            (at self.new)
             session.old session.new result }
     {
         Ok(())
@@ -185,8 +180,8 @@ pub trait Handler: Send {
     #[tactic(auto, using(crate::proofs::HandlerLemmas::does_nothing))]
     fn channel_eof(&mut self, channel: ChannelId, session: &mut Session) -> Result<(), Self::Error>
         ensures { Handles keeps_defaults (Happened channel.0 happened.Eof) (Ok tt)
-            (handler_at (refusals self.old) (setting self.old) (heard self.old))
-            (handler_at (refusals self.new) (setting self.new) (heard self.new))
+            (at self.old)
+            (at self.new)
             session.old session.new result }
     {
         Ok(())
@@ -204,8 +199,8 @@ pub trait Handler: Send {
     ) -> Result<(), Self::Error>
         ensures { Handles keeps_defaults
             (Happened channel.0 (happened.OpenFailure reason description.now language.now)) (Ok tt)
-            (handler_at (refusals self.old) (setting self.old) (heard self.old))
-            (handler_at (refusals self.new) (setting self.new) (heard self.new))
+            (at self.old)
+            (at self.new)
             session.old session.new result }
     {
         Ok(())
@@ -219,8 +214,8 @@ pub trait Handler: Send {
         session: &mut Session,
     ) -> Result<OpenAnswer, Self::Error>
         ensures { Handles keeps_defaults (ServerOpened id.0 opens.Session) (Ok OpenAnswer.Accept)
-            (handler_at (refusals self.old) (setting self.old) (heard self.old))
-            (handler_at (refusals self.new) (setting self.new) (heard self.new))
+            (at self.old)
+            (at self.new)
             session.old session.new result }
     {
         Ok(OpenAnswer::Accept)
@@ -240,8 +235,8 @@ pub trait Handler: Send {
         ensures { Handles keeps_defaults
             (ServerOpened id.0 (opens.DirectTcpIp host.now port originator_address.now originator_port))
             (Ok OpenAnswer.Accept)
-            (handler_at (refusals self.old) (setting self.old) (heard self.old))
-            (handler_at (refusals self.new) (setting self.new) (heard self.new))
+            (at self.old)
+            (at self.new)
             session.old session.new result }
     {
         Ok(OpenAnswer::Accept)
@@ -257,8 +252,8 @@ pub trait Handler: Send {
     ) -> Result<OpenAnswer, Self::Error>
         ensures { Handles keeps_defaults (ServerOpened id.0 (opens.DirectStreamLocal socket_path.now))
             (Ok OpenAnswer.Accept)
-            (handler_at (refusals self.old) (setting self.old) (heard self.old))
-            (handler_at (refusals self.new) (setting self.new) (heard self.new))
+            (at self.old)
+            (at self.new)
             session.old session.new result }
     {
         Ok(OpenAnswer::Accept)
@@ -275,8 +270,8 @@ pub trait Handler: Send {
     ) -> Result<OpenAnswer, Self::Error>
         ensures { Handles keeps_defaults (ServerOpened id.0 (opens.X11 originator_address.now originator_port))
             (Ok OpenAnswer.Accept)
-            (handler_at (refusals self.old) (setting self.old) (heard self.old))
-            (handler_at (refusals self.new) (setting self.new) (heard self.new))
+            (at self.old)
+            (at self.new)
             session.old session.new result }
     {
         Ok(OpenAnswer::Accept)
@@ -296,8 +291,8 @@ pub trait Handler: Send {
         ensures { Handles keeps_defaults
             (ServerOpened id.0 (opens.ForwardedTcpIp host.now port originator_address.now originator_port))
             (Ok OpenAnswer.Accept)
-            (handler_at (refusals self.old) (setting self.old) (heard self.old))
-            (handler_at (refusals self.new) (setting self.new) (heard self.new))
+            (at self.old)
+            (at self.new)
             session.old session.new result }
     {
         Ok(OpenAnswer::Accept)
@@ -313,8 +308,8 @@ pub trait Handler: Send {
     ) -> Result<OpenAnswer, Self::Error>
         ensures { Handles keeps_defaults (ServerOpened id.0 (opens.ForwardedStreamLocal socket_path.now))
             (Ok OpenAnswer.Accept)
-            (handler_at (refusals self.old) (setting self.old) (heard self.old))
-            (handler_at (refusals self.new) (setting self.new) (heard self.new))
+            (at self.old)
+            (at self.new)
             session.old session.new result }
     {
         Ok(OpenAnswer::Accept)
@@ -328,8 +323,8 @@ pub trait Handler: Send {
         session: &mut Session,
     ) -> Result<OpenAnswer, Self::Error>
         ensures { Handles keeps_defaults (ServerOpened id.0 opens.AgentForward) (Ok OpenAnswer.Accept)
-            (handler_at (refusals self.old) (setting self.old) (heard self.old))
-            (handler_at (refusals self.new) (setting self.new) (heard self.new))
+            (at self.old)
+            (at self.new)
             session.old session.new result }
     {
         Ok(OpenAnswer::Accept)
@@ -344,8 +339,8 @@ pub trait Handler: Send {
     ) -> Result<OpenAnswer, Self::Error>
         ensures { Handles keeps_defaults (ServerOpened id.0 opens.Unknown)
             (Ok (OpenAnswer.Reject ChannelOpenFailure.AdministrativelyProhibited))
-            (handler_at (refusals self.old) (setting self.old) (heard self.old))
-            (handler_at (refusals self.new) (setting self.new) (heard self.new))
+            (at self.old)
+            (at self.new)
             session.old session.new result }
     {
         Ok(OpenAnswer::Reject(ChannelOpenFailure::AdministrativelyProhibited))
@@ -360,8 +355,8 @@ pub trait Handler: Send {
         session: &mut Session,
     ) -> Result<(), Self::Error>
         ensures { Handles keeps_defaults (Happened channel.0 (happened.Data body.now)) (Ok tt)
-            (handler_at (refusals self.old) (setting self.old) (heard self.old))
-            (handler_at (refusals self.new) (setting self.new) (heard self.new))
+            (at self.old)
+            (at self.new)
             session.old session.new result }
     {
         Ok(())
@@ -377,8 +372,8 @@ pub trait Handler: Send {
         session: &mut Session,
     ) -> Result<(), Self::Error>
         ensures { Handles keeps_defaults (Happened channel.0 (happened.ExtendedData ext body.now)) (Ok tt)
-            (handler_at (refusals self.old) (setting self.old) (heard self.old))
-            (handler_at (refusals self.new) (setting self.new) (heard self.new))
+            (at self.old)
+            (at self.new)
             session.old session.new result }
     {
         Ok(())
@@ -393,8 +388,8 @@ pub trait Handler: Send {
         session: &mut Session,
     ) -> Result<(), Self::Error>
         ensures { Handles keeps_defaults (Happened channel.0 (happened.XonXoff client_can_do)) (Ok tt)
-            (handler_at (refusals self.old) (setting self.old) (heard self.old))
-            (handler_at (refusals self.new) (setting self.new) (heard self.new))
+            (at self.old)
+            (at self.new)
             session.old session.new result }
     {
         Ok(())
@@ -409,8 +404,8 @@ pub trait Handler: Send {
         session: &mut Session,
     ) -> Result<(), Self::Error>
         ensures { Handles keeps_defaults (Happened channel.0 (happened.ExitStatus exit_status)) (Ok tt)
-            (handler_at (refusals self.old) (setting self.old) (heard self.old))
-            (handler_at (refusals self.new) (setting self.new) (heard self.new))
+            (at self.old)
+            (at self.new)
             session.old session.new result }
     {
         Ok(())
@@ -429,8 +424,8 @@ pub trait Handler: Send {
     ) -> Result<(), Self::Error>
         ensures { Handles keeps_defaults
             (Happened channel.0 (happened.ExitSignal signal_name core_dumped error_message.now lang_tag.now)) (Ok tt)
-            (handler_at (refusals self.old) (setting self.old) (heard self.old))
-            (handler_at (refusals self.new) (setting self.new) (heard self.new))
+            (at self.old)
+            (at self.new)
             session.old session.new result }
     {
         Ok(())
@@ -446,8 +441,8 @@ pub trait Handler: Send {
         session: &mut Session,
     ) -> Result<(), Self::Error>
         ensures { Handles keeps_defaults (Happened channel.0 (happened.WindowAdjusted new_size)) (Ok tt)
-            (handler_at (refusals self.old) (setting self.old) (heard self.old))
-            (handler_at (refusals self.new) (setting self.new) (heard self.new))
+            (at self.old)
+            (at self.new)
             session.old session.new result }
     {
         Ok(())
@@ -461,8 +456,8 @@ pub trait Handler: Send {
         session: &mut Session,
     ) -> Result<(), Self::Error>
         ensures { Handles keeps_defaults (HostKeysAnnounced keys.items) (Ok tt)
-            (handler_at (refusals self.old) (setting self.old) (heard self.old))
-            (handler_at (refusals self.new) (setting self.new) (heard self.new))
+            (at self.old)
+            (at self.new)
             session.old session.new result }
     {
         Ok(())

@@ -11,5 +11,7 @@ mod StepMoves
 mod ReplyAnswers
 mod AnswerRows
 mod StepAdds
+mod ResolveLemmas
+mod QueueLemmas
 mod OpenAnswers
 pub mod StepLawLemmas

@@ -42,11 +42,14 @@ report_answers record_ never = absurd never
 
 open_kinds : Kinds NoOpenAnswer
 open_kinds = record {
-  message = λ message. tt;
-  disconnection = λ reason description language. tt;
-  begins = tt;
+  plain = record {
+    message = λ message none. tt;
+    disconnection = λ reason description language. tt;
+    begins = tt;
+    report = report_answers;
+  };
+  ask = λ ask. tt;
   answer = λ ticket resolution none. none;
-  report = report_answers;
 }
 
 if_first : (b : Bool) (one : Record) (a b_ : List Record) → (if b then one ∷ (a ++ b_) else a ++ b_) ≡ (if b then one ∷ a else a) ++ b_

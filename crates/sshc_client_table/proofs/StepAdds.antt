@@ -29,6 +29,7 @@ use Rattle.sshc_client_packets.specs.Messages.{Message, message_text}
 use Rattle.sshc_client_packets.specs.Messages as messages
 use Rattle.sshc_client_table.specs.declared.reply_entry.ReplyEntry.{ReplyEntry}
 use Rattle.sshc_client_table.specs.ListLaws.{onto-append}
+use Rattle.sshc_client_table.specs.Messages.{asking_message}
 use Rattle.sshc_client_table.specs.Moves as m
 use Rattle.sshc_client_table.specs.Moves.{Deed, Fronts, Move, after, deed, deed_of, did, done, done_if, may_go, open_answer, or_none}
 use Rattle.sshc_client_table.specs.RowMoves.{IsExchange, IsReport}
@@ -88,11 +89,14 @@ report_authenticates record_ never = absurd never
 
 authenticate_none : Kinds AuthenticatesNone
 authenticate_none = record {
-  message = message_authenticates;
-  disconnection = leave_authenticates;
-  begins = tt;
+  plain = record {
+    message = λ message none. message_authenticates message;
+    disconnection = leave_authenticates;
+    begins = tt;
+    report = report_authenticates;
+  };
+  ask = λ ask. message_authenticates (asking_message ask);
   answer = λ ticket resolution none. tt;
-  report = report_authenticates;
 }
 
 packet_authenticates : (recipient : ℕ) (packet : Packet) → AuthenticatesNone (Payload (packet_text recipient packet))
@@ -139,11 +143,14 @@ report_quiet record_ never = absurd never
 
 quiet_kinds : Kinds IsNoData
 quiet_kinds = record {
-  message = message_quiet;
-  disconnection = leave_quiet;
-  begins = tt;
+  plain = record {
+    message = λ message none. message_quiet message;
+    disconnection = leave_quiet;
+    begins = tt;
+    report = report_quiet;
+  };
+  ask = λ ask. message_quiet (asking_message ask);
   answer = λ ticket resolution none. tt;
-  report = report_quiet;
 }
 
 packet_quiet : (recipient : ℕ) (packet : Packet) → IsNoDataPacket packet → IsNoData (Payload (packet_text recipient packet))
@@ -195,9 +202,6 @@ quiet event moves s fit none runs =
 
 -- ---- requests wait on
 
-abbrev pub AddsTo : List ReplyEntry → List ReplyEntry → Type 0
-AddsTo old new = (more : List ReplyEntry) × (new ≡ old ++ more)
-
 no_reply : (event : Event) (move : Move) (s : SessionState) → StepFits event move → (IsReply event → ⊥) → (deed move s).answers ≡ false
 no_reply event (m.Replied resolution) s fits none = absurd (none fits)
 no_reply event move s fits none = refl
@@ -206,15 +210,8 @@ gated_reply : (b : Bool) (event : Event) (move : Move) (s : SessionState) → St
 gated_reply true event move s fits none = no_reply event move s fits none
 gated_reply false event move s fits none = refl
 
-waits_on : (event : Event) (move : Move) (s : SessionState) → StepFits event move → (IsReply event → ⊥) → AddsTo s.replies (after move s).replies
+pub waits_on : (event : Event) (move : Move) (s : SessionState) → StepFits event move → (IsReply event → ⊥) → (after move s).replies ≡ s.replies ++ (deed_of move s).asks
 unfolding after
 waits_on event move s fits none =
     let d : Deed = done_if (may_go move s) (deed move s) s in
-    (d.asks, onto-append (m.left_of d.answers s.replies) d.asks ∙ ap (λ (b : Bool). m.left_of b s.replies ++ d.asks) (gated_reply (may_go move s) event move s fits none))
-
-pub all_wait : (event : Event) (moves : List Move) (s : SessionState) → AllFit event moves → (IsReply event → ⊥) → AddsTo s.replies (done moves s).replies
-all_wait event [] s fit none = ([], sym (append-nil s.replies))
-all_wait event (move ∷ moves) s (fits, fit) none =
-    let one = waits_on event move s fits none in
-    let later = all_wait event moves (after move s) fit none in
-    (one.0 ++ later.0, later.1 ∙ ap (λ (entries : List ReplyEntry). entries ++ later.0) one.1 ∙ append_assoc s.replies one.0 later.0)
+    onto-append (m.left_of d.answers s.replies) d.asks ∙ ap (λ (b : Bool). m.left_of b s.replies ++ d.asks) (gated_reply (may_go move s) event move s fits none)

@@ -15,6 +15,7 @@ use Rattle.sshc_auth_event.specs.declared.event.Event.{Event}
 use Rattle.sshc_auth_event.specs.declared.event.Event.TheVariants as events
 use Rattle.sshc_auth.specs.declared.error.Error.{Error}
 use Rattle.sshc_auth.specs.declared.error.Error.TheVariants.{Inconsistent, SshEncoding}
+use Rattle.sshc_auth.specs.SessionWords.{HasKeptKey}
 use Rattle.sshc_mux.specs.ChannelState.{TableState}
 use Rattle.sshc_mux.specs.ChannelTable.{records_of}
 use Rattle.sshc_mux.specs.ChannelTable.Opens.{awaited}
@@ -26,16 +27,20 @@ use Rattle.sshc_client_table.specs.Moves.{Deed, Fronts, Move, after, deed, deed_
 use Rattle.sshc_client_table.specs.NoRequests.{IsSameRequest}
 use Rattle.sshc_client_table.specs.NoRequestsLaws.{moves_request}
 use Rattle.sshc_client_table.specs.OpenCauseLaws.{RowHolds, open_why, session_holds}
+use Rattle.sshc_client_table.specs.QueuedRequests.{Queues}
 use Rattle.sshc_client_table.specs.RowMoves.{Fits, IsPacket}
-use Rattle.sshc_client_table.specs.SessionRow.{Opinions, SessionRow, asking, behind_moves, refused, with_read}
+use Rattle.sshc_client_table.specs.SessionRow.{Opinions, SessionRow, asking, behind_moves, goes, refused, with_read}
 use Rattle.sshc_client_table.specs.SessionState.{SessionState, is_live}
 use Rattle.sshc_client_table.specs.SessionTable.{session_row}
 use Rattle.sshc_client_table.specs.SessionTable.Opens.{confirmed_row, failed_row, open_confirmation_row, open_failure_row}
-use Rattle.sshc_client_table.specs.StepLaws.{AuthenticatesNone, Followed, IsNoData, OpenStepLaws, Replied, answer_to, answers_open, open_answers, opens_answered}
+use Rattle.sshc_client_table.specs.StepLaws.{AuthenticatesNone, Followed, IsNoData, OpenStepLaws, Replied, ResolvesBy, answer_to, answers_open, open_answers, opens_answered, whole}
 use Rattle.sshc_client_table.proofs.AnswerRows.{HeldOrRefused, IsFirst, confirmation_held, failure_answered, first_same, heard_alone, heard_counted, refusal_held, success_answered}
 use Rattle.sshc_client_table.proofs.SaidLemmas.{SaysPlainly}
 use Rattle.sshc_client_table.proofs.OpenAnswers.{AllPlain, AnswersBy, OneAnswer, answers_two, opened_by, packets_answer, plain_one}
-use Rattle.sshc_client_table.proofs.StepAdds.{AddsTo, all_wait, authenticates, quiet}
+use Rattle.sshc_client_table.specs.OneKeyLaws.{session_has}
+use Rattle.sshc_client_table.proofs.QueueLemmas.{all_queue}
+use Rattle.sshc_client_table.proofs.ResolveLemmas.{resolves}
+use Rattle.sshc_client_table.proofs.StepAdds.{authenticates, quiet}
 use Rattle.sshc_client_table.proofs.StepMoves.{added, added_in, added_is, done_adds, followed_steps, row_fit}
 
 -- ---- the rows that answer an open
@@ -196,6 +201,14 @@ replied_so accepts o (events.Payload (n ∷ body)) s new live went = (
 )
 replied_so accepts o event s new live went = tt
 
+-- a row that was followed to its end continues
+next_goes : (row : SessionRow) (old new : SessionState) → Followed row old new true → row.next ≡ goes
+next_goes row old new (whole mid answer next borrowed is) = next
+
+kept_key : (accepts : Accepts) (o : Opinions) (s : SessionState) (event : Event) → (session_row accepts o s event).next ≡ goes → HasKeptKey s.opening event
+kept_key accepts o s (events.ExchangeDone x) on = session_has accepts o s x on
+kept_key accepts o s event on = tt
+
 open_so : (a b : Bool) → a && b ≡ true → a ≡ true
 open_so true b is = refl
 open_so false b is = absurd cc
@@ -213,7 +226,11 @@ rows_keep accepts o event s new went live followed =
       request = subst (λ (t : SessionState). IsSameRequest s.opening t.opening) (sym steps.is) (moves_request steps.moves s);
       authenticates = subst (λ (rs : List Record). AllByRecursion AuthenticatesNone rs) (sym is) (authenticates event steps.moves s steps.fit);
       replied = λ on. replied_so accepts o event s new live (subst (λ (b : Bool). Followed row s new b) on followed);
-      waits = λ none. subst (λ (t : SessionState). AddsTo s.replies t.replies) (sym steps.is) (all_wait event steps.moves s steps.fit none);
+      waits = λ none.
+          let queue = all_queue event steps.moves s steps.fit none in
+          (queue.0, ap (λ (t : SessionState). t.replies) steps.is ∙ queue.1, subst (λ (rs : List Record). Queues rs queue.0) (sym is) queue.2);
+      resolves = λ none. subst (λ (rs : List Record). AllByRecursion (λ output. ResolvesBy event output) rs) (sym is) (resolves event steps.moves s steps.fit none (open_so _ _ live));
       opened = opened_by event row s new went (event_by accepts o s event live holds) followed;
       quiet = λ runs none. subst (λ (rs : List Record). AllByRecursion IsNoData rs) (sym is) (quiet event steps.moves s steps.fit none runs);
+      key = λ on. kept_key accepts o s event (next_goes row s new (subst (λ (b : Bool). Followed row s new b) on followed));
     }

@@ -12,7 +12,7 @@ use Rattle.sshc_client_table.specs.GrownLaws.{done-append}
 use Rattle.sshc_client_table.specs.ListLaws.{onto-two}
 use Rattle.sshc_client_table.specs.Moves as m
 use Rattle.sshc_client_table.specs.Moves.{Deed, Fronts, Move, after, deed_of, did, done}
-use Rattle.sshc_client_table.specs.RowMoves.{Fits, IsExchange, IsPacket, IsReport}
+use Rattle.sshc_client_table.specs.RowMoves.{Fits, IsExchange, IsPacket, IsReport, ResolvesOwn}
 use Rattle.sshc_client_table.specs.SessionRow.{Callback, SessionRow}
 use Rattle.sshc_client_table.specs.SessionState.{SessionState}
 use Rattle.sshc_client_table.specs.StepLaws.{Borrowed, Followed, IsReply, behind, front, whole}
@@ -26,6 +26,7 @@ StepFits event (m.Confirms c) = IsPacket CHANNEL_OPEN_CONFIRMATION event
 StepFits event (m.Fails id reason) = IsPacket CHANNEL_OPEN_FAILURE event
 StepFits event m.Resumes = IsExchange event
 StepFits event (m.Tells output) = IsReport output
+StepFits event (m.Resolves ticket resolution) = ResolvesOwn event ticket resolution
 StepFits event move = Unit {0}
 
 abbrev pub AllFit : Event → List Move → Type 0
@@ -37,6 +38,7 @@ fits_step event (m.Confirms c) fits = fits
 fits_step event (m.Fails id reason) fits = fits
 fits_step event m.Resumes fits = fits
 fits_step event (m.Tells output) fits = fits
+fits_step event (m.Resolves ticket resolution) fits = fits
 fits_step event move fits = tt
 
 may_step : (event : Event) (move : Move) → May move → StepFits event move
@@ -45,6 +47,7 @@ may_step event (m.Confirms c) never = absurd never
 may_step event (m.Fails id reason) never = absurd never
 may_step event m.Resumes never = absurd never
 may_step event (m.Tells output) never = absurd never
+may_step event (m.Resolves ticket resolution) never = absurd never
 may_step event move may = tt
 
 pub row_fit : (event : Event) (moves : List Move) → AllByRecursion (λ move. Fits event move) moves → AllFit event moves

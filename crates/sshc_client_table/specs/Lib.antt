@@ -5,6 +5,7 @@ pub mod ListLaws
 pub mod MoveLaws
 pub mod SessionAccount
 pub mod ReplyQueue
+pub mod QueuedRequests
 pub mod OpensOnce
 pub mod RecordsTaken
 pub mod Grown

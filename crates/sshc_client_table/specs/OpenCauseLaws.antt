@@ -29,7 +29,7 @@ use Rattle.sshc_auth.specs.OpeningState.{is_awaiting}
 use Rattle.sshc_auth.specs.CauseLaws.{not_kept}
 use Rattle.sshc_auth.specs.OpeningTable.Exchange.{has_kept_key}
 use Rattle.sshc_auth.specs.OpeningTable.Packets.{is_ignored, is_too_much, waits_for_exchange}
-use Rattle.sshc_auth.specs.OpeningTable.User.{is_seen}
+use Rattle.sshc_auth.specs.OpeningTable.User.{is_seen, sig_algs_answer}
 use Rattle.sshc_auth.specs.declared.ended.Ended.{Ended}
 use Rattle.sshc_auth.specs.declared.ended.Ended.TheVariants.{RemoteDisconnect}
 use Rattle.sshc_auth.specs.declared.error.Error.{Error}
@@ -58,7 +58,7 @@ use Rattle.sshc_client_table.specs.declared.reply_entry.ReplyEntry.{ReplyEntry}
 use Rattle.sshc_client_table.specs.declared.open_answer.OpenAnswer.{OpenAnswer}
 use Rattle.sshc_client_table.specs.declared.open_answer.OpenAnswer.TheVariants as answers
 use Rattle.sshc_client_table.specs.ListLaws.{onto-append}
-use Rattle.sshc_client_table.specs.Moves.{Counts, Hears, Move, Tells, onto}
+use Rattle.sshc_client_table.specs.Moves.{Counts, Hears, Move, Resolves, Tells, onto}
 use Rattle.sshc_client_table.specs.SessionState.{SessionState, exchanging, is_open, is_running, own_window}
 use Rattle.sshc_client_table.specs.SessionRow.{Callback, Next, Opinions, SessionRow, asking, behind_moves, ends, established_row, goes, on_channel, opining, plain_row, refuses, reports, with_kept, with_read}
 use Rattle.sshc_client_table.specs.SessionTable.{disconnect_row, heard, held_row, numbered_row, packet_row, payload_row, reason_row, session_row}
@@ -446,13 +446,17 @@ settled_by_keep event id (Err reason) = (tt, tt)
 reply_keep : (event : Event) (s : SessionState) (id : ℕ) (result : Result (Unit {0}) ChannelOpenFailure) → AllFit event (reply_moves s id result)
 reply_keep event s id result = moves_by (λ m. Fits event m) (is_some (unsettled_at id s.table)) _ _ (settled_by_keep event id result) tt
 
-prove_keep : (event : Event) (ticket : Ticket) (keys : List (Key × List ℕ)) → AllFit event (prove_moves ticket keys)
-prove_keep event ticket [] = (tt, tt)
-prove_keep event ticket (key ∷ keys) = (tt, tt)
+prove_keep : (ticket : Ticket) (keys : List (Key × List ℕ)) → AllFit (events.HostKeysProve ticket keys) (prove_moves ticket keys)
+prove_keep ticket [] = ((refl, refl), tt)
+prove_keep ticket (key ∷ keys) = (tt, tt)
 
-extension_keep : (event : Event) (seen : Bool) (ticket : Ticket) → AllFit event (extension_moves seen ticket)
-extension_keep event true ticket = (tt, tt)
-extension_keep event false ticket = (tt, tt)
+extension_keep : (seen : Bool) (ticket : Ticket) (name : List ℕ) → AllFit (events.AwaitExtensionInfo ticket name) (extension_moves seen ticket)
+extension_keep true ticket name = ((refl, inl refl), tt)
+extension_keep false ticket name = ((refl, inr refl), tt)
+
+algs_keep : (ticket : Ticket) (names : Option (List (List ℕ))) → AllFit (events.GetServerSigAlgs ticket) (Resolves ticket (sig_algs_answer names) ∷ [])
+algs_keep ticket None = ((refl, false, [], refl), tt)
+algs_keep ticket (Some names) = ((refl, true, names, refl), tt)
 
 global_keep : (event : Event) → AllFit event (global_moves event)
 unfolding global_moves
@@ -480,14 +484,14 @@ opens_keep event = forward_keep event
 
 users_keep : (s : SessionState) (event : Event) → AllFit event (user_moves s event)
 unfolding user_moves
-users_keep s (events.Authenticate ticket user method) = (tt, tt)
+users_keep s (events.Authenticate ticket user method) = ((refl, refl), tt)
 users_keep s (events.Close id) = (tt, tt)
 users_keep s (events.Channel id msg) = channel_keep (events.Channel id msg) id.0 msg
 users_keep s (events.ServerChannelOpenReply id result) = reply_keep (events.ServerChannelOpenReply id result) s id.0 result
 users_keep s events.Rekey = (tt, tt)
-users_keep s (events.AwaitExtensionInfo ticket name) = extension_keep (events.AwaitExtensionInfo ticket name) (is_seen s.opening.seen name) ticket
-users_keep s (events.GetServerSigAlgs ticket) = (tt, tt)
-users_keep s (events.HostKeysProve ticket keys) = prove_keep (events.HostKeysProve ticket keys) ticket keys
+users_keep s (events.AwaitExtensionInfo ticket name) = extension_keep (is_seen s.opening.seen name) ticket name
+users_keep s (events.GetServerSigAlgs ticket) = algs_keep ticket s.opening.sig_algs
+users_keep s (events.HostKeysProve ticket keys) = prove_keep ticket keys
 users_keep s event = opens_keep event
 
 -- no answer is awaited in an open session

@@ -1,10 +1,13 @@
 -- Which moves the row of an event may make in an open session (RFC 4254; RFC 4253, section 7): a request of ours is
 -- answered only by the peer's reply, an open of ours only by its own packet, what waits on channels is sent anew only after
 -- an exchange, and a row neither leaves nor stops the session.
-use Rattle.std.specs.Prelude.{◌≡◌, ◌⊎◌, ℕ, ◌∷◌}
+use Rattle.std.specs.Prelude.{◌≡◌, ◌⊎◌, ℕ, Bool, List, [], ◌∷◌}
 use Rattle.sshc_wire.specs.MessageNumbers.{REQUEST_SUCCESS, REQUEST_FAILURE, CHANNEL_OPEN_CONFIRMATION, CHANNEL_OPEN_FAILURE}
 use Rattle.sshc_wire.specs.declared.record.Record.{Record}
 use Rattle.sshc_wire.specs.declared.record.Record.TheVariants as output
+use Rattle.sshc_wire.specs.declared.resolution.Resolution.{Resolution}
+use Rattle.sshc_wire.specs.declared.resolution.Resolution.TheVariants.{Dropped, ExtInfoSeen, HostKeysProved, SigAlgs}
+use Rattle.sshc_wire.specs.declared.ticket.Ticket.{Ticket}
 use Rattle.sshc_auth_event.specs.declared.event.Event.{Event}
 use Rattle.sshc_auth_event.specs.declared.event.Event.TheVariants as events
 use Rattle.sshc_client_table.specs.Moves as m
@@ -28,12 +31,24 @@ IsReport (output.ServerOpened id opened) = Unit {0}
 IsReport (output.HostKeysAnnounced blobs) = Unit {0}
 IsReport other = ⊥
 
+-- what an event's own ticket gets at once: a login in an open session is dropped, an extension was seen or isn't waited
+-- for, the names of the server's signature algorithms are told (RFC 8308), and without keys there is none to prove
+abbrev pub ResolvesOwn : Event → Ticket → Resolution → Type 0
+ResolvesOwn (events.Authenticate own user method) ticket resolution = (ticket ≡ own) × (resolution ≡ Dropped)
+ResolvesOwn (events.AwaitExtensionInfo own name) ticket resolution =
+    (ticket ≡ own) × ((resolution ≡ ExtInfoSeen) ⊎ (resolution ≡ Dropped))
+ResolvesOwn (events.GetServerSigAlgs own) ticket resolution =
+    (ticket ≡ own) × (known : Bool) × (names : List (List ℕ)) × (resolution ≡ SigAlgs known names)
+ResolvesOwn (events.HostKeysProve own []) ticket resolution = (ticket ≡ own) × (resolution ≡ HostKeysProved)
+ResolvesOwn event ticket resolution = ⊥
+
 abbrev pub Fits : Event → Move → Type 0
 Fits event (m.Replied resolution) = IsPacket REQUEST_SUCCESS event ⊎ IsPacket REQUEST_FAILURE event
 Fits event (m.Confirms confirmation) = IsPacket CHANNEL_OPEN_CONFIRMATION event
 Fits event (m.Fails id reason) = IsPacket CHANNEL_OPEN_FAILURE event
 Fits event m.Resumes = IsExchange event
 Fits event (m.Tells record_) = IsReport record_
+Fits event (m.Resolves ticket resolution) = ResolvesOwn event ticket resolution
 Fits event m.Leaves = ⊥
 Fits event m.Stops = ⊥
 Fits event move = Unit {0}

@@ -18,6 +18,7 @@ use Rattle.sshc_key.specs.KeyGrammar.{Key}
 use Rattle.sshc_auth_event.specs.declared.event.Event.{Event}
 use Rattle.sshc_auth_event.specs.declared.event.Event.TheVariants as events
 use Rattle.sshc_auth.specs.Row.{resolved}
+use Rattle.sshc_auth.specs.SessionWords.{HasKeptKey}
 use Rattle.sshc_mux.specs.ChannelTable.Opens.{awaited}
 use Rattle.sshc_client_packets.specs.declared.channel_open.Confirmation.{Confirmation}
 use Rattle.sshc_client_packets.specs.ChannelPackets.{Refusal, confirmation_of, refusal_of}
@@ -29,7 +30,8 @@ use Rattle.sshc_client_table.specs.declared.open_answer.OpenAnswer.{OpenAnswer}
 use Rattle.sshc_client_table.specs.Grown.{Grown}
 use Rattle.sshc_client_table.specs.Moves.{Fronts, done}
 use Rattle.sshc_client_table.specs.NoRequests.{IsSameRequest}
-use Rattle.sshc_client_table.specs.RowMoves.{IsExchange, IsPacket}
+use Rattle.sshc_client_table.specs.QueuedRequests.{Queues}
+use Rattle.sshc_client_table.specs.RowMoves.{IsExchange, IsPacket, ResolvesOwn}
 use Rattle.sshc_client_table.specs.SessionRow.{Callback, Opinions, SessionRow, goes}
 use Rattle.sshc_client_table.specs.SessionState.{SessionState, exchanging, is_live}
 use Rattle.sshc_client_table.specs.SessionTable.{session_row}
@@ -128,6 +130,16 @@ abbrev pub OpensAnswered : Bool → Event → SessionState → List Record → T
 OpensAnswered true event was added = open_answers added ≡ opens_answered event was
 OpensAnswered false event was added = (open_answers added ≡ []) ⊎ (open_answers added ≡ opens_answered event was)
 
+-- ---- what else answers a ticket
+
+-- Any record but one that resolves a ticket in another way than as an answer to an open of ours, or as the event's own
+-- ticket is resolved at once: no login succeeds, and no request is granted, denied or proved.
+abbrev pub ResolvesBy : Event → Record → Type 0
+ResolvesBy event (Resolved ticket (told.ChannelOpened id)) = Unit {0}
+ResolvesBy event (Resolved ticket (told.ChannelOpenFailed reason)) = Unit {0}
+ResolvesBy event (Resolved ticket resolution) = ResolvesOwn event ticket resolution
+ResolvesBy event output = Unit {0}
+
 -- ---- what isn't written
 
 -- any record but a packet that carries bytes of a channel
@@ -154,12 +166,17 @@ pub record OpenStepLaws (accepts : Accepts) (event : Event) (was is : SessionSta
   pub authenticates : AllByRecursion AuthenticatesNone added
   -- a reply answers the oldest request, by what was asked
   pub replied : went ≡ true → Replied accepts event was is added
-  -- without a reply no request is answered: they wait on, and others are only added after them
-  pub waits : (IsReply event → ⊥) → (more : List ReplyEntry) × (is.replies ≡ was.replies ++ more)
+  -- Without a reply no request is answered: they wait on. Those added after them are one for each request that was
+  -- written with a reply wanted.
+  pub waits : (IsReply event → ⊥) → (more : List ReplyEntry) × (is.replies ≡ was.replies ++ more) × Queues added more
+  -- without a reply no ticket is resolved but an open's, as the next field says, and the event's own
+  pub resolves : (IsReply event → ⊥) → AllByRecursion (λ output. ResolvesBy event output) added
   -- an open of ours is answered by the packet of its own number while it waits, and by nothing else
   pub opened : OpensAnswered went event was added
   -- while keys are exchanged no bytes of a channel are written
   pub quiet : exchanging was ≡ true → (IsExchange event → ⊥) → AllByRecursion IsNoData added
+  -- the session goes on after a key exchange only with the first exchange's host key
+  pub key : went ≡ true → HasKeptKey was.opening event
 
 -- ---- a row that was followed
 

@@ -22,6 +22,7 @@ use Rattle.sshc_client_packets.specs.HostKeyProof.{Accepts}
 use Rattle.sshc_client_table.specs.SessionRow.{Callback}
 use Rattle.sshc_client_table.specs.SessionState.{SessionState}
 use Rattle.sshc_client_state.specs.OpeningStep.{Lent, goes_on, lent_session}
+use Rattle.sshc_client.specs.Handling.{HandlerAt}
 use Rattle.sshc_client.specs.HandledStep.{SessionSteps}
 use Rattle.sshc_client.specs.Stepping.{SessionStepped}
 use Rattle.sshc_handle_state.specs.declared.end.End.{End}
@@ -44,9 +45,14 @@ pub record CallersAt : Type 0 where
   pub setting : List (List ℕ)
   pub heard : List Callback
 
-abbrev pub callers_at : List SignCall → ℕ → ℕ → List (List ℕ) → List Callback → CallersAt
-callers_at calls signer_refusals refusals setting heard =
-    record { calls = calls; signer_refusals = signer_refusals; refusals = refusals; setting = setting; heard = heard }
+abbrev pub callers_at : List SignCall → ℕ → HandlerAt → CallersAt
+callers_at calls signer_refusals handler = record {
+  calls = calls;
+  signer_refusals = signer_refusals;
+  refusals = handler.refusals;
+  setting = handler.setting;
+  heard = handler.heard;
+}
 
 abbrev pub lent_to : SessionState → CallersAt → Lent
 lent_to session c = lent_session session c.calls c.signer_refusals c.refusals c.setting c.heard

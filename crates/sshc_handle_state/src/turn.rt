@@ -156,10 +156,8 @@ impl<H: Handler> HandleState<H> {
     ) -> Turn<H::Error>
         ensures { TakesEvent H.keeps_defaults (handler_gate H.told_as (H.judges handler.old))
             (V.accepts verifier.now) event self.old self.new
-            (callers_at (S.calls signer.old) (S.refusals signer.old)
-            (H.refusals handler.old) (H.setting handler.old) (H.heard handler.old))
-            (callers_at (S.calls signer.new) (S.refusals signer.new)
-            (H.refusals handler.new) (H.setting handler.new) (H.heard handler.new))
+            (callers_at (S.calls signer.old) (S.refusals signer.old) (H.at handler.old))
+            (callers_at (S.calls signer.new) (S.refusals signer.new) (H.at handler.new))
             (link_at (T.answers transport.old) (T.handed transport.old) (T.faults transport.old))
             (link_at (T.answers transport.new) (T.handed transport.new) (T.faults transport.new)) result }
     {
@@ -183,10 +181,8 @@ impl<H: Handler> HandleState<H> {
         requires { self.old.end ≡ None }
         ensures { Turns H.keeps_defaults (handler_gate H.told_as (H.judges handler.old)) (V.accepts verifier.now) now
             self.old self.new
-            (callers_at (S.calls signer.old) (S.refusals signer.old)
-            (H.refusals handler.old) (H.setting handler.old) (H.heard handler.old))
-            (callers_at (S.calls signer.new) (S.refusals signer.new)
-            (H.refusals handler.new) (H.setting handler.new) (H.heard handler.new))
+            (callers_at (S.calls signer.old) (S.refusals signer.old) (H.at handler.old))
+            (callers_at (S.calls signer.new) (S.refusals signer.new) (H.at handler.new))
             (link_at (T.answers transport.old) (T.handed transport.old) (T.faults transport.old))
             (link_at (T.answers transport.new) (T.handed transport.new) (T.faults transport.new)) result }
     {

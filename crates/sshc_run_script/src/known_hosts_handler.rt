@@ -67,13 +67,11 @@ impl Handler for KnownHostsHandler {
     ghost use Rattle.std.specs.Prelude.{◌≡◌, ◌∷◌, []};
     ghost use Rattle.sshc_run_script.specs.KnownHosts.{Judges};
 
-    ghost setting = { λ h. h.host ∷ h.known ∷ [] };
+    ghost at = { λ h. record { refusals = h.refusals; setting = h.host ∷ h.known ∷ []; heard = [] } };
 
     ghost judges = { λ h key answer. Judges (record { host = h.host; known = h.known }) key answer };
 
     ghost told_as = { λ e. errors.Client e };
-
-    ghost refusals = { λ h. h.refusals };
 
     ghost keeps_defaults = { Unit {0} };
 

@@ -15,13 +15,11 @@ impl Handler for Keeper {
 
     ghost use Rattle.std.specs.Prelude.{◌≡◌, [], Ok, true};
 
-    ghost setting = { λ _. [] };
+    ghost at = { λ _. record { refusals = 0; setting = []; heard = [] } };
 
     ghost judges = { λ _ _ answer. answer ≡ Ok true };
 
     ghost told_as = { λ e. e };
-
-    ghost refusals = { λ _. 0 };
 
     ghost keeps_defaults = { Unit {0} };
 

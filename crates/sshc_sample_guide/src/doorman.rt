@@ -83,14 +83,12 @@ impl Handler for Doorman {
 
     ghost use Rattle.std.specs.Prelude.{[]};
 
-    ghost setting = { λ d. [] };
+    ghost at = { λ d. record { refusals = 0; setting = []; heard = [] } };
 
     // Which keys it accepts, its contract leaves open.
     ghost judges = { λ d key answer. Unit {0} };
 
     ghost told_as = { λ e. e };
-
-    ghost refusals = { λ d. 0 };
 
     ghost keeps_defaults = { ⊥ };
 

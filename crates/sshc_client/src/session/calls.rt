@@ -3,7 +3,6 @@
 ghost use Rattle.std.specs.Prelude.{◌≡◌, [], ◌∷◌, Ok};
 ghost use Rattle.sshc_client_table.specs.Moves.{Does, Grants, Tells};
 ghost use Rattle.sshc_client_table.specs.SessionRow.{Happened, on_channel, reports};
-ghost use Rattle.sshc_client.specs.Handling.{handler_at};
 ghost use Rattle.sshc_client.specs.HandledRow.{Calls, FollowsOne};
 
 use super::Session;
@@ -23,8 +22,8 @@ impl Session {
         handler: &mut H,
     ) -> Result<(), Stop<H::Error>>
         ensures { Calls H.keeps_defaults (Happened id.0 happened.now) (Ok tt)
-            (handler_at (H.refusals handler.old) (H.setting handler.old) (H.heard handler.old))
-            (handler_at (H.refusals handler.new) (H.setting handler.new) (H.heard handler.new))
+            (H.at handler.old)
+            (H.at handler.new)
             self.old self.new result }
     {
         match happened {
@@ -75,8 +74,8 @@ impl Session {
     ) -> Result<(), Stop<H::Error>>
         ensures { Calls H.keeps_defaults
             (Happened id.0 (ChannelRecord.OpenFailure reason description.now language.now)) (Ok tt)
-            (handler_at (H.refusals handler.old) (H.setting handler.old) (H.heard handler.old))
-            (handler_at (H.refusals handler.new) (H.setting handler.new) (H.heard handler.new))
+            (H.at handler.old)
+            (H.at handler.new)
             self.old self.new result }
     {
         let (description, language) = (description.as_str(), language.as_str());
@@ -97,8 +96,8 @@ impl Session {
         ensures { Calls H.keeps_defaults
             (Happened id.0
             (ChannelRecord.ExitSignal signal_name.now core_dumped error_message.now lang_tag.now)) (Ok tt)
-            (handler_at (H.refusals handler.old) (H.setting handler.old) (H.heard handler.old))
-            (handler_at (H.refusals handler.new) (H.setting handler.new) (H.heard handler.new))
+            (H.at handler.old)
+            (H.at handler.new)
             self.old self.new result }
     {
         let signal = signal_copied(signal_name)?;
@@ -128,8 +127,8 @@ impl Session {
         handler: &mut H,
     ) -> Result<RowFlow, Stop<H::Error>>
         ensures row { FollowsOne H.keeps_defaults
-            (handler_at (H.refusals handler.old) (H.setting handler.old) (H.heard handler.old))
-            (handler_at (H.refusals handler.new) (H.setting handler.new) (H.heard handler.new))
+            (H.at handler.old)
+            (H.at handler.new)
             (reports [] id.0 happened []) self.old self.new result }
     {
         match self.call(id, &happened, handler) {
@@ -147,8 +146,8 @@ impl Session {
         handler: &mut H,
     ) -> Result<RowFlow, Stop<H::Error>>
         ensures row { FollowsOne H.keeps_defaults
-            (handler_at (H.refusals handler.old) (H.setting handler.old) (H.heard handler.old))
-            (handler_at (H.refusals handler.new) (H.setting handler.new) (H.heard handler.new))
+            (H.at handler.old)
+            (H.at handler.new)
             (reports [] id.0 happened (Grants id.0 0 ∷ [])) self.old self.new result }
     {
         match self.call(id, &happened, handler) {

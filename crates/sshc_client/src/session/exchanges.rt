@@ -6,7 +6,6 @@ ghost use Rattle.sshc_client_table.specs.Moves.{Does, Resumes, Tells};
 ghost use Rattle.sshc_client_table.specs.SessionRow.{KexDone};
 ghost use Rattle.sshc_client_table.specs.SessionTable.Exchanges.{exchange_done_row, later_exchange_row};
 ghost use Rattle.sshc_auth.specs.OpeningTable.Exchange.{has_kept_key};
-ghost use Rattle.sshc_client.specs.Handling.{handler_at};
 ghost use Rattle.sshc_client.specs.HandledRow.{Calls, FollowsOne};
 
 use super::Session;
@@ -35,8 +34,8 @@ impl Session {
         handler: &mut H,
     ) -> Result<RowFlow, Stop<H::Error>>
         ensures { FollowsOne H.keeps_defaults
-            (handler_at (H.refusals handler.old) (H.setting handler.old) (H.heard handler.old))
-            (handler_at (H.refusals handler.new) (H.setting handler.new) (H.heard handler.new))
+            (H.at handler.old)
+            (H.at handler.new)
             (exchange_done_row self.old.opening.flag (has_kept_key self.old.opening exchange.now) exchange.now)
             self.old self.new result }
     {
@@ -56,8 +55,8 @@ impl Session {
         handler: &mut H,
     ) -> Result<RowFlow, Stop<H::Error>>
         ensures { FollowsOne H.keeps_defaults
-            (handler_at (H.refusals handler.old) (H.setting handler.old) (H.heard handler.old))
-            (handler_at (H.refusals handler.new) (H.setting handler.new) (H.heard handler.new))
+            (H.at handler.old)
+            (H.at handler.new)
             (later_exchange_row (has_kept_key self.old.opening exchange.now) exchange.now) self.old self.new result }
     {
         let same = self.connection.opening().has_kept_key(exchange);
@@ -74,8 +73,8 @@ impl Session {
         handler: &mut H,
     ) -> Result<RowFlow, Stop<H::Error>>
         ensures { FollowsOne H.keeps_defaults
-            (handler_at (H.refusals handler.old) (H.setting handler.old) (H.heard handler.old))
-            (handler_at (H.refusals handler.new) (H.setting handler.new) (H.heard handler.new))
+            (H.at handler.old)
+            (H.at handler.new)
             (later_exchange_row true exchange.now) self.old self.new result }
     {
         let kex = exchange.names.kex().copy()?;
@@ -92,8 +91,8 @@ impl Session {
     ) -> Result<RowFlow, Stop<H::Error>>
         requires { kex ≡ exchange.now.names.kex }
         ensures { FollowsOne H.keeps_defaults
-            (handler_at (H.refusals handler.old) (H.setting handler.old) (H.heard handler.old))
-            (handler_at (H.refusals handler.new) (H.setting handler.new) (H.heard handler.new))
+            (H.at handler.old)
+            (H.at handler.new)
             (later_exchange_row true exchange.now) self.old self.new result }
     {
         match self.call_kex_done(exchange, handler) {
@@ -109,8 +108,8 @@ impl Session {
         handler: &mut H,
     ) -> Result<(), Stop<H::Error>>
         ensures { Calls H.keeps_defaults (KexDone exchange.now.secret exchange.now.names) (Ok tt)
-            (handler_at (H.refusals handler.old) (H.setting handler.old) (H.heard handler.old))
-            (handler_at (H.refusals handler.new) (H.setting handler.new) (H.heard handler.new))
+            (H.at handler.old)
+            (H.at handler.new)
             self.old self.new result }
     {
         lent(handler.kex_done(secret_of(exchange), &exchange.names, self))

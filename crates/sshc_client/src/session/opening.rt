@@ -7,8 +7,7 @@ ghost use Rattle.sshc_auth.specs.Stepping.{HasExchange, exchange_in};
 ghost use Rattle.sshc_client_table.specs.SessionState.{is_open};
 ghost use Rattle.sshc_client_state.specs.OpeningStep.{goes_on, lent_session};
 ghost use Rattle.sshc_client.specs.Asked.{AsksHandler, StepsBefore, verdict_gate};
-ghost use Rattle.sshc_client.specs.Handling.{handler_at};
-ghost use Rattle.sshc_client.specs.HandledStep.{Before, EndsBy, handler_gate, has_left};
+ghost use Rattle.sshc_client.specs.HandledStep.{Before, EndsBy, handler_gate, has_left, lent_by};
 
 use super::Session;
 use super::exchanges::secret_of;
@@ -40,8 +39,8 @@ impl Session {
         handler: &mut H,
     ) -> Result<bool, H::Error>
         ensures { AsksHandler H.keeps_defaults (H.judges handler.old) (Asks.HostKey key.now) (Some exchange.now)
-            (handler_at (H.refusals handler.old) (H.setting handler.old) (H.heard handler.old))
-            (handler_at (H.refusals handler.new) (H.setting handler.new) (H.heard handler.new))
+            (H.at handler.old)
+            (H.at handler.new)
             self.old self.new result }
     {
         if !handler.check_server_key(key)? {
@@ -61,8 +60,8 @@ impl Session {
     ) -> Result<bool, H::Error>
         requires { HasExchange asks.now (exchange_in event.now) }
         ensures { AsksHandler H.keeps_defaults (H.judges handler.old) asks.now (exchange_in event.now)
-            (handler_at (H.refusals handler.old) (H.setting handler.old) (H.heard handler.old))
-            (handler_at (H.refusals handler.new) (H.setting handler.new) (H.heard handler.new))
+            (H.at handler.old)
+            (H.at handler.new)
             self.old self.new result }
     {
         match asks {
@@ -144,10 +143,8 @@ impl Session {
     ) -> Step<H::Error>
         requires { is_open self.old.opening.phase ≡ false }
         ensures { Before H.keeps_defaults (handler_gate H.told_as (H.judges handler.old)) event.now
-            (lent_session self.old (S.calls signer.old) (S.refusals signer.old) (H.refusals handler.old)
-            (H.setting handler.old) (H.heard handler.old))
-            (lent_session self.new (S.calls signer.new) (S.refusals signer.new) (H.refusals handler.new)
-            (H.setting handler.new) (H.heard handler.new))
+            (lent_by self.old (S.calls signer.old) (S.refusals signer.old) (H.at handler.old))
+            (lent_by self.new (S.calls signer.new) (S.refusals signer.new) (H.at handler.new))
             result }
     {
         if self.connection.opening().is_closed() {
@@ -170,10 +167,8 @@ impl Session {
         requires early { is_open self.old.opening.phase ≡ false }
         requires fresh { self.old.opening.closed ≡ false }
         ensures { Before H.keeps_defaults (handler_gate H.told_as (H.judges handler.old)) event.now
-            (lent_session self.old (S.calls signer.old) (S.refusals signer.old) (H.refusals handler.old)
-            (H.setting handler.old) (H.heard handler.old))
-            (lent_session self.new (S.calls signer.new) (S.refusals signer.new) (H.refusals handler.new)
-            (H.setting handler.new) (H.heard handler.new))
+            (lent_by self.old (S.calls signer.old) (S.refusals signer.old) (H.at handler.old))
+            (lent_by self.new (S.calls signer.new) (S.refusals signer.new) (H.at handler.new))
             result }
     {
         match self.connection.opening().asks(event) {
@@ -198,10 +193,8 @@ impl Session {
         requires fresh { self.old.opening.closed ≡ false }
         requires asked { asks.now ≡ asked_of self.old.opening event.now }
         ensures { Before H.keeps_defaults (handler_gate H.told_as (H.judges handler.old)) event.now
-            (lent_session self.old (S.calls signer.old) (S.refusals signer.old) (H.refusals handler.old)
-            (H.setting handler.old) (H.heard handler.old))
-            (lent_session self.new (S.calls signer.new) (S.refusals signer.new) (H.refusals handler.new)
-            (H.setting handler.new) (H.heard handler.new))
+            (lent_by self.old (S.calls signer.old) (S.refusals signer.old) (H.at handler.old))
+            (lent_by self.new (S.calls signer.new) (S.refusals signer.new) (H.at handler.new))
             result }
     {
         match self.ask_handler(asks, event, handler) {

@@ -10,7 +10,6 @@ ghost use Rattle.sshc_client_table.specs.SessionTable.Opens.{channel_open_row, c
 ghost use Rattle.sshc_client_table.specs.SessionTable.Opens.{numbered_open_row, open_confirmation_row};
 ghost use Rattle.sshc_client_table.specs.SessionTable.Opens.{open_failure_row, settled};
 ghost use Rattle.sshc_wire.specs.declared.record.Record.TheVariants.{ServerOpened as ServerOpenedRecord};
-ghost use Rattle.sshc_client.specs.Handling.{handler_at};
 ghost use Rattle.sshc_client.specs.HandledRow.{Accepts, Calls, FollowsOne, FollowsWith, default_answer, is_unknown};
 ghost use Rattle.sshc_client.specs.HandledRow.{served};
 
@@ -36,8 +35,8 @@ impl Session {
     ) -> Result<RowFlow, Stop<H::Error>>
         requires { is_live self.old ≡ true }
         ensures row { FollowsOne H.keeps_defaults
-            (handler_at (H.refusals handler.old) (H.setting handler.old) (H.heard handler.old))
-            (handler_at (H.refusals handler.new) (H.setting handler.new) (H.heard handler.new))
+            (H.at handler.old)
+            (H.at handler.new)
             (open_confirmation_row self.old body.now) self.old self.new result }
     {
         let c = read_confirmation(body)?;
@@ -53,8 +52,8 @@ impl Session {
     ) -> Result<RowFlow, Stop<H::Error>>
         requires { is_live self.old ≡ true }
         ensures row { FollowsOne H.keeps_defaults
-            (handler_at (H.refusals handler.old) (H.setting handler.old) (H.heard handler.old))
-            (handler_at (H.refusals handler.new) (H.setting handler.new) (H.heard handler.new))
+            (H.at handler.old)
+            (H.at handler.new)
             (confirmed_row (awaited c.recipient self.old.table) c) self.old self.new result }
     {
         if !self.connection.confirm(c)? {
@@ -79,8 +78,8 @@ impl Session {
     ) -> Result<RowFlow, Stop<H::Error>>
         requires { is_live self.old ≡ true }
         ensures row { FollowsOne H.keeps_defaults
-            (handler_at (H.refusals handler.old) (H.setting handler.old) (H.heard handler.old))
-            (handler_at (H.refusals handler.new) (H.setting handler.new) (H.heard handler.new))
+            (H.at handler.old)
+            (H.at handler.new)
             (open_failure_row self.old body.now) self.old self.new result }
     {
         let refusal = read_open_failure(body)?;
@@ -95,8 +94,8 @@ impl Session {
     ) -> Result<RowFlow, Stop<H::Error>>
         requires { is_live self.old ≡ true }
         ensures row { FollowsOne H.keeps_defaults
-            (handler_at (H.refusals handler.old) (H.setting handler.old) (H.heard handler.old))
-            (handler_at (H.refusals handler.new) (H.setting handler.new) (H.heard handler.new))
+            (H.at handler.old)
+            (H.at handler.new)
             (failed_row (awaited refusal.now.id.0 self.old.table) (lent_refusal refusal.now)) self.old self.new result }
     {
         let description = Text::from_str(self.alloc, refusal.description)?;
@@ -124,8 +123,8 @@ impl Session {
     ) -> Result<RowFlow, Stop<H::Error>>
         requires { is_live self.old ≡ true }
         ensures row { FollowsWith H.keeps_defaults
-            (handler_at (H.refusals handler.old) (H.setting handler.old) (H.heard handler.old))
-            (handler_at (H.refusals handler.new) (H.setting handler.new) (H.heard handler.new))
+            (H.at handler.old)
+            (H.at handler.new)
             (λ o. channel_open_row o self.old body.now) self.old self.new result }
     {
         let head = read_channel_open(body)?;
@@ -147,8 +146,8 @@ impl Session {
         requires live { is_live self.old ≡ true }
         requires known { is_unknown opened ≡ false }
         ensures row { (kind : List ℕ) → FollowsWith H.keeps_defaults
-            (handler_at (H.refusals handler.old) (H.setting handler.old) (H.heard handler.old))
-            (handler_at (H.refusals handler.new) (H.setting handler.new) (H.heard handler.new))
+            (H.at handler.old)
+            (H.at handler.new)
             (λ o. numbered_open_row o (next_number self.old.table) sender kind opened) self.old self.new result }
     {
         let id = self.connection.reserve(sender)?;
@@ -165,8 +164,8 @@ impl Session {
     ) -> Result<RowFlow, Stop<H::Error>>
         requires { is_live self.old ≡ true }
         ensures row { FollowsWith H.keeps_defaults
-            (handler_at (H.refusals handler.old) (H.setting handler.old) (H.heard handler.old))
-            (handler_at (H.refusals handler.new) (H.setting handler.new) (H.heard handler.new))
+            (H.at handler.old)
+            (H.at handler.new)
             (λ o. numbered_open_row o (next_number self.old.table) sender kind.now ServerOpen.Unknown)
             self.old self.new result }
     {
@@ -189,8 +188,8 @@ impl Session {
     ) -> Result<RowFlow, Stop<H::Error>>
         requires { Accepts H.keeps_defaults (default_answer opened) }
         ensures row { FollowsOne H.keeps_defaults
-            (handler_at (H.refusals handler.old) (H.setting handler.old) (H.heard handler.old))
-            (handler_at (H.refusals handler.new) (H.setting handler.new) (H.heard handler.new))
+            (H.at handler.old)
+            (H.at handler.new)
             (served id.0 opened) self.old self.new result }
     {
         match self.call_for_open(id, &opened, handler) {
@@ -229,8 +228,8 @@ impl Session {
         handler: &mut H,
     ) -> Result<OpenAnswer, Stop<H::Error>>
         ensures { Calls H.keeps_defaults (ServerOpened id.0 opened.now) (Ok (default_answer opened.now))
-            (handler_at (H.refusals handler.old) (H.setting handler.old) (H.heard handler.old))
-            (handler_at (H.refusals handler.new) (H.setting handler.new) (H.heard handler.new))
+            (H.at handler.old)
+            (H.at handler.new)
             self.old self.new result }
     {
         match opened {
@@ -284,8 +283,8 @@ impl Session {
             (ServerOpened id.0
             (ServerOpen.DirectTcpIp host_to_connect.now port_to_connect originator_address.now originator_port))
             (Ok OpenAnswer.Accept)
-            (handler_at (H.refusals handler.old) (H.setting handler.old) (H.heard handler.old))
-            (handler_at (H.refusals handler.new) (H.setting handler.new) (H.heard handler.new))
+            (H.at handler.old)
+            (H.at handler.new)
             self.old self.new result }
     {
         lent(handler.server_channel_open_direct_tcpip(
@@ -313,8 +312,8 @@ impl Session {
             (ServerOpened id.0
             (ServerOpen.ForwardedTcpIp connected_address.now connected_port originator_address.now originator_port))
             (Ok OpenAnswer.Accept)
-            (handler_at (H.refusals handler.old) (H.setting handler.old) (H.heard handler.old))
-            (handler_at (H.refusals handler.new) (H.setting handler.new) (H.heard handler.new))
+            (H.at handler.old)
+            (H.at handler.new)
             self.old self.new result }
     {
         lent(handler.server_channel_open_forwarded_tcpip(

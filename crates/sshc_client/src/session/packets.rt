@@ -6,7 +6,6 @@ ghost use Rattle.sshc_client_table.specs.Moves.{Counts, Hears};
 ghost use Rattle.sshc_client_table.specs.SessionRow.{behind_moves};
 ghost use Rattle.sshc_client_table.specs.SessionState.{is_live};
 ghost use Rattle.sshc_client_table.specs.SessionTable.{numbered_row, packet_row, payload_row};
-ghost use Rattle.sshc_client.specs.Handling.{handler_at};
 ghost use Rattle.sshc_client.specs.HandledRow.{FollowsWith};
 
 use super::Session;
@@ -35,8 +34,8 @@ impl Session {
     ) -> Result<RowFlow, Stop<H::Error>>
         requires { is_live self.old ≡ true }
         ensures row { FollowsWith H.keeps_defaults
-            (handler_at (H.refusals handler.old) (H.setting handler.old) (H.heard handler.old))
-            (handler_at (H.refusals handler.new) (H.setting handler.new) (H.heard handler.new))
+            (H.at handler.old)
+            (H.at handler.new)
             (λ o. payload_row (V.accepts verifier.now) o self.old packet.now) self.old self.new result }
     {
         match packet.as_slice() {
@@ -58,8 +57,8 @@ impl Session {
         requires live { is_live self.old ≡ true }
         requires whole { packet.now ≡ number ∷ body.now }
         ensures row { FollowsWith H.keeps_defaults
-            (handler_at (H.refusals handler.old) (H.setting handler.old) (H.heard handler.old))
-            (handler_at (H.refusals handler.new) (H.setting handler.new) (H.heard handler.new))
+            (H.at handler.old)
+            (H.at handler.new)
             (λ o. payload_row (V.accepts verifier.now) o self.old packet.now) self.old self.new result }
     {
         let len = packet.as_slice().len() as u64;
@@ -84,8 +83,8 @@ impl Session {
     ) -> Result<RowFlow, Stop<H::Error>>
         requires { is_live self.old ≡ true }
         ensures row { FollowsWith H.keeps_defaults
-            (handler_at (H.refusals handler.old) (H.setting handler.old) (H.heard handler.old))
-            (handler_at (H.refusals handler.new) (H.setting handler.new) (H.heard handler.new))
+            (H.at handler.old)
+            (H.at handler.new)
             (λ o. behind_moves (Hears ∷ []) (packet_row (V.accepts verifier.now) o self.old len number body.now))
             self.old self.new result }
     {
@@ -105,8 +104,8 @@ impl Session {
     ) -> Result<RowFlow, Stop<H::Error>>
         requires { is_live self.old ≡ true }
         ensures row { FollowsWith H.keeps_defaults
-            (handler_at (H.refusals handler.old) (H.setting handler.old) (H.heard handler.old))
-            (handler_at (H.refusals handler.new) (H.setting handler.new) (H.heard handler.new))
+            (H.at handler.old)
+            (H.at handler.new)
             (λ o. packet_row (V.accepts verifier.now) o self.old len number body.now) self.old self.new result }
     {
         if is_ignored(number) {
@@ -140,8 +139,8 @@ impl Session {
     ) -> Result<RowFlow, Stop<H::Error>>
         requires { is_live self.old ≡ true }
         ensures row { FollowsWith H.keeps_defaults
-            (handler_at (H.refusals handler.old) (H.setting handler.old) (H.heard handler.old))
-            (handler_at (H.refusals handler.new) (H.setting handler.new) (H.heard handler.new))
+            (H.at handler.old)
+            (H.at handler.new)
             (λ o. behind_moves (Counts len ∷ []) (numbered_row (V.accepts verifier.now) o self.old number body.now))
             self.old self.new result }
     {
@@ -160,8 +159,8 @@ impl Session {
     ) -> Result<RowFlow, Stop<H::Error>>
         requires { is_live self.old ≡ true }
         ensures row { FollowsWith H.keeps_defaults
-            (handler_at (H.refusals handler.old) (H.setting handler.old) (H.heard handler.old))
-            (handler_at (H.refusals handler.new) (H.setting handler.new) (H.heard handler.new))
+            (H.at handler.old)
+            (H.at handler.new)
             (λ o. numbered_row (V.accepts verifier.now) o self.old number body.now) self.old self.new result }
     {
         match number {

@@ -7,7 +7,6 @@ ghost use Rattle.sshc_client_table.specs.Moves.{Does, Tells};
 ghost use Rattle.sshc_client_table.specs.SessionRow.{HostKeysAnnounced, asking};
 ghost use Rattle.sshc_client_table.specs.SessionTable.Requests.{asked_row, channel_request_row, global_request_row};
 ghost use Rattle.sshc_client_table.specs.SessionTable.Requests.{requested_row};
-ghost use Rattle.sshc_client.specs.Handling.{handler_at};
 ghost use Rattle.sshc_client.specs.HandledRow.{Calls, FollowsOne};
 
 use super::Session;
@@ -30,8 +29,8 @@ impl Session {
         handler: &mut H,
     ) -> Result<RowFlow, Stop<H::Error>>
         ensures { FollowsOne H.keeps_defaults
-            (handler_at (H.refusals handler.old) (H.setting handler.old) (H.heard handler.old))
-            (handler_at (H.refusals handler.new) (H.setting handler.new) (H.heard handler.new))
+            (H.at handler.old)
+            (H.at handler.new)
             (channel_request_row self.old body.now) self.old self.new result }
     {
         let head = read_request_head(body)?;
@@ -52,8 +51,8 @@ impl Session {
         handler: &mut H,
     ) -> Result<RowFlow, Stop<H::Error>>
         ensures { FollowsOne H.keeps_defaults
-            (handler_at (H.refusals handler.old) (H.setting handler.old) (H.heard handler.old))
-            (handler_at (H.refusals handler.new) (H.setting handler.new) (H.heard handler.new))
+            (H.at handler.old)
+            (H.at handler.new)
             (requested_row id.0 request) self.old self.new result }
     {
         match request {
@@ -95,8 +94,8 @@ impl Session {
         handler: &mut H,
     ) -> Result<RowFlow, Stop<H::Error>>
         ensures { FollowsOne H.keeps_defaults
-            (handler_at (H.refusals handler.old) (H.setting handler.old) (H.heard handler.old))
-            (handler_at (H.refusals handler.new) (H.setting handler.new) (H.heard handler.new))
+            (H.at handler.old)
+            (H.at handler.new)
             (global_request_row body.now) self.old self.new result }
     {
         match read_global_request(self.alloc, body) {
@@ -112,8 +111,8 @@ impl Session {
         handler: &mut H,
     ) -> Result<RowFlow, Stop<H::Error>>
         ensures { FollowsOne H.keeps_defaults
-            (handler_at (H.refusals handler.old) (H.setting handler.old) (H.heard handler.old))
-            (handler_at (H.refusals handler.new) (H.setting handler.new) (H.heard handler.new))
+            (H.at handler.old)
+            (H.at handler.new)
             (asked_row request) self.old self.new result }
     {
         match request {
@@ -135,8 +134,8 @@ impl Session {
         handler: &mut H,
     ) -> Result<RowFlow, Stop<H::Error>>
         ensures { FollowsOne H.keeps_defaults
-            (handler_at (H.refusals handler.old) (H.setting handler.old) (H.heard handler.old))
-            (handler_at (H.refusals handler.new) (H.setting handler.new) (H.heard handler.new))
+            (H.at handler.old)
+            (H.at handler.new)
             (asked_row (PeerGlobal.HostKeys keys)) self.old self.new result }
     {
         let blobs = key_blobs(self.alloc, keys.as_slice())?;
@@ -153,8 +152,8 @@ impl Session {
     ) -> Result<RowFlow, Stop<H::Error>>
         requires { blobs ≡ blobs_of keys }
         ensures { FollowsOne H.keeps_defaults
-            (handler_at (H.refusals handler.old) (H.setting handler.old) (H.heard handler.old))
-            (handler_at (H.refusals handler.new) (H.setting handler.new) (H.heard handler.new))
+            (H.at handler.old)
+            (H.at handler.new)
             (asking [] (HostKeysAnnounced keys) (Tells (AnnouncedRecord (blobs_of keys)) ∷ []))
             self.old self.new result }
     {
@@ -171,8 +170,8 @@ impl Session {
         handler: &mut H,
     ) -> Result<(), Stop<H::Error>>
         ensures { Calls H.keeps_defaults (HostKeysAnnounced keys.items) (Ok tt)
-            (handler_at (H.refusals handler.old) (H.setting handler.old) (H.heard handler.old))
-            (handler_at (H.refusals handler.new) (H.setting handler.new) (H.heard handler.new))
+            (H.at handler.old)
+            (H.at handler.new)
             self.old self.new result }
     {
         lent(handler.openssh_ext_host_keys_announced(keys, self))

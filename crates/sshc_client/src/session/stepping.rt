@@ -3,10 +3,8 @@
 ghost use Rattle.std.specs.Prelude.{◌≡◌, true};
 ghost use Rattle.sshc_client_table.specs.SessionState.{is_live};
 ghost use Rattle.sshc_client_table.specs.SessionTable.{session_row};
-ghost use Rattle.sshc_client_state.specs.OpeningStep.{lent_session};
-ghost use Rattle.sshc_client.specs.Handling.{handler_at};
 ghost use Rattle.sshc_client.specs.HandledRow.{FollowsWith};
-ghost use Rattle.sshc_client.specs.HandledStep.{EndsRow, SessionSteps, StepsOpen, handler_gate};
+ghost use Rattle.sshc_client.specs.HandledStep.{EndsRow, SessionSteps, StepsOpen, handler_gate, lent_by};
 ghost use Rattle.sshc_client.specs.Stepping.{SessionStepped};
 
 use super::Session;
@@ -33,17 +31,13 @@ impl Session {
     ) -> Step<H::Error>
         ensures steps { SessionSteps H.keeps_defaults (handler_gate H.told_as (H.judges handler.old))
             (V.accepts verifier.now) event.now
-            (lent_session self.old (S.calls signer.old) (S.refusals signer.old) (H.refusals handler.old)
-            (H.setting handler.old) (H.heard handler.old))
-            (lent_session self.new (S.calls signer.new) (S.refusals signer.new) (H.refusals handler.new)
-            (H.setting handler.new) (H.heard handler.new))
+            (lent_by self.old (S.calls signer.old) (S.refusals signer.old) (H.at handler.old))
+            (lent_by self.new (S.calls signer.new) (S.refusals signer.new) (H.at handler.new))
             result }
         ensures defaults { H.keeps_defaults
             → SessionStepped (handler_gate H.told_as (H.judges handler.old)) (V.accepts verifier.now) event.now
-            (lent_session self.old (S.calls signer.old) (S.refusals signer.old) (H.refusals handler.old)
-            (H.setting handler.old) (H.heard handler.old))
-            (lent_session self.new (S.calls signer.new) (S.refusals signer.new) (H.refusals handler.new)
-            (H.setting handler.new) (H.heard handler.new))
+            (lent_by self.old (S.calls signer.old) (S.refusals signer.old) (H.at handler.old))
+            (lent_by self.new (S.calls signer.new) (S.refusals signer.new) (H.at handler.new))
             result }
     {
         self.step_with(event, handler, signer, verifier)
@@ -59,10 +53,8 @@ impl Session {
     ) -> Step<H::Error>
         ensures { SessionSteps H.keeps_defaults (handler_gate H.told_as (H.judges handler.old))
             (V.accepts verifier.now) event.now
-            (lent_session self.old (S.calls signer.old) (S.refusals signer.old) (H.refusals handler.old)
-            (H.setting handler.old) (H.heard handler.old))
-            (lent_session self.new (S.calls signer.new) (S.refusals signer.new) (H.refusals handler.new)
-            (H.setting handler.new) (H.heard handler.new))
+            (lent_by self.old (S.calls signer.old) (S.refusals signer.old) (H.at handler.old))
+            (lent_by self.new (S.calls signer.new) (S.refusals signer.new) (H.at handler.new))
             result }
     {
         match self.connection.life() {
@@ -91,8 +83,8 @@ impl Session {
     ) -> Step<H::Error>
         requires { is_live self.old ≡ true }
         ensures steps { StepsOpen H.keeps_defaults H.told_as (V.accepts verifier.now) event.now
-            (handler_at (H.refusals handler.old) (H.setting handler.old) (H.heard handler.old))
-            (handler_at (H.refusals handler.new) (H.setting handler.new) (H.heard handler.new))
+            (H.at handler.old)
+            (H.at handler.new)
             self.old self.new result }
     {
         let answer = self.row(event, handler, verifier);
@@ -134,8 +126,8 @@ impl Session {
     ) -> Result<RowFlow, Stop<H::Error>>
         requires { is_live self.old ≡ true }
         ensures row { FollowsWith H.keeps_defaults
-            (handler_at (H.refusals handler.old) (H.setting handler.old) (H.heard handler.old))
-            (handler_at (H.refusals handler.new) (H.setting handler.new) (H.heard handler.new))
+            (H.at handler.old)
+            (H.at handler.new)
             (λ o. session_row (V.accepts verifier.now) o self.old event.now) self.old self.new result }
     {
         match event {

@@ -9,7 +9,7 @@ ghost use Rattle.sshc_client_table.specs.SessionState.{is_live};
 ghost use Rattle.sshc_client_table.specs.SessionTable.Streams.{bytes_row, channel_close_row, channel_data_row};
 ghost use Rattle.sshc_client_table.specs.SessionTable.Streams.{channel_extended_data_row, channel_report_row};
 ghost use Rattle.sshc_client_table.specs.SessionTable.Streams.{window_adjust_row};
-ghost use Rattle.sshc_client.specs.Handling.{Opines, handler_at};
+ghost use Rattle.sshc_client.specs.Handling.{Opines};
 ghost use Rattle.sshc_client.specs.HandledRow.{FollowsOne, FollowsWith, Retargets, target_moves};
 
 use super::Session;
@@ -36,8 +36,8 @@ impl Session {
     ) -> Result<RowFlow, Stop<H::Error>>
         requires { is_live self.old ≡ true }
         ensures row { FollowsOne H.keeps_defaults
-            (handler_at (H.refusals handler.old) (H.setting handler.old) (H.heard handler.old))
-            (handler_at (H.refusals handler.new) (H.setting handler.new) (H.heard handler.new))
+            (H.at handler.old)
+            (H.at handler.new)
             (window_adjust_row self.old body.now) self.old self.new result }
     {
         let adjust = read_window_adjust(body)?;
@@ -58,8 +58,8 @@ impl Session {
     /// Calls the handler with a window target; its result is the next one, if it is above 0.
     fn retarget<H: Handler>(&mut self, id: ChannelId, target: u32, handler: &mut H)
         ensures { Retargets H.keeps_defaults id.0 target
-            (handler_at (H.refusals handler.old) (H.setting handler.old) (H.heard handler.old))
-            (handler_at (H.refusals handler.new) (H.setting handler.new) (H.heard handler.new))
+            (H.at handler.old)
+            (H.at handler.new)
             self.old self.new }
     {
         let window = handler.adjust_window(id, target);
@@ -79,8 +79,8 @@ impl Session {
     ) -> Result<RowFlow, Stop<H::Error>>
         requires { is_live self.old ≡ true }
         ensures row { FollowsWith H.keeps_defaults
-            (handler_at (H.refusals handler.old) (H.setting handler.old) (H.heard handler.old))
-            (handler_at (H.refusals handler.new) (H.setting handler.new) (H.heard handler.new))
+            (H.at handler.old)
+            (H.at handler.new)
             (λ o. bytes_row o self.old id.0 len output) self.old self.new result }
     {
         let target = self.connection.window_target();
@@ -100,8 +100,8 @@ impl Session {
     ) -> Result<RowFlow, Stop<H::Error>>
         requires { is_live self.old ≡ true }
         ensures row { FollowsWith H.keeps_defaults
-            (handler_at (H.refusals handler.old) (H.setting handler.old) (H.heard handler.old))
-            (handler_at (H.refusals handler.new) (H.setting handler.new) (H.heard handler.new))
+            (H.at handler.old)
+            (H.at handler.new)
             (λ o. channel_data_row o self.old body.now) self.old self.new result }
     {
         let data = read_data(body)?;
@@ -122,8 +122,8 @@ impl Session {
     ) -> Result<RowFlow, Stop<H::Error>>
         requires { is_live self.old ≡ true }
         ensures row { FollowsWith H.keeps_defaults
-            (handler_at (H.refusals handler.old) (H.setting handler.old) (H.heard handler.old))
-            (handler_at (H.refusals handler.new) (H.setting handler.new) (H.heard handler.new))
+            (H.at handler.old)
+            (H.at handler.new)
             (λ o. channel_extended_data_row o self.old body.now) self.old self.new result }
     {
         let data = read_extended_data(body)?;
@@ -150,8 +150,8 @@ impl Session {
         handler: &mut H,
     ) -> Result<RowFlow, Stop<H::Error>>
         ensures row { FollowsOne H.keeps_defaults
-            (handler_at (H.refusals handler.old) (H.setting handler.old) (H.heard handler.old))
-            (handler_at (H.refusals handler.new) (H.setting handler.new) (H.heard handler.new))
+            (H.at handler.old)
+            (H.at handler.new)
             (channel_report_row self.old happened body.now) self.old self.new result }
     {
         let id = read_channel(body)?;
@@ -169,8 +169,8 @@ impl Session {
         handler: &mut H,
     ) -> Result<RowFlow, Stop<H::Error>>
         ensures row { FollowsOne H.keeps_defaults
-            (handler_at (H.refusals handler.old) (H.setting handler.old) (H.heard handler.old))
-            (handler_at (H.refusals handler.new) (H.setting handler.new) (H.heard handler.new))
+            (H.at handler.old)
+            (H.at handler.new)
             (channel_close_row self.old body.now) self.old self.new result }
     {
         let id = read_channel(body)?;

@@ -61,13 +61,11 @@ impl Handler for Listening {
 
     ghost use Rattle.std.specs.Prelude.{[]};
 
-    ghost setting = { λ _. [] };
+    ghost at = { λ h. record { refusals = h; setting = []; heard = [] } };
 
     ghost judges = { λ _ _ _. Unit {0} };
 
     ghost told_as = { λ e. refused.Client e };
-
-    ghost refusals = { λ h. h };
 
     ghost keeps_defaults = { ⊥ };
 
