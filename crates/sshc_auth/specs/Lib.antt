@@ -12,6 +12,7 @@ pub mod Causes
 pub mod CauseLaws
 pub mod AskedLaws
 pub mod SessionWords
+pub mod AddedLaws
 pub mod EachRowLaws
 pub mod GateLaws
 pub mod OneKeyLaws
