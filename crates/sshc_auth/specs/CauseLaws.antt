@@ -63,7 +63,7 @@ packet_causes : (s t : OpeningState) (told : Told) (event : Event) → PacketRow
 packet_causes s t told event = record {
   passed = (tt, tt);
   extended = λ told. (tt, tt);
-  accepted = λ is. (tt, tt);
+  started = λ is. (tt, tt);
   failed = λ known partial none. failed_cause s t told event known partial none;
   succeeded = (tt, tt);
   banner = λ shown. (tt, tt);

@@ -134,7 +134,7 @@ module _ (s : OpeningState) where
   packet_keeps event R = record {
     passed = (tt, still s event);
     extended = λ told. none_keeps event (extensions_row s told) (told_has Nothing lists told s.waiters) ((λ later. (refl, later)), inl (refl, inl refl));
-    accepted = λ is. none_keeps event (goes (stored_request s.user s.method) (record s { phase = phases.Auth })) (stored_has Nothing lists s.user s.method (λ stored. (tt, tt))) (moved s event phases.Auth in_auth);
+    started = λ is. none_keeps event (goes (stored_request s.user s.method) (record s { phase = phases.Auth })) (stored_has Nothing lists s.user s.method (λ stored. (tt, tt))) (moved s event phases.Auth in_auth);
     failed = λ known partial none. failed_keeps event known partial;
     succeeded = none_keeps event (succeeded_row s) (behind_resolved Nothing lists s.ticket answers.AuthSuccess (records.Opened ∷ []) (tt, tt)) ((λ later. (refl, λ same. absurd cc)), inl (refl, inr refl));
     banner = λ shown. ((tt, tt), still s event);

@@ -221,7 +221,7 @@ module _ (user password : List ℕ) (short : IsShort user) where
   packet_sound s event R fits = record {
     passed = λ has. quiet_sound packet s event (passed_over s) (refl, still packet s fits);
     extended = λ told has. quiet_sound packet s event (extensions_row s told) (told_has Unwritten lists told s.waiters, (omega arith, fits));
-    accepted = λ is has. stored_sound s event s.method is refl fits;
+    started = λ is has. stored_sound s event s.method is refl fits;
     failed = λ known partial none has. failed_sound s event known partial fits;
     succeeded = λ has. quiet_sound packet s event (succeeded_row s) (
       behind_resolved Unwritten lists s.ticket answers.AuthSuccess (records.Opened ∷ []) refl,

@@ -45,7 +45,7 @@ packet_stays : (s : OpeningState) (R : Error → Type 0) → is_open s.phase ≡
 packet_stays s R is = record {
   passed = ((refl, is), tt);
   extended = λ told. ((refl, is), told_has AreSessions lists told s.waiters);
-  accepted = λ service. ((refl, refl), stored_has AreSessions lists s.user s.method (λ stored. (refl, tt)));
+  started = λ service. ((refl, refl), stored_has AreSessions lists s.user s.method (λ stored. (refl, tt)));
   failed = λ known partial none. failed_stays s known partial is;
   succeeded = (refl, behind_resolved AreSessions lists s.ticket AuthSuccess (Opened ∷ []) (refl, tt));
   banner = λ shown. ((refl, is), (refl, tt));
