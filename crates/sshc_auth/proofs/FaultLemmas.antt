@@ -2,18 +2,11 @@
 -- rose.
 use Rattle.std.proofs.Common.{◌≤◌, inl, inr, ℕ, Some, None, Err, refl, arith}
 use Rattle.sshc_wire.specs.Faults.{Rose}
-use Rattle.sshc_key.specs.Asking.{Asking, done, asks}
-use Rattle.sshc_auth_event.specs.declared.event.Event.{Event}
-use Rattle.sshc_transport.specs.declared.exchange.ExchangeResult.{ExchangeResult}
-use Rattle.sshc_auth.specs.declared.error.Error.{Error}
 use Rattle.sshc_auth.specs.declared.error.Error.TheVariants as errors
-use Rattle.sshc_auth.specs.declared.step.Told.{Told}
 use Rattle.sshc_auth.specs.CauseLaws.{FaultsOnRefusal, open_faults}
-use Rattle.sshc_auth.specs.Causes.{IsCause, CountRose}
-use Rattle.sshc_auth.specs.OpeningState.{OpeningState}
-use Rattle.sshc_auth.specs.OpeningTable.{open_row}
-use Rattle.sshc_auth.specs.Row.{Row, Span, SignerAt, FollowsAsking}
+use Rattle.sshc_auth.specs.Causes.{CountRose}
 use Rattle.sshc_auth.proofs.Rows.{gains}
+use Rattle.sshc_auth.specs.RowNames.{Asking, asks, done, Error, Event, ExchangeResult, FollowsAsking, IsCause, open_row, OpeningState, Row, SignerAt, Span, Told}
 
 rose_on : (before mid now : ℕ) → Rose before mid → mid ≤ now → Rose before now
 rose_on before mid now rose later = omega (arith, rose, later)

@@ -3,19 +3,11 @@
 use Rattle.std.proofs.Common.{ℕ, Bool, List, [], ◌∷◌, ◌++◌, Option, Some, None}
 use Rattle.std.specs.Prelude.{◌==◌, if◌then◌else◌}
 use Rattle.sshc_wire.specs.CasesLaws.{by_cases}
-use Rattle.sshc_wire.specs.declared.record.Record.{Record}
 use Rattle.sshc_wire.specs.declared.record.Record.TheVariants.{Payload, Resolved}
-use Rattle.sshc_wire.specs.declared.resolution.Resolution.{Resolution}
 use Rattle.sshc_wire.specs.declared.resolution.Resolution.TheVariants.{ExtInfoSeen}
-use Rattle.sshc_wire.specs.declared.ticket.Ticket.{Ticket}
-use Rattle.sshc_auth_event.specs.declared.method.Method.{Method}
-use Rattle.sshc_auth_request.specs.RequestTexts.{gssapi_token, request, service_request}
-use Rattle.sshc_auth.specs.declared.extension.Extension.{Extension}
 use Rattle.sshc_auth.specs.declared.opening.Waiter.{Waiter}
 use Rattle.sshc_auth.specs.Extensions.{answers_seen, answers_to, others, waits_for}
-use Rattle.sshc_auth.specs.OpeningTable.AuthGssapi.{last_token}
-use Rattle.sshc_auth.specs.OpeningTable.Service.{asked_for_service, stored_request}
-use Rattle.sshc_auth.specs.Row.{resolved}
+use Rattle.sshc_auth.specs.RowNames.{asked_for_service, Extension, gssapi_token, last_token, Method, Record, request, Resolution, resolved, service_request, stored_request, Ticket}
 
 -- it holds of no records, of two lists in a row, and of a resolved ticket
 pub record HoldsOfLists (L : List Record → Type 0) : Type 0 where

@@ -2,25 +2,13 @@
 -- one.
 use Rattle.std.proofs.Common.{◌≡◌, ℕ, ◌+◌, Bool, true, false, List, [], ◌∷◌, length, Option, Some, None, Result, Ok, Err, refl, ap, ◌∙◌, subst}
 use Rattle.std.specs.Prelude.{◌==◌, if◌then◌else◌}
-use Rattle.sshc_wire.specs.Reads.{text_at}
-use Rattle.sshc_wire.specs.declared.error.WireError.{WireError}
 use Rattle.sshc_wire.specs.declared.msg.TheConstants.{USERAUTH_BANNER}
-use Rattle.sshc_key.specs.declared.identity.PublicKeyOrCertificate.{PublicKeyOrCertificate}
-use Rattle.sshc_auth_event.specs.HostKey.{host_key}
-use Rattle.sshc_auth_event.specs.declared.event.Event.{Event}
 use Rattle.sshc_auth_event.specs.declared.event.Event.TheVariants as events
 use Rattle.sshc_transport.specs.declared.exchange.ExchangeFlag.TheVariants as flags
-use Rattle.sshc_transport.specs.declared.exchange.ExchangeResult.{ExchangeResult}
-use Rattle.sshc_auth.specs.declared.opening.Phase.{Phase}
 use Rattle.sshc_auth.specs.declared.opening.Phase.TheVariants as phases
-use Rattle.sshc_auth.specs.declared.step.Asks.{Asks}
 use Rattle.sshc_auth.specs.declared.step.Asks.TheVariants as asking
-use Rattle.sshc_auth.specs.OpeningState.{OpeningState}
-use Rattle.sshc_auth.specs.OpeningTable.{asked_of, event_asks, exchange_asks, key_asked, packet_asks, number_asks, is_held_back, banner_asks, banner_at_end}
-use Rattle.sshc_auth.specs.OpeningTable.Exchange.{has_kept_key}
-use Rattle.sshc_auth.specs.OpeningTable.Order.{is_out_of_turn}
-use Rattle.sshc_auth.specs.Row.{with_part}
-use Rattle.sshc_auth.specs.Stepping.{HasExchange, exchange_in}
+use Rattle.sshc_auth.specs.Stepping.{HasExchange}
+use Rattle.sshc_auth.specs.RowNames.{asked_of, Asks, banner_asks, banner_at_end, Event, event_asks, exchange_asks, exchange_in, ExchangeResult, has_kept_key, host_key, is_held_back, is_out_of_turn, key_asked, number_asks, OpeningState, packet_asks, Phase, PublicKeyOrCertificate, text_at, WireError, with_part}
 
 -- what an event asks, if it may come
 asks_in_turn : (s : OpeningState) (event : Event) → s.closed ≡ false → is_out_of_turn s event ≡ false → asked_of s event ≡ event_asks s event

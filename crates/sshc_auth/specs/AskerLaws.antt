@@ -1,14 +1,8 @@
 -- Whatever the table asks the signer, it asks as the session.
 use Rattle.std.proofs.Common.{◌≡◌}
-use Rattle.sshc_key.specs.Asking.{Answer, Asking, done, asks}
 use Rattle.sshc_key.specs.declared.signer.Asker.TheVariants.{Session}
-use Rattle.sshc_auth_event.specs.declared.event.Event.{Event}
-use Rattle.sshc_auth.specs.declared.step.Told.{Told}
 use Rattle.sshc_auth.specs.KeepLaws.{KeepsAsked, KeepsAsking, open_keeps}
-use Rattle.sshc_auth.specs.OpeningState.{OpeningState}
-use Rattle.sshc_auth.specs.OpeningTable.{open_row}
-use Rattle.sshc_auth.specs.Row.{Row}
-use Rattle.sshc_auth.specs.SessionWords.{Kept, kept_of}
+use Rattle.sshc_auth.specs.RowNames.{Answer, Asking, asks, done, Event, Kept, kept_of, open_row, OpeningState, Row, Told}
 
 -- whoever asks is the session
 abbrev pub AsksAsSession : {A : Type 0} → Asking A → Type 0

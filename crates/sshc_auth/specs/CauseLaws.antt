@@ -1,30 +1,13 @@
 -- Each row that refuses or ends has its cause: a law about the table, independent of the code that runs it.
 use Rattle.std.proofs.Common.{◌≡◌, ℕ, Bool, true, false, List, [], ◌∷◌, Option, Some, None, refl}
-use Rattle.sshc_wire.specs.declared.hash_alg.HashAlg.{HashAlg}
-use Rattle.sshc_wire.specs.declared.methods.MethodKind.{MethodKind}
-use Rattle.sshc_key.specs.Asking.{Answer, Asking, done, asks}
-use Rattle.sshc_key.specs.KeyGrammar.{Key}
-use Rattle.sshc_auth_event.specs.declared.event.Event.{Event}
 use Rattle.sshc_auth_event.specs.declared.event.Event.TheVariants as events
-use Rattle.sshc_transport.specs.declared.exchange.ExchangeFlag.{ExchangeFlag}
 use Rattle.sshc_transport.specs.declared.exchange.ExchangeFlag.TheVariants as flags
-use Rattle.sshc_transport.specs.declared.exchange.ExchangeResult.{ExchangeResult}
-use Rattle.sshc_auth.specs.declared.error.Error.{Error}
 use Rattle.sshc_auth.specs.declared.error.Error.TheVariants as errors
 use Rattle.sshc_auth.specs.declared.opening.Phase.TheVariants as phases
-use Rattle.sshc_auth.specs.declared.step.Told.{Told}
-use Rattle.sshc_auth.specs.Causes.{IsCause, WasToldNo, Why, why, Caused, AllCaused}
 pub use Rattle.sshc_auth.specs.EachRowLaws.{not_kept}
 use Rattle.sshc_auth.specs.EachRowLaws.{IsOther, PacketRows, TableRows, UserRows, each_row, failed_row}
-use Rattle.sshc_auth.specs.OpeningState.{OpeningState}
-use Rattle.sshc_auth.specs.OpeningTable.{open_row}
-use Rattle.sshc_auth.specs.OpeningTable.Auth.{authenticate_again_row}
-use Rattle.sshc_auth.specs.OpeningTable.AuthKey.{signed_by_row}
-use Rattle.sshc_auth.specs.OpeningTable.AuthPrompts.{info_response_row}
-use Rattle.sshc_auth.specs.OpeningTable.Exchange.{accepted_row, peer_kexinit_row_at}
-use Rattle.sshc_auth.specs.OpeningTable.Service.{authenticate_first_row}
-use Rattle.sshc_auth.specs.OpeningTable.User.{rekey_row, user_disconnect_row}
-use Rattle.sshc_auth.specs.Row.{Row, Next, stays, opens, ends as ends_with, refuses}
+use Rattle.sshc_auth.specs.Row.{ends as ends_with}
+use Rattle.sshc_auth.specs.RowNames.{accepted_row, AllCaused, Answer, Asking, asks, authenticate_again_row, authenticate_first_row, Caused, done, Error, Event, ExchangeFlag, ExchangeResult, HashAlg, info_response_row, IsCause, Key, MethodKind, Next, open_row, OpeningState, opens, peer_kexinit_row_at, refuses, rekey_row, Row, signed_by_row, stays, Told, user_disconnect_row, WasToldNo, Why, why}
 
 -- ---- what the law says
 
@@ -46,25 +29,14 @@ signed_cause : (P : Why) (s : OpeningState) (key : Key) (hash : Option HashAlg) 
 signed_cause P s key hash None fault = fault
 signed_cause P s key hash (Some signature) fault = tt
 
-failed_cause : (s t : OpeningState) (told : Told) (event : Event) (known : List MethodKind) (partial : Bool) → (known ≡ [] → IsCause (WasToldNo told) s event errors.NoAuthMethod) → HasCauses s told event (done (failed_row t known partial))
-failed_cause s t told event [] partial none = (none refl, tt)
-failed_cause s t told event (method ∷ known) partial none = (tt, tt)
-
-accepted_cause : (s : OpeningState) (told : Told) (x : ExchangeResult) (anonymous : Bool) → HasCauses s told (events.ExchangeDone x) (done (accepted_row anonymous s x))
-accepted_cause s told x true = (tt, tt)
-accepted_cause s told x false = (tt, tt)
-
-kexinit_cause : (s : OpeningState) (told : Told) (flag : ExchangeFlag) → HasCauses s told events.PeerKexinit (done (peer_kexinit_row_at flag s))
-kexinit_cause s told flags.Idle = (tt, tt)
-kexinit_cause s told flag = (tt, tt)
-
 -- the state of a packet's rows differs in the bytes that are counted
 packet_causes : (s t : OpeningState) (told : Told) (event : Event) → PacketRows (HasCauses s told event) (IsCause (WasToldNo told) s event) t
 packet_causes s t told event = record {
   passed = (tt, tt);
   extended = λ told. (tt, tt);
   started = λ is. (tt, tt);
-  failed = λ known partial none. failed_cause s t told event known partial none;
+  unknown = λ partial none. (none, tt);
+  failed = λ method known partial. (tt, tt);
   succeeded = (tt, tt);
   banner = λ shown. (tt, tt);
   prompted = λ name instructions asked. (tt, tt);
@@ -98,8 +70,10 @@ table_causes s told = record {
   refusal = λ event e other is. (is, other);
   disconnected = λ event info is. (is, tt);
   passed = λ event none. (tt, tt);
-  kexinit = λ flag is. kexinit_cause s told flag;
-  accepted = λ x anonymous first went. accepted_cause s told x anonymous;
+  begins = λ idle. (tt, tt);
+  joins = λ running. (tt, tt);
+  accepted = λ x first went. (tt, tt);
+  opened = λ x first went. (tt, tt);
   later = λ x behind same. (tt, tt);
   packets = λ n body counted behind. packet_causes s (record s { counted = counted }) told (events.Payload (n ∷ body));
   users = λ turn. user_causes s told;

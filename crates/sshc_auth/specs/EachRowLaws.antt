@@ -9,65 +9,44 @@ use Rattle.std.proofs.lemmas.Slice.Eq.{bytes_eq-Decides}
 use Rattle.sshc_wire.specs.CasesLaws.{not_true}
 use Rattle.sshc_wire.specs.Methods.{has_method, method_of, with_method}
 use Rattle.sshc_wire.specs.Names.{names_in}
-use Rattle.sshc_wire.specs.Reads.{boolean_at, number_at, string_at, text_at}
+use Rattle.sshc_wire.specs.Reads.{boolean_at, number_at}
 use Rattle.sshc_wire.specs.Reasons.{disconnect_of}
 use Rattle.sshc_wire.specs.declared.auth_record.AuthRecord.TheVariants.{AuthInfoRequest}
 use Rattle.sshc_wire.specs.declared.auth_record.GssapiRecord.{GssapiRecord}
 use Rattle.sshc_wire.specs.declared.auth_record.GssapiRecord.TheVariants as gssapi
 use Rattle.sshc_wire.specs.declared.auth_record.Prompt.{Prompt}
-use Rattle.sshc_wire.specs.declared.disconnect.Disconnect.{Disconnect}
-use Rattle.sshc_wire.specs.declared.error.WireError.{WireError}
-use Rattle.sshc_wire.specs.declared.hash_alg.HashAlg.{HashAlg}
-use Rattle.sshc_wire.specs.declared.methods.MethodKind.{MethodKind}
 use Rattle.sshc_wire.specs.declared.msg.TheConstants.{DISCONNECT, EXT_INFO, SERVICE_ACCEPT, USERAUTH_FAILURE, USERAUTH_SUCCESS, USERAUTH_BANNER, USERAUTH_PK_OK, USERAUTH_GSSAPI_TOKEN, USERAUTH_GSSAPI_ERROR, USERAUTH_GSSAPI_ERRTOK}
 use Rattle.sshc_wire.specs.declared.record.Record.TheVariants as records
-use Rattle.sshc_wire.specs.declared.resolution.Resolution.{Resolution}
 use Rattle.sshc_wire.specs.declared.resolution.Resolution.TheVariants as answers
-use Rattle.sshc_wire.specs.declared.ticket.Ticket.{Ticket}
-use Rattle.sshc_key.specs.Asking.{Asking, done}
-use Rattle.sshc_key.specs.KeyGrammar.{Key, key_text}
 use Rattle.sshc_key.specs.PairCode.{KeyPair}
-use Rattle.sshc_auth_event.specs.HostKey.{is_same_key}
-use Rattle.sshc_auth_event.specs.declared.event.Event.{Event}
 use Rattle.sshc_auth_event.specs.declared.event.Event.TheVariants as events
-use Rattle.sshc_auth_event.specs.declared.method.Method.{Method}
 use Rattle.sshc_auth_event.specs.declared.method.Method.TheVariants as methods
-use Rattle.sshc_auth_request.specs.RequestTexts.{gssapi_complete, gssapi_mic, gssapi_token, mic, signed}
-use Rattle.sshc_transport.specs.declared.exchange.ExchangeFlag.{ExchangeFlag}
+use Rattle.sshc_auth_request.specs.RequestTexts.{mic}
 use Rattle.sshc_transport.specs.declared.exchange.ExchangeFlag.TheVariants as flags
-use Rattle.sshc_transport.specs.declared.exchange.ExchangeKey.{ExchangeKey}
 use Rattle.sshc_transport.specs.declared.exchange.ExchangeKey.TheVariants as keys
-use Rattle.sshc_transport.specs.declared.exchange.ExchangeResult.{ExchangeResult}
 use Rattle.sshc_auth.specs.declared.ended.Ended.TheVariants.{RemoteDisconnect}
 use Rattle.sshc_auth.specs.declared.ended.RemoteDisconnectInfo.{RemoteDisconnectInfo}
-use Rattle.sshc_auth.specs.declared.error.Error.{Error}
 use Rattle.sshc_auth.specs.declared.error.Error.TheVariants as errors
-use Rattle.sshc_auth.specs.declared.extension.Extension.{Extension}
-use Rattle.sshc_auth.specs.declared.opening.Class.{Class}
 use Rattle.sshc_auth.specs.declared.opening.Class.TheVariants as classes
-use Rattle.sshc_auth.specs.declared.opening.Phase.{Phase}
 use Rattle.sshc_auth.specs.declared.opening.Phase.TheVariants as phases
 use Rattle.sshc_auth.specs.declared.order.EventSort.TheVariants as sorts
-use Rattle.sshc_auth.specs.declared.step.Told.{Told}
 use Rattle.sshc_auth.specs.declared.step.Told.TheVariants as telling
-use Rattle.sshc_auth.specs.Causes.{FieldKind, number, boolean, string, text, prompts, extensions, end, Breaks, BreaksBehind, after_prompts, rest_of, AreTooMany, AreUnknown, HasTooManyPrompts, IsLocal, IsUnexpectedIn, IsCause, IsChannelOpen, IsKeptKey, IsEarly, IsNotUsers, IsOutOfTurn, IsPeersEnd, WasToldNo, ReadsTexts, accept_parts, parts_in}
+use Rattle.sshc_auth.specs.Causes.{FieldKind, number, boolean, string, text, prompts, extensions, end, Breaks, BreaksBehind, after_prompts, rest_of, AreTooMany, AreUnknown, HasTooManyPrompts, IsLocal, IsUnexpectedIn, IsChannelOpen, IsEarly, IsNotUsers, IsOutOfTurn, IsPeersEnd, ReadsTexts, accept_parts, parts_in}
 use Rattle.sshc_auth.specs.Extensions.{extensions_at}
-use Rattle.sshc_auth.specs.OpeningState.{OpeningState, is_awaiting}
-use Rattle.sshc_auth.specs.OpeningTable.{answer_row, auth_row, gssapi_row, is_pk_ok, auth_packet_row, packet_row_in, held_packet_row, is_exchanging, numbered_row, payload_row, authenticate_row_in, plain_row, user_row, unopened_row, event_row, turn_row, open_row}
-use Rattle.sshc_auth.specs.OpeningTable.Auth.{answered, userauth_failure_row, userauth_success_row, userauth_banner_row, authenticate_again_row, known_behind, known_methods, add_known, next_without}
-use Rattle.sshc_auth.specs.OpeningTable.AuthGssapi.{gssapi_step, gssapi_response_row, gssapi_token_row, gssapi_error_row, gssapi_errtok_row, is_gssapi, last_token, user_token_row, user_mic_row, user_complete_row}
-use Rattle.sshc_auth.specs.OpeningTable.AuthKey.{ask_certificate_row, ask_key_row, pk_ok_row, is_pk_ok_body, is_at_end, key_row, sign_row, taken}
-use Rattle.sshc_auth.specs.OpeningTable.AuthPrompts.{info_request_row, info_response_row, is_too_many, prompts_at, prompts_row}
-use Rattle.sshc_auth.specs.OpeningTable.Awaiting.{awaiting_row, answer_row_in, behind_session_id, responses_row, signature_row, signed_row, is_signed, unsigned_row}
-use Rattle.sshc_auth.specs.OpeningTable.Exchange.{peer_kexinit_row, peer_kexinit_row_at, accepted_row, exchanged, first_exchange_row, exchange_row_in, exchange_done_row, has_kept_key}
-use Rattle.sshc_auth.specs.OpeningTable.ExtInfo.{ext_info_row, extensions_row, is_third}
-use Rattle.sshc_auth.specs.OpeningTable.Order.{sort_of, is_early, is_early_at, is_early_awaiting, is_out_of_turn, packet_in, ticket_of}
-use Rattle.sshc_auth.specs.OpeningTable.Packets.{disconnect_row, disconnect_reason_row, is_ignored, waits_for_exchange, is_too_much, counted_with}
-use Rattle.sshc_auth.specs.OpeningTable.Service.{service_accept_row, service_packet_row, authenticate_first_row, stored_request}
-use Rattle.sshc_auth.specs.OpeningTable.User.{answered_row, gone_row, host_keys_answer, rekey_row, await_extension_info_row, get_server_sig_algs_row, is_seen, sig_algs_answer, user_disconnect_row}
-use Rattle.sshc_auth.specs.Row.{Row, opens, ends as ends_with, refused, resolved, goes, passed_over, ends_at, with_part, broken_row}
-use Rattle.sshc_auth.specs.SessionWords.{HandsCertificate, HandsKey, SignsStored, kept_of}
-use Rattle.sshc_auth.specs.Stepping.{exchange_in}
+use Rattle.sshc_auth.specs.OpeningTable.{answer_row, gssapi_row, authenticate_row_in, user_row, unopened_row, event_row}
+use Rattle.sshc_auth.specs.OpeningTable.Auth.{answered, userauth_failure_row, userauth_success_row, known_behind, known_methods, add_known, next_without}
+use Rattle.sshc_auth.specs.OpeningTable.AuthGssapi.{gssapi_response_row, gssapi_token_row, gssapi_error_row, gssapi_errtok_row, is_gssapi, user_token_row, user_mic_row, user_complete_row}
+use Rattle.sshc_auth.specs.OpeningTable.AuthKey.{ask_certificate_row, ask_key_row, pk_ok_row, is_pk_ok_body, is_at_end, key_row, sign_row}
+use Rattle.sshc_auth.specs.OpeningTable.AuthPrompts.{info_request_row, is_too_many, prompts_at, prompts_row}
+use Rattle.sshc_auth.specs.OpeningTable.Awaiting.{awaiting_row, answer_row_in, responses_row, signature_row, signed_row}
+use Rattle.sshc_auth.specs.OpeningTable.Exchange.{peer_kexinit_row, first_exchange_row}
+use Rattle.sshc_auth.specs.OpeningTable.ExtInfo.{ext_info_row, is_third}
+use Rattle.sshc_auth.specs.OpeningTable.Order.{sort_of, is_early, is_early_at, is_early_awaiting, packet_in, ticket_of}
+use Rattle.sshc_auth.specs.OpeningTable.Packets.{disconnect_row, disconnect_reason_row, is_ignored, waits_for_exchange}
+use Rattle.sshc_auth.specs.OpeningTable.Service.{service_accept_row, service_packet_row}
+use Rattle.sshc_auth.specs.OpeningTable.User.{gone_row, host_keys_answer, await_extension_info_row, get_server_sig_algs_row, is_seen, sig_algs_answer}
+use Rattle.sshc_auth.specs.Row.{ends as ends_with}
+use Rattle.sshc_auth.specs.RowNames.{accepted_row, answered_row, Asking, auth_packet_row, auth_row, authenticate_again_row, authenticate_first_row, behind_session_id, broken_row, Class, counted_with, Disconnect, done, ends_at, Error, Event, exchange_done_row, exchange_in, exchange_row_in, exchanged, ExchangeFlag, ExchangeKey, ExchangeResult, Extension, extensions_row, goes, gssapi_complete, gssapi_mic, gssapi_step, gssapi_token, HandsCertificate, HandsKey, has_kept_key, HashAlg, held_packet_row, info_response_row, is_awaiting, is_exchanging, is_out_of_turn, is_pk_ok, is_same_key, is_signed, is_too_much, IsCause, IsKeptKey, kept_of, Key, key_text, last_token, Method, MethodKind, numbered_row, open_row, OpeningState, opens, packet_row_in, passed_over, payload_row, peer_kexinit_row_at, Phase, plain_row, refused, rekey_row, Resolution, resolved, Row, signed, SignsStored, stored_request, string_at, taken, text_at, Ticket, Told, turn_row, unsigned_row, user_disconnect_row, userauth_banner_row, WasToldNo, WireError, with_part}
 
 -- ---- what the table comes to
 
@@ -110,8 +89,9 @@ pub record PacketRows (P : Asking Row → Type 0) (R : Error → Type 0) (s : Op
   pub passed : P (done (passed_over s))
   pub extended : (told : List Extension) → P (done (extensions_row s told))
   pub started : s.phase ≡ phases.Service → P (done (started_row s))
-  pub failed : (known : List MethodKind) (partial : Bool) → (known ≡ [] → R errors.NoAuthMethod) →
-      P (done (failed_row s known partial))
+  pub unknown : (partial : Bool) → R errors.NoAuthMethod → P (done (failed_row s [] partial))
+  pub failed : (method : MethodKind) (known : List MethodKind) (partial : Bool) →
+      P (done (failed_row s (method ∷ known) partial))
   pub succeeded : P (done (succeeded_row s))
   pub banner : (shown : List ℕ) → P (done (goes (records.AuthBanner shown ∷ []) s))
   pub prompted : (name instructions : List ℕ) (asked : List Prompt) → P (done (prompted_row s name instructions asked))
@@ -161,9 +141,12 @@ pub record TableRows (P : Event → Asking Row → Type 0) (s : OpeningState) (t
   pub refusal : (event : Event) (e : Error) → IsOther e → IsCause (WasToldNo told) s event e → P event (done (refused e))
   pub disconnected : (event : Event) (info : RemoteDisconnectInfo) → IsPeersEnd event info → P event (done (left_row info))
   pub passed : (event : Event) → exchange_in event ≡ None → P event (done (passed_over s))
-  pub kexinit : (flag : ExchangeFlag) → s.flag ≡ flag → P events.PeerKexinit (done (peer_kexinit_row_at flag s))
-  pub accepted : (x : ExchangeResult) (anonymous : Bool) → s.phase ≡ phases.Exchanging → told ≡ telling.Went →
-      P (events.ExchangeDone x) (done (accepted_row anonymous s x))
+  pub begins : s.flag ≡ flags.Idle → P events.PeerKexinit (done (peer_kexinit_row_at flags.Idle s))
+  pub joins : s.flag ≢ flags.Idle → P events.PeerKexinit (done (peer_kexinit_row_at flags.Peer s))
+  pub accepted : (x : ExchangeResult) → s.phase ≡ phases.Exchanging → told ≡ telling.Went →
+      P (events.ExchangeDone x) (done (accepted_row false s x))
+  pub opened : (x : ExchangeResult) → s.phase ≡ phases.Exchanging → told ≡ telling.Went →
+      P (events.ExchangeDone x) (done (accepted_row true s x))
   pub later : (x : ExchangeResult) → s.phase ≢ phases.Exchanging → has_kept_key s x ≡ true →
       P (events.ExchangeDone x) (done (goes (records.KexDone x.names.kex ∷ []) (exchanged s)))
   pub packets : (n : ℕ) (body : List ℕ) (counted : ℕ) → s.phase ≢ phases.Exchanging →
@@ -440,13 +423,20 @@ module _ (P : Event → Asking Row → Type 0) (s : OpeningState) (told : Told) 
           (λ no7. unexpected (rw is (inl (rw (no6, no7) refl)))))
 
       -- Auth
-      failure_holds : Broken (text ∷ boolean ∷ end ∷ []) → (AreUnknown (text_at body) → IsCause (WasToldNo told) s packet errors.NoAuthMethod) → Holds (userauth_failure_row t body)
+      failed_holds : (known : List MethodKind) (partial : Bool) →
+          (known ≡ [] → IsCause (WasToldNo told) s packet errors.NoAuthMethod) → Holds (failed_row t known partial)
+      failed_holds [] partial none = leaf.unknown partial (none refl)
+      failed_holds (method ∷ known) partial none = leaf.failed method known partial
+
+      failure_holds : Broken (text ∷ boolean ∷ end ∷ []) →
+          (AreUnknown (text_at body) → IsCause (WasToldNo told) s packet errors.NoAuthMethod) →
+          Holds (userauth_failure_row t body)
       unfolding userauth_failure_row
       failure_holds breaks unknown =
           part_row Holds (boolean ∷ end ∷ []) (text_at body) _ breaks (λ list rest read breaks.
           part_row Holds (end ∷ []) (boolean_at rest) _ breaks (λ partial left also breaks.
           let known = known_methods (names_in list) in end_row Holds left (failed_row t known partial) breaks
-          (leaf.failed known partial (λ none. unknown (rw read (none_known (names_in list) none))))))
+          (failed_holds known partial (λ none. unknown (rw read (none_known (names_in list) none))))))
 
       banner_holds : Broken (text ∷ text ∷ end ∷ []) → Holds (userauth_banner_row t body)
       unfolding userauth_banner_row
@@ -629,17 +619,26 @@ module _ (P : Event → Asking Row → Type 0) (s : OpeningState) (told : Told) 
     user_has events.Gone none = mine.gone calm
     user_has event none = unopened_has event none
 
+  accepted_has : (x : ExchangeResult) (anonymous : Bool) → s.phase ≡ phases.Exchanging → told ≡ telling.Went →
+      Has (events.ExchangeDone x) (accepted_row anonymous s x)
+  accepted_has x false first went = rows.accepted x first went
+  accepted_has x true first went = rows.opened x first went
+
   exchange_rows : (x : ExchangeResult) → ExchangeRows (P (events.ExchangeDone x)) s x told
   exchange_rows x = record {
     refusal = rows.refusal (events.ExchangeDone x);
-    accepted = rows.accepted x s.settings.anonymous;
+    accepted = accepted_has x s.settings.anonymous;
     later = rows.later x;
   }
+
+  kexinit_has : (flag : ExchangeFlag) → s.flag ≡ flag → Has events.PeerKexinit (peer_kexinit_row_at flag s)
+  kexinit_has flags.Idle is = rows.begins is
+  kexinit_has flag is = rows.joins (λ idle. let clash : flag ≡ flags.Idle = sym is ∙ idle in absurd cc)
 
   plain_has : (event : Event) → is_awaiting s.phase ≡ false → is_early_at s.flag (sort_of event) ≡ false →
       Has event (plain_row s event told)
   unfolding plain_row user_row unopened_row peer_kexinit_row exchange_done_row
-  plain_has events.PeerKexinit calm early = rows.kexinit s.flag refl
+  plain_has events.PeerKexinit calm early = kexinit_has s.flag refl
   plain_has (events.ExchangeDone x) calm early =
       exchange_holds (P (events.ExchangeDone x)) s x told (exchange_rows x) s.phase (peers s.flag early) refl
   plain_has (events.Payload packet) calm early = rows.passed (events.Payload packet) refl

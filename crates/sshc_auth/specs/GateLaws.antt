@@ -2,25 +2,13 @@
 -- past that exchange (RFC 4253, sections 7 and 8): a law about the table.
 use Rattle.std.proofs.Common.{◌≡◌, ◌⊎◌, inl, inr, Bool, true, false, List, None, refl}
 use Rattle.std.specs.List.{AllByRecursion}
-use Rattle.sshc_wire.specs.declared.record.Record.{Record}
-use Rattle.sshc_key.specs.Asking.{Asking, Always}
 use Rattle.sshc_key.specs.AskingLaws.{always_also}
-use Rattle.sshc_auth_event.specs.declared.event.Event.{Event}
 use Rattle.sshc_auth_event.specs.declared.event.Event.TheVariants as events
-use Rattle.sshc_transport.specs.declared.exchange.ExchangeFlag.{ExchangeFlag}
 use Rattle.sshc_transport.specs.declared.exchange.ExchangeFlag.TheVariants as flags
-use Rattle.sshc_transport.specs.declared.exchange.ExchangeResult.{ExchangeResult}
-use Rattle.sshc_auth.specs.declared.opening.Phase.{Phase}
 use Rattle.sshc_auth.specs.declared.opening.Phase.TheVariants as phases
-use Rattle.sshc_auth.specs.declared.step.Told.{Told}
 use Rattle.sshc_auth.specs.declared.step.Told.TheVariants as telling
 use Rattle.sshc_auth.specs.EachRowLaws.{TableRows, each_row, exchange_row}
-use Rattle.sshc_auth.specs.OpeningState.{OpeningState, is_awaiting}
-use Rattle.sshc_auth.specs.OpeningTable.{open_row}
-use Rattle.sshc_auth.specs.OpeningTable.Exchange.{accepted_row, peer_kexinit_row_at}
-use Rattle.sshc_auth.specs.Row.{Row, Next, stays, opens, ends, refuses}
-use Rattle.sshc_auth.specs.SessionWords.{IsFirst, IsNoPacket}
-use Rattle.sshc_auth.specs.Stepping.{exchange_in}
+use Rattle.sshc_auth.specs.RowNames.{accepted_row, Always, Asking, ends, Event, exchange_in, ExchangeFlag, ExchangeResult, is_awaiting, IsFirst, IsNoPacket, Next, open_row, OpeningState, opens, peer_kexinit_row_at, Phase, Record, refuses, Row, stays, Told}
 
 -- ---- what the law says
 
@@ -53,10 +41,6 @@ no_exchange : (event : Event) → exchange_in event ≡ None → IsNoExchange ev
 no_exchange (events.ExchangeDone x) none = absurd cc
 no_exchange event none = tt
 
-kexinit_first : (s : OpeningState) (flag : ExchangeFlag) → s.flag ≡ flag → IsFirst s → StaysFirst events.PeerKexinit (peer_kexinit_row_at flag s)
-kexinit_first s flags.Idle is first = absurd (first.runs is)
-kexinit_first s flag is first = (tt, (record { exchanging = first.exchanging; runs = λ same. absurd cc; fresh = first.fresh }, tt))
-
 -- no answer is awaited while the first exchange runs, and no user's event may come
 calm : (phase : Phase) → phase ≡ phases.Exchanging → is_awaiting phase ≡ true → ⊥
 calm phases.Exchanging is awaits = cc
@@ -74,8 +58,10 @@ first_rows s told first = record {
   refusal = λ event e other is denied. (tt, tt);
   disconnected = λ event info is denied. (tt, tt);
   passed = λ event none denied. (tt, (first, no_exchange event none));
-  kexinit = λ flag is denied. kexinit_first s flag is first;
-  accepted = λ x anonymous exchanging went denied. absurd (denied went);
+  begins = λ idle. absurd (first.runs idle);
+  joins = λ running denied. (tt, (record { exchanging = first.exchanging; runs = λ same. absurd cc; fresh = first.fresh }, tt));
+  accepted = λ x exchanging went denied. absurd (denied went);
+  opened = λ x exchanging went denied. absurd (denied went);
   later = λ x behind same denied. absurd (behind first.exchanging);
   packets = λ n body counted behind. absurd (behind first.exchanging);
   users = λ turn. absurd (no_users s first turn);

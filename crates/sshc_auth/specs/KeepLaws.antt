@@ -3,39 +3,15 @@
 use Rattle.std.proofs.Common.{◌≡◌, ◌≢◌, inl, inr, Bool, true, false, List, [], ◌∷◌, ◌++◌, Option, Some, None, refl}
 use Rattle.std.specs.List.{AllByRecursion}
 use Rattle.sshc_wire.specs.declared.auth_record.AuthRecord.TheVariants.{SignRequest, SignRequestCert}
-use Rattle.sshc_wire.specs.declared.hash_alg.HashAlg.{HashAlg}
-use Rattle.sshc_wire.specs.declared.methods.MethodKind.{MethodKind}
-use Rattle.sshc_wire.specs.declared.record.Record.{Record}
 use Rattle.sshc_wire.specs.declared.record.Record.TheVariants as records
 use Rattle.sshc_wire.specs.declared.resolution.Resolution.TheVariants as answers
-use Rattle.sshc_key.specs.Asking.{Answer, Asking, done, asks}
-use Rattle.sshc_key.specs.KeyGrammar.{Key}
 use Rattle.sshc_key.specs.declared.signer.Asker.TheVariants.{Session}
-use Rattle.sshc_auth_event.specs.declared.event.Event.{Event}
 use Rattle.sshc_auth_event.specs.declared.event.Event.TheVariants as events
-use Rattle.sshc_auth_request.specs.RequestTexts.{gssapi_complete, gssapi_mic, request}
-use Rattle.sshc_transport.specs.declared.exchange.ExchangeFlag.{ExchangeFlag}
 use Rattle.sshc_transport.specs.declared.exchange.ExchangeFlag.TheVariants as flags
-use Rattle.sshc_transport.specs.declared.exchange.ExchangeResult.{ExchangeResult}
-use Rattle.sshc_auth.specs.declared.error.Error.{Error}
-use Rattle.sshc_auth.specs.declared.opening.Phase.{Phase}
 use Rattle.sshc_auth.specs.declared.opening.Phase.TheVariants as phases
-use Rattle.sshc_auth.specs.declared.step.Told.{Told}
 use Rattle.sshc_auth.specs.AddedLaws.{HoldsOfLists, behind_resolved, resolved_has, service_has, stored_has, token_has, told_has}
 use Rattle.sshc_auth.specs.EachRowLaws.{PacketRows, TableRows, UserRows, each_row, failed_row, succeeded_row}
-use Rattle.sshc_auth.specs.OpeningState.{OpeningState}
-use Rattle.sshc_auth.specs.OpeningTable.{open_row}
-use Rattle.sshc_auth.specs.OpeningTable.Auth.{authenticate_again_row}
-use Rattle.sshc_auth.specs.OpeningTable.AuthGssapi.{last_token}
-use Rattle.sshc_auth.specs.OpeningTable.AuthKey.{signed_by_row}
-use Rattle.sshc_auth.specs.OpeningTable.AuthPrompts.{info_response_row}
-use Rattle.sshc_auth.specs.OpeningTable.Awaiting.{unsigned_row}
-use Rattle.sshc_auth.specs.OpeningTable.Exchange.{accepted_row, peer_kexinit_row_at}
-use Rattle.sshc_auth.specs.OpeningTable.ExtInfo.{extensions_row}
-use Rattle.sshc_auth.specs.OpeningTable.Service.{asked_for_service, authenticate_first_row, stored_request}
-use Rattle.sshc_auth.specs.OpeningTable.User.{answered_row, rekey_row, user_disconnect_row}
-use Rattle.sshc_auth.specs.Row.{Row, Next, stays, opens, ends, refuses, goes}
-use Rattle.sshc_auth.specs.SessionWords.{Kept, kept_of, HandsNothing, HandsKey, HandsCertificate, SignsStored, KeepsSession, KeepsRequest}
+use Rattle.sshc_auth.specs.RowNames.{accepted_row, Answer, answered_row, asked_for_service, Asking, asks, authenticate_again_row, authenticate_first_row, done, ends, Error, Event, ExchangeFlag, ExchangeResult, extensions_row, goes, gssapi_complete, gssapi_mic, HandsCertificate, HandsKey, HandsNothing, HashAlg, info_response_row, KeepsRequest, KeepsSession, Kept, kept_of, Key, last_token, MethodKind, Next, open_row, OpeningState, opens, peer_kexinit_row_at, Phase, Record, refuses, rekey_row, request, Row, signed_by_row, SignsStored, stays, stored_request, Told, unsigned_row, user_disconnect_row}
 
 -- ---- what the law says
 
@@ -121,11 +97,6 @@ module _ (s : OpeningState) where
   none_keeps : (event : Event) (row : Row) → Nothing row.records → KeepsNext (kept_of s) event row.next → Keeps (kept_of s) event row
   none_keeps event row none next = (none_hands (kept_of s) row.next row.records none, next)
 
-  failed_keeps : (event : Event) (known : List MethodKind) (partial : Bool) → Keeps (kept_of s) event (failed_row s known partial)
-  failed_keeps event [] partial = none_keeps event (failed_row s [] partial) (resolved_has Nothing lists s.ticket (answers.AuthFailure [] partial)) tt
-  failed_keeps event (method ∷ known) partial =
-      none_keeps event (failed_row s (method ∷ known) partial) (resolved_has Nothing lists s.ticket (answers.AuthFailure (method ∷ known) partial)) ((λ later. (refl, later)), inl (refl, inr refl))
-
   signed_keeps : (event : Event) (key : Key) (hash : Option HashAlg) (answer : Answer) → KeepsAsked (kept_of s) event (done (signed_by_row s key hash answer))
   signed_keeps event key hash None = ((tt, tt), tt, tt)
   signed_keeps event key hash (Some signature) = (((tt, tt), ((λ later. (refl, later)), inl (refl, inr refl))), refl, (tt, tt))
@@ -135,7 +106,9 @@ module _ (s : OpeningState) where
     passed = (tt, still s event);
     extended = λ told. none_keeps event (extensions_row s told) (told_has Nothing lists told s.waiters) ((λ later. (refl, later)), inl (refl, inl refl));
     started = λ is. none_keeps event (goes (stored_request s.user s.method) (record s { phase = phases.Auth })) (stored_has Nothing lists s.user s.method (λ stored. (tt, tt))) (moved s event phases.Auth in_auth);
-    failed = λ known partial none. failed_keeps event known partial;
+    unknown = λ partial none. none_keeps event (failed_row s [] partial) (resolved_has Nothing lists s.ticket (answers.AuthFailure [] partial)) tt;
+    failed = λ method known partial. none_keeps event (failed_row s (method ∷ known) partial)
+        (resolved_has Nothing lists s.ticket (answers.AuthFailure (method ∷ known) partial)) ((λ later. (refl, later)), inl (refl, inr refl));
     succeeded = none_keeps event (succeeded_row s) (behind_resolved Nothing lists s.ticket answers.AuthSuccess (records.Opened ∷ []) (tt, tt)) ((λ later. (refl, λ same. absurd cc)), inl (refl, inr refl));
     banner = λ shown. ((tt, tt), still s event);
     prompted = λ name instructions asked. ((tt, tt), moved s event phases.AwaitResponses (λ same. absurd cc));
@@ -168,21 +141,15 @@ module _ (s : OpeningState) where
     unsigned = λ event. none_keeps event (unsigned_row s) (resolved_has Nothing lists s.ticket answers.Dropped) ((λ later. (refl, in_auth)), inl (refl, inl refl));
   }
 
-kexinit_keeps : (s : OpeningState) (flag : ExchangeFlag) → Keeps (kept_of s) events.PeerKexinit (peer_kexinit_row_at flag s)
-kexinit_keeps s flags.Idle = ((tt, tt), still s events.PeerKexinit)
-kexinit_keeps s flag = (tt, still s events.PeerKexinit)
-
-accepted_keeps : (s : OpeningState) (x : ExchangeResult) (anonymous : Bool) → s.phase ≡ phases.Exchanging → Keeps (kept_of s) (events.ExchangeDone x) (accepted_row anonymous s x)
-accepted_keeps s x false is = ((tt, tt), ((λ later. absurd (later is)), inl (refl, inl refl)))
-accepted_keeps s x true is = ((tt, (tt, tt)), ((λ later. absurd (later is)), inl (refl, inl refl)))
-
 table_keeps : (s : OpeningState) (told : Told) → TableRows (RowKeeps s) s told
 table_keeps s told = record {
   refusal = λ event e other is. (tt, tt);
   disconnected = λ event info is. (tt, tt);
   passed = λ event none. (tt, still s event);
-  kexinit = λ flag is. kexinit_keeps s flag;
-  accepted = λ x anonymous first went. accepted_keeps s x anonymous first;
+  begins = λ idle. ((tt, tt), still s events.PeerKexinit);
+  joins = λ running. (tt, still s events.PeerKexinit);
+  accepted = λ x first went. ((tt, tt), ((λ later. absurd (later first)), inl (refl, inl refl)));
+  opened = λ x first went. ((tt, (tt, tt)), ((λ later. absurd (later first)), inl (refl, inl refl)));
   later = λ x behind same. ((tt, tt), still s (events.ExchangeDone x));
   packets = λ n body counted behind. packet_keeps (record s { counted = counted }) (events.Payload (n ∷ body)) _;
   users = λ turn. user_keeps s;

@@ -9,6 +9,7 @@ pub mod OpeningTable
 pub mod Signing
 pub mod Stepping
 pub mod Causes
+pub mod RowNames
 pub mod CauseLaws
 pub mod AskedLaws
 pub mod SessionWords

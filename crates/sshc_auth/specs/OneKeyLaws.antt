@@ -2,20 +2,11 @@
 -- the table.
 use Rattle.std.proofs.Common.{◌≡◌, ◌≢◌, true, ap, sym}
 use Rattle.std.proofs.lemmas.Slice.Eq.{bytes_eq-Decides}
-use Rattle.sshc_key.specs.Asking.{Always}
-use Rattle.sshc_auth_event.specs.HostKey.{is_same_key}
 use Rattle.sshc_auth_event.specs.declared.event.Event.TheVariants as events
-use Rattle.sshc_transport.specs.declared.exchange.ExchangeKey.{ExchangeKey}
 use Rattle.sshc_transport.specs.declared.exchange.ExchangeKey.TheVariants as keys
-use Rattle.sshc_transport.specs.declared.exchange.ExchangeResult.{ExchangeResult}
 use Rattle.sshc_auth.specs.declared.opening.Phase.TheVariants as phases
-use Rattle.sshc_auth.specs.declared.step.Told.{Told}
-use Rattle.sshc_auth.specs.Causes.{IsKeptKey}
-use Rattle.sshc_auth.specs.OpeningState.{OpeningState}
 use Rattle.sshc_auth.specs.EachRowLaws.{exchange_row}
-use Rattle.sshc_auth.specs.OpeningTable.{open_row}
-use Rattle.sshc_auth.specs.OpeningTable.Exchange.{has_kept_key}
-use Rattle.sshc_auth.specs.Row.{Row, Next, stays, opens}
+use Rattle.sshc_auth.specs.RowNames.{Always, ExchangeKey, ExchangeResult, has_kept_key, is_same_key, IsKeptKey, Next, open_row, OpeningState, opens, Row, stays, Told}
 
 -- a key that passes the test is the one that the session has
 same_found : (kept key : ExchangeKey) → is_same_key kept key ≡ true → (key ≡ kept) × (key ≢ keys.Missing)

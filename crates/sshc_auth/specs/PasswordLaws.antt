@@ -11,46 +11,19 @@ use Rattle.sshc_wire.specs.CasesLaws.{both_true}
 use Rattle.sshc_wire.specs.FormatLaws.{ok_is}
 use Rattle.sshc_wire.specs.LookupLaws.{same_bytes}
 use Rattle.sshc_wire.specs.PartsLaws.{strings}
-use Rattle.sshc_wire.specs.Reads.{string_at}
-use Rattle.sshc_wire.specs.Wire.{IsShort, string_text, u32_text}
-use Rattle.sshc_wire.specs.declared.disconnect.Disconnect.{Disconnect}
-use Rattle.sshc_wire.specs.declared.error.WireError.{WireError}
-use Rattle.sshc_wire.specs.declared.hash_alg.HashAlg.{HashAlg}
-use Rattle.sshc_wire.specs.declared.methods.MethodKind.{MethodKind}
-use Rattle.sshc_wire.specs.declared.record.Record.{Record}
+use Rattle.sshc_wire.specs.Wire.{string_text, u32_text}
 use Rattle.sshc_wire.specs.declared.record.Record.TheVariants as records
 use Rattle.sshc_wire.specs.declared.resolution.Resolution.TheVariants as answers
-use Rattle.sshc_wire.specs.declared.ticket.Ticket.{Ticket}
-use Rattle.sshc_key.specs.Asking.{Answer, Asking, Always}
-use Rattle.sshc_key.specs.KeyGrammar.{Key, key_text}
 use Rattle.sshc_key.specs.RequestNames.{request_name}
-use Rattle.sshc_auth_event.specs.declared.event.Event.{Event}
 use Rattle.sshc_auth_event.specs.declared.event.Event.TheVariants as events
-use Rattle.sshc_auth_event.specs.declared.method.Method.{Method}
 use Rattle.sshc_auth_event.specs.declared.method.Method.TheVariants as methods
-use Rattle.sshc_auth_request.specs.RequestTexts.{disconnect, gssapi_complete, gssapi_mic, gssapi_token, info_response, key_part, method_text, request, request_head, service_request, signed, signed_request, unsigned_request}
-use Rattle.sshc_transport.specs.declared.exchange.ExchangeFlag.{ExchangeFlag}
+use Rattle.sshc_auth_request.specs.RequestTexts.{disconnect, info_response, key_part, method_text, request_head, signed_request, unsigned_request}
 use Rattle.sshc_transport.specs.declared.exchange.ExchangeFlag.TheVariants as flags
-use Rattle.sshc_transport.specs.declared.exchange.ExchangeResult.{ExchangeResult}
-use Rattle.sshc_auth.specs.declared.error.Error.{Error}
-use Rattle.sshc_auth.specs.declared.opening.Phase.{Phase}
 use Rattle.sshc_auth.specs.declared.opening.Phase.TheVariants as phases
-use Rattle.sshc_auth.specs.declared.step.Told.{Told}
 use Rattle.sshc_auth.specs.AddedLaws.{HoldsOfLists, behind_resolved, resolved_has, service_has, token_has, told_has}
 use Rattle.sshc_auth.specs.EachRowLaws.{PacketRows, TableRows, UserRows, each_row, failed_row, prompted_row, succeeded_row}
-use Rattle.sshc_auth.specs.OpeningState.{OpeningState}
-use Rattle.sshc_auth.specs.OpeningTable.{open_row}
-use Rattle.sshc_auth.specs.OpeningTable.Auth.{authenticate_again_row}
-use Rattle.sshc_auth.specs.OpeningTable.AuthGssapi.{gssapi_step, last_token}
-use Rattle.sshc_auth.specs.OpeningTable.AuthKey.{signed_by_row, taken}
-use Rattle.sshc_auth.specs.OpeningTable.AuthPrompts.{info_response_row}
-use Rattle.sshc_auth.specs.OpeningTable.Awaiting.{behind_session_id, is_signed, unsigned_row}
-use Rattle.sshc_auth.specs.OpeningTable.Exchange.{accepted_row, peer_kexinit_row_at}
-use Rattle.sshc_auth.specs.OpeningTable.ExtInfo.{extensions_row}
-use Rattle.sshc_auth.specs.OpeningTable.Service.{asked_for_service, authenticate_first_row, stored_request}
-use Rattle.sshc_auth.specs.OpeningTable.User.{answered_row, rekey_row, user_disconnect_row}
-use Rattle.sshc_auth.specs.Passwords.{FitsIn, FitsRequest, HasShortUser, once_if, password_packet, times_asked, times_waiting, times_waiting_in, times_written}
-use Rattle.sshc_auth.specs.Row.{Row, Next, stays, opens, ends, refuses, goes, passed_over, resolved}
+use Rattle.sshc_auth.specs.Passwords.{FitsIn, once_if, times_waiting_in}
+use Rattle.sshc_auth.specs.RowNames.{accepted_row, Always, Answer, answered_row, asked_for_service, Asking, authenticate_again_row, authenticate_first_row, behind_session_id, Disconnect, ends, Error, Event, ExchangeFlag, ExchangeResult, extensions_row, FitsRequest, goes, gssapi_complete, gssapi_mic, gssapi_step, gssapi_token, HashAlg, HasShortUser, info_response_row, is_signed, IsShort, Key, key_text, last_token, Method, MethodKind, Next, open_row, OpeningState, opens, passed_over, password_packet, peer_kexinit_row_at, Phase, Record, refuses, rekey_row, request, resolved, Row, service_request, signed, signed_by_row, stays, stored_request, string_at, taken, Ticket, times_asked, times_waiting, times_written, Told, unsigned_row, user_disconnect_row, WireError}
 
 -- ---- a request by key is not a request by password
 
@@ -196,10 +169,6 @@ module _ (user password : List ℕ) (short : IsShort user) where
       let waiting : times_waiting packet s ≡ once_if (bytes_eq (request s.user method) packet) = rw (is, stored) refl in
       (omega (arith, waiting), (in_auth packet s fits).1)
 
-  failed_sound : (s : OpeningState) (event : Event) (known : List MethodKind) (partial : Bool) → FitsRequest s → Sound packet s event (failed_row s known partial)
-  failed_sound s event [] partial fits = quiet_sound packet s event (failed_row s [] partial) (resolved_has Unwritten lists s.ticket (answers.AuthFailure [] partial), tt)
-  failed_sound s event (kind ∷ known) partial fits = quiet_sound packet s event (failed_row s (kind ∷ known) partial) (resolved_has Unwritten lists s.ticket (answers.AuthFailure (kind ∷ known) partial), settled packet s fits)
-
   -- ---- keys
 
   signed_none : (s : OpeningState) (key : Key) (hash : Option HashAlg) (signature : List ℕ) → FitsRequest s → times_written packet (records.Payload (signed_request s.user key hash signature) ∷ []) ≡ 0
@@ -222,7 +191,10 @@ module _ (user password : List ℕ) (short : IsShort user) where
     passed = λ has. quiet_sound packet s event (passed_over s) (refl, still packet s fits);
     extended = λ told has. quiet_sound packet s event (extensions_row s told) (told_has Unwritten lists told s.waiters, (omega arith, fits));
     started = λ is has. stored_sound s event s.method is refl fits;
-    failed = λ known partial none has. failed_sound s event known partial fits;
+    unknown = λ partial none has. quiet_sound packet s event (failed_row s [] partial)
+        (resolved_has Unwritten lists s.ticket (answers.AuthFailure [] partial), tt);
+    failed = λ kind known partial has. quiet_sound packet s event (failed_row s (kind ∷ known) partial)
+        (resolved_has Unwritten lists s.ticket (answers.AuthFailure (kind ∷ known) partial), settled packet s fits);
     succeeded = λ has. quiet_sound packet s event (succeeded_row s) (
       behind_resolved Unwritten lists s.ticket answers.AuthSuccess (records.Opened ∷ []) refl,
       (omega arith, record { short = fits.short; handed = λ same. absurd cc; fresh = λ same. absurd cc }),
@@ -313,21 +285,15 @@ module _ (user password : List ℕ) (short : IsShort user) where
     unsigned = λ event has. quiet_sound packet s event (unsigned_row s) (resolved_has Unwritten lists s.ticket answers.Dropped, (omega arith, (in_auth packet s fits).1));
   }
 
-  kexinit_sound : (s : OpeningState) (flag : ExchangeFlag) → FitsRequest s → Sound packet s events.PeerKexinit (peer_kexinit_row_at flag s)
-  kexinit_sound s flags.Idle fits = (omega arith, fits)
-  kexinit_sound s flag fits = (omega arith, fits)
-
-  accepted_sound : (s : OpeningState) (x : ExchangeResult) (anonymous : Bool) → s.phase ≡ phases.Exchanging → FitsRequest s → Sound packet s (events.ExchangeDone x) (accepted_row anonymous s x)
-  accepted_sound s x false is fits = (omega (arith, fresh_waits packet s.user s.method (fits.fresh is)), record { short = fits.short; handed = λ same. absurd cc; fresh = λ same. absurd cc })
-  accepted_sound s x true is fits = (omega arith, record { short = fits.short; handed = λ same. absurd cc; fresh = λ same. absurd cc })
-
   table_sound : (s : OpeningState) (told : Told) → FitsRequest s → TableRows (SoundRow s) s told
   table_sound s told fits = record {
     refusal = λ event e other is has. (omega arith, tt);
     disconnected = λ event info is has. (omega arith, tt);
     passed = λ event none has. quiet_sound packet s event (passed_over s) (refl, still packet s fits);
-    kexinit = λ flag is has. kexinit_sound s flag fits;
-    accepted = λ x anonymous first went has. accepted_sound s x anonymous first fits;
+    begins = λ idle has. (omega arith, fits);
+    joins = λ running has. (omega arith, fits);
+    accepted = λ x first went has. (omega (arith, fresh_waits packet s.user s.method (fits.fresh first)), record { short = fits.short; handed = λ same. absurd cc; fresh = λ same. absurd cc });
+    opened = λ x first went has. (omega arith, record { short = fits.short; handed = λ same. absurd cc; fresh = λ same. absurd cc });
     later = λ x behind same has. (omega arith, fits);
     packets = λ n body counted behind. packet_sound (record s { counted = counted }) (events.Payload (n ∷ body)) _ fits;
     users = λ turn. user_sound s fits;

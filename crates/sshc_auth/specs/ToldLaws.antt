@@ -3,36 +3,17 @@
 use Rattle.std.proofs.Common.{◌≡◌, ℕ, ◌+◌, Bool, true, false, List, [], ◌∷◌, length, Option, Some, None, Result, Ok, Err, refl, ap, sym, ◌∙◌, subst, arith}
 use Rattle.std.specs.Prelude.{◌==◌, if◌then◌else◌}
 use Rattle.std.proofs.lemmas.Bool.Decides.{nat_tests}
-use Rattle.sshc_wire.specs.Reads.{text_at}
-use Rattle.sshc_wire.specs.declared.error.WireError.{WireError}
 use Rattle.sshc_wire.specs.declared.msg.TheConstants.{USERAUTH_BANNER}
-use Rattle.sshc_wire.specs.declared.record.Record.{Record}
 use Rattle.sshc_wire.specs.declared.record.Record.TheVariants as records
-use Rattle.sshc_key.specs.Asking.{Asking, Always, asks, done}
-use Rattle.sshc_key.specs.declared.identity.PublicKeyOrCertificate.{PublicKeyOrCertificate}
-use Rattle.sshc_auth_event.specs.HostKey.{host_key}
-use Rattle.sshc_auth_event.specs.declared.event.Event.{Event}
 use Rattle.sshc_auth_event.specs.declared.event.Event.TheVariants as events
-use Rattle.sshc_transport.specs.declared.exchange.ExchangeFlag.{ExchangeFlag}
 use Rattle.sshc_transport.specs.declared.exchange.ExchangeFlag.TheVariants as flags
-use Rattle.sshc_transport.specs.declared.exchange.ExchangeResult.{ExchangeResult}
 use Rattle.sshc_auth.specs.declared.error.Error.TheVariants.{OutOfTurn, Pending, RekeyKey}
-use Rattle.sshc_auth.specs.declared.opening.Class.{Class}
 use Rattle.sshc_auth.specs.declared.opening.Class.TheVariants as classes
-use Rattle.sshc_auth.specs.declared.opening.Phase.{Phase}
 use Rattle.sshc_auth.specs.declared.opening.Phase.TheVariants as phases
 use Rattle.sshc_auth.specs.declared.step.Asks.TheVariants as asking
-use Rattle.sshc_auth.specs.declared.step.Told.{Told}
 use Rattle.sshc_auth.specs.declared.step.Told.TheVariants as telling
-use Rattle.sshc_auth.specs.OpeningState.{OpeningState, is_awaiting}
-use Rattle.sshc_auth.specs.OpeningTable.{open_row, turn_row, is_pk_ok, plain_row, payload_row, numbered_row, held_packet_row, phase_packet_row, auth_packet_row, auth_row, is_exchanging, packet_row_in, asked_of, event_asks, exchange_asks, key_asked, packet_asks, number_asks, is_held_back, banner_asks, banner_at_end}
-use Rattle.sshc_auth.specs.OpeningTable.Auth.{userauth_banner_row}
-use Rattle.sshc_auth.specs.OpeningTable.Exchange.{accepted_row, exchange_done_row, exchange_row_in, exchanged, has_kept_key}
-use Rattle.sshc_auth.specs.OpeningTable.Order.{is_out_of_turn}
-use Rattle.sshc_auth.specs.OpeningTable.Packets.{counted_with, is_too_much}
-use Rattle.sshc_auth.specs.Row.{Row, Next, stays, opens, ends, refuses, refused, goes, ends_at, with_part, broken_row}
-use Rattle.sshc_auth.specs.Stepping.{exchange_in}
-use Rattle.sshc_auth.specs.SessionWords.{reported}
+use Rattle.sshc_auth.specs.OpeningTable.{phase_packet_row}
+use Rattle.sshc_auth.specs.RowNames.{accepted_row, Always, asked_of, Asking, asks, auth_packet_row, auth_row, banner_asks, banner_at_end, broken_row, Class, counted_with, done, ends, ends_at, Event, event_asks, exchange_asks, exchange_done_row, exchange_in, exchange_row_in, exchanged, ExchangeFlag, ExchangeResult, goes, has_kept_key, held_packet_row, host_key, is_awaiting, is_exchanging, is_held_back, is_out_of_turn, is_pk_ok, is_too_much, key_asked, Next, number_asks, numbered_row, open_row, OpeningState, opens, packet_asks, packet_row_in, payload_row, Phase, plain_row, PublicKeyOrCertificate, Record, refused, refuses, reported, Row, stays, text_at, Told, turn_row, userauth_banner_row, WireError, with_part}
 
 -- the record is the first
 abbrev pub Reports : Option Record → List Record → Type 0

@@ -1,41 +1,19 @@
 -- Laws of the definitions in specs/OpeningStays.antt.
-use Rattle.std.proofs.Common.{◌≡◌, ◌++◌, Bool, true, false, List, [], ◌∷◌, Option, Some, None, refl}
-use Rattle.sshc_wire.specs.declared.hash_alg.HashAlg.{HashAlg}
-use Rattle.sshc_wire.specs.declared.methods.MethodKind.{MethodKind}
+use Rattle.std.proofs.Common.{◌≡◌, false, [], ◌∷◌, Option, Some, None, refl}
 use Rattle.sshc_wire.specs.declared.record.Record.TheVariants.{Opened, Payload}
 use Rattle.sshc_wire.specs.declared.resolution.Resolution.TheVariants.{AuthFailure, AuthSuccess, Dropped}
-use Rattle.sshc_key.specs.Asking.{Answer, Asking, Always}
-use Rattle.sshc_key.specs.KeyGrammar.{Key}
-use Rattle.sshc_auth_event.specs.declared.event.Event.{Event}
-use Rattle.sshc_auth_event.specs.declared.event.Event.TheVariants as events
-use Rattle.sshc_auth_request.specs.RequestTexts.{gssapi_complete, gssapi_mic, request}
-use Rattle.sshc_transport.specs.declared.exchange.ExchangeFlag.{ExchangeFlag}
-use Rattle.sshc_transport.specs.declared.exchange.ExchangeFlag.TheVariants as flags
-use Rattle.sshc_auth.specs.declared.error.Error.{Error}
-use Rattle.sshc_auth.specs.declared.step.Told.{Told}
 use Rattle.sshc_auth.specs.AddedLaws.{HoldsOfLists, behind_resolved, resolved_has, service_has, stored_has, token_has, told_has}
-use Rattle.sshc_auth.specs.EachRowLaws.{PacketRows, TableRows, UserRows, each_row, failed_row}
-use Rattle.sshc_auth.specs.OpeningState.{OpeningState}
-use Rattle.sshc_auth.specs.OpeningTable.{open_row}
-use Rattle.sshc_auth.specs.OpeningTable.Auth.{authenticate_again_row}
-use Rattle.sshc_auth.specs.OpeningTable.AuthKey.{signed_by_row}
-use Rattle.sshc_auth.specs.OpeningTable.AuthPrompts.{info_response_row}
-use Rattle.sshc_auth.specs.OpeningTable.Exchange.{accepted_row, peer_kexinit_row_at}
-use Rattle.sshc_auth.specs.OpeningTable.Service.{asked_for_service, authenticate_first_row}
-use Rattle.sshc_auth.specs.OpeningTable.User.{rekey_row, user_disconnect_row}
-use Rattle.sshc_auth.specs.Row.{Row}
-use Rattle.sshc_transport.specs.declared.exchange.ExchangeResult.{ExchangeResult}
+use Rattle.sshc_auth.specs.EachRowLaws.{PacketRows, TableRows, UserRows, each_row}
 use Rattle.sshc_client_table.specs.SessionState.{is_open}
 use Rattle.sshc_client_table.specs.SessionRecords.{AreSessions}
 use Rattle.sshc_client_table.specs.SessionRecordsLaws.{sessions_on}
 use Rattle.sshc_client_table.specs.OpeningStays.{Stays}
+use Rattle.sshc_auth.specs.declared.error.Error.{Error}
+use Rattle.sshc_auth.specs.declared.step.Told.{Told}
+use Rattle.sshc_auth.specs.RowNames.{Always, Answer, asked_for_service, Asking, authenticate_again_row, authenticate_first_row, Event, gssapi_complete, gssapi_mic, HashAlg, info_response_row, Key, open_row, OpeningState, rekey_row, request, Row, signed_by_row, user_disconnect_row}
 
 lists : HoldsOfLists AreSessions
 lists = record { none = tt; two = sessions_on; resolves = λ ticket resolution. (refl, tt) }
-
-failed_stays : (s : OpeningState) (known : List MethodKind) (partial : Bool) → is_open s.phase ≡ false → Stays s.closed (failed_row s known partial)
-failed_stays s [] partial is = (tt, resolved_has AreSessions lists s.ticket (AuthFailure [] partial))
-failed_stays s (method ∷ known) partial is = ((refl, is), resolved_has AreSessions lists s.ticket (AuthFailure (method ∷ known) partial))
 
 signed_stays : (s : OpeningState) (key : Key) (hash : Option HashAlg) (answer : Answer) → is_open s.phase ≡ false → Stays s.closed (signed_by_row s key hash answer)
 signed_stays s key hash None is = (tt, tt)
@@ -46,7 +24,8 @@ packet_stays s R is = record {
   passed = ((refl, is), tt);
   extended = λ told. ((refl, is), told_has AreSessions lists told s.waiters);
   started = λ service. ((refl, refl), stored_has AreSessions lists s.user s.method (λ stored. (refl, tt)));
-  failed = λ known partial none. failed_stays s known partial is;
+  unknown = λ partial none. (tt, resolved_has AreSessions lists s.ticket (AuthFailure [] partial));
+  failed = λ method known partial. ((refl, is), resolved_has AreSessions lists s.ticket (AuthFailure (method ∷ known) partial));
   succeeded = (refl, behind_resolved AreSessions lists s.ticket AuthSuccess (Opened ∷ []) (refl, tt));
   banner = λ shown. ((refl, is), (refl, tt));
   prompted = λ name instructions asked. ((refl, refl), (refl, tt));
@@ -79,21 +58,15 @@ user_stays s is = record {
   unsigned = λ event. ((refl, refl), resolved_has AreSessions lists s.ticket Dropped);
 }
 
-kexinit_stays : (s : OpeningState) (flag : ExchangeFlag) → is_open s.phase ≡ false → Stays s.closed (peer_kexinit_row_at flag s)
-kexinit_stays s flags.Idle is = ((refl, is), (refl, tt))
-kexinit_stays s flag is = ((refl, is), tt)
-
-accepted_stays : (s : OpeningState) (x : ExchangeResult) (anonymous : Bool) → Stays s.closed (accepted_row anonymous s x)
-accepted_stays s x false = ((refl, refl), (refl, tt))
-accepted_stays s x true = (refl, (refl, (refl, tt)))
-
 table_stays : (s : OpeningState) (told : Told) → is_open s.phase ≡ false → TableRows (StaysRow s) s told
 table_stays s told is = record {
   refusal = λ event e other cause. (tt, tt);
   disconnected = λ event info left. (tt, tt);
   passed = λ event none. ((refl, is), tt);
-  kexinit = λ flag same. kexinit_stays s flag is;
-  accepted = λ x anonymous first went. accepted_stays s x anonymous;
+  begins = λ idle. ((refl, is), (refl, tt));
+  joins = λ running. ((refl, is), tt);
+  accepted = λ x first went. ((refl, refl), (refl, tt));
+  opened = λ x first went. (refl, (refl, (refl, tt)));
   later = λ x behind same. ((refl, is), (refl, tt));
   packets = λ n body counted behind. packet_stays (record s { counted = counted }) _ is;
   users = λ turn. user_stays s is;
