@@ -1,13 +1,13 @@
 -- Each row that refuses or ends has its cause: a law about the table, independent of the code that runs it.
-use Rattle.std.proofs.Common.{◌≡◌, ℕ, Bool, true, false, List, [], ◌∷◌, Option, Some, None, refl}
+use Rattle.std.proofs.Common.{◌≡◌, ℕ, List, ◌∷◌, Option, Some, None, refl}
 use Rattle.sshc_auth_event.specs.declared.event.Event.TheVariants as events
 use Rattle.sshc_transport.specs.declared.exchange.ExchangeFlag.TheVariants as flags
 use Rattle.sshc_auth.specs.declared.error.Error.TheVariants as errors
 use Rattle.sshc_auth.specs.declared.opening.Phase.TheVariants as phases
 pub use Rattle.sshc_auth.specs.EachRowLaws.{not_kept}
-use Rattle.sshc_auth.specs.EachRowLaws.{IsOther, PacketRows, TableRows, UserRows, each_row, failed_row}
+use Rattle.sshc_auth.specs.EachRowLaws.{IsOther, PacketRows, TableRows, UserRows, each_row}
 use Rattle.sshc_auth.specs.Row.{ends as ends_with}
-use Rattle.sshc_auth.specs.RowNames.{accepted_row, AllCaused, Answer, Asking, asks, authenticate_again_row, authenticate_first_row, Caused, done, Error, Event, ExchangeFlag, ExchangeResult, HashAlg, info_response_row, IsCause, Key, MethodKind, Next, open_row, OpeningState, opens, peer_kexinit_row_at, refuses, rekey_row, Row, signed_by_row, stays, Told, user_disconnect_row, WasToldNo, Why, why}
+use Rattle.sshc_auth.specs.RowNames.{AllCaused, Answer, Asking, asks, authenticate_again_row, authenticate_first_row, Caused, done, Error, Event, ExchangeResult, HashAlg, info_response_row, IsCause, Key, Next, open_row, OpeningState, opens, refuses, rekey_row, Row, signed_by_row, stays, Told, user_disconnect_row, WasToldNo, Why, why}
 
 -- ---- what the law says
 

@@ -8,7 +8,7 @@ use Rattle.sshc_transport.specs.declared.exchange.ExchangeFlag.TheVariants as fl
 use Rattle.sshc_auth.specs.declared.opening.Phase.TheVariants as phases
 use Rattle.sshc_auth.specs.declared.step.Told.TheVariants as telling
 use Rattle.sshc_auth.specs.EachRowLaws.{TableRows, each_row, exchange_row}
-use Rattle.sshc_auth.specs.RowNames.{accepted_row, Always, Asking, ends, Event, exchange_in, ExchangeFlag, ExchangeResult, is_awaiting, IsFirst, IsNoPacket, Next, open_row, OpeningState, opens, peer_kexinit_row_at, Phase, Record, refuses, Row, stays, Told}
+use Rattle.sshc_auth.specs.RowNames.{accepted_row, Always, Asking, ends, Event, exchange_in, ExchangeResult, is_awaiting, IsFirst, IsNoPacket, Next, open_row, OpeningState, opens, Phase, Record, refuses, Row, stays, Told}
 
 -- ---- what the law says
 
