@@ -95,48 +95,25 @@ FitsNext (refuses e) = Unit {0}
 abbrev pub Sound : List ℕ → OpeningState → Event → Row → Type 0
 Sound packet s event row = (times_written packet row.records + waits_next packet s row.next ≤ times_waiting packet s + times_asked packet event) × FitsNext row.next
 
--- the packet waits no more often than before
-abbrev Calm : List ℕ → OpeningState → OpeningState → Type 0
-Calm packet s t = (times_waiting packet t ≤ times_waiting packet s) × FitsRequest t
-
-abbrev CalmNext : List ℕ → OpeningState → Next → Type 0
-CalmNext packet s (stays t) = Calm packet s t
-CalmNext packet s (opens t) = Calm packet s t
-CalmNext packet s (ends e) = Unit {0}
-CalmNext packet s (refuses e) = Unit {0}
-
--- the row doesn't write the packet
-abbrev Quiet : List ℕ → OpeningState → Row → Type 0
-Quiet packet s row = (times_written packet row.records ≡ 0) × CalmNext packet s row.next
-
-next_sound : (packet : List ℕ) (s : OpeningState) (event : Event) (n : ℕ) (next : Next) → n ≡ 0 → CalmNext packet s next → (n + waits_next packet s next ≤ times_waiting packet s + times_asked packet event) × FitsNext next
-next_sound packet s event n (stays t) none calm = (omega (arith, none, calm.0), calm.1)
-next_sound packet s event n (opens t) none calm = (omega (arith, none, calm.0), calm.1)
-next_sound packet s event n (ends e) none calm = (omega (arith, none), tt)
-next_sound packet s event n (refuses e) none calm = (omega (arith, none), tt)
-
-quiet_sound : (packet : List ℕ) (s : OpeningState) (event : Event) (row : Row) → Quiet packet s row → Sound packet s event row
-quiet_sound packet s event row quiet = next_sound packet s event (times_written packet row.records) row.next quiet.0 quiet.1
-
 -- ---- states
-
-still : (packet : List ℕ) (s : OpeningState) → FitsRequest s → Calm packet s s
-still packet s fits = (omega arith, fits)
 
 none_waits : (packet : List ℕ) (phase : Phase) (user : List ℕ) → times_waiting_in phase packet user None ≡ 0
 none_waits packet phases.Service user = refl
 none_waits packet phase user = refl
 
 -- the method is cleared
-settled : (packet : List ℕ) (s : OpeningState) → FitsRequest s → Calm packet s (record s { method = None })
-settled packet s fits = (omega (arith, none_waits packet s.phase s.user), record { short = fits.short; handed = fits.handed; fresh = λ is. refl })
+settled : (s : OpeningState) → FitsRequest s → FitsRequest (record s { method = None })
+settled s fits = record { short = fits.short; handed = fits.handed; fresh = λ is. refl }
 
--- no packet waits after phase Service
-in_auth : (packet : List ℕ) (s : OpeningState) → FitsRequest s → Calm packet s (record s { phase = phases.Auth })
-in_auth packet s fits = (omega arith, record { short = fits.short; handed = λ same. absurd cc; fresh = λ same. absurd cc })
+-- in most phases only the user matters
+abbrev IsCalm : Phase → Type 0
+IsCalm phases.AwaitSignature = ⊥
+IsCalm phases.Exchanging = ⊥
+IsCalm phase = Unit {0}
 
-in_responses : (packet : List ℕ) (s : OpeningState) → FitsRequest s → Calm packet s (record s { phase = phases.AwaitResponses })
-in_responses packet s fits = (omega arith, record { short = fits.short; handed = λ same. absurd cc; fresh = λ same. absurd cc })
+fits_in : {phase : Phase} {id user bytes : List ℕ} {method : Option Method} → IsCalm phase → IsShort user →
+    FitsIn phase id user method bytes
+fits_in calm short = record { short = short; handed = λ is. absurd (rw is at calm); fresh = λ is. absurd (rw is at calm) }
 
 -- ---- what was handed out, and what follows the session id
 
@@ -162,22 +139,23 @@ module _ (user password : List ℕ) (short : IsShort user) where
   lists : HoldsOfLists Unwritten
   lists = record { none = refl; two = none_two packet; resolves = λ ticket resolution. refl }
 
-  stored_sound : (s : OpeningState) (event : Event) (method : Option Method) → s.phase ≡ phases.Service → s.method ≡ method → FitsRequest s → Sound packet s event (goes (stored_request s.user method) (record s { phase = phases.Auth }))
-  stored_sound s event None is stored fits = quiet_sound packet s event (goes [] (record s { phase = phases.Auth })) (refl, in_auth packet s fits)
+  stored_sound : (s : OpeningState) (event : Event) (method : Option Method) → s.phase ≡ phases.Service →
+      s.method ≡ method → FitsRequest s →
+      Sound packet s event (goes (stored_request s.user method) (record s { phase = phases.Auth }))
+  stored_sound s event None is stored fits = (omega arith, fits_in tt fits.short)
   stored_sound s event (Some method) is stored fits =
       let waiting : times_waiting packet s ≡ once_if (bytes_eq (request s.user method) packet) = rw (is, stored) refl in
-      (omega (arith, waiting), (in_auth packet s fits).1)
+      (omega (arith, waiting), fits_in tt fits.short)
 
   -- ---- keys
 
-  signed_none : (s : OpeningState) (key : Key) (hash : Option HashAlg) (signature : List ℕ) → FitsRequest s → times_written packet (records.Payload (signed_request s.user key hash signature) ∷ []) ≡ 0
-  signed_none s key hash signature fits =
-      other_written (signed_request s.user key hash signature) packet (λ same. key_no_password s.user user password key hash (string_text signature) fits.short short same)
-
-  by_answer : (s : OpeningState) (event : Event) (key : Key) (hash : Option HashAlg) (answer : Answer) → FitsRequest s → Sound packet s event (signed_by_row s key hash answer)
+  by_answer : (s : OpeningState) (event : Event) (key : Key) (hash : Option HashAlg) (answer : Answer) → FitsRequest s →
+      Sound packet s event (signed_by_row s key hash answer)
   by_answer s event key hash None fits = (omega arith, tt)
   by_answer s event key hash (Some signature) fits =
-      quiet_sound packet s event (signed_by_row s key hash (Some signature)) (signed_none s key hash signature fits, settled packet s fits)
+      let none = other_written (signed_request s.user key hash signature) packet
+      (key_no_password s.user user password key hash (string_text signature) fits.short short) in
+      (omega (arith, none, none_waits packet s.phase s.user), settled s fits)
 
   handed_fits : (s : OpeningState) (key : Key) (hash : Option HashAlg) → FitsRequest s → FitsIn phases.AwaitSignature s.session_id s.user None (signed s.session_id s.user key hash)
   handed_fits s key hash fits = record { short = fits.short; handed = λ same. (key, hash, refl); fresh = λ same. refl }
@@ -187,21 +165,22 @@ module _ (user password : List ℕ) (short : IsShort user) where
 
   packet_sound : (s : OpeningState) (event : Event) (R : Error → Type 0) → FitsRequest s → PacketRows (SoundRow s event) R s
   packet_sound s event R fits = record {
-    passed = λ has. quiet_sound packet s event (passed_over s) (refl, still packet s fits);
-    extended = λ told has. quiet_sound packet s event (extensions_row s told) (told_has Unwritten lists told s.waiters, (omega arith, fits));
+    passed = λ has. (omega arith, fits);
+    extended = λ told has. (omega (arith, told_has Unwritten lists told s.waiters), fits);
     started = λ is has. stored_sound s event s.method is refl fits;
-    unknown = λ partial none has. quiet_sound packet s event (failed_row s [] partial)
-        (resolved_has Unwritten lists s.ticket (answers.AuthFailure [] partial), tt);
-    failed = λ kind known partial has. quiet_sound packet s event (failed_row s (kind ∷ known) partial)
-        (resolved_has Unwritten lists s.ticket (answers.AuthFailure (kind ∷ known) partial), settled packet s fits);
-    succeeded = λ has. quiet_sound packet s event (succeeded_row s) (
-      behind_resolved Unwritten lists s.ticket answers.AuthSuccess (records.Opened ∷ []) refl,
-      (omega arith, record { short = fits.short; handed = λ same. absurd cc; fresh = λ same. absurd cc }),
+    unknown = λ partial none has. (omega (arith, resolved_has Unwritten lists s.ticket (answers.AuthFailure [] partial)), tt);
+    failed = λ kind known partial has. (
+      omega (arith, resolved_has Unwritten lists s.ticket (answers.AuthFailure (kind ∷ known) partial), none_waits packet s.phase s.user),
+      settled s fits,
     );
-    banner = λ shown has. quiet_sound packet s event (goes (records.AuthBanner shown ∷ []) s) (refl, still packet s fits);
-    prompted = λ name instructions asked has. quiet_sound packet s event (prompted_row s name instructions asked) (refl, in_responses packet s fits);
-    gssapi = λ step has. quiet_sound packet s event (gssapi_step s step) (refl, still packet s fits);
-    cleared = λ has. quiet_sound packet s event (goes [] (taken s)) (refl, settled packet s fits);
+    succeeded = λ has. (
+      omega (arith, behind_resolved Unwritten lists s.ticket answers.AuthSuccess (records.Opened ∷ []) refl),
+      fits_in tt fits.short,
+    );
+    banner = λ shown has. (omega arith, fits);
+    prompted = λ name instructions asked has. (omega arith, fits_in tt fits.short);
+    gssapi = λ step has. (omega arith, fits);
+    cleared = λ has. (omega (arith, none_waits packet s.phase s.user), settled s fits);
     signs = λ pair key hash fault stored has answer. by_answer s event key hash answer fits;
     hands_key = λ key hash stored has. (omega arith, handed_fits s key hash fits);
     hands_certificate = λ cert hash stored has. (omega arith, handed_fits s cert hash fits);
@@ -213,40 +192,23 @@ module _ (user password : List ℕ) (short : IsShort user) where
   unfolding request service_request
   none_service = refl
 
-  none_mic : (code : List ℕ) → times_written packet (records.Payload (gssapi_mic code) ∷ []) ≡ 0
-  unfolding request gssapi_mic
-  none_mic code = refl
-
-  none_gssapi : (token : List ℕ) → times_written packet (records.Payload (gssapi_token token) ∷ []) ≡ 0
-  unfolding request gssapi_token
-  none_gssapi token = refl
-
-  none_complete : times_written packet (records.Payload gssapi_complete ∷ []) ≡ 0
-  unfolding request
-  none_complete = refl
-
-  none_disconnect : (reason : Disconnect) (description language : List ℕ) → times_written packet (records.Payload (disconnect reason description language) ∷ []) ≡ 0
-  unfolding request disconnect
-  none_disconnect reason description language = refl
-
-  none_responses : (responses : List (List ℕ)) → times_written packet (records.Payload (info_response responses) ∷ []) ≡ 0
-  unfolding request info_response
-  none_responses responses = refl
-
-  first_sound : (s : OpeningState) (ticket : Ticket) (own : List ℕ) (method : Method) → s.phase ≡ phases.Service → FitsRequest s → IsShort own → Sound packet s (events.Authenticate ticket own method) (authenticate_first_row s ticket own method)
+  first_sound : (s : OpeningState) (ticket : Ticket) (own : List ℕ) (method : Method) → s.phase ≡ phases.Service →
+      IsShort own → Sound packet s (events.Authenticate ticket own method) (authenticate_first_row s ticket own method)
   unfolding authenticate_first_row
-  first_sound s ticket own method is fits has =
-      let none = behind_resolved Unwritten lists s.ticket answers.Dropped (asked_for_service s.requested) (service_has Unwritten lists s.requested none_service) in
+  first_sound s ticket own method is has =
+      let none = behind_resolved Unwritten lists s.ticket answers.Dropped (asked_for_service s.requested)
+      (service_has Unwritten lists s.requested none_service) in
       let waits : times_waiting_in s.phase packet own (Some method) ≡ once_if (bytes_eq (request own method) packet) = rw is refl in
-      (omega (arith, none, waits), record { short = has; handed = λ same. let clash : phases.Service ≡ phases.AwaitSignature = sym is ∙ same in absurd cc; fresh = λ same. let clash : phases.Service ≡ phases.Exchanging = sym is ∙ same in absurd cc })
+      (omega (arith, none, waits), rw is (fits_in tt has))
 
-  again_sound : (s : OpeningState) (ticket : Ticket) (own : List ℕ) (method : Method) → s.phase ≡ phases.Auth → FitsRequest s → IsShort own → Sound packet s (events.Authenticate ticket own method) (authenticate_again_row s ticket own method)
+  again_sound : (s : OpeningState) (ticket : Ticket) (own : List ℕ) (method : Method) → s.phase ≡ phases.Auth →
+      IsShort own → Sound packet s (events.Authenticate ticket own method) (authenticate_again_row s ticket own method)
   unfolding authenticate_again_row
-  again_sound s ticket own method is fits has =
+  again_sound s ticket own method is has =
       let both = written_two packet (resolved s.ticket answers.Dropped) (records.Payload (request own method) ∷ []) in
       let none = resolved_has Unwritten lists s.ticket answers.Dropped in
       let waits : times_waiting_in s.phase packet own (Some method) ≡ 0 = rw is refl in
-      (omega (arith, both, none, waits), record { short = has; handed = λ same. let clash : phases.Auth ≡ phases.AwaitSignature = sym is ∙ same in absurd cc; fresh = λ same. let clash : phases.Auth ≡ phases.Exchanging = sym is ∙ same in absurd cc })
+      (omega (arith, both, none, waits), rw is (fits_in tt has))
 
   -- what was handed out is a signed text, in which a request by key follows the session id
   signed_body : (s : OpeningState) (body : List ℕ) → is_signed s.handed body ≡ true → s.phase ≡ phases.AwaitSignature → FitsRequest s → times_written packet (records.Payload (behind_session_id s body) ∷ []) ≡ 0
@@ -264,35 +226,32 @@ module _ (user password : List ℕ) (short : IsShort user) where
   -- ---- the table
 
   user_sound : (s : OpeningState) → FitsRequest s → UserRows (SoundRow s) s
-  unfolding rekey_row user_disconnect_row info_response_row
+  unfolding rekey_row user_disconnect_row info_response_row request gssapi_token gssapi_mic disconnect info_response
   user_sound s fits = record {
-    first = λ ticket own method is has. first_sound s ticket own method is fits has;
-    again = λ ticket own method is has. again_sound s ticket own method is fits has;
-    token = λ token has. quiet_sound packet s (events.AuthGssapiToken token) (goes (records.Payload (gssapi_token token) ∷ []) s) (none_gssapi token, still packet s fits);
-    mic = λ token code has. quiet_sound packet s (events.AuthGssapiMic token code) (goes (last_token token ++ records.Payload (gssapi_mic code) ∷ []) s)
-        (token_has Unwritten lists token (gssapi_mic code) none_gssapi (none_mic code), still packet s fits);
-    complete = λ token has. quiet_sound packet s (events.AuthGssapiExchangeComplete token) (goes (last_token token ++ records.Payload gssapi_complete ∷ []) s)
-        (token_has Unwritten lists token gssapi_complete none_gssapi none_complete, still packet s fits);
+    first = λ ticket own method is has. first_sound s ticket own method is has;
+    again = λ ticket own method is has. again_sound s ticket own method is has;
+    token = λ token has. (omega arith, fits);
+    mic = λ token code has. (omega (arith, token_has Unwritten lists token (gssapi_mic code) (λ other. refl) refl), fits);
+    complete = λ token has. (omega (arith, token_has Unwritten lists token gssapi_complete (λ other. refl) refl), fits);
     rekeys = λ has. (omega arith, fits);
     waits = λ ticket name has. (omega arith, fits);
-    resolves = λ event ticket resolution has. quiet_sound packet s event (answered_row s ticket resolution) (resolved_has Unwritten lists ticket resolution, still packet s fits);
-    leaves = λ reason description language has. (omega (arith, none_disconnect reason description language), tt);
+    resolves = λ event ticket answer has. (omega (arith, resolved_has Unwritten lists ticket answer), fits);
+    leaves = λ reason description language has. (omega arith, tt);
     gone = λ calm has. (omega arith, tt);
-    responds = λ responses has. quiet_sound packet s (events.AuthInfoResponse responses) (info_response_row s responses) (none_responses responses, in_auth packet s fits);
-    signs = λ body awaits is has. quiet_sound packet s (events.Signed body) (goes (records.Payload (behind_session_id s body) ∷ []) (record s { phase = phases.Auth }))
-        (signed_body s body is awaits fits, in_auth packet s fits);
-    unsigned = λ event has. quiet_sound packet s event (unsigned_row s) (resolved_has Unwritten lists s.ticket answers.Dropped, (omega arith, (in_auth packet s fits).1));
+    responds = λ responses has. (omega arith, fits_in tt fits.short);
+    signs = λ body awaits is has. (omega (arith, signed_body s body is awaits fits), fits_in tt fits.short);
+    unsigned = λ event has. (omega (arith, resolved_has Unwritten lists s.ticket answers.Dropped), fits_in tt fits.short);
   }
 
   table_sound : (s : OpeningState) (told : Told) → FitsRequest s → TableRows (SoundRow s) s told
   table_sound s told fits = record {
     refusal = λ event e other is has. (omega arith, tt);
     disconnected = λ event info is has. (omega arith, tt);
-    passed = λ event none has. quiet_sound packet s event (passed_over s) (refl, still packet s fits);
+    passed = λ event none has. (omega arith, fits);
     begins = λ idle has. (omega arith, fits);
     joins = λ running has. (omega arith, fits);
-    accepted = λ x first went has. (omega (arith, fresh_waits packet s.user s.method (fits.fresh first)), record { short = fits.short; handed = λ same. absurd cc; fresh = λ same. absurd cc });
-    opened = λ x first went has. (omega arith, record { short = fits.short; handed = λ same. absurd cc; fresh = λ same. absurd cc });
+    accepted = λ x first went has. (omega (arith, fresh_waits packet s.user s.method (fits.fresh first)), fits_in tt fits.short);
+    opened = λ x first went has. (omega arith, fits_in tt fits.short);
     later = λ x behind same has. (omega arith, fits);
     packets = λ n body counted behind. packet_sound (record s { counted = counted }) (events.Payload (n ∷ body)) _ fits;
     users = λ turn. user_sound s fits;
