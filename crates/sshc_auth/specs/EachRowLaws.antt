@@ -175,7 +175,7 @@ end_row : (Q : Row → Type 0) (left : List ℕ) (row : Row) → (Breaks (end �
 end_row Q [] row breaks holds = holds
 end_row Q (b ∷ left) row breaks holds = breaks tt
 
-same_number : (n m : ℕ) → (n == m) ≡ true → n ≡ m
+pub same_number : (n m : ℕ) → (n == m) ≡ true → n ≡ m
 same_number n m is = grind (arith, nat_tests)
 
 -- ---- known methods

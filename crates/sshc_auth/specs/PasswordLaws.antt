@@ -20,9 +20,9 @@ use Rattle.sshc_auth_event.specs.declared.method.Method.TheVariants as methods
 use Rattle.sshc_auth_request.specs.RequestTexts.{disconnect, info_response, key_part, method_text, request_head, signed_request, unsigned_request}
 use Rattle.sshc_auth.specs.declared.opening.Phase.TheVariants as phases
 use Rattle.sshc_auth.specs.AddedLaws.{HoldsOfLists, behind_resolved, resolved_has, service_has, token_has, told_has}
-use Rattle.sshc_auth.specs.EachRowLaws.{PacketRows, TableRows, UserRows, each_row, failed_row, prompted_row, succeeded_row}
+use Rattle.sshc_auth.specs.EachRowLaws.{PacketRows, TableRows, UserRows, each_row}
 use Rattle.sshc_auth.specs.Passwords.{FitsIn, once_if, times_waiting_in}
-use Rattle.sshc_auth.specs.RowNames.{Always, Answer, answered_row, asked_for_service, Asking, authenticate_again_row, authenticate_first_row, behind_session_id, Disconnect, ends, Error, Event, extensions_row, FitsRequest, goes, gssapi_complete, gssapi_mic, gssapi_step, gssapi_token, HashAlg, HasShortUser, info_response_row, is_signed, IsShort, Key, key_text, last_token, Method, Next, open_row, OpeningState, opens, passed_over, password_packet, Phase, Record, refuses, rekey_row, request, resolved, Row, service_request, signed, signed_by_row, stays, stored_request, string_at, taken, Ticket, times_asked, times_waiting, times_written, Told, unsigned_row, user_disconnect_row, WireError}
+use Rattle.sshc_auth.specs.RowNames.{Always, Answer, asked_for_service, Asking, authenticate_again_row, authenticate_first_row, behind_session_id, ends, Error, Event, FitsRequest, goes, gssapi_complete, gssapi_mic, gssapi_token, HashAlg, HasShortUser, info_response_row, is_signed, IsShort, Key, key_text, Method, Next, open_row, OpeningState, opens, password_packet, Phase, Record, refuses, rekey_row, request, resolved, Row, service_request, signed, signed_by_row, stays, stored_request, string_at, Ticket, times_asked, times_waiting, times_written, Told, user_disconnect_row, WireError}
 
 -- ---- a request by key is not a request by password
 
