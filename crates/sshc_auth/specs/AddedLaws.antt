@@ -15,12 +15,14 @@ pub record HoldsOfLists (L : List Record → Type 0) : Type 0 where
   pub two : (a b : List Record) → L a → L b → L (a ++ b)
   pub resolves : (ticket : Ticket) (resolution : Resolution) → L (Resolved ticket resolution ∷ [])
 
-module _ (L : List Record → Type 0) (lists : HoldsOfLists L) where
+module _ {L : List Record → Type 0} (lists : HoldsOfLists L) where
   pub resolved_has : (ticket : Ticket) (resolution : Resolution) → L (resolved ticket resolution)
   resolved_has ticket resolution = by_cases L (ticket.0 == 0) _ _ lists.none (lists.resolves ticket resolution)
 
-  pub behind_resolved : (ticket : Ticket) (resolution : Resolution) (more : List Record) → L more → L (resolved ticket resolution ++ more)
-  behind_resolved ticket resolution more holds = lists.two (resolved ticket resolution) more (resolved_has ticket resolution) holds
+  pub behind_resolved : (ticket : Ticket) (resolution : Resolution) (more : List Record) → L more →
+      L (resolved ticket resolution ++ more)
+  behind_resolved ticket resolution more holds =
+      lists.two (resolved ticket resolution) more (resolved_has ticket resolution) holds
 
   seen_has : (name : List ℕ) (waiters : List Waiter) → L (answers_seen name waiters)
   seen_has name [] = lists.none
@@ -34,14 +36,17 @@ module _ (L : List Record → Type 0) (lists : HoldsOfLists L) where
       lists.two (answers_seen extension.name waiters) (answers_to extensions (others extension.name waiters))
       (seen_has extension.name waiters) (told_has extensions (others extension.name waiters))
 
-  pub stored_has : (user : List ℕ) (method : Option Method) → ((stored : Method) → L (Payload (request user stored) ∷ [])) → L (stored_request user method)
+  pub stored_has : (user : List ℕ) (method : Option Method) → ((stored : Method) → L (Payload (request user stored) ∷ [])) →
+      L (stored_request user method)
   stored_has user None each = lists.none
   stored_has user (Some method) each = each method
 
   pub service_has : (requested : Bool) → L (Payload service_request ∷ []) → L (asked_for_service requested)
   service_has requested holds = by_cases L requested _ _ lists.none holds
 
-  pub token_has : (token : Option (List ℕ)) (packet : List ℕ) → ((token : List ℕ) → L (Payload (gssapi_token token) ∷ [])) → L (Payload packet ∷ []) → L (last_token token ++ Payload packet ∷ [])
+  pub token_has : (token : Option (List ℕ)) (packet : List ℕ) → ((token : List ℕ) → L (Payload (gssapi_token token) ∷ [])) →
+      L (Payload packet ∷ []) → L (last_token token ++ Payload packet ∷ [])
   token_has None packet each holds = holds
   token_has (Some []) packet each holds = holds
-  token_has (Some (b ∷ token)) packet each holds = lists.two (Payload (gssapi_token (b ∷ token)) ∷ []) (Payload packet ∷ []) (each (b ∷ token)) holds
+  token_has (Some (b ∷ token)) packet each holds =
+      lists.two (Payload (gssapi_token (b ∷ token)) ∷ []) (Payload packet ∷ []) (each (b ∷ token)) holds

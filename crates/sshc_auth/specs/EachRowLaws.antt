@@ -72,7 +72,8 @@ succeeded_row s = record {
 
 abbrev pub prompted_row : OpeningState → List ℕ → List ℕ → List Prompt → Row
 prompted_row s name instructions asked =
-    goes (records.Auth s.ticket (AuthInfoRequest name instructions asked) ∷ []) (record s { phase = phases.AwaitResponses })
+    goes (records.Auth s.ticket (AuthInfoRequest name instructions asked) ∷ [])
+    (record s { phase = phases.AwaitResponses })
 
 abbrev pub started_row : OpeningState → Row
 started_row s = goes (stored_request s.user s.method) (record s { phase = phases.Auth })
@@ -117,14 +118,16 @@ pub record UserRows (P : Event → Asking Row → Type 0) (s : OpeningState) : T
   pub mic : (token : Option (List ℕ)) (code : List ℕ) →
       P (events.AuthGssapiMic token code) (done (goes (last_token token ++ records.Payload (gssapi_mic code) ∷ []) s))
   pub complete : (token : Option (List ℕ)) →
-      P (events.AuthGssapiExchangeComplete token) (done (goes (last_token token ++ records.Payload gssapi_complete ∷ []) s))
+      P (events.AuthGssapiExchangeComplete token)
+      (done (goes (last_token token ++ records.Payload gssapi_complete ∷ []) s))
   pub rekeys : P events.Rekey (done (rekey_row s))
-  pub waits : (ticket : Ticket) (name : List ℕ) → P (events.AwaitExtensionInfo ticket name) (done (waiting_row s ticket name))
+  pub waits : (ticket : Ticket) (name : List ℕ) →
+      P (events.AwaitExtensionInfo ticket name) (done (waiting_row s ticket name))
   pub resolves : (event : Event) (ticket : Ticket) (answer : Resolution) → P event (done (answered_row s ticket answer))
   pub leaves : (reason : Disconnect) (description language : List ℕ) →
       P (events.Disconnect reason description language) (done (user_disconnect_row reason description language))
   pub gone : is_awaiting s.phase ≡ false → P events.Gone (done gone_row)
-  pub responds : (responses : List (List ℕ)) → P (events.AuthInfoResponse responses) (done (info_response_row s responses))
+  pub responds : (texts : List (List ℕ)) → P (events.AuthInfoResponse texts) (done (info_response_row s texts))
   pub signs : (body : List ℕ) → s.phase ≡ phases.AwaitSignature → is_signed s.handed body ≡ true →
       P (events.Signed body) (done (handed_row s body))
   pub unsigned : (event : Event) → P event (done (unsigned_row s))
@@ -138,8 +141,10 @@ pub record ExchangeRows (P : Asking Row → Type 0) (s : OpeningState) (x : Exch
 
 -- all of them; the rows of a packet are those of a state that differs only in the bytes that are counted
 pub record TableRows (P : Event → Asking Row → Type 0) (s : OpeningState) (told : Told) : Type 0 where
-  pub refusal : (event : Event) (e : Error) → IsOther e → IsCause (WasToldNo told) s event e → P event (done (refused e))
-  pub disconnected : (event : Event) (info : RemoteDisconnectInfo) → IsPeersEnd event info → P event (done (left_row info))
+  pub refusal : (event : Event) (e : Error) → IsOther e → IsCause (WasToldNo told) s event e →
+      P event (done (refused e))
+  pub disconnected : (event : Event) (info : RemoteDisconnectInfo) → IsPeersEnd event info →
+      P event (done (left_row info))
   pub passed : (event : Event) → exchange_in event ≡ None → P event (done (passed_over s))
   pub begins : s.flag ≡ flags.Idle → P events.PeerKexinit (done (peer_kexinit_row_at flags.Idle s))
   pub joins : s.flag ≢ flags.Idle → P events.PeerKexinit (done (peer_kexinit_row_at flags.Peer s))
@@ -182,7 +187,8 @@ same_number n m is = grind (arith, nat_tests)
 
 -- a list that isn't empty doesn't become empty
 grows_by : (known : List MethodKind) (m method : MethodKind) (has : Bool) →
-    (first : MethodKind) × (rest : List MethodKind) × ((if has then m ∷ known else (m ∷ known) ++ method ∷ []) ≡ first ∷ rest)
+    (first : MethodKind) × (rest : List MethodKind)
+    × ((if has then m ∷ known else (m ∷ known) ++ method ∷ []) ≡ first ∷ rest)
 grows_by known m method true = (m, known, refl)
 grows_by known m method false = (m, known ++ method ∷ [], refl)
 
@@ -259,7 +265,8 @@ same_found (keys.Certificate blob) there = (bytes_eq-Decides blob blob).1 refl
 
 pub not_kept : (s : OpeningState) (x : ExchangeResult) → has_kept_key s x ≡ false → IsKeptKey s x.key → ⊥
 not_kept s x other (same, there) =
-    let kept : has_kept_key s x ≡ true = subst (λ (key : ExchangeKey). is_same_key key x.key ≡ true) same (same_found x.key there) in
+    let kept : has_kept_key s x ≡ true =
+    subst (λ (key : ExchangeKey). is_same_key key x.key ≡ true) same (same_found x.key there) in
     let clash : true ≡ false = sym kept ∙ other in absurd cc
 
 -- the exchange of an event that may come is the peer's
@@ -272,33 +279,34 @@ idle : (flag : ExchangeFlag) → is_early_at flag sorts.User ≡ false → flag 
 idle flags.Idle early = refl
 idle flag early = absurd cc
 
-module _ (P : Asking Row → Type 0) (s : OpeningState) (x : ExchangeResult) (told : Told) (rows : ExchangeRows P s x told) where
-  first_holds : (asked : Told) → told ≡ asked → s.flag ≡ flags.Peer → s.phase ≡ phases.Exchanging →
-      P (done (first_exchange_row s x asked))
-  first_holds telling.Went is peer first = rows.accepted first is
-  first_holds telling.No is peer first = rows.refusal errors.UnknownKey tt (peer, (first, λ went. cc))
-  first_holds telling.NotAsked is peer first = rows.refusal errors.UnknownKey tt (peer, (first, λ went. cc))
+module _ (P : Asking Row → Type 0) (s : OpeningState) (x : ExchangeResult) (told : Told) (rows : ExchangeRows P s x told)
+  where
+    first_holds : (asked : Told) → told ≡ asked → s.flag ≡ flags.Peer → s.phase ≡ phases.Exchanging →
+        P (done (first_exchange_row s x asked))
+    first_holds telling.Went is peer first = rows.accepted first is
+    first_holds telling.No is peer first = rows.refusal errors.UnknownKey tt (peer, (first, λ went. cc))
+    first_holds telling.NotAsked is peer first = rows.refusal errors.UnknownKey tt (peer, (first, λ went. cc))
 
-  exchange_holds : (phase : Phase) → s.flag ≡ flags.Peer → s.phase ≡ phase → P (done (exchange_row_in phase s x told))
-  exchange_holds phases.Exchanging peer is = first_holds told refl peer is
-  exchange_holds phase peer is =
-      let later : s.phase ≢ phases.Exchanging = λ first. let clash : phase ≡ phases.Exchanging = sym is ∙ first in absurd cc in
-      by_test (λ (row : Row). P (done row)) (has_kept_key s x) _ _ (λ same. rows.later later same)
-      (λ other. rows.refusal errors.RekeyKey tt (later, (peer, not_kept s x other)))
+    exchange_holds : (phase : Phase) → s.flag ≡ flags.Peer → s.phase ≡ phase → P (done (exchange_row_in phase s x told))
+    exchange_holds phases.Exchanging peer is = first_holds told refl peer is
+    exchange_holds phase peer is =
+        let later : s.phase ≢ phases.Exchanging = rw is (λ first. absurd cc) in
+        by_test (λ (row : Row). P (done row)) (has_kept_key s x) _ _ (λ same. rows.later later same)
+        (λ other. rows.refusal errors.RekeyKey tt (later, (peer, not_kept s x other)))
 
-  exchange_turn : (awaits : Bool) → is_early awaits s.flag sorts.ExchangeDone ≡ false →
-      P (turn_row awaits s (events.ExchangeDone x) told)
-  unfolding plain_row exchange_done_row
-  exchange_turn true early = absurd cc
-  exchange_turn false early = exchange_holds s.phase (peers s.flag early) refl
+    exchange_turn : (awaits : Bool) → is_early awaits s.flag sorts.ExchangeDone ≡ false →
+        P (turn_row awaits s (events.ExchangeDone x) told)
+    unfolding plain_row exchange_done_row
+    exchange_turn true early = absurd cc
+    exchange_turn false early = exchange_holds s.phase (peers s.flag early) refl
 
-  -- an exchange that is done, as every event (below)
-  pub exchange_row : P (open_row s (events.ExchangeDone x) told)
-  unfolding open_row
-  exchange_row =
-      by_test P (is_out_of_turn s (events.ExchangeDone x)) _ _
-      (λ early. rows.refusal errors.OutOfTurn tt (early_by s (events.ExchangeDone x) (is_awaiting s.phase) refl early))
-      (λ turn. exchange_turn (is_awaiting s.phase) turn)
+    -- an exchange that is done, as every event (below)
+    pub exchange_row : P (open_row s (events.ExchangeDone x) told)
+    unfolding open_row
+    exchange_row =
+        by_test P (is_out_of_turn s (events.ExchangeDone x)) _ _
+        (λ early. rows.refusal errors.OutOfTurn tt (early_by s (events.ExchangeDone x) (is_awaiting s.phase) refl early))
+        (λ turn. exchange_turn (is_awaiting s.phase) turn)
 
 -- ---- numbers and lengths of packets
 
@@ -325,8 +333,8 @@ at_end_breaks : (left : List ℕ) → is_at_end left ≡ false → Breaks (end �
 at_end_breaks [] is = absurd cc
 at_end_breaks (b ∷ left) is = tt
 
-string_breaks : (read : Result (List ℕ × List ℕ) WireError) → with_part false read (λ blob left. is_at_end left) ≡ false →
-    BreaksBehind (λ rest. Breaks (end ∷ []) rest) (rest_of read)
+string_breaks : (read : Result (List ℕ × List ℕ) WireError) →
+    with_part false read (λ blob left. is_at_end left) ≡ false → BreaksBehind (λ rest. Breaks (end ∷ []) rest) (rest_of read)
 string_breaks (Ok x) is = at_end_breaks x.1 is
 string_breaks (Err e) is = tt
 
@@ -353,13 +361,14 @@ module _ (P : Event → Asking Row → Type 0) (s : OpeningState) (told : Told) 
 
     reason_holds : (reason : Option Disconnect) (rest : List ℕ) → (Breaks (text ∷ text ∷ []) rest → Holds broken_row) →
         (reason ≡ None → Holds (refused errors.InvalidDisconnect)) →
-        ((info : RemoteDisconnectInfo) → reason ≡ Some info.reason_code → ReadsTexts info rest → Holds (left_row info)) →
-        Holds (disconnect_reason_row reason rest)
+        ((info : RemoteDisconnectInfo) → reason ≡ Some info.reason_code → ReadsTexts info rest →
+        Holds (left_row info)) → Holds (disconnect_reason_row reason rest)
     reason_holds None rest breaks invalid leaves = invalid refl
     reason_holds (Some reason) rest breaks invalid leaves =
         part_row Holds (text ∷ []) (text_at rest) _ breaks (λ message after read breaks.
         part_row Holds [] (text_at after) _ breaks (λ language left read' breaks.
-        leaves (record { reason_code = reason; message = message; lang_tag = language }) refl (after, left, read, read')))
+        leaves (record { reason_code = reason; message = message; lang_tag = language }) refl
+        (after, left, read, read')))
 
     disconnect_holds : n ≡ DISCONNECT → Holds (disconnect_row body)
     unfolding disconnect_row
@@ -387,7 +396,8 @@ module _ (P : Event → Asking Row → Type 0) (s : OpeningState) (told : Told) 
       unexpected : IsUnexpectedIn s.phase s n body → Holds (refused errors.Inconsistent)
       unexpected why = rows.refusal packet errors.Inconsistent tt (inr why)
 
-      by_number : (m : ℕ) (x y : Row) → (n ≡ m → Holds x) → ((n == m) ≡ false → Holds y) → Holds (if n == m then x else y)
+      by_number : (m : ℕ) (x y : Row) → (n ≡ m → Holds x) → ((n == m) ≡ false → Holds y) →
+          Holds (if n == m then x else y)
       by_number m x y one other = by_test Holds (n == m) x y (λ is. one (same_number n m is)) other
 
       ext_info_holds : Broken (extensions ∷ end ∷ []) → (2 ≤ s.ext_infos → Holds (refused errors.Inconsistent)) →
@@ -418,8 +428,8 @@ module _ (P : Event → Asking Row → Type 0) (s : OpeningState) (told : Told) 
           by_test Holds (n == SERVICE_ACCEPT) _ _ (λ accept. by_test Holds (not s.requested) _ _
           (λ asked. unexpected (rw is (inr (inl (same_number n SERVICE_ACCEPT accept, not_true s.requested asked)))))
           (λ asked. accept_holds (string_at body) is refl (λ broken. breaks (rw (is, accept) broken)))) (λ no6.
-          by_test Holds (n == EXT_INFO) _ _ (λ info. let same = same_number n EXT_INFO info in
-          ext_info_holds (λ broken. breaks (rw (is, same) broken)) (λ third. unexpected (rw is (inr (inr (same, third))))))
+          by_number EXT_INFO _ _ (λ same. ext_info_holds (λ broken. breaks (rw (is, same) broken))
+          (λ third. unexpected (rw is (inr (inr (same, third))))))
           (λ no7. unexpected (rw is (inl (rw (no6, no7) refl)))))
 
       -- Auth
@@ -491,8 +501,10 @@ module _ (P : Event → Asking Row → Type 0) (s : OpeningState) (told : Told) 
       unfolding gssapi_row gssapi_token_row gssapi_errtok_row
       gssapi_holds classes.Gssapi is class no51 no52 no53 no60 no7 =
           by_number USERAUTH_GSSAPI_TOKEN _ _ (λ same.
-          string_holds (λ x. gssapi.Token x (mic s.session_id s.user)) (λ broken. breaks (rw (is, class, same) broken))) (λ no61.
-          by_number USERAUTH_GSSAPI_ERROR _ _ (λ same. error_holds (λ broken. breaks (rw (is, class, same) broken))) (λ no64.
+          string_holds (λ x. gssapi.Token x (mic s.session_id s.user))
+          (λ broken. breaks (rw (is, class, same) broken))) (λ no61.
+          by_number USERAUTH_GSSAPI_ERROR _ _ (λ same.
+          error_holds (λ broken. breaks (rw (is, class, same) broken))) (λ no64.
           by_number USERAUTH_GSSAPI_ERRTOK _ _ (λ same.
           string_holds (λ x. gssapi.ErrorToken x) (λ broken. breaks (rw (is, class, same) broken))) (λ no65.
           unexpected (rw (is, class) (inl (rw (no51, no52, no53, no60, no7, no61, no64, no65) refl))))))
@@ -503,7 +515,8 @@ module _ (P : Event → Asking Row → Type 0) (s : OpeningState) (told : Told) 
           Holds (answer_row class t body)
       unfolding answer_row gssapi_response_row
       answer_holds classes.Prompts is class ok =
-          prompts_hold (λ broken. breaks (rw (is, class, ok) broken)) (λ many. unexpected (rw is (inr (inl (class, ok, many)))))
+          prompts_hold (λ broken. breaks (rw (is, class, ok) broken))
+          (λ many. unexpected (rw is (inr (inl (class, ok, many)))))
       answer_holds classes.Gssapi is class ok =
           string_holds (λ x. gssapi.Response x (mic s.session_id s.user)) (λ broken. breaks (rw (is, class, ok) broken))
       answer_holds class is same ok = leaf.cleared
@@ -517,8 +530,8 @@ module _ (P : Event → Asking Row → Type 0) (s : OpeningState) (told : Told) 
           end_row Holds body (succeeded_row t) (λ broken. breaks (rw (is, same) broken)) leaf.succeeded) (λ no52.
           by_number USERAUTH_BANNER _ _ (λ same. banner_holds (λ broken. breaks (rw (is, same) broken))) (λ no53.
           by_number USERAUTH_PK_OK _ _ (λ ok. answer_holds s.class is refl ok) (λ no60.
-          by_number EXT_INFO _ _ (λ same.
-          ext_info_holds (λ broken. breaks (rw (is, same) broken)) (λ third. unexpected (rw is (inr (inr (same, third))))))
+          by_number EXT_INFO _ _ (λ same. ext_info_holds (λ broken. breaks (rw (is, same) broken))
+          (λ third. unexpected (rw is (inr (inr (same, third))))))
           (λ no7. gssapi_holds s.class is refl no51 no52 no53 no60 no7)))))
 
       key_holds : (method : Option Method) → s.method ≡ method →
@@ -528,7 +541,8 @@ module _ (P : Event → Asking Row → Type 0) (s : OpeningState) (told : Told) 
           leaf.signs key.0 key.0.public.0 key.1 (faults tt) (rw is (refl, refl, refl))
       key_holds (Some (methods.OpenSshCertificate key cert)) is faults =
           leaf.signs key cert None (faults tt) (rw is (refl, refl, refl))
-      key_holds (Some (methods.FuturePublicKey key hash)) is faults = leaf.hands_key key.0 hash (rw is (refl, refl, refl))
+      key_holds (Some (methods.FuturePublicKey key hash)) is faults =
+          leaf.hands_key key.0 hash (rw is (refl, refl, refl))
       key_holds (Some (methods.FutureCertificate cert hash)) is faults =
           leaf.hands_certificate cert hash (rw is (refl, refl, refl))
       key_holds method is faults = leaf.cleared
@@ -537,7 +551,8 @@ module _ (P : Event → Asking Row → Type 0) (s : OpeningState) (told : Told) 
       unfolding auth_packet_row pk_ok_row
       auth_packet_holds is =
           by_test (P packet) (is_pk_ok s.class n) _ _ (λ key. let ok = is_key s.class n key in
-          by_test (P packet) (is_pk_ok_body body) _ _ (λ whole. key_holds s.method refl (λ local. (is, ok.0, ok.1, local)))
+          by_test (P packet) (is_pk_ok_body body) _ _
+          (λ whole. key_holds s.method refl (λ local. (is, ok.0, ok.1, local)))
           (λ part. breaks (rw (is, ok.0, ok.1) (text_breaks (text_at body) part)))) (λ other. auth_holds is)
 
       phase_holds : (phase : Phase) → s.phase ≡ phase → P packet (packet_row_in phase t n body)
@@ -549,7 +564,8 @@ module _ (P : Event → Asking Row → Type 0) (s : OpeningState) (told : Told) 
         waits_for_exchange n ≡ true → P packet (held_packet_row flag s (length body + 1) n body)
     unfolding held_packet_row
     held_holds flags.Idle is other behind waits = phase_holds s.counted other behind s.phase refl
-    held_holds flags.Peer is other behind waits = rows.refusal packet errors.Inconsistent tt (inl (is, behind, from_fifty n waits))
+    held_holds flags.Peer is other behind waits =
+        rows.refusal packet errors.Inconsistent tt (inl (is, behind, from_fifty n waits))
     held_holds flags.Ours is other behind waits =
         by_test (P packet) (is_too_much s (length body + 1)) _ _
         (λ much. rows.refusal packet errors.Pending tt (is, too_much s n body much))
@@ -559,7 +575,8 @@ module _ (P : Event → Asking Row → Type 0) (s : OpeningState) (told : Told) 
   unfolding payload_row numbered_row
   payload_has [] = rows.passed (events.Payload []) refl
   payload_has (n ∷ body) =
-      by_test (P (packet n body)) (n == DISCONNECT) _ _ (λ is. disconnect_holds n body (same_number n DISCONNECT is)) (λ other.
+      by_test (P (packet n body)) (n == DISCONNECT) _ _
+      (λ is. disconnect_holds n body (same_number n DISCONNECT is)) (λ other.
       by_test (P (packet n body)) (is_ignored n) _ _ (λ ignored. rows.passed (packet n body) refl) (λ heeded.
       by_test (P (packet n body)) (is_exchanging s.phase) _ _ (λ first. rows.passed (packet n body) refl) (λ later.
       let behind = behind_first s.phase later in
@@ -584,7 +601,8 @@ module _ (P : Event → Asking Row → Type 0) (s : OpeningState) (told : Told) 
     unopened_has : (event : Event) → exchange_in event ≡ None → Has event (unopened_row s event)
     unfolding unopened_row
     unopened_has (events.ChannelOpenSession ticket) none = no_channel (events.ChannelOpenSession ticket) tt
-    unopened_has (events.ChannelOpenX11 ticket address port) none = no_channel (events.ChannelOpenX11 ticket address port) tt
+    unopened_has (events.ChannelOpenX11 ticket address port) none =
+        no_channel (events.ChannelOpenX11 ticket address port) tt
     unopened_has (events.ChannelOpenDirectTcpIp ticket host port address own) none =
         no_channel (events.ChannelOpenDirectTcpIp ticket host port address own) tt
     unopened_has (events.ChannelOpenDirectStreamLocal ticket path) none =
@@ -607,14 +625,16 @@ module _ (P : Event → Asking Row → Type 0) (s : OpeningState) (told : Told) 
     unfolding user_row user_token_row user_mic_row user_complete_row await_extension_info_row get_server_sig_algs_row
     user_has (events.Authenticate ticket user method) none = asks_has ticket user method s.phase refl
     user_has (events.AuthGssapiToken token) none = gssapi_has (events.AuthGssapiToken token) _ none (mine.token token)
-    user_has (events.AuthGssapiMic token code) none = gssapi_has (events.AuthGssapiMic token code) _ none (mine.mic token code)
+    user_has (events.AuthGssapiMic token code) none =
+        gssapi_has (events.AuthGssapiMic token code) _ none (mine.mic token code)
     user_has (events.AuthGssapiExchangeComplete token) none =
         gssapi_has (events.AuthGssapiExchangeComplete token) _ none (mine.complete token)
     user_has (events.Disconnect reason description language) none = mine.leaves reason description language
     user_has events.Rekey none = mine.rekeys
     user_has (events.AwaitExtensionInfo ticket name) none =
         by_test (Has (events.AwaitExtensionInfo ticket name)) (is_seen s.seen name) _ _
-        (λ is. mine.resolves (events.AwaitExtensionInfo ticket name) ticket answers.ExtInfoSeen) (λ is. mine.waits ticket name)
+        (λ is. mine.resolves (events.AwaitExtensionInfo ticket name) ticket answers.ExtInfoSeen)
+        (λ is. mine.waits ticket name)
     user_has (events.GetServerSigAlgs ticket) none = mine.resolves _ ticket (sig_algs_answer s.sig_algs)
     user_has events.Gone none = mine.gone calm
     user_has event none = unopened_has event none
@@ -642,7 +662,8 @@ module _ (P : Event → Asking Row → Type 0) (s : OpeningState) (told : Told) 
   plain_has (events.ExchangeDone x) calm early =
       exchange_holds (P (events.ExchangeDone x)) s x told (exchange_rows x) s.phase (peers s.flag early) refl
   plain_has (events.Payload packet) calm early = rows.passed (events.Payload packet) refl
-  plain_has events.TransportFailed calm early = rows.refusal events.TransportFailed errors.TransportFailed tt (refl, calm)
+  plain_has events.TransportFailed calm early =
+      rows.refusal events.TransportFailed errors.TransportFailed tt (refl, calm)
   plain_has events.RekeyLimit calm early = rows.passed events.RekeyLimit refl
   plain_has events.KeepaliveTimer calm early = rows.passed events.KeepaliveTimer refl
   plain_has events.InactivityTimer calm early =

@@ -9,7 +9,7 @@ use Rattle.sshc_key.specs.declared.signer.Asker.TheVariants.{Session}
 use Rattle.sshc_auth_event.specs.declared.event.Event.TheVariants as events
 use Rattle.sshc_auth.specs.declared.opening.Phase.TheVariants as phases
 use Rattle.sshc_auth.specs.AddedLaws.{HoldsOfLists, behind_resolved, resolved_has, service_has, stored_has, token_has, told_has}
-use Rattle.sshc_auth.specs.EachRowLaws.{PacketRows, TableRows, UserRows, each_row, failed_row, succeeded_row}
+use Rattle.sshc_auth.specs.EachRowLaws.{PacketRows, TableRows, UserRows, each_row, failed_row, started_row, succeeded_row}
 use Rattle.sshc_auth.specs.RowNames.{Answer, answered_row, asked_for_service, Asking, asks, authenticate_again_row, authenticate_first_row, done, ends, Error, Event, extensions_row, goes, gssapi_complete, gssapi_mic, HandsCertificate, HandsKey, HandsNothing, HashAlg, info_response_row, KeepsRequest, KeepsSession, Kept, kept_of, Key, last_token, Next, open_row, OpeningState, opens, Phase, Record, refuses, rekey_row, request, Row, signed_by_row, SignsStored, stays, stored_request, Told, unsigned_row, user_disconnect_row}
 
 -- ---- what the law says
@@ -59,7 +59,8 @@ KeepsAsking s event (asks asked on) = (asked.by ≡ Session) × SignsStored s.me
 still : (s : OpeningState) (event : Event) → KeepsState (kept_of s) event s
 still s event = ((λ later. (refl, later)), inl (refl, inl refl))
 
-moved : (s : OpeningState) (event : Event) (phase : Phase) → phase ≢ phases.Exchanging → KeepsState (kept_of s) event (record s { phase = phase })
+moved : (s : OpeningState) (event : Event) (phase : Phase) → phase ≢ phases.Exchanging →
+    KeepsState (kept_of s) event (record s { phase = phase })
 moved s event phase later = ((λ behind. (refl, later)), inl (refl, inl refl))
 
 in_auth : phases.Auth ≢ phases.Exchanging
@@ -67,17 +68,18 @@ in_auth = λ same. absurd cc
 
 -- ---- records that hand out nothing
 
-two_nothing : (a b : List Record) → AllByRecursion HandsNothing a → AllByRecursion HandsNothing b → AllByRecursion HandsNothing (a ++ b)
-two_nothing [] b one other = other
-two_nothing (output ∷ a) b one other = (one.0, two_nothing a b one.1 other)
-
 abbrev Nothing : List Record → Type 0
 Nothing output = AllByRecursion HandsNothing output
+
+two_nothing : (a b : List Record) → Nothing a → Nothing b → Nothing (a ++ b)
+two_nothing [] b one other = other
+two_nothing (output ∷ a) b one other = (one.0, two_nothing a b one.1 other)
 
 lists : HoldsOfLists Nothing
 lists = record { none = tt; two = two_nothing; resolves = λ ticket resolution. (tt, tt) }
 
-nothing_hands : (s : Kept) (next : Next) (output : Record) (later : List Record) → HandsNothing output → HandsBytes s next output later
+nothing_hands : (s : Kept) (next : Next) (output : Record) (later : List Record) → HandsNothing output →
+    HandsBytes s next output later
 nothing_hands s next (records.Auth ticket (SignRequest blob hash bytes)) later never = absurd never
 nothing_hands s next (records.Auth ticket (SignRequestCert blob hash bytes)) later never = absurd never
 nothing_hands s next output later none = tt
@@ -93,51 +95,67 @@ module _ (s : OpeningState) where
   RowKeeps event row = KeepsAsking (kept_of s) event row
 
   -- a row that hands out nothing
-  none_keeps : (event : Event) (row : Row) → Nothing row.records → KeepsNext (kept_of s) event row.next → Keeps (kept_of s) event row
+  none_keeps : (event : Event) (row : Row) → Nothing row.records → KeepsNext (kept_of s) event row.next →
+      Keeps (kept_of s) event row
   none_keeps event row none next = (none_hands (kept_of s) row.next row.records none, next)
 
-  signed_keeps : (event : Event) (key : Key) (hash : Option HashAlg) (answer : Answer) → KeepsAsked (kept_of s) event (done (signed_by_row s key hash answer))
+  signed_keeps : (event : Event) (key : Key) (hash : Option HashAlg) (answer : Answer) →
+      KeepsAsked (kept_of s) event (done (signed_by_row s key hash answer))
   signed_keeps event key hash None = ((tt, tt), tt, tt)
   signed_keeps event key hash (Some signature) = (((tt, tt), ((λ later. (refl, later)), inl (refl, inr refl))), refl, (tt, tt))
 
   packet_keeps : (event : Event) (R : Error → Type 0) → PacketRows (RowKeeps event) R s
   packet_keeps event R = record {
     passed = (tt, still s event);
-    extended = λ told. none_keeps event (extensions_row s told) (told_has Nothing lists told s.waiters) ((λ later. (refl, later)), inl (refl, inl refl));
-    started = λ is. none_keeps event (goes (stored_request s.user s.method) (record s { phase = phases.Auth })) (stored_has Nothing lists s.user s.method (λ stored. (tt, tt))) (moved s event phases.Auth in_auth);
-    unknown = λ partial none. none_keeps event (failed_row s [] partial) (resolved_has Nothing lists s.ticket (answers.AuthFailure [] partial)) tt;
-    failed = λ method known partial. none_keeps event (failed_row s (method ∷ known) partial)
-        (resolved_has Nothing lists s.ticket (answers.AuthFailure (method ∷ known) partial)) ((λ later. (refl, later)), inl (refl, inr refl));
-    succeeded = none_keeps event (succeeded_row s) (behind_resolved Nothing lists s.ticket answers.AuthSuccess (records.Opened ∷ []) (tt, tt)) ((λ later. (refl, λ same. absurd cc)), inl (refl, inr refl));
+    extended = λ told. none_keeps event (extensions_row s told) (told_has lists told s.waiters)
+        ((λ later. (refl, later)), inl (refl, inl refl));
+    started = λ is. none_keeps event (started_row s) (stored_has lists s.user s.method (λ stored. (tt, tt)))
+        (moved s event phases.Auth in_auth);
+    unknown = λ partial without. none_keeps event (failed_row s [] partial) (resolved_has lists s.ticket _) tt;
+    failed = λ method known partial. none_keeps event (failed_row s (method ∷ known) partial) (resolved_has lists s.ticket _)
+        ((λ later. (refl, later)), inl (refl, inr refl));
+    succeeded = none_keeps event (succeeded_row s) (behind_resolved lists s.ticket _ (records.Opened ∷ []) (tt, tt))
+        ((λ later. (refl, λ same. absurd cc)), inl (refl, inr refl));
     banner = λ shown. ((tt, tt), still s event);
     prompted = λ name instructions asked. ((tt, tt), moved s event phases.AwaitResponses (λ same. absurd cc));
     gssapi = λ step. ((tt, tt), still s event);
     cleared = (tt, ((λ later. (refl, later)), inl (refl, inr refl)));
     signs = λ pair key hash fault stored. (refl, stored, λ answer. signed_keeps event key hash answer);
     hands_key = λ key hash stored. (((stored, refl, tt), tt), ((λ later. (refl, λ same. absurd cc)), inl (refl, inr refl)));
-    hands_certificate = λ cert hash stored. (((stored, refl, tt), tt), ((λ later. (refl, λ same. absurd cc)), inl (refl, inr refl)));
+    hands_certificate = λ cert hash stored. (
+      ((stored, refl, tt), tt),
+      ((λ later. (refl, λ same. absurd cc)), inl (refl, inr refl)),
+    );
   }
 
   user_keeps : UserRows RowKeeps s
   unfolding authenticate_first_row authenticate_again_row rekey_row user_disconnect_row info_response_row
   user_keeps = record {
-    first = λ ticket user method is. none_keeps (events.Authenticate ticket user method) (authenticate_first_row s ticket user method)
-        (behind_resolved Nothing lists s.ticket answers.Dropped (asked_for_service s.requested) (service_has Nothing lists s.requested (tt, tt))) ((λ later. (refl, later)), inr (refl, refl));
-    again = λ ticket user method is. none_keeps (events.Authenticate ticket user method) (authenticate_again_row s ticket user method)
-        (behind_resolved Nothing lists s.ticket answers.Dropped (records.Payload (request user method) ∷ []) (tt, tt)) ((λ later. (refl, later)), inr (refl, refl));
+    first = λ ticket user method is.
+        none_keeps (events.Authenticate ticket user method) (authenticate_first_row s ticket user method)
+        (behind_resolved lists s.ticket _ _ (service_has lists s.requested (tt, tt)))
+        ((λ later. (refl, later)), inr (refl, refl));
+    again = λ ticket user method is.
+        none_keeps (events.Authenticate ticket user method) (authenticate_again_row s ticket user method)
+        (behind_resolved lists s.ticket _ (records.Payload (request user method) ∷ []) (tt, tt))
+        ((λ later. (refl, later)), inr (refl, refl));
     token = λ token. ((tt, tt), still s (events.AuthGssapiToken token));
-    mic = λ token code. none_keeps (events.AuthGssapiMic token code) (goes (last_token token ++ records.Payload (gssapi_mic code) ∷ []) s)
-        (token_has Nothing lists token (gssapi_mic code) (λ t. (tt, tt)) (tt, tt)) (still s (events.AuthGssapiMic token code));
-    complete = λ token. none_keeps (events.AuthGssapiExchangeComplete token) (goes (last_token token ++ records.Payload gssapi_complete ∷ []) s)
-        (token_has Nothing lists token gssapi_complete (λ t. (tt, tt)) (tt, tt)) (still s (events.AuthGssapiExchangeComplete token));
+    mic = λ token code.
+        none_keeps (events.AuthGssapiMic token code) (goes (last_token token ++ records.Payload (gssapi_mic code) ∷ []) s)
+        (token_has lists token _ (λ other. (tt, tt)) (tt, tt)) (still s (events.AuthGssapiMic token code));
+    complete = λ token.
+        none_keeps (events.AuthGssapiExchangeComplete token) (goes (last_token token ++ records.Payload gssapi_complete ∷ []) s)
+        (token_has lists token _ (λ other. (tt, tt)) (tt, tt)) (still s (events.AuthGssapiExchangeComplete token));
     rekeys = ((tt, tt), still s events.Rekey);
     waits = λ ticket name. (tt, still s (events.AwaitExtensionInfo ticket name));
-    resolves = λ event ticket resolution. none_keeps event (answered_row s ticket resolution) (resolved_has Nothing lists ticket resolution) (still s event);
+    resolves = λ event ticket answer.
+        none_keeps event (answered_row s ticket answer) (resolved_has lists ticket answer) (still s event);
     leaves = λ reason description language. ((tt, tt), tt);
     gone = λ calm. (tt, tt);
     responds = λ responses. ((tt, tt), moved s (events.AuthInfoResponse responses) phases.Auth in_auth);
     signs = λ body awaits is. ((tt, tt), moved s (events.Signed body) phases.Auth in_auth);
-    unsigned = λ event. none_keeps event (unsigned_row s) (resolved_has Nothing lists s.ticket answers.Dropped) ((λ later. (refl, in_auth)), inl (refl, inl refl));
+    unsigned = λ event. none_keeps event (unsigned_row s) (resolved_has lists s.ticket _)
+        ((λ later. (refl, in_auth)), inl (refl, inl refl));
   }
 
 table_keeps : (s : OpeningState) (told : Told) → TableRows (RowKeeps s) s told

@@ -166,15 +166,15 @@ module _ (user password : List ℕ) (short : IsShort user) where
   packet_sound : (s : OpeningState) (event : Event) (R : Error → Type 0) → FitsRequest s → PacketRows (SoundRow s event) R s
   packet_sound s event R fits = record {
     passed = λ has. (omega arith, fits);
-    extended = λ told has. (omega (arith, told_has Unwritten lists told s.waiters), fits);
+    extended = λ told has. (omega (arith, told_has lists told s.waiters), fits);
     started = λ is has. stored_sound s event s.method is refl fits;
-    unknown = λ partial none has. (omega (arith, resolved_has Unwritten lists s.ticket (answers.AuthFailure [] partial)), tt);
+    unknown = λ partial none has. (omega (arith, resolved_has lists s.ticket (answers.AuthFailure [] partial)), tt);
     failed = λ kind known partial has. (
-      omega (arith, resolved_has Unwritten lists s.ticket (answers.AuthFailure (kind ∷ known) partial), none_waits packet s.phase s.user),
+      omega (arith, resolved_has lists s.ticket (answers.AuthFailure (kind ∷ known) partial), none_waits packet s.phase s.user),
       settled s fits,
     );
     succeeded = λ has. (
-      omega (arith, behind_resolved Unwritten lists s.ticket answers.AuthSuccess (records.Opened ∷ []) refl),
+      omega (arith, behind_resolved lists s.ticket answers.AuthSuccess (records.Opened ∷ []) refl),
       fits_in tt fits.short,
     );
     banner = λ shown has. (omega arith, fits);
@@ -196,8 +196,8 @@ module _ (user password : List ℕ) (short : IsShort user) where
       IsShort own → Sound packet s (events.Authenticate ticket own method) (authenticate_first_row s ticket own method)
   unfolding authenticate_first_row
   first_sound s ticket own method is has =
-      let none = behind_resolved Unwritten lists s.ticket answers.Dropped (asked_for_service s.requested)
-      (service_has Unwritten lists s.requested none_service) in
+      let none = behind_resolved lists s.ticket answers.Dropped (asked_for_service s.requested)
+      (service_has lists s.requested none_service) in
       let waits : times_waiting_in s.phase packet own (Some method) ≡ once_if (bytes_eq (request own method) packet) = rw is refl in
       (omega (arith, none, waits), rw is (fits_in tt has))
 
@@ -206,7 +206,7 @@ module _ (user password : List ℕ) (short : IsShort user) where
   unfolding authenticate_again_row
   again_sound s ticket own method is has =
       let both = written_two packet (resolved s.ticket answers.Dropped) (records.Payload (request own method) ∷ []) in
-      let none = resolved_has Unwritten lists s.ticket answers.Dropped in
+      let none = resolved_has lists s.ticket answers.Dropped in
       let waits : times_waiting_in s.phase packet own (Some method) ≡ 0 = rw is refl in
       (omega (arith, both, none, waits), rw is (fits_in tt has))
 
@@ -231,16 +231,16 @@ module _ (user password : List ℕ) (short : IsShort user) where
     first = λ ticket own method is has. first_sound s ticket own method is has;
     again = λ ticket own method is has. again_sound s ticket own method is has;
     token = λ token has. (omega arith, fits);
-    mic = λ token code has. (omega (arith, token_has Unwritten lists token (gssapi_mic code) (λ other. refl) refl), fits);
-    complete = λ token has. (omega (arith, token_has Unwritten lists token gssapi_complete (λ other. refl) refl), fits);
+    mic = λ token code has. (omega (arith, token_has lists token (gssapi_mic code) (λ other. refl) refl), fits);
+    complete = λ token has. (omega (arith, token_has lists token gssapi_complete (λ other. refl) refl), fits);
     rekeys = λ has. (omega arith, fits);
     waits = λ ticket name has. (omega arith, fits);
-    resolves = λ event ticket answer has. (omega (arith, resolved_has Unwritten lists ticket answer), fits);
+    resolves = λ event ticket answer has. (omega (arith, resolved_has lists ticket answer), fits);
     leaves = λ reason description language has. (omega arith, tt);
     gone = λ calm has. (omega arith, tt);
     responds = λ responses has. (omega arith, fits_in tt fits.short);
     signs = λ body awaits is has. (omega (arith, signed_body s body is awaits fits), fits_in tt fits.short);
-    unsigned = λ event has. (omega (arith, resolved_has Unwritten lists s.ticket answers.Dropped), fits_in tt fits.short);
+    unsigned = λ event has. (omega (arith, resolved_has lists s.ticket answers.Dropped), fits_in tt fits.short);
   }
 
   table_sound : (s : OpeningState) (told : Told) → FitsRequest s → TableRows (SoundRow s) s told

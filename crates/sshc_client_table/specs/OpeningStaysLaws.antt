@@ -22,11 +22,11 @@ signed_stays s key hash (Some signature) is = ((refl, is), (refl, tt))
 packet_stays : (s : OpeningState) (R : Error → Type 0) → is_open s.phase ≡ false → PacketRows (Always (Stays s.closed)) R s
 packet_stays s R is = record {
   passed = ((refl, is), tt);
-  extended = λ told. ((refl, is), told_has AreSessions lists told s.waiters);
-  started = λ service. ((refl, refl), stored_has AreSessions lists s.user s.method (λ stored. (refl, tt)));
-  unknown = λ partial none. (tt, resolved_has AreSessions lists s.ticket (AuthFailure [] partial));
-  failed = λ method known partial. ((refl, is), resolved_has AreSessions lists s.ticket (AuthFailure (method ∷ known) partial));
-  succeeded = (refl, behind_resolved AreSessions lists s.ticket AuthSuccess (Opened ∷ []) (refl, tt));
+  extended = λ told. ((refl, is), told_has lists told s.waiters);
+  started = λ service. ((refl, refl), stored_has lists s.user s.method (λ stored. (refl, tt)));
+  unknown = λ partial none. (tt, resolved_has lists s.ticket (AuthFailure [] partial));
+  failed = λ method known partial. ((refl, is), resolved_has lists s.ticket (AuthFailure (method ∷ known) partial));
+  succeeded = (refl, behind_resolved lists s.ticket AuthSuccess (Opened ∷ []) (refl, tt));
   banner = λ shown. ((refl, is), (refl, tt));
   prompted = λ name instructions asked. ((refl, refl), (refl, tt));
   gssapi = λ step. ((refl, is), (refl, tt));
@@ -43,19 +43,19 @@ StaysRow s event row = Always (Stays s.closed) row
 user_stays : (s : OpeningState) → is_open s.phase ≡ false → UserRows (StaysRow s) s
 unfolding authenticate_first_row authenticate_again_row rekey_row user_disconnect_row info_response_row
 user_stays s is = record {
-  first = λ ticket user method service. ((refl, is), behind_resolved AreSessions lists s.ticket Dropped (asked_for_service s.requested) (service_has AreSessions lists s.requested (refl, tt)));
-  again = λ ticket user method auth. ((refl, is), behind_resolved AreSessions lists s.ticket Dropped (Payload (request user method) ∷ []) (refl, tt));
+  first = λ ticket user method service. ((refl, is), behind_resolved lists s.ticket Dropped (asked_for_service s.requested) (service_has lists s.requested (refl, tt)));
+  again = λ ticket user method auth. ((refl, is), behind_resolved lists s.ticket Dropped (Payload (request user method) ∷ []) (refl, tt));
   token = λ token. ((refl, is), (refl, tt));
-  mic = λ token code. ((refl, is), token_has AreSessions lists token (gssapi_mic code) (λ other. (refl, tt)) (refl, tt));
-  complete = λ token. ((refl, is), token_has AreSessions lists token gssapi_complete (λ other. (refl, tt)) (refl, tt));
+  mic = λ token code. ((refl, is), token_has lists token (gssapi_mic code) (λ other. (refl, tt)) (refl, tt));
+  complete = λ token. ((refl, is), token_has lists token gssapi_complete (λ other. (refl, tt)) (refl, tt));
   rekeys = ((refl, is), (refl, tt));
   waits = λ ticket name. ((refl, is), tt);
-  resolves = λ event ticket resolution. ((refl, is), resolved_has AreSessions lists ticket resolution);
+  resolves = λ event ticket resolution. ((refl, is), resolved_has lists ticket resolution);
   leaves = λ reason description language. (tt, (refl, tt));
   gone = λ calm. (tt, tt);
   responds = λ responses. ((refl, refl), (refl, tt));
   signs = λ body awaits signed. ((refl, refl), (refl, tt));
-  unsigned = λ event. ((refl, refl), resolved_has AreSessions lists s.ticket Dropped);
+  unsigned = λ event. ((refl, refl), resolved_has lists s.ticket Dropped);
 }
 
 table_stays : (s : OpeningState) (told : Told) → is_open s.phase ≡ false → TableRows (StaysRow s) s told
