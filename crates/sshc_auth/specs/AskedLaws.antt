@@ -1,6 +1,6 @@
 -- What the table asks of the gate: the host key of the first exchange alone, and an exchange only of an event that is
 -- one.
-use Rattle.std.proofs.Common.{◌≡◌, ◌≢◌, ℕ, ◌+◌, Bool, true, false, List, [], ◌∷◌, length, Option, Some, None, Result, Ok, Err, refl, ap, sym, ◌∙◌, subst}
+use Rattle.std.proofs.Common.{◌≡◌, ◌≢◌, ℕ, ◌+◌, Bool, true, false, List, [], ◌∷◌, length, Option, Some, None, Result, Ok, Err, refl, sym, ◌∙◌}
 use Rattle.std.specs.Prelude.{◌==◌, if◌then◌else◌}
 use Rattle.sshc_wire.specs.CasesLaws.{by_cases}
 use Rattle.sshc_wire.specs.declared.msg.TheConstants.{USERAUTH_BANNER}
@@ -9,7 +9,7 @@ use Rattle.sshc_transport.specs.declared.exchange.ExchangeFlag.TheVariants as fl
 use Rattle.sshc_auth.specs.declared.opening.Phase.TheVariants as phases
 use Rattle.sshc_auth.specs.declared.step.Asks.TheVariants as asking
 use Rattle.sshc_auth.specs.Stepping.{HasExchange}
-use Rattle.sshc_auth.specs.RowNames.{asked_of, Asks, banner_asks, banner_at_end, Event, event_asks, exchange_asks, exchange_in, ExchangeResult, has_kept_key, host_key, is_held_back, is_out_of_turn, key_asked, number_asks, OpeningState, packet_asks, Phase, PublicKeyOrCertificate, text_at, WireError, with_part}
+use Rattle.sshc_auth.specs.RowNames.{asked_of, Asks, banner_asks, banner_at_end, Event, event_asks, exchange_asks, exchange_in, ExchangeResult, has_kept_key, host_key, is_held_back, is_out_of_turn, key_asked, number_asks, OpeningState, Phase, PublicKeyOrCertificate, text_at, WireError, with_part}
 
 -- ---- one walk over what the table asks
 

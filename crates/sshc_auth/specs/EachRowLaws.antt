@@ -185,40 +185,23 @@ same_number n m is = grind (arith, nat_tests)
 
 -- ---- known methods
 
--- a list that isn't empty doesn't become empty
-grows_by : (known : List MethodKind) (m method : MethodKind) (has : Bool) →
-    (first : MethodKind) × (rest : List MethodKind)
-    × ((if has then m ∷ known else (m ∷ known) ++ method ∷ []) ≡ first ∷ rest)
-grows_by known m method true = (m, known, refl)
-grows_by known m method false = (m, known ++ method ∷ [], refl)
-
-grows : (method : Option MethodKind) (known : List MethodKind) (m : MethodKind) →
-    (first : MethodKind) × (rest : List MethodKind) × (add_known (m ∷ known) method ≡ first ∷ rest)
-unfolding with_method
-grows None known m = (m, known, refl)
-grows (Some method) known m = grows_by known m method (has_method (m ∷ known) method)
-
-stays_known : (m : MethodKind) (known : List MethodKind) (names : List (List ℕ)) → known_behind (m ∷ known) names ≢ []
-stays_known m known [] = λ is. absurd cc
-stays_known m known (name ∷ names) = λ is.
-    let more = grows (method_of name) known m in stays_known more.0 more.1 names (rw more.2 at is)
-
-first_known : (m : MethodKind) → with_method [] m ≡ m ∷ []
-unfolding with_method has_method
-first_known m = refl
-
 abbrev Unknown : List (List ℕ) → Type 0
 Unknown names = AllByRecursion (λ name. method_of name ≡ None) names
 
--- a name for which no method is found isn't a known method
-unknown_by : (name : List ℕ) (names : List (List ℕ)) (found : Option MethodKind) → method_of name ≡ found →
-    known_behind (add_known [] found) names ≡ [] → (known_behind [] names ≡ [] → Unknown names) → Unknown (name ∷ names)
-unknown_by name names None is none others = (is, others none)
-unknown_by name names (Some m) is none others = absurd (stays_known m [] names (rw first_known at none))
+never_none : (m : MethodKind) (known : List MethodKind) → with_method known m ≢ []
+unfolding with_method has_method
+never_none m [] = λ is. absurd cc
+never_none m (k ∷ known) = by_test (λ ms. ms ≢ []) (has_method (k ∷ known) m) _ _ (λ has is. absurd cc) (λ new is. absurd cc)
 
-none_known : (names : List (List ℕ)) → known_behind [] names ≡ [] → Unknown names
-none_known [] is = tt
-none_known (name ∷ names) is = unknown_by name names (method_of name) refl is (λ none. none_known names none)
+-- a name for which no method is found isn't a known method
+none_behind : (known : List MethodKind) (names : List (List ℕ)) → known_behind known names ≡ [] → (known ≡ []) × Unknown names
+none_behind known [] is = (is, tt)
+none_behind known (name ∷ names) is = by (method_of name) refl (none_behind (add_known known (method_of name)) names is)
+  where
+    by : (found : Option MethodKind) → method_of name ≡ found → (add_known known found ≡ []) × Unknown names →
+        (known ≡ []) × Unknown (name ∷ names)
+    by None same (none, unknown) = (none, (same, unknown))
+    by (Some m) same (none, unknown) = absurd (never_none m known none)
 
 -- ---- turns
 
@@ -446,7 +429,7 @@ module _ (P : Event → Asking Row → Type 0) (s : OpeningState) (told : Told) 
           part_row Holds (boolean ∷ end ∷ []) (text_at body) _ breaks (λ list rest read breaks.
           part_row Holds (end ∷ []) (boolean_at rest) _ breaks (λ partial left also breaks.
           let known = known_methods (names_in list) in end_row Holds left (failed_row t known partial) breaks
-          (failed_holds known partial (λ none. unknown (rw read (none_known (names_in list) none))))))
+          (failed_holds known partial (λ none. unknown (rw read (none_behind [] (names_in list) none).1)))))
 
       banner_holds : Broken (text ∷ text ∷ end ∷ []) → Holds (userauth_banner_row t body)
       unfolding userauth_banner_row

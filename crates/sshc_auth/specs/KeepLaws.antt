@@ -4,13 +4,12 @@ use Rattle.std.proofs.Common.{◌≡◌, ◌≢◌, inl, inr, List, [], ◌∷�
 use Rattle.std.specs.List.{AllByRecursion}
 use Rattle.sshc_wire.specs.declared.auth_record.AuthRecord.TheVariants.{SignRequest, SignRequestCert}
 use Rattle.sshc_wire.specs.declared.record.Record.TheVariants as records
-use Rattle.sshc_wire.specs.declared.resolution.Resolution.TheVariants as answers
 use Rattle.sshc_key.specs.declared.signer.Asker.TheVariants.{Session}
 use Rattle.sshc_auth_event.specs.declared.event.Event.TheVariants as events
 use Rattle.sshc_auth.specs.declared.opening.Phase.TheVariants as phases
 use Rattle.sshc_auth.specs.AddedLaws.{HoldsOfLists, behind_resolved, resolved_has, service_has, stored_has, token_has, told_has}
 use Rattle.sshc_auth.specs.EachRowLaws.{PacketRows, TableRows, UserRows, each_row, failed_row, started_row, succeeded_row}
-use Rattle.sshc_auth.specs.RowNames.{Answer, answered_row, asked_for_service, Asking, asks, authenticate_again_row, authenticate_first_row, done, ends, Error, Event, extensions_row, goes, gssapi_complete, gssapi_mic, HandsCertificate, HandsKey, HandsNothing, HashAlg, info_response_row, KeepsRequest, KeepsSession, Kept, kept_of, Key, last_token, Next, open_row, OpeningState, opens, Phase, Record, refuses, rekey_row, request, Row, signed_by_row, SignsStored, stays, stored_request, Told, unsigned_row, user_disconnect_row}
+use Rattle.sshc_auth.specs.RowNames.{Answer, answered_row, Asking, asks, authenticate_again_row, authenticate_first_row, done, ends, Error, Event, extensions_row, goes, gssapi_complete, gssapi_mic, HandsCertificate, HandsKey, HandsNothing, HashAlg, info_response_row, KeepsRequest, KeepsSession, Kept, kept_of, Key, last_token, Next, open_row, OpeningState, opens, Phase, Record, refuses, rekey_row, request, Row, signed_by_row, SignsStored, stays, Told, unsigned_row, user_disconnect_row}
 
 -- ---- what the law says
 
