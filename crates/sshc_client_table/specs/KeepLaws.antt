@@ -2,6 +2,7 @@
 use Rattle.std.proofs.Common.{◌≡◌, ◌⊎◌, inl, inr, Bool, true, false, not, ◌&&◌, List, [], ◌∷◌, ◌++◌, eqb, if◌then◌else◌, Option, Some, None, refl, ap, sym, subst, ◌∙◌, append_assoc}
 use Rattle.std.proofs.lemmas.List.{append-nil}
 use Rattle.std.specs.List.{AllByRecursion}
+use Rattle.sshc_wire.specs.CasesLaws.{by_cases}
 use Rattle.sshc_wire.specs.declared.record.Record.{Record}
 use Rattle.sshc_wire.specs.declared.record.Record.TheVariants.{Resolved}
 use Rattle.sshc_wire.specs.declared.resolution.Resolution.TheVariants.{Denied}
@@ -49,14 +50,6 @@ all-append P (r ∷ a) b (here, first) second = (here, all-append P a b first se
 all_packets : (output : List ChannelPacket) → AllByRecursion MayBeAdded (records_of output)
 all_packets [] = tt
 all_packets (s ∷ output) = (tt, all_packets output)
-
-denied_if : (b : Bool) (ticket : Ticket) → AllByRecursion IsDenial (if b then [] else Resolved ticket Denied ∷ [])
-denied_if true ticket = tt
-denied_if false ticket = (tt, tt)
-
-added_if : (b : Bool) (ticket : Ticket) → AllByRecursion MayBeAdded (if b then [] else Resolved ticket Denied ∷ [])
-added_if true ticket = tt
-added_if false ticket = (tt, tt)
 
 -- ---- what a method's move changes
 
@@ -170,8 +163,8 @@ good_denied ticket s later = record {
   opening = inl refl;
   keepalives = refl;
   window_target = refl;
-  says = added_if (eqb ticket.0 0) ticket;
-  closed = λ e. record { opening = refl; call = refl; asks = refl; says = denied_if (eqb ticket.0 0) ticket };
+  says = by_cases (AllByRecursion MayBeAdded) (eqb ticket.0 0) _ _ tt (tt, tt);
+  closed = λ e. record { opening = refl; call = refl; asks = refl; says = by_cases (AllByRecursion IsDenial) (eqb ticket.0 0) _ _ tt (tt, tt) };
 }
 
 good_left : (s : SessionState) → runs s.life ≡ true → Good (deed m.Leaves s) s
