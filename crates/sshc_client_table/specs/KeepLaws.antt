@@ -1,11 +1,9 @@
 -- What a session keeps over the moves of its methods.
-use Rattle.std.proofs.Common.{◌≡◌, ◌⊎◌, inl, inr, Bool, true, false, not, ◌&&◌, List, [], ◌∷◌, ◌++◌, eqb, if◌then◌else◌, Option, Some, None, refl, ap, sym, subst, ◌∙◌, append_assoc}
+use Rattle.std.proofs.Common.{◌≡◌, inl, inr, Bool, true, false, not, ◌&&◌, List, [], ◌∷◌, ◌++◌, eqb, Option, Some, None, refl, ap, sym, subst, ◌∙◌, append_assoc}
 use Rattle.std.proofs.lemmas.List.{append-nil}
 use Rattle.std.specs.List.{AllByRecursion}
 use Rattle.sshc_wire.specs.CasesLaws.{by_cases}
 use Rattle.sshc_wire.specs.declared.record.Record.{Record}
-use Rattle.sshc_wire.specs.declared.record.Record.TheVariants.{Resolved}
-use Rattle.sshc_wire.specs.declared.resolution.Resolution.TheVariants.{Denied}
 use Rattle.sshc_wire.specs.declared.ticket.Ticket.{Ticket}
 use Rattle.sshc_transport.specs.declared.exchange.ExchangeFlag.{ExchangeFlag}
 use Rattle.sshc_transport.specs.declared.exchange.ExchangeFlag.TheVariants.{Idle, Ours, Peer}
@@ -18,7 +16,6 @@ use Rattle.sshc_client_packets.specs.ChannelOpens.{ChannelOpen}
 use Rattle.sshc_client_packets.specs.Messages.{Message}
 use Rattle.std.proofs.Common.{ℕ}
 use Rattle.sshc_client_table.specs.declared.reply_entry.ReplyEntry.{ReplyEntry}
-use Rattle.sshc_client_table.specs.declared.life.Life.TheVariants.{Left}
 use Rattle.sshc_client_table.specs.SessionState.{SessionState, exchanging, is_live, is_open, is_running, opens_later, runs}
 use Rattle.sshc_client_table.specs.Moves as m
 use Rattle.sshc_client_table.specs.Moves.{Deed, Move, after, deed, deed_of, did, done, done_if, may_go, still, with_deed, with_flag}

@@ -1,7 +1,7 @@
 -- Each row of an open session that refuses or ends has its cause, and no row leaves or stops the session by a move, or
 -- reports a record of an agent: a law about the table, independent of the code that runs it.
 use Rattle.std.proofs.Common.{◌≡◌, ◌≢◌, ◌<◌, ◌≤◌, ◌+◌, ◌-◌, ◌*◌, ◌^◌, inl, inr, ℕ, zero, suc, Bool, true, false, List, [], ◌∷◌, ◌++◌, length, Option, Some, None, Result, Ok, Err, refl, ap, sym, ◌∙◌, subst, arith}
-use Rattle.std.specs.Prelude.{min, not, ◌==◌, ◌&&◌, nat_lt, is_some, if◌then◌else◌}
+use Rattle.std.specs.Prelude.{min, not, ◌==◌, ◌&&◌, nat_lt, is_some}
 use Rattle.std.specs.Int.{w32}
 use Rattle.std.specs.List.{AllByRecursion}
 use Rattle.std.proofs.lemmas.Bool.Decides.{nat_tests}
