@@ -1,5 +1,5 @@
--- What holds of the lists of records that the opening's rows add, if it holds of each record alone and of two lists in a
--- row.
+-- What holds of the lists of records that the opening's rows add, if it holds of no records, of a resolved ticket, and
+-- of two lists in a row.
 use Rattle.std.proofs.Common.{ℕ, Bool, List, [], ◌∷◌, ◌++◌, Option, Some, None}
 use Rattle.std.specs.Prelude.{◌==◌, if◌then◌else◌}
 use Rattle.sshc_wire.specs.CasesLaws.{by_cases}
@@ -28,7 +28,8 @@ module _ {L : List Record → Type 0} (lists : HoldsOfLists L) where
   seen_has name [] = lists.none
   seen_has name (waiter ∷ waiters) =
       lists.two (if waits_for name waiter then resolved waiter.ticket ExtInfoSeen else []) (answers_seen name waiters)
-      (by_cases L (waits_for name waiter) _ _ (resolved_has waiter.ticket ExtInfoSeen) lists.none) (seen_has name waiters)
+      (by_cases L (waits_for name waiter) _ _ (resolved_has waiter.ticket ExtInfoSeen) lists.none)
+      (seen_has name waiters)
 
   pub told_has : (extensions : List Extension) (waiters : List Waiter) → L (answers_to extensions waiters)
   told_has [] waiters = lists.none
@@ -36,16 +37,16 @@ module _ {L : List Record → Type 0} (lists : HoldsOfLists L) where
       lists.two (answers_seen extension.name waiters) (answers_to extensions (others extension.name waiters))
       (seen_has extension.name waiters) (told_has extensions (others extension.name waiters))
 
-  pub stored_has : (user : List ℕ) (method : Option Method) → ((stored : Method) → L (Payload (request user stored) ∷ [])) →
-      L (stored_request user method)
+  pub stored_has : (user : List ℕ) (method : Option Method) →
+      ((stored : Method) → L (Payload (request user stored) ∷ [])) → L (stored_request user method)
   stored_has user None each = lists.none
   stored_has user (Some method) each = each method
 
   pub service_has : (requested : Bool) → L (Payload service_request ∷ []) → L (asked_for_service requested)
   service_has requested holds = by_cases L requested _ _ lists.none holds
 
-  pub token_has : (token : Option (List ℕ)) (packet : List ℕ) → ((token : List ℕ) → L (Payload (gssapi_token token) ∷ [])) →
-      L (Payload packet ∷ []) → L (last_token token ++ Payload packet ∷ [])
+  pub token_has : (token : Option (List ℕ)) (packet : List ℕ) →
+      ((token : List ℕ) → L (Payload (gssapi_token token) ∷ [])) → L (Payload packet ∷ []) → L (last_token token ++ Payload packet ∷ [])
   token_has None packet each holds = holds
   token_has (Some []) packet each holds = holds
   token_has (Some (b ∷ token)) packet each holds =

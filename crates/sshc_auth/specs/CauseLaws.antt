@@ -25,12 +25,14 @@ HasCauses s told event row = AllCaused (why (WasToldNo told) s event) row × Fau
 
 -- ---- the law
 
-signed_cause : (P : Why) (s : OpeningState) (key : Key) (hash : Option HashAlg) (answer : Answer) → P.refusal errors.SignerFault → Caused P (signed_by_row s key hash answer).next
+signed_cause : (P : Why) (s : OpeningState) (key : Key) (hash : Option HashAlg) (answer : Answer) →
+    P.refusal errors.SignerFault → Caused P (signed_by_row s key hash answer).next
 signed_cause P s key hash None fault = fault
 signed_cause P s key hash (Some signature) fault = tt
 
 -- the state of a packet's rows differs in the bytes that are counted
-packet_causes : (s t : OpeningState) (told : Told) (event : Event) → PacketRows (HasCauses s told event) (IsCause (WasToldNo told) s event) t
+packet_causes : (s t : OpeningState) (told : Told) (event : Event) →
+    PacketRows (HasCauses s told event) (IsCause (WasToldNo told) s event) t
 packet_causes s t told event = record {
   passed = (tt, tt);
   extended = λ told. (tt, tt);
@@ -42,7 +44,8 @@ packet_causes s t told event = record {
   prompted = λ name instructions asked. (tt, tt);
   gssapi = λ step. (tt, tt);
   cleared = (tt, tt);
-  signs = λ pair key hash fault stored. (λ answer. signed_cause (why (WasToldNo told) s event) t key hash answer fault, λ signature. tt);
+  signs = λ pair key hash fault stored.
+      (λ answer. signed_cause (why (WasToldNo told) s event) t key hash answer fault, λ signature. tt);
   hands_key = λ key hash stored. (tt, tt);
   hands_certificate = λ cert hash stored. (tt, tt);
 }

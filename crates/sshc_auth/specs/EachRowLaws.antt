@@ -262,34 +262,34 @@ idle : (flag : ExchangeFlag) → is_early_at flag sorts.User ≡ false → flag 
 idle flags.Idle early = refl
 idle flag early = absurd cc
 
-module _ (P : Asking Row → Type 0) (s : OpeningState) (x : ExchangeResult) (told : Told) (rows : ExchangeRows P s x told)
-  where
-    first_holds : (asked : Told) → told ≡ asked → s.flag ≡ flags.Peer → s.phase ≡ phases.Exchanging →
-        P (done (first_exchange_row s x asked))
-    first_holds telling.Went is peer first = rows.accepted first is
-    first_holds telling.No is peer first = rows.refusal errors.UnknownKey tt (peer, (first, λ went. cc))
-    first_holds telling.NotAsked is peer first = rows.refusal errors.UnknownKey tt (peer, (first, λ went. cc))
+module _ (P : Asking Row → Type 0) (s : OpeningState) (x : ExchangeResult) (told : Told)
+    (rows : ExchangeRows P s x told) where
+  first_holds : (asked : Told) → told ≡ asked → s.flag ≡ flags.Peer → s.phase ≡ phases.Exchanging →
+      P (done (first_exchange_row s x asked))
+  first_holds telling.Went is peer first = rows.accepted first is
+  first_holds telling.No is peer first = rows.refusal errors.UnknownKey tt (peer, (first, λ went. cc))
+  first_holds telling.NotAsked is peer first = rows.refusal errors.UnknownKey tt (peer, (first, λ went. cc))
 
-    exchange_holds : (phase : Phase) → s.flag ≡ flags.Peer → s.phase ≡ phase → P (done (exchange_row_in phase s x told))
-    exchange_holds phases.Exchanging peer is = first_holds told refl peer is
-    exchange_holds phase peer is =
-        let later : s.phase ≢ phases.Exchanging = rw is (λ first. absurd cc) in
-        by_test (λ (row : Row). P (done row)) (has_kept_key s x) _ _ (λ same. rows.later later same)
-        (λ other. rows.refusal errors.RekeyKey tt (later, (peer, not_kept s x other)))
+  exchange_holds : (phase : Phase) → s.flag ≡ flags.Peer → s.phase ≡ phase → P (done (exchange_row_in phase s x told))
+  exchange_holds phases.Exchanging peer is = first_holds told refl peer is
+  exchange_holds phase peer is =
+      let later : s.phase ≢ phases.Exchanging = rw is (λ first. absurd cc) in
+      by_test (λ (row : Row). P (done row)) (has_kept_key s x) _ _ (λ same. rows.later later same)
+      (λ other. rows.refusal errors.RekeyKey tt (later, (peer, not_kept s x other)))
 
-    exchange_turn : (awaits : Bool) → is_early awaits s.flag sorts.ExchangeDone ≡ false →
-        P (turn_row awaits s (events.ExchangeDone x) told)
-    unfolding plain_row exchange_done_row
-    exchange_turn true early = absurd cc
-    exchange_turn false early = exchange_holds s.phase (peers s.flag early) refl
+  exchange_turn : (awaits : Bool) → is_early awaits s.flag sorts.ExchangeDone ≡ false →
+      P (turn_row awaits s (events.ExchangeDone x) told)
+  unfolding plain_row exchange_done_row
+  exchange_turn true early = absurd cc
+  exchange_turn false early = exchange_holds s.phase (peers s.flag early) refl
 
-    -- an exchange that is done, as every event (below)
-    pub exchange_row : P (open_row s (events.ExchangeDone x) told)
-    unfolding open_row
-    exchange_row =
-        by_test P (is_out_of_turn s (events.ExchangeDone x)) _ _
-        (λ early. rows.refusal errors.OutOfTurn tt (early_by s (events.ExchangeDone x) (is_awaiting s.phase) refl early))
-        (λ turn. exchange_turn (is_awaiting s.phase) turn)
+  -- an exchange that is done, as every event (below)
+  pub exchange_row : P (open_row s (events.ExchangeDone x) told)
+  unfolding open_row
+  exchange_row =
+      by_test P (is_out_of_turn s (events.ExchangeDone x)) _ _
+      (λ early. rows.refusal errors.OutOfTurn tt (early_by s (events.ExchangeDone x) (is_awaiting s.phase) refl early))
+      (λ turn. exchange_turn (is_awaiting s.phase) turn)
 
 -- ---- numbers and lengths of packets
 
@@ -317,7 +317,8 @@ at_end_breaks [] is = absurd cc
 at_end_breaks (b ∷ left) is = tt
 
 string_breaks : (read : Result (List ℕ × List ℕ) WireError) →
-    with_part false read (λ blob left. is_at_end left) ≡ false → BreaksBehind (λ rest. Breaks (end ∷ []) rest) (rest_of read)
+    with_part false read (λ blob left. is_at_end left) ≡ false →
+    BreaksBehind (λ rest. Breaks (end ∷ []) rest) (rest_of read)
 string_breaks (Ok x) is = at_end_breaks x.1 is
 string_breaks (Err e) is = tt
 

@@ -59,7 +59,8 @@ first_rows s told first = record {
   disconnected = λ event info is denied. (tt, tt);
   passed = λ event none denied. (tt, (first, no_exchange event none));
   begins = λ idle. absurd (first.runs idle);
-  joins = λ running denied. (tt, (record { exchanging = first.exchanging; runs = λ same. absurd cc; fresh = first.fresh }, tt));
+  joins = λ running denied.
+      (tt, (record { exchanging = first.exchanging; runs = λ same. absurd cc; fresh = first.fresh }, tt));
   accepted = λ x exchanging went denied. absurd (denied went);
   opened = λ x exchanging went denied. absurd (denied went);
   later = λ x behind same denied. absurd (behind first.exchanging);
@@ -97,11 +98,13 @@ next_also event told (refuses e) first = tt
 stays_also : (event : Event) (told : Told) (row : Row) → StaysFirst event row → FirstRow event told row
 stays_also event told row first = (first.0, next_also event told row.next first.1)
 
-accepted_first : (s : OpeningState) (x : ExchangeResult) (anonymous : Bool) → FirstRow (events.ExchangeDone x) telling.Went (accepted_row anonymous s x)
+accepted_first : (s : OpeningState) (x : ExchangeResult) (anonymous : Bool) →
+    FirstRow (events.ExchangeDone x) telling.Went (accepted_row anonymous s x)
 accepted_first s x false = (((λ never. never), tt), inr (x, refl, refl, refl, refl))
 accepted_first s x true = (((λ never. never), ((λ never. never), tt)), (x, refl, refl, refl, refl))
 
-went_first : (s : OpeningState) (x : ExchangeResult) → IsFirst s → Always (FirstRow (events.ExchangeDone x) telling.Went) (open_row s (events.ExchangeDone x) telling.Went)
+went_first : (s : OpeningState) (x : ExchangeResult) → IsFirst s →
+    Always (FirstRow (events.ExchangeDone x) telling.Went) (open_row s (events.ExchangeDone x) telling.Went)
 went_first s x first = exchange_row (Always (FirstRow (events.ExchangeDone x) telling.Went)) s x telling.Went (record {
   refusal = λ e other is. (tt, tt);
   accepted = λ exchanging went. accepted_first s x s.settings.anonymous;

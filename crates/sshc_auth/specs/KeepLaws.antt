@@ -101,7 +101,8 @@ module _ (s : OpeningState) where
   signed_keeps : (event : Event) (key : Key) (hash : Option HashAlg) (answer : Answer) →
       KeepsAsked (kept_of s) event (done (signed_by_row s key hash answer))
   signed_keeps event key hash None = ((tt, tt), tt, tt)
-  signed_keeps event key hash (Some signature) = (((tt, tt), ((λ later. (refl, later)), inl (refl, inr refl))), refl, (tt, tt))
+  signed_keeps event key hash (Some signature) =
+      (((tt, tt), ((λ later. (refl, later)), inl (refl, inr refl))), refl, (tt, tt))
 
   packet_keeps : (event : Event) (R : Error → Type 0) → PacketRows (RowKeeps event) R s
   packet_keeps event R = record {
@@ -111,7 +112,8 @@ module _ (s : OpeningState) where
     started = λ is. none_keeps event (started_row s) (stored_has lists s.user s.method (λ stored. (tt, tt)))
         (moved s event phases.Auth in_auth);
     unknown = λ partial without. none_keeps event (failed_row s [] partial) (resolved_has lists s.ticket _) tt;
-    failed = λ method known partial. none_keeps event (failed_row s (method ∷ known) partial) (resolved_has lists s.ticket _)
+    failed = λ method known partial.
+        none_keeps event (failed_row s (method ∷ known) partial) (resolved_has lists s.ticket _)
         ((λ later. (refl, later)), inl (refl, inr refl));
     succeeded = none_keeps event (succeeded_row s) (behind_resolved lists s.ticket _ (records.Opened ∷ []) (tt, tt))
         ((λ later. (refl, λ same. absurd cc)), inl (refl, inr refl));
@@ -120,7 +122,10 @@ module _ (s : OpeningState) where
     gssapi = λ step. ((tt, tt), still s event);
     cleared = (tt, ((λ later. (refl, later)), inl (refl, inr refl)));
     signs = λ pair key hash fault stored. (refl, stored, λ answer. signed_keeps event key hash answer);
-    hands_key = λ key hash stored. (((stored, refl, tt), tt), ((λ later. (refl, λ same. absurd cc)), inl (refl, inr refl)));
+    hands_key = λ key hash stored. (
+      ((stored, refl, tt), tt),
+      ((λ later. (refl, λ same. absurd cc)), inl (refl, inr refl)),
+    );
     hands_certificate = λ cert hash stored. (
       ((stored, refl, tt), tt),
       ((λ later. (refl, λ same. absurd cc)), inl (refl, inr refl)),
@@ -140,10 +145,12 @@ module _ (s : OpeningState) where
         ((λ later. (refl, later)), inr (refl, refl));
     token = λ token. ((tt, tt), still s (events.AuthGssapiToken token));
     mic = λ token code.
-        none_keeps (events.AuthGssapiMic token code) (goes (last_token token ++ records.Payload (gssapi_mic code) ∷ []) s)
+        none_keeps (events.AuthGssapiMic token code)
+        (goes (last_token token ++ records.Payload (gssapi_mic code) ∷ []) s)
         (token_has lists token _ (λ other. (tt, tt)) (tt, tt)) (still s (events.AuthGssapiMic token code));
     complete = λ token.
-        none_keeps (events.AuthGssapiExchangeComplete token) (goes (last_token token ++ records.Payload gssapi_complete ∷ []) s)
+        none_keeps (events.AuthGssapiExchangeComplete token)
+        (goes (last_token token ++ records.Payload gssapi_complete ∷ []) s)
         (token_has lists token _ (λ other. (tt, tt)) (tt, tt)) (still s (events.AuthGssapiExchangeComplete token));
     rekeys = ((tt, tt), still s events.Rekey);
     waits = λ ticket name. (tt, still s (events.AwaitExtensionInfo ticket name));

@@ -113,7 +113,8 @@ IsCalm phase = Unit {0}
 
 fits_in : {phase : Phase} {id user bytes : List ℕ} {method : Option Method} → IsCalm phase → IsShort user →
     FitsIn phase id user method bytes
-fits_in calm short = record { short = short; handed = λ is. absurd (rw is at calm); fresh = λ is. absurd (rw is at calm) }
+fits_in calm short =
+    record { short = short; handed = λ is. absurd (rw is at calm); fresh = λ is. absurd (rw is at calm) }
 
 -- ---- what was handed out, and what follows the session id
 
@@ -163,14 +164,19 @@ module _ (user password : List ℕ) (short : IsShort user) where
   abbrev SoundRow : OpeningState → Event → Asking Row → Type 0
   SoundRow s event row = HasShortUser event → Always (Sound packet s event) row
 
-  packet_sound : (s : OpeningState) (event : Event) (R : Error → Type 0) → FitsRequest s → PacketRows (SoundRow s event) R s
+  packet_sound : (s : OpeningState) (event : Event) (R : Error → Type 0) → FitsRequest s →
+      PacketRows (SoundRow s event) R s
   packet_sound s event R fits = record {
     passed = λ has. (omega arith, fits);
     extended = λ told has. (omega (arith, told_has lists told s.waiters), fits);
     started = λ is has. stored_sound s event s.method is refl fits;
     unknown = λ partial none has. (omega (arith, resolved_has lists s.ticket (answers.AuthFailure [] partial)), tt);
     failed = λ kind known partial has. (
-      omega (arith, resolved_has lists s.ticket (answers.AuthFailure (kind ∷ known) partial), none_waits packet s.phase s.user),
+      omega (
+        arith,
+        resolved_has lists s.ticket (answers.AuthFailure (kind ∷ known) partial),
+        none_waits packet s.phase s.user,
+      ),
       settled s fits,
     );
     succeeded = λ has. (
@@ -198,7 +204,8 @@ module _ (user password : List ℕ) (short : IsShort user) where
   first_sound s ticket own method is has =
       let none = behind_resolved lists s.ticket answers.Dropped (asked_for_service s.requested)
       (service_has lists s.requested none_service) in
-      let waits : times_waiting_in s.phase packet own (Some method) ≡ once_if (bytes_eq (request own method) packet) = rw is refl in
+      let waits : times_waiting_in s.phase packet own (Some method) ≡ once_if (bytes_eq (request own method) packet) =
+      rw is refl in
       (omega (arith, none, waits), rw is (fits_in tt has))
 
   again_sound : (s : OpeningState) (ticket : Ticket) (own : List ℕ) (method : Method) → s.phase ≡ phases.Auth →
@@ -250,7 +257,8 @@ module _ (user password : List ℕ) (short : IsShort user) where
     passed = λ event none has. (omega arith, fits);
     begins = λ idle has. (omega arith, fits);
     joins = λ running has. (omega arith, fits);
-    accepted = λ x first went has. (omega (arith, fresh_waits packet s.user s.method (fits.fresh first)), fits_in tt fits.short);
+    accepted = λ x first went has.
+        (omega (arith, fresh_waits packet s.user s.method (fits.fresh first)), fits_in tt fits.short);
     opened = λ x first went has. (omega arith, fits_in tt fits.short);
     later = λ x behind same has. (omega arith, fits);
     packets = λ n body counted behind. packet_sound (record s { counted = counted }) (events.Payload (n ∷ body)) _ fits;

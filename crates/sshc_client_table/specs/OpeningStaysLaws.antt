@@ -15,11 +15,13 @@ use Rattle.sshc_auth.specs.RowNames.{Always, Answer, asked_for_service, Asking, 
 lists : HoldsOfLists AreSessions
 lists = record { none = tt; two = sessions_on; resolves = λ ticket resolution. (refl, tt) }
 
-signed_stays : (s : OpeningState) (key : Key) (hash : Option HashAlg) (answer : Answer) → is_open s.phase ≡ false → Stays s.closed (signed_by_row s key hash answer)
+signed_stays : (s : OpeningState) (key : Key) (hash : Option HashAlg) (answer : Answer) → is_open s.phase ≡ false →
+    Stays s.closed (signed_by_row s key hash answer)
 signed_stays s key hash None is = (tt, tt)
 signed_stays s key hash (Some signature) is = ((refl, is), (refl, tt))
 
-packet_stays : (s : OpeningState) (R : Error → Type 0) → is_open s.phase ≡ false → PacketRows (Always (Stays s.closed)) R s
+packet_stays : (s : OpeningState) (R : Error → Type 0) → is_open s.phase ≡ false →
+    PacketRows (Always (Stays s.closed)) R s
 packet_stays s R is = record {
   passed = ((refl, is), tt);
   extended = λ told. ((refl, is), told_has lists told s.waiters);
@@ -43,8 +45,10 @@ StaysRow s event row = Always (Stays s.closed) row
 user_stays : (s : OpeningState) → is_open s.phase ≡ false → UserRows (StaysRow s) s
 unfolding authenticate_first_row authenticate_again_row rekey_row user_disconnect_row info_response_row
 user_stays s is = record {
-  first = λ ticket user method service. ((refl, is), behind_resolved lists s.ticket Dropped (asked_for_service s.requested) (service_has lists s.requested (refl, tt)));
-  again = λ ticket user method auth. ((refl, is), behind_resolved lists s.ticket Dropped (Payload (request user method) ∷ []) (refl, tt));
+  first = λ ticket user method service.
+      ((refl, is), behind_resolved lists s.ticket Dropped _ (service_has lists s.requested (refl, tt)));
+  again = λ ticket user method auth.
+      ((refl, is), behind_resolved lists s.ticket Dropped (Payload (request user method) ∷ []) (refl, tt));
   token = λ token. ((refl, is), (refl, tt));
   mic = λ token code. ((refl, is), token_has lists token (gssapi_mic code) (λ other. (refl, tt)) (refl, tt));
   complete = λ token. ((refl, is), token_has lists token gssapi_complete (λ other. (refl, tt)) (refl, tt));
