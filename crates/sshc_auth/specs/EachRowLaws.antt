@@ -132,13 +132,6 @@ pub record UserRows (P : Event → Asking Row → Type 0) (s : OpeningState) : T
       P (events.Signed body) (done (handed_row s body))
   pub unsigned : (event : Event) → P event (done (unsigned_row s))
 
--- those of an exchange that is done
-pub record ExchangeRows (P : Asking Row → Type 0) (s : OpeningState) (x : ExchangeResult) (told : Told) : Type 0 where
-  pub refusal : (e : Error) → IsOther e → IsCause (WasToldNo told) s (events.ExchangeDone x) e → P (done (refused e))
-  pub accepted : s.phase ≡ phases.Exchanging → told ≡ telling.Went → P (done (accepted_row s.settings.anonymous s x))
-  pub later : s.phase ≢ phases.Exchanging → has_kept_key s x ≡ true →
-      P (done (goes (records.KexDone x.names.kex ∷ []) (exchanged s)))
-
 -- all of them; the rows of a packet are those of a state that differs only in the bytes that are counted
 pub record TableRows (P : Event → Asking Row → Type 0) (s : OpeningState) (told : Told) : Type 0 where
   pub refusal : (event : Event) (e : Error) → IsOther e → IsCause (WasToldNo told) s event e →
@@ -263,19 +256,22 @@ idle flags.Idle early = refl
 idle flag early = absurd cc
 
 module _ (P : Asking Row → Type 0) (s : OpeningState) (x : ExchangeResult) (told : Told)
-    (rows : ExchangeRows P s x told) where
+    (refusal : (e : Error) → IsOther e → IsCause (WasToldNo told) s (events.ExchangeDone x) e → P (done (refused e)))
+    (accepted : s.phase ≡ phases.Exchanging → told ≡ telling.Went → P (done (accepted_row s.settings.anonymous s x)))
+    (later : s.phase ≢ phases.Exchanging → has_kept_key s x ≡ true →
+    P (done (goes (records.KexDone x.names.kex ∷ []) (exchanged s)))) where
   first_holds : (asked : Told) → told ≡ asked → s.flag ≡ flags.Peer → s.phase ≡ phases.Exchanging →
       P (done (first_exchange_row s x asked))
-  first_holds telling.Went is peer first = rows.accepted first is
-  first_holds telling.No is peer first = rows.refusal errors.UnknownKey tt (peer, (first, λ went. cc))
-  first_holds telling.NotAsked is peer first = rows.refusal errors.UnknownKey tt (peer, (first, λ went. cc))
+  first_holds telling.Went is peer first = accepted first is
+  first_holds telling.No is peer first = refusal errors.UnknownKey tt (peer, (first, λ went. cc))
+  first_holds telling.NotAsked is peer first = refusal errors.UnknownKey tt (peer, (first, λ went. cc))
 
   exchange_holds : (phase : Phase) → s.flag ≡ flags.Peer → s.phase ≡ phase → P (done (exchange_row_in phase s x told))
   exchange_holds phases.Exchanging peer is = first_holds told refl peer is
   exchange_holds phase peer is =
-      let later : s.phase ≢ phases.Exchanging = rw is (λ first. absurd cc) in
-      by_test (λ (row : Row). P (done row)) (has_kept_key s x) _ _ (λ same. rows.later later same)
-      (λ other. rows.refusal errors.RekeyKey tt (later, (peer, not_kept s x other)))
+      let behind : s.phase ≢ phases.Exchanging = rw is (λ first. absurd cc) in
+      by_test (λ (row : Row). P (done row)) (has_kept_key s x) _ _ (λ same. later behind same)
+      (λ other. refusal errors.RekeyKey tt (behind, (peer, not_kept s x other)))
 
   exchange_turn : (awaits : Bool) → is_early awaits s.flag sorts.ExchangeDone ≡ false →
       P (turn_row awaits s (events.ExchangeDone x) told)
@@ -288,7 +284,7 @@ module _ (P : Asking Row → Type 0) (s : OpeningState) (x : ExchangeResult) (to
   unfolding open_row
   exchange_row =
       by_test P (is_out_of_turn s (events.ExchangeDone x)) _ _
-      (λ early. rows.refusal errors.OutOfTurn tt (early_by s (events.ExchangeDone x) (is_awaiting s.phase) refl early))
+      (λ early. refusal errors.OutOfTurn tt (early_by s (events.ExchangeDone x) (is_awaiting s.phase) refl early))
       (λ turn. exchange_turn (is_awaiting s.phase) turn)
 
 -- ---- numbers and lengths of packets
@@ -569,10 +565,7 @@ module _ (P : Event → Asking Row → Type 0) (s : OpeningState) (told : Told) 
 
   -- ---- users
 
-  module _ (calm : is_awaiting s.phase ≡ false) (quiet : s.flag ≡ flags.Idle) where
-    abbrev mine : UserRows P s
-    mine = rows.users (inr quiet)
-
+  module _ (mine : UserRows P s) (calm : is_awaiting s.phase ≡ false) (quiet : s.flag ≡ flags.Idle) where
     asks_has : (ticket : Ticket) (user : List ℕ) (method : Method) (phase : Phase) → s.phase ≡ phase →
         Has (events.Authenticate ticket user method) (authenticate_row_in phase s ticket user method)
     asks_has ticket user method phases.Service is = mine.first ticket user method is
@@ -628,13 +621,6 @@ module _ (P : Event → Asking Row → Type 0) (s : OpeningState) (told : Told) 
   accepted_has x false first went = rows.accepted x first went
   accepted_has x true first went = rows.opened x first went
 
-  exchange_rows : (x : ExchangeResult) → ExchangeRows (P (events.ExchangeDone x)) s x told
-  exchange_rows x = record {
-    refusal = rows.refusal (events.ExchangeDone x);
-    accepted = accepted_has x s.settings.anonymous;
-    later = rows.later x;
-  }
-
   kexinit_has : (flag : ExchangeFlag) → s.flag ≡ flag → Has events.PeerKexinit (peer_kexinit_row_at flag s)
   kexinit_has flags.Idle is = rows.begins is
   kexinit_has flag is = rows.joins (λ idle. let clash : flag ≡ flags.Idle = sym is ∙ idle in absurd cc)
@@ -644,7 +630,8 @@ module _ (P : Event → Asking Row → Type 0) (s : OpeningState) (told : Told) 
   unfolding plain_row user_row unopened_row peer_kexinit_row exchange_done_row
   plain_has events.PeerKexinit calm early = kexinit_has s.flag refl
   plain_has (events.ExchangeDone x) calm early =
-      exchange_holds (P (events.ExchangeDone x)) s x told (exchange_rows x) s.phase (peers s.flag early) refl
+      exchange_holds (P (events.ExchangeDone x)) s x told (rows.refusal (events.ExchangeDone x))
+      (accepted_has x s.settings.anonymous) (rows.later x) s.phase (peers s.flag early) refl
   plain_has (events.Payload packet) calm early = rows.passed (events.Payload packet) refl
   plain_has events.TransportFailed calm early =
       rows.refusal events.TransportFailed errors.TransportFailed tt (refl, calm)
@@ -654,14 +641,11 @@ module _ (P : Event → Asking Row → Type 0) (s : OpeningState) (told : Told) 
       by_test (Has events.InactivityTimer) s.settings.inactivity _ _
       (λ is. rows.refusal events.InactivityTimer errors.InactivityTimeout tt (refl, is, calm))
       (λ is. rows.passed events.InactivityTimer refl)
-  plain_has event calm early = user_has calm (idle s.flag early) event refl
+  plain_has event calm early = let quiet = idle s.flag early in user_has (rows.users (inr quiet)) calm quiet event refl
 
   -- ---- while an answer is awaited
 
-  module _ (awaits : is_awaiting s.phase ≡ true) where
-    abbrev own : UserRows P s
-    own = rows.users (inl awaits)
-
+  module _ (own : UserRows P s) (awaits : is_awaiting s.phase ≡ true) where
     responses_has : (event : Event) → Has event (responses_row s event)
     responses_has (events.AuthInfoResponse responses) = own.responds responses
     responses_has event = own.resolves event (ticket_of event) answers.Dropped
@@ -694,7 +678,7 @@ module _ (P : Event → Asking Row → Type 0) (s : OpeningState) (told : Told) 
 
   turn_has : (event : Event) (awaits : Bool) → is_awaiting s.phase ≡ awaits →
       is_early awaits s.flag (sort_of event) ≡ false → P event (turn_row awaits s event told)
-  turn_has event true is early = awaiting_has is event
+  turn_has event true is early = awaiting_has (rows.users (inl is)) is event
   turn_has event false is early = event_has event is early
 
   -- the row of each event has what the rows have that the table comes to

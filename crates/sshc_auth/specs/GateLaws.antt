@@ -105,11 +105,9 @@ accepted_first s x true = (((λ never. never), ((λ never. never), tt)), (x, ref
 
 went_first : (s : OpeningState) (x : ExchangeResult) → IsFirst s →
     Always (FirstRow (events.ExchangeDone x) telling.Went) (open_row s (events.ExchangeDone x) telling.Went)
-went_first s x first = exchange_row (Always (FirstRow (events.ExchangeDone x) telling.Went)) s x telling.Went (record {
-  refusal = λ e other is. (tt, tt);
-  accepted = λ exchanging went. accepted_first s x s.settings.anonymous;
-  later = λ behind same. absurd (behind first.exchanging);
-})
+went_first s x first =
+    exchange_row (Always (FirstRow (events.ExchangeDone x) telling.Went)) s x telling.Went (λ e other is. (tt, tt))
+    (λ exchanging went. accepted_first s x s.settings.anonymous) (λ behind same. absurd (behind first.exchanging))
 
 -- while the first exchange runs, no packet is written, and the session gets past it only if the exchange is accepted
 pub first_row : (s : OpeningState) (event : Event) (told : Told) → IsFirst s → Always (FirstRow event told) (open_row s event told)

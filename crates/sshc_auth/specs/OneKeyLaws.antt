@@ -27,8 +27,6 @@ abbrev pub HasKeyRow : OpeningState → ExchangeResult → Row → Type 0
 HasKeyRow s x row = HasKeyNext s x row.next
 
 pub later_row : (s : OpeningState) (x : ExchangeResult) (told : Told) → s.phase ≢ phases.Exchanging → Always (HasKeyRow s x) (open_row s (events.ExchangeDone x) told)
-later_row s x told later = exchange_row (Always (HasKeyRow s x)) s x told (record {
-  refusal = λ e other is. tt;
-  accepted = λ first went. absurd (later first);
-  later = λ behind same. is_kept s x same;
-})
+later_row s x told later =
+    exchange_row (Always (HasKeyRow s x)) s x told (λ e other is. tt) (λ first went. absurd (later first))
+    (λ behind same. is_kept s x same)

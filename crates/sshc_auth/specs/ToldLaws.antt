@@ -63,11 +63,9 @@ later_reports s x phase behind same = rw same ([], refl)
 
 exchange_reports : (s : OpeningState) (x : ExchangeResult) (told : Told) →
     Always (ReportsRow (reported (exchange_asks s.phase s x) (Some x))) (open_row s (events.ExchangeDone x) told)
-exchange_reports s x told = exchange_row (Always (ReportsRow (reported (exchange_asks s.phase s x) (Some x)))) s x told (record {
-  refusal = λ e other is. tt;
-  accepted = λ first went. first_reports s x s.phase first;
-  later = λ behind same. later_reports s x s.phase behind same;
-})
+exchange_reports s x told =
+    exchange_row (Always (ReportsRow (reported (exchange_asks s.phase s x) (Some x)))) s x told (λ e other is. tt)
+    (λ first went. first_reports s x s.phase first) (λ behind same. later_reports s x s.phase behind same)
 
 -- ---- banners
 
