@@ -2,39 +2,26 @@
 use Rattle.std.proofs.Common.{◌≡◌, ◌≢◌, ◌⊎◌, inl, inr, Bool, true, false, List, [], ◌∷◌, ◌++◌, Option, Some, None, Result, Ok, Err, refl, ap, sym, ◌∙◌, subst, append-nil, append_assoc}
 use Rattle.std.proofs.Math.Seq.{drop-length}
 use Rattle.std.specs.List.{AllByRecursion}
-use Rattle.sshc_wire.specs.Outgoing.{Outgoing, kept, shown}
-use Rattle.sshc_wire.specs.Records.{IsResolved}
 use Rattle.sshc_wire.specs.declared.auth_record.AuthRecord.TheVariants.{SignRequest, SignRequestCert}
-use Rattle.sshc_wire.specs.declared.record.Record.{Record}
 use Rattle.sshc_wire.specs.declared.record.Record.TheVariants as records
-use Rattle.sshc_key.specs.Asking.{Asking, done, asks, Makes, MakesFirst}
+use Rattle.sshc_key.specs.Asking.{MakesFirst}
 use Rattle.sshc_key.specs.AskingLaws.{all_first, always_makes}
-use Rattle.sshc_key.specs.Signers.{SignCall, since}
-use Rattle.sshc_key.specs.declared.identity.PublicKeyOrCertificate.{PublicKeyOrCertificate}
+use Rattle.sshc_key.specs.Signers.{since}
 use Rattle.sshc_key.specs.declared.signer.Asker.TheVariants.{Session}
-use Rattle.sshc_auth_event.specs.declared.event.Event.{Event}
 use Rattle.sshc_auth_event.specs.declared.event.Event.TheVariants as events
-use Rattle.sshc_transport.specs.declared.exchange.ExchangeResult.{ExchangeResult}
-use Rattle.sshc_auth.specs.declared.error.Error.{Error}
 use Rattle.sshc_auth.specs.declared.error.Error.TheVariants.{NoMemory}
 use Rattle.sshc_auth.specs.declared.opening.Phase.TheVariants as phases
-use Rattle.sshc_auth.specs.declared.step.Asks.{Asks}
 use Rattle.sshc_auth.specs.declared.step.Asks.TheVariants as asking
-use Rattle.sshc_auth.specs.declared.step.Step.{Step}
 use Rattle.sshc_auth.specs.declared.step.Step.TheVariants as steps
-use Rattle.sshc_auth.specs.declared.step.Told.{Told}
 use Rattle.sshc_auth.specs.declared.step.Told.TheVariants as telling
 use Rattle.sshc_auth.specs.AskedLaws.{AsksFor, IsKeyAtMost, asks_for, first_at_most}
 use Rattle.sshc_auth.specs.GateLaws.{FirstRow, FirstOrTaken, TakesFirst, first_row}
-use Rattle.sshc_auth.specs.Causes.{IsKeptKey}
 use Rattle.sshc_auth.specs.OneKeyLaws.{HasKeyNext, HasKeyRow, later_row}
 use Rattle.sshc_auth.specs.KeepLaws.{HandsAll, HandsBytes, Keeps, KeepsNext, KeepsState, KeepsAsked, KeepsAsking, SettledNext, open_keeps}
-use Rattle.sshc_auth.specs.OpeningState.{OpeningState, shut}
-use Rattle.sshc_auth.specs.OpeningTable.{open_row, asked_of}
-use Rattle.sshc_auth.specs.Row.{Row, Next, Span, Steps, stays, opens}
-use Rattle.sshc_auth.specs.SessionWords.{Kept, kept_of, IsReported, reported, AddsHandedOnce, AddsOnly, HandsLast, HandsNothing, HandsOnce, IsNoPacket, IsFirst, GoesOnFirst, AcceptsFirst, KeepsKey, KeepsSession, HasKeptKey, Continues, KeepsRequest, SignsStored, HandsStored, IsSettled, AsksOnce, Stores, KeepsTo}
+use Rattle.sshc_auth.specs.OpeningState.{shut}
+use Rattle.sshc_auth.specs.SessionWords.{IsReported, AddsHandedOnce, AddsOnly, HandsLast, HandsOnce, GoesOnFirst, AcceptsFirst, KeepsKey, HasKeptKey, Continues, HandsStored, IsSettled, AsksOnce, Stores, KeepsTo}
 use Rattle.sshc_auth.specs.ToldLaws.{Reports, ReportsNext, ReportsRow, row_reports}
-use Rattle.sshc_auth.specs.Stepping.{Lent, GateAnswers, Answered, Judged, Tells, GateRefused, StepsBy, StaysClosed, exchange_in, gained, map_step, span_of, told_of}
+use Rattle.sshc_auth.specs.RowNames.{Answered, asked_of, Asking, Asks, asks, done, Error, Event, exchange_in, ExchangeResult, gained, GateAnswers, GateRefused, HandsNothing, IsFirst, IsKeptKey, IsNoPacket, IsResolved, Judged, KeepsRequest, KeepsSession, Kept, kept, kept_of, Lent, Makes, map_step, Next, open_row, OpeningState, opens, Outgoing, PublicKeyOrCertificate, Record, reported, Row, shown, SignCall, SignsStored, Span, span_of, stays, StaysClosed, Step, Steps, StepsBy, Tells, Told, told_of}
 
 -- ---- what was added
 

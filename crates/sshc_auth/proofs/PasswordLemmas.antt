@@ -1,27 +1,14 @@
 -- A password is written at most as often as it was asked for: every step satisfies what each row satisfies.
 use Rattle.std.proofs.Common.{◌≡◌, ◌≤◌, ◌+◌, inl, inr, ℕ, Bool, true, false, List, [], ◌∷◌, ◌++◌, Ok, Err, refl, ap, sym, ◌∙◌, subst, append-nil, append_assoc, arith}
 use Rattle.std.specs.List.{AllByRecursion}
-use Rattle.sshc_wire.specs.Outgoing.{Outgoing, kept, shown}
-use Rattle.sshc_wire.specs.Records.{IsResolved}
-use Rattle.sshc_wire.specs.Wire.{IsShort}
-use Rattle.sshc_wire.specs.declared.record.Record.{Record}
 use Rattle.sshc_wire.specs.declared.record.Record.TheVariants as records
-use Rattle.sshc_key.specs.Asking.{Makes}
 use Rattle.sshc_key.specs.AskingLaws.{always_makes}
-use Rattle.sshc_key.specs.Signers.{SignCall}
-use Rattle.sshc_auth_event.specs.declared.event.Event.{Event}
-use Rattle.sshc_auth.specs.declared.error.Error.{Error}
 use Rattle.sshc_auth.specs.declared.error.Error.TheVariants.{NoMemory}
-use Rattle.sshc_auth.specs.declared.step.Step.{Step}
 use Rattle.sshc_auth.specs.declared.step.Step.TheVariants as steps
-use Rattle.sshc_auth.specs.declared.step.Told.{Told}
-use Rattle.sshc_auth.specs.OpeningState.{OpeningState}
-use Rattle.sshc_auth.specs.OpeningTable.{open_row, asked_of}
 use Rattle.sshc_auth.specs.PasswordLaws.{FitsNext, Sound, waits_next, written_two, open_sound}
-use Rattle.sshc_auth.specs.Passwords.{FitsRequest, HasShortUser, KeepsPasswords, WritesAsAsked, password_packet, times_asked, times_waiting, times_written}
-use Rattle.sshc_auth.specs.Row.{Row, Span, Steps}
-use Rattle.sshc_auth.specs.Stepping.{Lent, GateAnswers, Answered, GateRefused, StepsBy, StaysClosed, exchange_in, gained, span_of}
+use Rattle.sshc_auth.specs.Passwords.{KeepsPasswords, WritesAsAsked}
 use Rattle.sshc_auth.proofs.KeptLemmas.{GateAdds, gate_adds, nothing_added}
+use Rattle.sshc_auth.specs.RowNames.{Answered, asked_of, Error, Event, exchange_in, FitsRequest, gained, GateAnswers, GateRefused, HasShortUser, IsResolved, IsShort, kept, Lent, Makes, open_row, OpeningState, Outgoing, password_packet, Record, Row, shown, SignCall, Span, span_of, StaysClosed, Step, Steps, StepsBy, times_asked, times_waiting, times_written, Told}
 
 -- ---- records
 

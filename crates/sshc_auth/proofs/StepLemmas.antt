@@ -2,33 +2,20 @@
 -- gate returned.
 use Rattle.std.proofs.Common.{◌≡◌, ◌≢◌, inl, inr, ℕ, Bool, true, false, List, ◌++◌, Option, Some, None, Result, Ok, Err, refl, ap, sym, subst, ◌∙◌, append-nil, arith}
 use Rattle.std.proofs.Math.Seq.{drop-length}
-use Rattle.sshc_wire.specs.declared.record.Record.{Record}
-use Rattle.sshc_key.specs.Asking.{Asking, done, asks}
-use Rattle.sshc_key.specs.Signers.{SignCall}
-use Rattle.sshc_auth_event.specs.HostKey.{host_key}
-use Rattle.sshc_key.specs.declared.identity.PublicKeyOrCertificate.{PublicKeyOrCertificate}
-use Rattle.sshc_wire.specs.Outgoing.{Outgoing}
-use Rattle.sshc_auth_event.specs.declared.event.Event.{Event}
 use Rattle.sshc_transport.specs.declared.exchange.ExchangeNames.{ExchangeNames}
-use Rattle.sshc_transport.specs.declared.exchange.ExchangeResult.{ExchangeResult}
 use Rattle.sshc_auth.specs.declared.ended.Ended.{Ended}
 use Rattle.sshc_auth.specs.declared.step.Flow.TheVariants as flows
-use Rattle.sshc_auth.specs.declared.error.Error.{Error}
 use Rattle.sshc_auth.specs.declared.error.Error.TheVariants as errors
-use Rattle.sshc_auth.specs.declared.step.Asks.{Asks}
 use Rattle.sshc_auth.specs.declared.step.Asks.TheVariants as asking
-use Rattle.sshc_auth.specs.declared.step.Step.{Step}
 use Rattle.sshc_auth.specs.declared.step.Step.TheVariants as steps
-use Rattle.sshc_auth.specs.declared.step.Told.{Told}
 use Rattle.sshc_auth.specs.declared.step.Told.TheVariants as telling
-use Rattle.sshc_auth.specs.Causes.{IsCause, WasToldNo, HasCause, IsEndCause, Why, why, Caused, AllCaused, SaysNoTo, GateSaysNo, HasGateCause}
-use Rattle.sshc_auth.specs.OpeningState.{OpeningState}
-use Rattle.sshc_auth.specs.OpeningTable.{open_row, asked_of, key_asked, FitsAsked}
+use Rattle.sshc_auth.specs.Causes.{HasCause, IsEndCause, SaysNoTo, GateSaysNo, HasGateCause}
+use Rattle.sshc_auth.specs.OpeningTable.{FitsAsked}
 use Rattle.sshc_auth.specs.Promises.{Applied, ByTable}
-use Rattle.sshc_auth.specs.Stepping.{GateAnswers, LentGate, Answered, Judged, Tells, exchange_in, SignerGrows, told_of, map_step, gate_answers, lent, with_gate}
-use Rattle.sshc_auth.specs.Row.{Row, Next, Span, SignerAt, FollowsAsking}
+use Rattle.sshc_auth.specs.Stepping.{LentGate, SignerGrows, gate_answers, lent, with_gate}
 use Rattle.sshc_auth.specs.AskedLaws.{first_asks}
 use Rattle.sshc_auth.specs.CauseLaws.{SaysAlso, cause_also, open_cause}
+use Rattle.sshc_auth.specs.RowNames.{AllCaused, Answered, asked_of, Asking, Asks, asks, Caused, done, Error, Event, exchange_in, ExchangeResult, FollowsAsking, GateAnswers, host_key, IsCause, Judged, key_asked, map_step, Next, open_row, OpeningState, Outgoing, PublicKeyOrCertificate, Record, Row, SignCall, SignerAt, Span, Step, Tells, Told, told_of, WasToldNo, Why, why}
 
 -- ---- a call that follows its row
 

@@ -1,91 +1,17 @@
 -- What the table asks of the gate: the host key of the first exchange alone, and an exchange only of an event that is
 -- one.
-use Rattle.std.proofs.Common.{◌≡◌, ℕ, ◌+◌, Bool, true, false, List, [], ◌∷◌, length, Option, Some, None, Result, Ok, Err, refl, ap, ◌∙◌, subst}
+use Rattle.std.proofs.Common.{◌≡◌, ◌≢◌, ℕ, ◌+◌, Bool, true, false, List, [], ◌∷◌, length, Option, Some, None, Result, Ok, Err, refl, sym, ◌∙◌}
 use Rattle.std.specs.Prelude.{◌==◌, if◌then◌else◌}
-use Rattle.sshc_wire.specs.Reads.{text_at}
-use Rattle.sshc_wire.specs.declared.error.WireError.{WireError}
-use Rattle.sshc_wire.specs.declared.msg.TheConstants.{USERAUTH_BANNER}
-use Rattle.sshc_key.specs.declared.identity.PublicKeyOrCertificate.{PublicKeyOrCertificate}
-use Rattle.sshc_auth_event.specs.HostKey.{host_key}
-use Rattle.sshc_auth_event.specs.declared.event.Event.{Event}
+use Rattle.sshc_wire.specs.CasesLaws.{by_cases}
+use Rattle.sshc_wire.specs.MessageNumbers.{USERAUTH_BANNER}
 use Rattle.sshc_auth_event.specs.declared.event.Event.TheVariants as events
 use Rattle.sshc_transport.specs.declared.exchange.ExchangeFlag.TheVariants as flags
-use Rattle.sshc_transport.specs.declared.exchange.ExchangeResult.{ExchangeResult}
-use Rattle.sshc_auth.specs.declared.opening.Phase.{Phase}
 use Rattle.sshc_auth.specs.declared.opening.Phase.TheVariants as phases
-use Rattle.sshc_auth.specs.declared.step.Asks.{Asks}
 use Rattle.sshc_auth.specs.declared.step.Asks.TheVariants as asking
-use Rattle.sshc_auth.specs.OpeningState.{OpeningState}
-use Rattle.sshc_auth.specs.OpeningTable.{asked_of, event_asks, exchange_asks, key_asked, packet_asks, number_asks, is_held_back, banner_asks, banner_at_end}
-use Rattle.sshc_auth.specs.OpeningTable.Exchange.{has_kept_key}
-use Rattle.sshc_auth.specs.OpeningTable.Order.{is_out_of_turn}
-use Rattle.sshc_auth.specs.Row.{with_part}
-use Rattle.sshc_auth.specs.Stepping.{HasExchange, exchange_in}
+use Rattle.sshc_auth.specs.Stepping.{HasExchange}
+use Rattle.sshc_auth.specs.RowNames.{asked_of, Asks, banner_asks, banner_at_end, Event, event_asks, exchange_asks, exchange_in, ExchangeResult, has_kept_key, host_key, is_held_back, is_out_of_turn, key_asked, number_asks, OpeningState, Phase, PublicKeyOrCertificate, text_at, WireError, with_part}
 
--- what an event asks, if it may come
-asks_in_turn : (s : OpeningState) (event : Event) → s.closed ≡ false → is_out_of_turn s event ≡ false → asked_of s event ≡ event_asks s event
-unfolding asked_of
-asks_in_turn s event fresh turn = rw (fresh, turn) refl
-
-has_some : (wanted : Asks) (x : ExchangeResult) → HasExchange wanted (Some x)
-has_some asking.Nothing x = tt
-has_some (asking.HostKey key) x = tt
-has_some asking.Exchange x = tt
-has_some (asking.Banner shown) x = tt
-
--- a packet asks the gate for a banner at most
-abbrev IsNoExchange : Asks → Type 0
-IsNoExchange asking.Nothing = Unit {0}
-IsNoExchange (asking.Banner shown) = Unit {0}
-IsNoExchange wanted = ⊥
-
-none_has : (wanted : Asks) → IsNoExchange wanted → HasExchange wanted None
-none_has asking.Nothing is = tt
-none_has (asking.Banner shown) is = tt
-none_has (asking.HostKey key) is = absurd is
-none_has asking.Exchange is = absurd is
-
-end_none : (banner left : List ℕ) → IsNoExchange (banner_at_end banner left)
-end_none banner [] = tt
-end_none banner (b ∷ left) = tt
-
-language_none : (banner : List ℕ) (read : Result (List ℕ × List ℕ) WireError) → IsNoExchange (with_part asking.Nothing read (λ language left. banner_at_end banner left))
-language_none banner (Ok x) = end_none banner x.1
-language_none banner (Err e) = tt
-
-banner_none : (read : Result (List ℕ × List ℕ) WireError) → IsNoExchange (with_part asking.Nothing read (λ banner rest. with_part asking.Nothing (text_at rest) (λ language left. banner_at_end banner left)))
-banner_none (Ok x) = language_none x.0 (text_at x.1)
-banner_none (Err e) = tt
-
-asks_none : (is_banner held : Bool) (body : List ℕ) → IsNoExchange (if is_banner then (if held then asking.Nothing else banner_asks body) else asking.Nothing)
-asks_none true true body = tt
-asks_none true false body = banner_none (text_at body)
-asks_none false held body = tt
-
-number_none : (phase : Phase) (s : OpeningState) (len n : ℕ) (body : List ℕ) → IsNoExchange (number_asks phase s len n body)
-number_none phases.Auth s len n body = asks_none (n == USERAUTH_BANNER) (is_held_back s.flag s len) body
-number_none phase s len n body = tt
-
-packet_has : (s : OpeningState) (packet : List ℕ) → HasExchange (packet_asks s packet) None
-packet_has s [] = tt
-packet_has s (n ∷ body) = none_has (number_asks s.phase s (length body + 1) n body) (number_none s.phase s (length body + 1) n body)
-
-event_has : (s : OpeningState) (event : Event) → HasExchange (event_asks s event) (exchange_in event)
-event_has s (events.ExchangeDone x) = has_some (exchange_asks s.phase s x) x
-event_has s (events.Payload packet) = packet_has s packet
-event_has s event = tt
-
-has_by : (s : OpeningState) (event : Event) (closed early : Bool) → HasExchange (if closed then asking.Nothing else (if early then asking.Nothing else event_asks s event)) (exchange_in event)
-has_by s event true early = tt
-has_by s event false true = tt
-has_by s event false false = event_has s event
-
--- only an event that is an exchange asks the gate for an exchange
-pub has_exchange : (s : OpeningState) (event : Event) → HasExchange (asked_of s event) (exchange_in event)
-unfolding asked_of
-has_exchange s event = has_by s event s.closed (is_out_of_turn s event)
-
--- ---- events that ask nothing
+-- ---- one walk over what the table asks
 
 -- the packet has the number of a banner (RFC 4252, section 5.4)
 abbrev pub is_banner : List ℕ → Bool
@@ -98,33 +24,92 @@ may_ask (events.ExchangeDone x) = true
 may_ask (events.Payload packet) = is_banner packet
 may_ask event = false
 
-number_unasked : (phase : Phase) (s : OpeningState) (len n : ℕ) (body : List ℕ) → (n == USERAUTH_BANNER) ≡ false → number_asks phase s len n body ≡ asking.Nothing
-number_unasked phases.Auth s len n body other = rw other refl
-number_unasked phase s len n body other = refl
+-- what holds of each question, where an event may ask it, holds of what the event asks
+record Questions (Q : Event → Asks → Type 0) (s : OpeningState) : Type 0 where
+  none : (event : Event) → Q event asking.Nothing
+  key : (x : ExchangeResult) (key : PublicKeyOrCertificate) → s.phase ≡ phases.Exchanging → host_key x.key ≡ Some key →
+      Q (events.ExchangeDone x) (asking.HostKey key)
+  exchange : (x : ExchangeResult) → s.phase ≢ phases.Exchanging → Q (events.ExchangeDone x) asking.Exchange
+  banner : (packet shown : List ℕ) → s.phase ≡ phases.Auth → is_banner packet ≡ true →
+      Q (events.Payload packet) (asking.Banner shown)
 
-event_unasked : (s : OpeningState) (event : Event) → may_ask event ≡ false → event_asks s event ≡ asking.Nothing
-event_unasked s (events.ExchangeDone x) never = absurd cc
-event_unasked s (events.Payload []) other = refl
-event_unasked s (events.Payload (n ∷ body)) other = number_unasked s.phase s (length body + 1) n body other
-event_unasked s event other = refl
+module _ (Q : Event → Asks → Type 0) (s : OpeningState) (q : Questions Q s) where
+  key_so : (x : ExchangeResult) (o : Option PublicKeyOrCertificate) → host_key x.key ≡ o → s.phase ≡ phases.Exchanging →
+      Q (events.ExchangeDone x) (key_asked o)
+  key_so x None has first = q.none (events.ExchangeDone x)
+  key_so x (Some key) has first = q.key x key first has
 
-unasked_by : (asked : Asks) (closed early : Bool) → asked ≡ asking.Nothing → (if closed then asking.Nothing else (if early then asking.Nothing else asked)) ≡ asking.Nothing
-unasked_by asked true early is = refl
-unasked_by asked false true is = refl
-unasked_by asked false false is = is
+  exchange_so : (x : ExchangeResult) (phase : Phase) → s.phase ≡ phase → Q (events.ExchangeDone x) (exchange_asks phase s x)
+  exchange_so x phases.Exchanging is = key_so x (host_key x.key) refl is
+  exchange_so x phase is =
+      by_cases (Q (events.ExchangeDone x)) (has_kept_key s x) _ _
+      (q.exchange x (rw is (λ first. absurd cc))) (q.none (events.ExchangeDone x))
 
--- any other event asks nothing
+  part_so : {A : Type 0} (packet : List ℕ) (read : Result (A × List ℕ) WireError) (on : A → List ℕ → Asks) →
+      ((x : A) (rest : List ℕ) → Q (events.Payload packet) (on x rest)) →
+      Q (events.Payload packet) (with_part asking.Nothing read on)
+  part_so packet (Ok x) on each = each x.0 x.1
+  part_so packet (Err e) on each = q.none (events.Payload packet)
+
+  end_so : (packet banner left : List ℕ) → s.phase ≡ phases.Auth → is_banner packet ≡ true →
+      Q (events.Payload packet) (banner_at_end banner left)
+  end_so packet banner [] is has = q.banner packet banner is has
+  end_so packet banner (b ∷ left) is has = q.none (events.Payload packet)
+
+  banner_so : (n : ℕ) (body : List ℕ) (held has : Bool) → s.phase ≡ phases.Auth → (n == USERAUTH_BANNER) ≡ has →
+      Q (events.Payload (n ∷ body)) (if has then (if held then asking.Nothing else banner_asks body) else asking.Nothing)
+  banner_so n body true true is has = q.none (events.Payload (n ∷ body))
+  banner_so n body false true is has =
+      part_so (n ∷ body) (text_at body) _ (λ banner rest.
+      part_so (n ∷ body) (text_at rest) _ (λ language left. end_so (n ∷ body) banner left is has))
+  banner_so n body held false is has = q.none (events.Payload (n ∷ body))
+
+  number_so : (phase : Phase) (n : ℕ) (body : List ℕ) → s.phase ≡ phase →
+      Q (events.Payload (n ∷ body)) (number_asks phase s (length body + 1) n body)
+  number_so phases.Auth n body is = banner_so n body (is_held_back s.flag s (length body + 1)) (n == USERAUTH_BANNER) is refl
+  number_so phase n body is = q.none (events.Payload (n ∷ body))
+
+  event_so : (event : Event) → Q event (event_asks s event)
+  event_so (events.ExchangeDone x) = exchange_so x s.phase refl
+  event_so (events.Payload []) = q.none (events.Payload [])
+  event_so (events.Payload (n ∷ body)) = number_so s.phase n body refl
+  event_so event = q.none event
+
+  each_asked : (event : Event) → Q event (asked_of s event)
+  unfolding asked_of
+  each_asked event =
+      by_cases (Q event) s.closed _ _ (q.none event)
+      (by_cases (Q event) (is_out_of_turn s event) _ _ (q.none event) (event_so event))
+
+-- ---- the laws
+
+none_has : (x : Option ExchangeResult) → HasExchange asking.Nothing x
+none_has (Some x) = tt
+none_has None = tt
+
+-- only an event that is an exchange asks the gate for an exchange
+pub has_exchange : (s : OpeningState) (event : Event) → HasExchange (asked_of s event) (exchange_in event)
+has_exchange s event = each_asked (λ event wanted. HasExchange wanted (exchange_in event)) s (record {
+  none = λ event. none_has (exchange_in event);
+  key = λ x key first has. tt;
+  exchange = λ x behind. tt;
+  banner = λ packet shown is has. tt;
+}) event
+
+-- an event of another kind asks nothing
 pub unasked : (s : OpeningState) (event : Event) → may_ask event ≡ false → asked_of s event ≡ asking.Nothing
-unfolding asked_of
-unasked s event other = unasked_by (event_asks s event) s.closed (is_out_of_turn s event) (event_unasked s event other)
-
--- ---- the first exchange
+unasked s event other = each_asked (λ event wanted. may_ask event ≡ false → wanted ≡ asking.Nothing) s (record {
+  none = λ event never. refl;
+  key = λ x key first has never. absurd cc;
+  exchange = λ x behind never. absurd cc;
+  banner = λ packet shown is has never. let clash : true ≡ false = sym has ∙ never in absurd cc;
+}) event other
 
 -- the first exchange, if it may come, asks for its host key
 pub first_asks : (s : OpeningState) (event : Event) (x : ExchangeResult) → s.closed ≡ false → event ≡ events.ExchangeDone x → s.flag ≡ flags.Peer → s.phase ≡ phases.Exchanging → asked_of s event ≡ key_asked (host_key x.key)
+unfolding asked_of
 first_asks s event x fresh is peer first =
-    let turn : is_out_of_turn s event ≡ false = rw (is, first, peer) refl in
-    asks_in_turn s event fresh turn ∙ rw (is, first) refl
+    let turn : is_out_of_turn s event ≡ false = rw (is, first, peer) refl in rw (fresh, turn) (rw (is, first) refl)
 
 -- why the gate is asked for a host key
 pub record AsksFor (s : OpeningState) (event : Event) (key : PublicKeyOrCertificate) : Type 0 where
@@ -133,32 +118,14 @@ pub record AsksFor (s : OpeningState) (event : Event) (key : PublicKeyOrCertific
   pub first : s.phase ≡ phases.Exchanging
   pub has : host_key exchange.key ≡ Some key
 
-key_is : (o : Option PublicKeyOrCertificate) (key : PublicKeyOrCertificate) → key_asked o ≡ asking.HostKey key → o ≡ Some key
-key_is None key is = absurd cc
-key_is (Some x) key is = let same : x ≡ key = cc in ap Some same
-
-later_unasked : (same : Bool) (key : PublicKeyOrCertificate) → (if same then asking.Exchange else asking.Nothing) ≡ asking.HostKey key → ⊥
-later_unasked true key asked = cc
-later_unasked false key asked = cc
-
-exchange_for : (s : OpeningState) (x : ExchangeResult) (key : PublicKeyOrCertificate) (phase : Phase) → s.phase ≡ phase → exchange_asks phase s x ≡ asking.HostKey key → AsksFor s (events.ExchangeDone x) key
-exchange_for s x key phases.Exchanging is asked = record { exchange = x; is = refl; first = is; has = key_is (host_key x.key) key asked }
-exchange_for s x key phase is asked = absurd (later_unasked (has_kept_key s x) key asked)
-
-event_for : (s : OpeningState) (event : Event) (key : PublicKeyOrCertificate) → event_asks s event ≡ asking.HostKey key → AsksFor s event key
-event_for s (events.ExchangeDone x) key asked = exchange_for s x key s.phase refl asked
-event_for s (events.Payload packet) key asked = absurd (subst (λ (wanted : Asks). HasExchange wanted None) asked (packet_has s packet))
-event_for s event key asked = absurd cc
-
-for_by : (s : OpeningState) (event : Event) (key : PublicKeyOrCertificate) (closed early : Bool) → (if closed then asking.Nothing else (if early then asking.Nothing else event_asks s event)) ≡ asking.HostKey key → AsksFor s event key
-for_by s event key true early asked = absurd cc
-for_by s event key false true asked = absurd cc
-for_by s event key false false asked = event_for s event key asked
-
 -- only the first exchange asks for a host key, and for its own
 pub asks_for : (s : OpeningState) (event : Event) (key : PublicKeyOrCertificate) → asked_of s event ≡ asking.HostKey key → AsksFor s event key
-unfolding asked_of
-asks_for s event key asked = for_by s event key s.closed (is_out_of_turn s event) asked
+asks_for s event key asked = each_asked (λ event wanted. wanted ≡ asking.HostKey key → AsksFor s event key) s (record {
+  none = λ event never. absurd cc;
+  key = λ x other first has same. let is : other ≡ key = cc in record { exchange = x; is = refl; first = first; has = rw is at has };
+  exchange = λ x behind never. absurd cc;
+  banner = λ packet shown is has never. absurd cc;
+}) event asked
 
 -- a host key or nothing
 abbrev pub IsKeyAtMost : Asks → Type 0
@@ -166,33 +133,11 @@ IsKeyAtMost asking.Nothing = Unit {0}
 IsKeyAtMost (asking.HostKey key) = Unit {0}
 IsKeyAtMost wanted = ⊥
 
-key_at_most : (o : Option PublicKeyOrCertificate) → IsKeyAtMost (key_asked o)
-key_at_most None = tt
-key_at_most (Some key) = tt
-
-exchange_at_most : (s : OpeningState) (x : ExchangeResult) (phase : Phase) → phase ≡ phases.Exchanging → IsKeyAtMost (exchange_asks phase s x)
-exchange_at_most s x phases.Exchanging is = key_at_most (host_key x.key)
-exchange_at_most s x phase is = absurd cc
-
-number_at_most : (phase : Phase) (s : OpeningState) (len n : ℕ) (body : List ℕ) → phase ≡ phases.Exchanging → IsKeyAtMost (number_asks phase s len n body)
-number_at_most phases.Auth s len n body is = absurd cc
-number_at_most phase s len n body is = tt
-
-packet_at_most : (s : OpeningState) (packet : List ℕ) → s.phase ≡ phases.Exchanging → IsKeyAtMost (packet_asks s packet)
-packet_at_most s [] is = tt
-packet_at_most s (n ∷ body) is = number_at_most s.phase s (length body + 1) n body is
-
-event_at_most : (s : OpeningState) (event : Event) → s.phase ≡ phases.Exchanging → IsKeyAtMost (event_asks s event)
-event_at_most s (events.ExchangeDone x) is = exchange_at_most s x s.phase is
-event_at_most s (events.Payload packet) is = packet_at_most s packet is
-event_at_most s event is = tt
-
-at_most_by : (s : OpeningState) (event : Event) (closed early : Bool) → s.phase ≡ phases.Exchanging → IsKeyAtMost (if closed then asking.Nothing else (if early then asking.Nothing else event_asks s event))
-at_most_by s event true early is = tt
-at_most_by s event false true is = tt
-at_most_by s event false false is = event_at_most s event is
-
 -- while the first exchange runs, only a host key is asked for
 pub first_at_most : (s : OpeningState) (event : Event) → s.phase ≡ phases.Exchanging → IsKeyAtMost (asked_of s event)
-unfolding asked_of
-first_at_most s event is = at_most_by s event s.closed (is_out_of_turn s event) is
+first_at_most s event is = each_asked (λ event wanted. IsKeyAtMost wanted) s (record {
+  none = λ event. tt;
+  key = λ x key first has. tt;
+  exchange = λ x behind. absurd (behind is);
+  banner = λ packet shown auth has. let clash : phases.Auth ≡ phases.Exchanging = sym auth ∙ is in absurd cc;
+}) event

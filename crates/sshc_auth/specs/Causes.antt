@@ -9,7 +9,7 @@ use Rattle.sshc_wire.specs.Names.{names_in}
 use Rattle.sshc_wire.specs.Reads.{boolean_at, number_at, string_at, text_at}
 use Rattle.sshc_wire.specs.Reasons.{disconnect_of}
 use Rattle.sshc_wire.specs.declared.error.WireError.{WireError}
-use Rattle.sshc_wire.specs.declared.msg.TheConstants.{DISCONNECT, EXT_INFO, SERVICE_ACCEPT, USERAUTH_FAILURE, USERAUTH_SUCCESS, USERAUTH_BANNER, USERAUTH_PK_OK, USERAUTH_GSSAPI_TOKEN, USERAUTH_GSSAPI_ERROR, USERAUTH_GSSAPI_ERRTOK}
+use Rattle.sshc_wire.specs.MessageNumbers.{DISCONNECT, EXT_INFO, SERVICE_ACCEPT, USERAUTH_FAILURE, USERAUTH_SUCCESS, USERAUTH_BANNER, USERAUTH_PK_OK, USERAUTH_GSSAPI_TOKEN, USERAUTH_GSSAPI_ERROR, USERAUTH_GSSAPI_ERRTOK}
 use Rattle.sshc_key.specs.declared.identity.PublicKeyOrCertificate.{PublicKeyOrCertificate}
 use Rattle.sshc_auth_event.specs.HostKey.{host_key}
 use Rattle.sshc_auth_event.specs.declared.event.Event.{Event}

@@ -9,9 +9,12 @@ pub mod OpeningTable
 pub mod Signing
 pub mod Stepping
 pub mod Causes
+pub mod RowNames
 pub mod CauseLaws
 pub mod AskedLaws
 pub mod SessionWords
+pub mod AddedLaws
+pub mod EachRowLaws
 pub mod GateLaws
 pub mod OneKeyLaws
 pub mod KeepLaws

@@ -16,7 +16,7 @@ pub mod User
 pub mod Awaiting
 use Rattle.std.specs.Prelude.{◌≡◌, ℕ, ◌+◌, Bool, true, false, List, [], ◌∷◌, length, Option, Some, None, ◌==◌, if◌then◌else◌}
 use Rattle.sshc_wire.specs.Reads.{text_at}
-use Rattle.sshc_wire.specs.declared.msg.TheConstants.{DISCONNECT, EXT_INFO, USERAUTH_FAILURE, USERAUTH_SUCCESS, USERAUTH_BANNER, USERAUTH_PK_OK, USERAUTH_GSSAPI_TOKEN, USERAUTH_GSSAPI_ERROR, USERAUTH_GSSAPI_ERRTOK}
+use Rattle.sshc_wire.specs.MessageNumbers.{DISCONNECT, EXT_INFO, USERAUTH_FAILURE, USERAUTH_SUCCESS, USERAUTH_BANNER, USERAUTH_PK_OK, USERAUTH_GSSAPI_TOKEN, USERAUTH_GSSAPI_ERROR, USERAUTH_GSSAPI_ERRTOK}
 use Rattle.sshc_wire.specs.declared.resolution.Resolution.TheVariants.{Denied}
 use Rattle.sshc_wire.specs.declared.ticket.Ticket.{Ticket}
 use Rattle.sshc_key.specs.declared.identity.PublicKeyOrCertificate.{PublicKeyOrCertificate}

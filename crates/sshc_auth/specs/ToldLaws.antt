@@ -1,38 +1,21 @@
 -- Where the gate is notified of an exchange or a banner and the session continues, the row's first record says the same:
 -- a law about the table, which joins what a row asks of the gate with what it outputs.
-use Rattle.std.proofs.Common.{◌≡◌, ℕ, ◌+◌, Bool, true, false, List, [], ◌∷◌, length, Option, Some, None, Result, Ok, Err, refl, ap, sym, ◌∙◌, subst, arith}
+use Rattle.std.proofs.Common.{◌≡◌, ◌≢◌, ℕ, ◌+◌, Bool, true, false, List, [], ◌∷◌, length, Option, Some, None, Result, Ok, Err, refl, ap, sym, subst}
 use Rattle.std.specs.Prelude.{◌==◌, if◌then◌else◌}
-use Rattle.std.proofs.lemmas.Bool.Decides.{nat_tests}
-use Rattle.sshc_wire.specs.Reads.{text_at}
-use Rattle.sshc_wire.specs.declared.error.WireError.{WireError}
-use Rattle.sshc_wire.specs.declared.msg.TheConstants.{USERAUTH_BANNER}
-use Rattle.sshc_wire.specs.declared.record.Record.{Record}
+use Rattle.sshc_wire.specs.MessageNumbers.{USERAUTH_BANNER}
 use Rattle.sshc_wire.specs.declared.record.Record.TheVariants as records
-use Rattle.sshc_key.specs.Asking.{Asking, Always, asks, done}
-use Rattle.sshc_key.specs.declared.identity.PublicKeyOrCertificate.{PublicKeyOrCertificate}
-use Rattle.sshc_auth_event.specs.HostKey.{host_key}
-use Rattle.sshc_auth_event.specs.declared.event.Event.{Event}
 use Rattle.sshc_auth_event.specs.declared.event.Event.TheVariants as events
-use Rattle.sshc_transport.specs.declared.exchange.ExchangeFlag.{ExchangeFlag}
 use Rattle.sshc_transport.specs.declared.exchange.ExchangeFlag.TheVariants as flags
-use Rattle.sshc_transport.specs.declared.exchange.ExchangeResult.{ExchangeResult}
-use Rattle.sshc_auth.specs.declared.error.Error.TheVariants.{OutOfTurn, Pending, RekeyKey}
-use Rattle.sshc_auth.specs.declared.opening.Class.{Class}
+use Rattle.sshc_auth.specs.declared.error.Error.TheVariants.{Pending}
 use Rattle.sshc_auth.specs.declared.opening.Class.TheVariants as classes
-use Rattle.sshc_auth.specs.declared.opening.Phase.{Phase}
 use Rattle.sshc_auth.specs.declared.opening.Phase.TheVariants as phases
 use Rattle.sshc_auth.specs.declared.step.Asks.TheVariants as asking
-use Rattle.sshc_auth.specs.declared.step.Told.{Told}
-use Rattle.sshc_auth.specs.declared.step.Told.TheVariants as telling
-use Rattle.sshc_auth.specs.OpeningState.{OpeningState, is_awaiting}
-use Rattle.sshc_auth.specs.OpeningTable.{open_row, turn_row, is_pk_ok, plain_row, payload_row, numbered_row, held_packet_row, phase_packet_row, auth_packet_row, auth_row, is_exchanging, packet_row_in, asked_of, event_asks, exchange_asks, key_asked, packet_asks, number_asks, is_held_back, banner_asks, banner_at_end}
-use Rattle.sshc_auth.specs.OpeningTable.Auth.{userauth_banner_row}
-use Rattle.sshc_auth.specs.OpeningTable.Exchange.{accepted_row, exchange_done_row, exchange_row_in, exchanged, has_kept_key}
-use Rattle.sshc_auth.specs.OpeningTable.Order.{is_out_of_turn}
-use Rattle.sshc_auth.specs.OpeningTable.Packets.{counted_with, is_too_much}
-use Rattle.sshc_auth.specs.Row.{Row, Next, stays, opens, ends, refuses, refused, goes, ends_at, with_part, broken_row}
-use Rattle.sshc_auth.specs.Stepping.{exchange_in}
-use Rattle.sshc_auth.specs.SessionWords.{reported}
+use Rattle.sshc_auth.specs.OpeningTable.{phase_packet_row}
+use Rattle.sshc_auth.specs.declared.order.EventSort.TheVariants as sorts
+use Rattle.sshc_auth.specs.EachRowLaws.{by_test, exchange_row, same_number}
+use Rattle.sshc_auth.specs.OpeningTable.Order.{is_early}
+use Rattle.sshc_auth.specs.declared.step.Asks.{Asks}
+use Rattle.sshc_auth.specs.RowNames.{accepted_row, Always, asked_of, Asking, asks, auth_packet_row, auth_row, banner_asks, banner_at_end, broken_row, Class, counted_with, done, ends, ends_at, Event, event_asks, exchange_asks, exchange_in, exchanged, ExchangeFlag, ExchangeResult, goes, has_kept_key, held_packet_row, host_key, is_awaiting, is_exchanging, is_held_back, is_out_of_turn, is_pk_ok, is_too_much, key_asked, Next, number_asks, numbered_row, open_row, OpeningState, opens, packet_asks, packet_row_in, payload_row, Phase, PublicKeyOrCertificate, Record, refused, refuses, reported, Row, stays, text_at, Told, turn_row, userauth_banner_row, WireError, with_part}
 
 -- the record is the first
 abbrev pub Reports : Option Record → List Record → Type 0
@@ -62,23 +45,27 @@ none_always (asks asked on) = λ answer. none_always (on answer)
 
 -- ---- exchanges
 
-accepted_reports : (s : OpeningState) (x : ExchangeResult) (anonymous : Bool) → ReportsRow (Some (records.KexDone x.names.kex)) (accepted_row anonymous s x)
-accepted_reports s x false = ([], refl)
-accepted_reports s x true = (records.Opened ∷ [], refl)
+accepted_reports : (s : OpeningState) (x : ExchangeResult) (anonymous : Bool) (key : Option PublicKeyOrCertificate) →
+    ReportsRow (reported (key_asked key) (Some x)) (accepted_row anonymous s x)
+accepted_reports s x anonymous None = none_next (accepted_row anonymous s x).records (accepted_row anonymous s x).next
+accepted_reports s x false (Some key) = ([], refl)
+accepted_reports s x true (Some key) = (records.Opened ∷ [], refl)
 
-key_reports : (s : OpeningState) (x : ExchangeResult) (told : Told) (key : Option PublicKeyOrCertificate) → ReportsRow (reported (key_asked key) (Some x)) (exchange_row_in phases.Exchanging s x told)
-key_reports s x telling.Went None = none_next (accepted_row s.settings.anonymous s x).records (accepted_row s.settings.anonymous s x).next
-key_reports s x telling.Went (Some key) = accepted_reports s x s.settings.anonymous
-key_reports s x telling.No key = tt
-key_reports s x telling.NotAsked key = tt
+first_reports : (s : OpeningState) (x : ExchangeResult) (phase : Phase) → phase ≡ phases.Exchanging →
+    ReportsRow (reported (exchange_asks phase s x) (Some x)) (accepted_row s.settings.anonymous s x)
+first_reports s x phases.Exchanging first = accepted_reports s x s.settings.anonymous (host_key x.key)
+first_reports s x phase first = absurd cc
 
-later_reports : (s : OpeningState) (x : ExchangeResult) (same : Bool) → ReportsRow (reported (if same then asking.Exchange else asking.Nothing) (Some x)) (if same then goes (records.KexDone x.names.kex ∷ []) (exchanged s) else refused RekeyKey)
-later_reports s x true = ([], refl)
-later_reports s x false = tt
+later_reports : (s : OpeningState) (x : ExchangeResult) (phase : Phase) → phase ≢ phases.Exchanging → has_kept_key s x ≡ true →
+    ReportsRow (reported (exchange_asks phase s x) (Some x)) (goes (records.KexDone x.names.kex ∷ []) (exchanged s))
+later_reports s x phases.Exchanging behind same = absurd (behind refl)
+later_reports s x phase behind same = rw same ([], refl)
 
-exchange_reports : (s : OpeningState) (x : ExchangeResult) (told : Told) (phase : Phase) → ReportsRow (reported (exchange_asks phase s x) (Some x)) (exchange_row_in phase s x told)
-exchange_reports s x told phases.Exchanging = key_reports s x told (host_key x.key)
-exchange_reports s x told phase = later_reports s x (has_kept_key s x)
+exchange_reports : (s : OpeningState) (x : ExchangeResult) (told : Told) →
+    Always (ReportsRow (reported (exchange_asks s.phase s x) (Some x))) (open_row s (events.ExchangeDone x) told)
+exchange_reports s x told =
+    exchange_row (Always (ReportsRow (reported (exchange_asks s.phase s x) (Some x)))) s x told (λ e other is. tt)
+    (λ first went. first_reports s x s.phase first) (λ behind same. later_reports s x s.phase behind same)
 
 -- ---- banners
 
@@ -124,9 +111,6 @@ held_reports s flags.Idle len body is = phase_reports s body is
 held_reports s flags.Peer len body is = tt
 held_reports s flags.Ours len body is = much_reports s (record s { counted = counted_with s len }) body (is_too_much s len) is
 
-same_number : (n m : ℕ) → (n == m) ≡ true → n ≡ m
-same_number n m is = grind (arith, nat_tests)
-
 banner_row_reports : (s : OpeningState) (len : ℕ) (body : List ℕ) → s.phase ≡ phases.Auth →
     Always (ReportsRow (reported (if is_held_back s.flag s len then asking.Nothing else banner_asks body) None)) (numbered_row s len USERAUTH_BANNER body)
 unfolding numbered_row
@@ -148,35 +132,32 @@ packet_reports s (n ∷ body) = number_reports s (length body + 1) n body s.phas
 
 -- ---- any event
 
--- transport events are out of turn while an answer is awaited
-exchange_turn : (s : OpeningState) (x : ExchangeResult) (told : Told) (awaits : Bool) → is_awaiting s.phase ≡ awaits → is_out_of_turn s (events.ExchangeDone x) ≡ false →
-    Always (ReportsRow (reported (exchange_asks s.phase s x) (Some x))) (turn_row awaits s (events.ExchangeDone x) told)
-unfolding plain_row exchange_done_row
-exchange_turn s x told true is turn = let early : is_out_of_turn s (events.ExchangeDone x) ≡ true = rw is refl in let clash : true ≡ false = sym early ∙ turn in absurd cc
-exchange_turn s x told false is turn = exchange_reports s x told s.phase
-
-packet_turn : (s : OpeningState) (packet : List ℕ) (told : Told) (awaits : Bool) → is_awaiting s.phase ≡ awaits → is_out_of_turn s (events.Payload packet) ≡ false →
+-- while an answer is awaited a packet is out of turn
+packet_turn : (s : OpeningState) (packet : List ℕ) (told : Told) (awaits : Bool) → is_early awaits s.flag sorts.Transport ≡ false →
     Always (ReportsRow (reported (packet_asks s packet) None)) (turn_row awaits s (events.Payload packet) told)
-packet_turn s packet told true is turn = let early : is_out_of_turn s (events.Payload packet) ≡ true = rw is refl in let clash : true ≡ false = sym early ∙ turn in absurd cc
-packet_turn s packet told false is turn = packet_reports s packet
+packet_turn s packet told true early = absurd cc
+packet_turn s packet told false early = packet_reports s packet
 
-turn_reports : (s : OpeningState) (event : Event) (told : Told) → is_out_of_turn s event ≡ false → Always (ReportsRow (reported (event_asks s event) (exchange_in event))) (turn_row (is_awaiting s.phase) s event told)
-turn_reports s (events.ExchangeDone x) told turn = exchange_turn s x told (is_awaiting s.phase) refl turn
-turn_reports s (events.Payload packet) told turn = packet_turn s packet told (is_awaiting s.phase) refl turn
-turn_reports s event told turn = none_always (turn_row (is_awaiting s.phase) s event told)
+event_reports : (s : OpeningState) (event : Event) (told : Told) →
+    Always (ReportsRow (reported (event_asks s event) (exchange_in event))) (open_row s event told)
+unfolding open_row
+event_reports s (events.ExchangeDone x) told = exchange_reports s x told
+event_reports s (events.Payload packet) told =
+    by_test (Always (ReportsRow (reported (packet_asks s packet) None))) (is_out_of_turn s (events.Payload packet)) _ _
+    (λ early. tt) (λ turn. packet_turn s packet told (is_awaiting s.phase) turn)
+event_reports s event told = none_always (open_row s event told)
 
-open_by : (s : OpeningState) (event : Event) (told : Told) (early : Bool) → is_out_of_turn s event ≡ early →
-    Always (ReportsRow (reported (if early then asking.Nothing else event_asks s event) (exchange_in event))) (if early then done (refused OutOfTurn) else turn_row (is_awaiting s.phase) s event told)
-open_by s event told true is = tt
-open_by s event told false is = turn_reports s event told is
-
-closed_by : (s : OpeningState) (event : Event) (told : Told) (closed : Bool) → closed ≡ false →
-    Always (ReportsRow (reported (if closed then asking.Nothing else (if is_out_of_turn s event then asking.Nothing else event_asks s event)) (exchange_in event)))
-    (if is_out_of_turn s event then done (refused OutOfTurn) else turn_row (is_awaiting s.phase) s event told)
-closed_by s event told true is = let clash : true ≡ false = is in absurd cc
-closed_by s event told false is = open_by s event told (is_out_of_turn s event) refl
+-- what isn't asked isn't to be reported
+asked_reports : (closed early : Bool) (wanted : Asks) (x : Option ExchangeResult) (row : Asking Row) →
+    Always (ReportsRow (reported wanted x)) row →
+    Always (ReportsRow (reported (if closed then asking.Nothing else (if early then asking.Nothing else wanted)) x)) row
+asked_reports true early wanted x row reports = none_always row
+asked_reports false true wanted x row reports = none_always row
+asked_reports false false wanted x row reports = reports
 
 -- where the session continues, the row's first record says what the gate was notified of
 pub row_reports : (s : OpeningState) (event : Event) (told : Told) → s.closed ≡ false → Always (ReportsRow (reported (asked_of s event) (exchange_in event))) (open_row s event told)
-unfolding open_row asked_of
-row_reports s event told fresh = closed_by s event told s.closed fresh
+unfolding asked_of
+row_reports s event told fresh =
+    asked_reports s.closed (is_out_of_turn s event) (event_asks s event) (exchange_in event) (open_row s event told)
+    (event_reports s event told)

@@ -1,10 +1,9 @@
 -- What a session keeps over the moves of its methods.
-use Rattle.std.proofs.Common.{◌≡◌, ◌⊎◌, inl, inr, Bool, true, false, not, ◌&&◌, List, [], ◌∷◌, ◌++◌, eqb, if◌then◌else◌, Option, Some, None, refl, ap, sym, subst, ◌∙◌, append_assoc}
+use Rattle.std.proofs.Common.{◌≡◌, inl, inr, Bool, true, false, not, ◌&&◌, List, [], ◌∷◌, ◌++◌, eqb, Option, Some, None, refl, ap, sym, subst, ◌∙◌, append_assoc}
 use Rattle.std.proofs.lemmas.List.{append-nil}
 use Rattle.std.specs.List.{AllByRecursion}
+use Rattle.sshc_wire.specs.CasesLaws.{by_cases}
 use Rattle.sshc_wire.specs.declared.record.Record.{Record}
-use Rattle.sshc_wire.specs.declared.record.Record.TheVariants.{Resolved}
-use Rattle.sshc_wire.specs.declared.resolution.Resolution.TheVariants.{Denied}
 use Rattle.sshc_wire.specs.declared.ticket.Ticket.{Ticket}
 use Rattle.sshc_transport.specs.declared.exchange.ExchangeFlag.{ExchangeFlag}
 use Rattle.sshc_transport.specs.declared.exchange.ExchangeFlag.TheVariants.{Idle, Ours, Peer}
@@ -17,7 +16,6 @@ use Rattle.sshc_client_packets.specs.ChannelOpens.{ChannelOpen}
 use Rattle.sshc_client_packets.specs.Messages.{Message}
 use Rattle.std.proofs.Common.{ℕ}
 use Rattle.sshc_client_table.specs.declared.reply_entry.ReplyEntry.{ReplyEntry}
-use Rattle.sshc_client_table.specs.declared.life.Life.TheVariants.{Left}
 use Rattle.sshc_client_table.specs.SessionState.{SessionState, exchanging, is_live, is_open, is_running, opens_later, runs}
 use Rattle.sshc_client_table.specs.Moves as m
 use Rattle.sshc_client_table.specs.Moves.{Deed, Move, after, deed, deed_of, did, done, done_if, may_go, still, with_deed, with_flag}
@@ -49,14 +47,6 @@ all-append P (r ∷ a) b (here, first) second = (here, all-append P a b first se
 all_packets : (output : List ChannelPacket) → AllByRecursion MayBeAdded (records_of output)
 all_packets [] = tt
 all_packets (s ∷ output) = (tt, all_packets output)
-
-denied_if : (b : Bool) (ticket : Ticket) → AllByRecursion IsDenial (if b then [] else Resolved ticket Denied ∷ [])
-denied_if true ticket = tt
-denied_if false ticket = (tt, tt)
-
-added_if : (b : Bool) (ticket : Ticket) → AllByRecursion MayBeAdded (if b then [] else Resolved ticket Denied ∷ [])
-added_if true ticket = tt
-added_if false ticket = (tt, tt)
 
 -- ---- what a method's move changes
 
@@ -170,8 +160,8 @@ good_denied ticket s later = record {
   opening = inl refl;
   keepalives = refl;
   window_target = refl;
-  says = added_if (eqb ticket.0 0) ticket;
-  closed = λ e. record { opening = refl; call = refl; asks = refl; says = denied_if (eqb ticket.0 0) ticket };
+  says = by_cases (AllByRecursion MayBeAdded) (eqb ticket.0 0) _ _ tt (tt, tt);
+  closed = λ e. record { opening = refl; call = refl; asks = refl; says = by_cases (AllByRecursion IsDenial) (eqb ticket.0 0) _ _ tt (tt, tt) };
 }
 
 good_left : (s : SessionState) → runs s.life ≡ true → Good (deed m.Leaves s) s

@@ -1,7 +1,8 @@
 -- Laws of the definitions in specs/NoRequests.antt.
-use Rattle.std.proofs.Common.{ℕ, ◌+◌, Bool, true, false, List, [], ◌∷◌, ◌++◌, length, drop, Option, Some, None, refl, ap, sym, subst, ◌∙◌, append_assoc, arith}
+use Rattle.std.proofs.Common.{ℕ, Bool, true, false, List, [], ◌∷◌, ◌++◌, length, drop, Option, Some, None, refl, ap, sym, subst, ◌∙◌, append_assoc, arith}
 use Rattle.std.proofs.lemmas.List.{append-nil, drop_at}
-use Rattle.std.specs.Prelude.{◌==◌, if◌then◌else◌}
+use Rattle.std.specs.Prelude.{◌==◌}
+use Rattle.sshc_wire.specs.CasesLaws.{by_cases}
 use Rattle.sshc_wire.specs.declared.channel_open_failure.ChannelOpenFailure.{ChannelOpenFailure}
 use Rattle.sshc_wire.specs.declared.disconnect.Disconnect.{Disconnect}
 use Rattle.sshc_wire.specs.declared.record.Record.{Record}
@@ -35,12 +36,8 @@ use Rattle.sshc_client_table.specs.NoRequests.{request_with, WritesNone, AddsNon
 none_two : (a b : List Record) → WritesNone a → WritesNone b → WritesNone (a ++ b)
 none_two a b one other = λ rest. omega (arith, written_two (request_with rest) a b, one rest, other rest)
 
-none_if : (b : Bool) (x y : List Record) → WritesNone x → WritesNone y → WritesNone (if b then x else y)
-none_if true x y one other = one
-none_if false x y one other = other
-
 none_resolved : (ticket : Ticket) (resolution : Resolution) → WritesNone (resolved ticket resolution)
-none_resolved ticket resolution = none_if (ticket.0 == 0) [] (Resolved ticket resolution ∷ []) (λ rest. refl) (λ rest. refl)
+none_resolved ticket resolution = by_cases WritesNone (ticket.0 == 0) _ _ (λ rest. refl) (λ rest. refl)
 
 -- ---- packets
 

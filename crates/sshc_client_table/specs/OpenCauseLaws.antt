@@ -1,10 +1,11 @@
 -- Each row of an open session that refuses or ends has its cause, and no row leaves or stops the session by a move, or
 -- reports a record of an agent: a law about the table, independent of the code that runs it.
 use Rattle.std.proofs.Common.{◌≡◌, ◌≢◌, ◌<◌, ◌≤◌, ◌+◌, ◌-◌, ◌*◌, ◌^◌, inl, inr, ℕ, zero, suc, Bool, true, false, List, [], ◌∷◌, ◌++◌, length, Option, Some, None, Result, Ok, Err, refl, ap, sym, ◌∙◌, subst, arith}
-use Rattle.std.specs.Prelude.{min, not, ◌==◌, ◌&&◌, nat_lt, is_some, if◌then◌else◌}
+use Rattle.std.specs.Prelude.{min, not, ◌==◌, ◌&&◌, nat_lt, is_some}
 use Rattle.std.specs.Int.{w32}
 use Rattle.std.specs.List.{AllByRecursion}
 use Rattle.std.proofs.lemmas.Bool.Decides.{nat_tests}
+use Rattle.sshc_wire.specs.CasesLaws.{by_cases}
 use Rattle.sshc_wire.specs.Reads.{number_at, text_at}
 use Rattle.sshc_wire.specs.Reasons.{disconnect_of}
 use Rattle.sshc_wire.specs.declared.channel_record.ChannelRecord.{ChannelRecord}
@@ -27,6 +28,7 @@ use Rattle.sshc_wire.specs.declared.channel_open_failure.ChannelOpenFailure.{Cha
 use Rattle.sshc_auth.specs.Causes.{Breaks, BreaksBehind, IsEarly, IsEndCause, ReadsTexts, FieldKind, rest_of, text}
 use Rattle.sshc_auth.specs.OpeningState.{is_awaiting}
 use Rattle.sshc_auth.specs.CauseLaws.{not_kept}
+use Rattle.sshc_auth.specs.EachRowLaws.{by_test, same_number}
 use Rattle.sshc_auth.specs.OpeningTable.Exchange.{has_kept_key}
 use Rattle.sshc_auth.specs.OpeningTable.Packets.{is_ignored, is_too_much, waits_for_exchange}
 use Rattle.sshc_auth.specs.OpeningTable.User.{is_seen, sig_algs_answer}
@@ -131,20 +133,9 @@ established_holds : (P : RowLaw) (b : Bool) (row : SessionRow) → RowHolds P ro
 established_holds P true row holds = holds
 established_holds P false row holds = plain_holds P [] tt
 
-cond_holds : (P : RowLaw) (b : Bool) (x y : SessionRow) → (b ≡ true → RowHolds P x) → (b ≡ false → RowHolds P y) → RowHolds P (if b then x else y)
-cond_holds P true x y one other = one refl
-cond_holds P false x y one other = other refl
-
-moves_by : (F : Move → Type 0) (b : Bool) (x y : List Move) → AllByRecursion F x → AllByRecursion F y → AllByRecursion F (if b then x else y)
-moves_by F true x y one other = one
-moves_by F false x y one other = other
-
 wanted_fit : (F : Move → Type 0) (b : Bool) (m : Move) → F m → AllByRecursion F (if_wanted b m)
 wanted_fit F true m fits = (fits, tt)
 wanted_fit F false m fits = tt
-
-same_number : (n m : ℕ) → (n == m) ≡ true → n ≡ m
-same_number n m is = grind (arith, nat_tests)
 
 reports_holds : (P : RowLaw) (front : List Move) (id : ℕ) (output : ChannelRecord) (back : List Move) → P.fits (Tells (on_channel id output)) → AllByRecursion P.fits front → AllByRecursion P.fits back → RowHolds P (reports front id output back)
 unfolding asking
@@ -277,7 +268,7 @@ module _ (accepts : Accepts) (o : Opinions) (s : SessionState) (n : ℕ) (body :
   adjust_holds is = read_holds P (window_adjust_of body) _ (λ broken. adjustment is broken) (λ a read. established_holds P (is_established a.id.0 s.table) _ (reports_holds P _ _ _ _ tt (tt, tt) tt))
 
   retargets_keep : (id len : ℕ) → AllByRecursion P.fits (retargets o s id len)
-  retargets_keep id len = moves_by P.fits (adjusted_at id len (own_window s) s.table && nat_lt 0 o.window_target) _ _ (tt, tt) tt
+  retargets_keep id len = by_cases (AllByRecursion P.fits) (adjusted_at id len (own_window s) s.table && nat_lt 0 o.window_target) _ _ (tt, tt) tt
 
   received_holds : (id len : ℕ) (output : ChannelRecord) → RowHolds P (received_row o s id len output)
   received_holds id len output = established_holds P (is_established id s.table) _ (opining_holds P _ _ (reports_holds P _ _ _ _ tt (tt, retargets_keep id len) tt))
@@ -321,20 +312,20 @@ module _ (accepts : Accepts) (o : Opinions) (s : SessionState) (n : ℕ) (body :
   numbered_holds : RowHolds P (numbered_row accepts o s n body)
   unfolding numbered_row
   numbered_holds =
-      cond_holds P (n == GLOBAL_REQUEST) _ _ (λ is. global_holds (same_number n GLOBAL_REQUEST is)) (λ other.
-      cond_holds P (n == REQUEST_SUCCESS) _ _ (λ is. success_holds (same_number n REQUEST_SUCCESS is)) (λ other.
-      cond_holds P (n == REQUEST_FAILURE) _ _ (λ is. failure_holds (same_number n REQUEST_FAILURE is)) (λ other.
-      cond_holds P (n == CHANNEL_OPEN) _ _ (λ is. open_holds (same_number n CHANNEL_OPEN is)) (λ other.
-      cond_holds P (n == CHANNEL_OPEN_CONFIRMATION) _ _ (λ is. confirmation_holds (same_number n CHANNEL_OPEN_CONFIRMATION is)) (λ other.
-      cond_holds P (n == CHANNEL_OPEN_FAILURE) _ _ (λ is. refusal_holds (same_number n CHANNEL_OPEN_FAILURE is)) (λ other.
-      cond_holds P (n == CHANNEL_WINDOW_ADJUST) _ _ (λ is. adjust_holds (same_number n CHANNEL_WINDOW_ADJUST is)) (λ other.
-      cond_holds P (n == CHANNEL_DATA) _ _ (λ is. data_holds (same_number n CHANNEL_DATA is)) (λ other.
-      cond_holds P (n == CHANNEL_EXTENDED_DATA) _ _ (λ is. extended_holds (same_number n CHANNEL_EXTENDED_DATA is)) (λ other.
-      cond_holds P (n == CHANNEL_EOF) _ _ (λ is. report_holds happened.Eof (λ broken. number_alone (inl (same_number n CHANNEL_EOF is)) broken)) (λ other.
-      cond_holds P (n == CHANNEL_CLOSE) _ _ (λ is. close_holds (same_number n CHANNEL_CLOSE is)) (λ other.
-      cond_holds P (n == CHANNEL_REQUEST) _ _ (λ is. request_holds (same_number n CHANNEL_REQUEST is)) (λ other.
-      cond_holds P (n == CHANNEL_SUCCESS) _ _ (λ is. report_holds happened.Success (λ broken. number_alone (inr (inr (inl (same_number n CHANNEL_SUCCESS is)))) broken)) (λ other.
-      cond_holds P (n == CHANNEL_FAILURE) _ _ (λ is. report_holds happened.Failure (λ broken. number_alone (inr (inr (inr (same_number n CHANNEL_FAILURE is)))) broken)) (λ other.
+      by_test (RowHolds P) (n == GLOBAL_REQUEST) _ _ (λ is. global_holds (same_number n GLOBAL_REQUEST is)) (λ other.
+      by_test (RowHolds P) (n == REQUEST_SUCCESS) _ _ (λ is. success_holds (same_number n REQUEST_SUCCESS is)) (λ other.
+      by_test (RowHolds P) (n == REQUEST_FAILURE) _ _ (λ is. failure_holds (same_number n REQUEST_FAILURE is)) (λ other.
+      by_test (RowHolds P) (n == CHANNEL_OPEN) _ _ (λ is. open_holds (same_number n CHANNEL_OPEN is)) (λ other.
+      by_test (RowHolds P) (n == CHANNEL_OPEN_CONFIRMATION) _ _ (λ is. confirmation_holds (same_number n CHANNEL_OPEN_CONFIRMATION is)) (λ other.
+      by_test (RowHolds P) (n == CHANNEL_OPEN_FAILURE) _ _ (λ is. refusal_holds (same_number n CHANNEL_OPEN_FAILURE is)) (λ other.
+      by_test (RowHolds P) (n == CHANNEL_WINDOW_ADJUST) _ _ (λ is. adjust_holds (same_number n CHANNEL_WINDOW_ADJUST is)) (λ other.
+      by_test (RowHolds P) (n == CHANNEL_DATA) _ _ (λ is. data_holds (same_number n CHANNEL_DATA is)) (λ other.
+      by_test (RowHolds P) (n == CHANNEL_EXTENDED_DATA) _ _ (λ is. extended_holds (same_number n CHANNEL_EXTENDED_DATA is)) (λ other.
+      by_test (RowHolds P) (n == CHANNEL_EOF) _ _ (λ is. report_holds happened.Eof (λ broken. number_alone (inl (same_number n CHANNEL_EOF is)) broken)) (λ other.
+      by_test (RowHolds P) (n == CHANNEL_CLOSE) _ _ (λ is. close_holds (same_number n CHANNEL_CLOSE is)) (λ other.
+      by_test (RowHolds P) (n == CHANNEL_REQUEST) _ _ (λ is. request_holds (same_number n CHANNEL_REQUEST is)) (λ other.
+      by_test (RowHolds P) (n == CHANNEL_SUCCESS) _ _ (λ is. report_holds happened.Success (λ broken. number_alone (inr (inr (inl (same_number n CHANNEL_SUCCESS is)))) broken)) (λ other.
+      by_test (RowHolds P) (n == CHANNEL_FAILURE) _ _ (λ is. report_holds happened.Failure (λ broken. number_alone (inr (inr (inr (same_number n CHANNEL_FAILURE is)))) broken)) (λ other.
       plain_holds P [] tt))))))))))))))
 
   -- while an exchange runs
@@ -347,20 +338,20 @@ module _ (accepts : Accepts) (o : Opinions) (s : SessionState) (n : ℕ) (body :
   held_holds : (flag : ExchangeFlag) → s.opening.flag ≡ flag → waits_for_exchange n ≡ true → RowHolds P (held_row flag s (length (n ∷ body)) (numbered_row accepts o s n body))
   held_holds flags.Idle is waits = numbered_holds
   held_holds flags.Ours is waits =
-      cond_holds P (is_too_much s.opening (length (n ∷ body))) _ _ (λ much. record { caused = (is, too_much much); front = tt; back = λ answer. tt })
+      by_test (RowHolds P) (is_too_much s.opening (length (n ∷ body))) _ _ (λ much. record { caused = (is, too_much much); front = tt; back = λ answer. tt })
       (λ few. behind_holds P (Counts (length (n ∷ body)) ∷ []) (numbered_row accepts o s n body) (tt, tt) numbered_holds)
   held_holds flags.Peer is waits = record { caused = inl (is, from_fifty waits); front = tt; back = λ answer. tt }
 
   packet_holds : RowHolds P (packet_row accepts o s (length (n ∷ body)) n body)
   packet_holds =
-      cond_holds P (is_ignored n) _ _ (λ ignored. plain_holds P [] tt) (λ heeded.
-      cond_holds P (waits_for_exchange n) _ _ (λ waits. held_holds s.opening.flag refl waits) (λ goes_on. numbered_holds))
+      by_test (RowHolds P) (is_ignored n) _ _ (λ ignored. plain_holds P [] tt) (λ heeded.
+      by_test (RowHolds P) (waits_for_exchange n) _ _ (λ waits. held_holds s.opening.flag refl waits) (λ goes_on. numbered_holds))
 
   some_packet_holds : RowHolds P (payload_row accepts o s (n ∷ body))
   unfolding payload_row
   some_packet_holds =
-      cond_holds P (n == DISCONNECT) _ _ (λ is. disconnect_holds (same_number n DISCONNECT is)) (λ other.
-      behind_holds P (heard n) (packet_row accepts o s (length (n ∷ body)) n body) (moves_by P.fits (n == GLOBAL_REQUEST) [] (Hears ∷ []) tt (tt, tt)) packet_holds)
+      by_test (RowHolds P) (n == DISCONNECT) _ _ (λ is. disconnect_holds (same_number n DISCONNECT is)) (λ other.
+      behind_holds P (heard n) (packet_row accepts o s (length (n ∷ body)) n body) (by_cases (AllByRecursion P.fits) (n == GLOBAL_REQUEST) [] (Hears ∷ []) tt (tt, tt)) packet_holds)
 
 payload_holds : (accepts : Accepts) (o : Opinions) (s : SessionState) (packet : List ℕ) → RowHolds (open_why s (events.Payload packet)) (payload_row accepts o s packet)
 unfolding payload_row
@@ -395,14 +386,14 @@ no_bound most count is = (not_none most count is, passed_by (not (most == 0)) mo
 keepalive_holds : (s : SessionState) (interval : Option ℕ) → s.settings.keepalive_interval ≡ interval → RowHolds (open_why s events.KeepaliveTimer) (keepalive_row interval s)
 keepalive_holds s None is = plain_holds (open_why s events.KeepaliveTimer) [] tt
 keepalive_holds s (Some interval) is =
-    cond_holds (open_why s events.KeepaliveTimer) (are_too_many s.settings.keepalive_max (min (s.keepalives + 1) (2 ^ 64 - 1))) _ _
+    by_test (RowHolds (open_why s events.KeepaliveTimer)) (are_too_many s.settings.keepalive_max (min (s.keepalives + 1) (2 ^ 64 - 1))) _ _
     (λ many. let so = no_bound s.settings.keepalive_max (min (s.keepalives + 1) (2 ^ 64 - 1)) many in
     record { caused = (refl, record { set = ap is_some is; bound = so.0; passed = so.1 }); front = (tt, tt); back = λ answer. tt })
     (λ few. plain_holds (open_why s events.KeepaliveTimer) _ (tt, (tt, tt)))
 
 inactivity_holds : (s : SessionState) → RowHolds (open_why s events.InactivityTimer) (inactivity_timer_row s)
 inactivity_holds s =
-    cond_holds (open_why s events.InactivityTimer) s.opening.settings.inactivity _ _ (λ set. record { caused = (refl, set); front = tt; back = λ answer. tt })
+    by_test (RowHolds (open_why s events.InactivityTimer)) s.opening.settings.inactivity _ _ (λ set. record { caused = (refl, set); front = tt; back = λ answer. tt })
     (λ none. plain_holds (open_why s events.InactivityTimer) [] tt)
 
 -- ---- users
@@ -444,7 +435,7 @@ settled_by_keep event id (Ok u) = (tt, (tt, tt))
 settled_by_keep event id (Err reason) = (tt, tt)
 
 reply_keep : (event : Event) (s : SessionState) (id : ℕ) (result : Result (Unit {0}) ChannelOpenFailure) → AllFit event (reply_moves s id result)
-reply_keep event s id result = moves_by (λ m. Fits event m) (is_some (unsettled_at id s.table)) _ _ (settled_by_keep event id result) tt
+reply_keep event s id result = by_cases (AllByRecursion (λ m. Fits event m)) (is_some (unsettled_at id s.table)) _ _ (settled_by_keep event id result) tt
 
 prove_keep : (ticket : Ticket) (keys : List (Key × List ℕ)) → AllFit (events.HostKeysProve ticket keys) (prove_moves ticket keys)
 prove_keep ticket [] = ((refl, refl), tt)
@@ -513,7 +504,7 @@ not_idle flags.Peer is = λ same. absurd cc
 user_holds : (s : SessionState) (event : Event) → is_open s.opening.phase ≡ true → (s.opening.flag ≢ flags.Idle → IsEarly s.opening.flag event) → RowHolds (open_why s event) (user_row s event)
 unfolding user_row
 user_holds s event is early =
-    cond_holds (open_why s event) (exchanging s) _ _ (λ running. record { caused = early (not_idle s.opening.flag running); front = tt; back = λ answer. tt })
+    by_test (RowHolds (open_why s event)) (exchanging s) _ _ (λ running. record { caused = early (not_idle s.opening.flag running); front = tt; back = λ answer. tt })
     (λ idle. asked_holds s event is)
 
 -- ---- any event

@@ -1,8 +1,8 @@
 -- Laws of the definitions in specs/SessionRecords.antt.
-use Rattle.std.proofs.Common.{Bool, true, false, List, [], ◌∷◌, ◌++◌, refl}
-use Rattle.std.specs.Prelude.{◌==◌, if◌then◌else◌}
+use Rattle.std.proofs.Common.{List, [], ◌∷◌, ◌++◌, refl}
+use Rattle.std.specs.Prelude.{◌==◌}
+use Rattle.sshc_wire.specs.CasesLaws.{by_cases}
 use Rattle.sshc_wire.specs.declared.record.Record.{Record}
-use Rattle.sshc_wire.specs.declared.record.Record.TheVariants.{Resolved}
 use Rattle.sshc_wire.specs.declared.resolution.Resolution.{Resolution}
 use Rattle.sshc_wire.specs.declared.ticket.Ticket.{Ticket}
 use Rattle.sshc_auth.specs.Row.{resolved}
@@ -12,10 +12,6 @@ pub sessions_on : (a b : List Record) → AreSessions a → AreSessions b → Ar
 sessions_on [] b one other = other
 sessions_on (output ∷ a) b one other = (one.0, sessions_on a b one.1 other)
 
-sessions_if : (b : Bool) (x y : List Record) → AreSessions x → AreSessions y → AreSessions (if b then x else y)
-sessions_if true x y one other = one
-sessions_if false x y one other = other
-
 -- the answer to a ticket, if it has one
 pub resolved_session : (ticket : Ticket) (resolution : Resolution) → AreSessions (resolved ticket resolution)
-resolved_session ticket resolution = sessions_if (ticket.0 == 0) [] (Resolved ticket resolution ∷ []) tt (refl, tt)
+resolved_session ticket resolution = by_cases AreSessions (ticket.0 == 0) _ _ tt (refl, tt)

@@ -2,7 +2,7 @@
 use Rattle.std.specs.Prelude.{ℕ, ◌+◌, ◌-◌, ◌*◌, ◌^◌, min, nat_le, nat_lt, Bool, ◌||◌, List, [], Option, Some, None, ◌==◌}
 use Rattle.sshc_wire.specs.Reasons.{disconnect_of}
 use Rattle.sshc_wire.specs.declared.disconnect.Disconnect.{Disconnect}
-use Rattle.sshc_wire.specs.declared.msg.TheConstants.{IGNORE, UNIMPLEMENTED, DEBUG}
+use Rattle.sshc_wire.specs.MessageNumbers.{IGNORE, UNIMPLEMENTED, DEBUG}
 use Rattle.sshc_auth.specs.declared.ended.Ended.TheVariants.{RemoteDisconnect}
 use Rattle.sshc_auth.specs.declared.error.Error.TheVariants.{InvalidDisconnect}
 use Rattle.sshc_auth.specs.OpeningState.{OpeningState}

@@ -1,6 +1,6 @@
 -- Rows of phase Service: the service is asked for, and the user's request is stored (RFC 4253, section 10).
 use Rattle.std.specs.Prelude.{ℕ, Bool, true, not, List, [], ◌∷◌, ◌++◌, Option, Some, None, if◌then◌else◌, ◌==◌, bytes_eq, codes}
-use Rattle.sshc_wire.specs.declared.msg.TheConstants.{EXT_INFO, SERVICE_ACCEPT}
+use Rattle.sshc_wire.specs.MessageNumbers.{EXT_INFO, SERVICE_ACCEPT}
 use Rattle.sshc_wire.specs.declared.record.Record.{Record}
 use Rattle.sshc_wire.specs.declared.record.Record.TheVariants.{Payload}
 use Rattle.sshc_wire.specs.declared.resolution.Resolution.TheVariants.{Dropped}
