@@ -1,10 +1,9 @@
 -- Worked bytes of the requests that authenticate a user, computed from the definitions: the request of a key, the bytes that it
 -- signs (RFC 4252, section 7), and the bytes of which a MIC is made (RFC 4462, section 3.5).
-use Rattle.std.proofs.Common.{◌≡◌, ℕ, List, [], ◌∷◌, ◌++◌, Some, None, refl}
+use Rattle.std.proofs.Common.{◌≡◌, ℕ, List, [], ◌∷◌, ◌++◌, None, refl}
 use Rattle.std.specs.Prelude.{codes}
 use Rattle.sshc_wire.specs.Wire.{string_text, u32_text}
-use Rattle.sshc_wire.specs.declared.hash_alg.HashAlg.TheVariants.{Sha512}
-use Rattle.sshc_key.specs.KeyGrammar.{ed25519, key_text, plain, rsa}
+use Rattle.sshc_key.specs.KeyGrammar.{ed25519, plain}
 use Rattle.sshc_key.specs.RequestNames.{request_name}
 use Rattle.sshc_auth_event.specs.declared.method.Method.TheVariants as methods
 use Rattle.sshc_auth_request.specs.RequestTexts.{gssapi_mic, mic, request, signed, unsigned_request}
@@ -22,7 +21,7 @@ abbrev blob : List ℕ
 blob = (0 ∷ 0 ∷ 0 ∷ 21 ∷ []) ++ (0 ∷ 0 ∷ 0 ∷ 11 ∷ []) ++ codes "ssh-ed25519" ++ (0 ∷ 0 ∷ 0 ∷ 2 ∷ 7 ∷ 9 ∷ [])
 
 -- "boolean FALSE, string public key algorithm name, string public key blob": asks whether the key is acceptable
-key_asked : request (codes "ana") (methods.FuturePublicKey (plain (ed25519 (7 ∷ 9 ∷ [])), refl) None)
+key_asked : request (codes "ana") (methods.FuturePublicKey (plain (ed25519 (7 ∷ 9 ∷ [])), codes "work") None)
     ≡ head ++ key_method ++ 0 ∷ (0 ∷ 0 ∷ 0 ∷ 11 ∷ []) ++ codes "ssh-ed25519" ++ blob
 unfolding request string_text u32_text request_name
 key_asked = refl

@@ -1,6 +1,6 @@
 -- Request texts: the packets by which a user is authenticated (RFC 4252, sections 5, 7 and 8; RFC 4253, sections 10 and
 -- 11.1; RFC 4256, sections 3.1 and 3.4; RFC 4462, section 3). Plain concatenations; the code appends part by part.
-use Rattle.std.specs.Prelude.{ℕ, List, [], ◌∷◌, ◌++◌, length, Option, Some, None, codes}
+use Rattle.std.specs.Prelude.{ℕ, List, [], ◌∷◌, ◌++◌, length, Option, None, codes}
 use Rattle.std.specs.List.{flat_map}
 use Rattle.sshc_wire.specs.Wire.{u32_text, string_text}
 use Rattle.sshc_wire.specs.Reasons.{disconnect_code}
