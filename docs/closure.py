@@ -8,7 +8,7 @@ import pathlib
 import re
 
 CRATES = pathlib.Path(__file__).resolve().parent.parent / "crates"
-USE = re.compile(r"^(?:pub )?use (\w[\w.]*?)(?:\.\{([^}]*)\})?(?: as (\S+))?$", re.MULTILINE)
+USE = re.compile(r"^(?:unfoldable )?(?:pub )?use (\w[\w.]*?)(?:\.\{([^}]*)\})?(?: as (\S+))?$", re.MULTILINE)
 HEAD = re.compile(r"(?:(?:abbrev|unfoldable) )?(?:pub )?(?:(?:record|data) )?([^\s:(){},;.]+)(?= :| [({]|$)")
 IDENTIFIER = re.compile(r"(?<![\w.'])[^\W\d][\w']*(?:\.[^\W\d][\w']*)*")
 CASE = re.compile(r"((?:(?!\s:\s).)*?)\s=\s", re.DOTALL)
@@ -57,6 +57,9 @@ class File:
                 current = head[1]
                 self.lines.setdefault(current, []).extend(marks)
                 marks = []
+            if current is None:
+                # what goes on with a module's head
+                continue
             self.lines[current].append(line)
             case = re.match(r"  (?:pub )?([^\s:()]+) : ", line)
             if case and re.match(r"(?:pub )?data ", self.lines[current][0]):
@@ -98,7 +101,10 @@ def meant(file, name):
     first, _, rest = name.partition(".")
     source, what = file.imports.get(first) or (file.aliases.get(first, ""), rest.split(".")[0])
     home, left = file_of(source) if source else (None, "")
-    return found(home, left or what) if home else None
+    if not home or home is file:
+        return None
+    # A file may pass on the names of others.
+    return found(home, left or what) or meant(home, left or what)
 
 
 def is_case(file, name):
@@ -108,7 +114,7 @@ def is_case(file, name):
         return True
     source, what = file.imports.get(first, ("", ""))
     home, left = file_of(source) if source else (None, "")
-    return bool(home and (left or what in home.homes))
+    return bool(home and home is not file and (left or what in home.homes or is_case(home, what)))
 
 
 def is_used(operator, piece):

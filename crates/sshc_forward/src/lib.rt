@@ -1,4 +1,4 @@
-//! Streams paired with channels of a session: one pair served over a handle; and, from the crates behind it, the core
+//! Streams paired with channels of a session: one pair served over a handle; and, from the crate below it, the core
 //! of port forwards and its runs over bytes.
 #![tactic(auto)]
 
@@ -13,6 +13,6 @@ pub use ends::StreamEnd;
 pub use serving::serve_pair;
 pub use socket::{SharedSocket, Socket, SocketReader, SocketWriter, split_socket};
 pub use sshc_forward_core::{
-    ForwardCore, FwdEvent, FwdOutput, FwdRefused, Given, PairEvent, Reading, ServedPair, account,
+    ForwardCore, FwdError, FwdEvent, FwdOutput, FwdRefused, Given, PairEvent, Reading, ServedPair,
+    account, forward_words, run_forward,
 };
-pub use sshc_forward_run::{FwdError, forward_words, run_forward};

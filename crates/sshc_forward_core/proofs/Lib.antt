@@ -10,3 +10,9 @@ mod MovedLaw
 mod LifeLaw
 mod AccountLaw
 mod ServedLaw
+mod EventFronts
+mod LineLemmas
+mod RunLemmas
+mod ExactRun
+mod TellingLemmas
+mod By

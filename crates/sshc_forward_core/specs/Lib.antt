@@ -5,3 +5,9 @@ pub mod Codes
 pub mod PairAccount
 pub mod Served
 pub mod ServedCode
+pub mod EventText
+pub mod EventReading
+pub mod OutputLines
+pub mod ForwardRun
+pub mod ForwardPromises
+pub mod ForwardWords

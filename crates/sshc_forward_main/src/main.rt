@@ -1,7 +1,7 @@
 //! The program `sshc_forward_main`: it passes standard input and output to `forward_words`.
 #![tactic(auto)]
 
-use sshc_forward_run::forward_words;
+use sshc_forward_core::forward_words;
 use sshc_wire::{NoMemory, StdSink, StdSource, Text};
 use std::io::ErrorKind;
 use std::process::ExitCode;

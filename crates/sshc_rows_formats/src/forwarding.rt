@@ -3,7 +3,7 @@
 //! that are written, separated by `;`. Events are in hexadecimal, in words that are put together.
 
 use crate::row::{field_of, numbers_of, words_of};
-use sshc_forward_run::forward_words;
+use sshc_forward_core::forward_words;
 use sshc_wire::{MemSink, MemSource, NoMemory};
 use std::alloc::Global;
 

@@ -50,6 +50,8 @@ const ACTS: &[Act] = &[
     Act::Fails("folder"),
     Act::Adds("known", "here\n"),
     Act::Holds("known", "here\n"),
+    // What stands there is no folder, so nothing says that no file was meant.
+    Act::Fails("known/below"),
 ];
 
 #[test]

@@ -3,7 +3,7 @@
 use super::case::{Case, Kind};
 use super::outcome::Outcome;
 use super::relayed::relayed;
-use sshc_forward_run::forward_words;
+use sshc_forward_core::forward_words;
 use sshc_run::{ToySigner, ToyVerifier, run_words};
 use sshc_wire::{MemFiles, MemSink, MemSource, NoMemory, Octets, Text};
 use std::alloc::Global;

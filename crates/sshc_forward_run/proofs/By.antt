@@ -1,2 +1,0 @@
--- Words that proofs of functions unfold, from one place with a short path.
-pub use Rattle.sshc_forward_run.specs.EventText.{accepted_at, number_and_bytes, octets_at, u32_at, words_at}

@@ -1,6 +1,0 @@
-mod EventFronts
-mod LineLemmas
-mod RunLemmas
-mod ExactRun
-mod TellingLemmas
-mod By
