@@ -1,1 +1,4 @@
 pub mod PatternLemmas
+pub mod WordLemmas
+pub mod ListLemmas
+pub mod ReadingLemmas

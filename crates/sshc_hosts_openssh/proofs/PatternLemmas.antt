@@ -1,11 +1,11 @@
 -- A pattern matches a name where the code says so: what follows a `*` may be tried at the first place where it fits up
 -- to the next `*`, since the next `*` takes whatever a later place would leave.
-use Rattle.std.proofs.Common.{◌≡◌, ℕ, zero, suc, ◌+◌, ◌<◌, Bool, true, false, List, [], ◌∷◌, length, drop, refl, ap, sym, ◌∙◌, arith}
+use Rattle.std.proofs.Common.{◌≡◌, ℕ, zero, suc, ◌+◌, Bool, true, false, List, [], ◌∷◌, drop, refl, ap, sym, ◌∙◌, arith}
 use Rattle.std.proofs.lemmas.List.{drop-drop}
 use Rattle.std.specs.Prelude.{◌==◌, ◌&&◌, ◌||◌, if◌then◌else◌}
 use Rattle.std.specs.List.{list_any}
 use Rattle.sshc_hosts_openssh.specs.Patterns.{endings, fits, matches}
-use Rattle.sshc_hosts_openssh.specs.PatternSteps.{Stop, fails, ends, star, front, or_later, seek, stop_matches, IsShorter}
+use Rattle.sshc_hosts_openssh.specs.PatternSteps.{Stop, fails, ends, star, front, or_later, seek, stop_matches}
 
 -- ---- endings of a name
 

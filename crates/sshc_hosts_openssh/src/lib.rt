@@ -1,6 +1,14 @@
-//! Known hosts as OpenSSH reads them: a key's standing for a host, by a known hosts text.
+//! Known hosts as OpenSSH reads them: the status of a host key by a known hosts text.
 #![tactic(auto)]
 
+mod cutting;
+mod entry;
+mod hashed;
+mod hosts_field;
+mod judgement;
+mod line_key;
 mod pattern;
 
+pub use hosts_field::names_host;
+pub use judgement::{HostStatus, judge_openssh_text};
 pub use pattern::matches_pattern;

@@ -1,0 +1,214 @@
+//! The status of a host key by a known hosts text.
+
+ghost use Rattle.std.specs.Prelude.{◌≡◌, IfOk};
+ghost use Rattle.std.specs.Option.{option_and_then};
+ghost use Rattle.sshc_key.specs.View.{view};
+ghost use Rattle.sshc_hosts_openssh.specs.Cuts.{entry_seen};
+ghost use Rattle.sshc_hosts_openssh.specs.HostsField.{name_of};
+ghost use Rattle.sshc_hosts_openssh.specs.HostStatus.{is_revoked_by, is_signed_by, said_by, said_for, said_of, status};
+ghost use Rattle.sshc_hosts_openssh.specs.HostStatus.{status_by};
+ghost use Rattle.sshc_hosts_openssh.specs.Reading.{undecided, with_line};
+
+use crate::cutting::cut;
+use crate::entry::{LineEntry, Mark, entry_of};
+use crate::hosts_field::{name_of, names_host};
+use crate::line_key::{bare, key_on};
+use sshc_key::{KeyData, PublicKey};
+use sshc_wire::NoMemory;
+use std::alloc::Global;
+
+/// What a known hosts text says of a key for a host. Lines are counted from 1.
+#[derive(Clone, Copy, Debug, PartialEq, Eq)]
+pub enum HostStatus {
+    /// A line records the key for the host, and no line revokes it. This is the first line that records it.
+    Known { line: u64 },
+    /// The lines that name the host record other keys. This is the last of them.
+    Changed { line: u64 },
+    /// A line revokes the key for the host. This is the first of them.
+    Revoked { line: u64 },
+    /// No line says anything of the key.
+    Unknown,
+}
+
+/// What one line says of a key.
+#[derive(Clone, Copy)]
+pub enum Finding {
+    /// The key is to be refused.
+    Revokes,
+    /// The key is the host's.
+    Records,
+    /// The host has another key.
+    Contradicts,
+}
+
+/// Whether the key is a certificate that this other key signed.
+fn is_signed_by(key: &KeyData, other: &KeyData) -> bool
+    ensures { result ≡ is_signed_by (view key.now) (view other.now) }
+{
+    match key {
+        KeyData::Certificate(certificate) => {
+            let _ = certificate.is_certificate();
+            bare(&certificate.signature_key) == other
+        }
+        _ => false,
+    }
+}
+
+/// Whether a line that revokes the other key refuses the key: it is the same, certifies the same, or was signed by it.
+fn is_revoked_by(key: &KeyData, other: &KeyData) -> bool
+    ensures { result ≡ is_revoked_by (view key.now) (view other.now) }
+{
+    let other = bare(other);
+    bare(key) == other || is_signed_by(key, other)
+}
+
+/// What a line with this mark and another key says of the key.
+fn said_of(key: &KeyData, mark: Mark, other: &KeyData) -> Option<Finding>
+    ensures { result ≡ said_of (view key.now) mark (view other.now) }
+{
+    match mark {
+        Mark::Recorded => {
+            if bare(key) == other {
+                Some(Finding::Records)
+            } else {
+                Some(Finding::Contradicts)
+            }
+        }
+        Mark::Revoked => {
+            if is_revoked_by(key, other) {
+                Some(Finding::Revokes)
+            } else {
+                None
+            }
+        }
+        Mark::Authority => None,
+    }
+}
+
+/// What a line with these fields says of the key for the host of this name.
+fn said_for(
+    alloc: Global,
+    name: &[u8],
+    key: &KeyData,
+    entry: &LineEntry<'_>,
+) -> Result<Option<Finding>, NoMemory>
+    ensures { IfOk result (λ said. said ≡ said_for name.now (view key.now) (entry_seen entry.now)) }
+{
+    if !names_host(alloc, name, entry.hosts)? {
+        return Ok(None);
+    }
+    match key_on(alloc, entry.key_type, entry.key)? {
+        Some(other) => Ok(said_of(key, entry.mark, &other.key)),
+        None => Ok(None),
+    }
+}
+
+/// What the line says of the key for the host of this name.
+fn said_by(
+    alloc: Global,
+    name: &[u8],
+    key: &KeyData,
+    line: &[u8],
+) -> Result<Option<Finding>, NoMemory>
+    ensures { IfOk result (λ said. said ≡ said_by name.now (view key.now) line.now) }
+{
+    match entry_of(line) {
+        Some(entry) => said_for(alloc, name, key, &entry),
+        None => Ok(None),
+    }
+}
+
+/// The lines that decide, as far as the text was read.
+#[derive(Clone, Copy)]
+struct Deciding {
+    /// The first line that revokes the key.
+    revoking: Option<u64>,
+    /// The first line that records the key.
+    recording: Option<u64>,
+    /// The last line that has another key.
+    contrary: Option<u64>,
+}
+
+impl Deciding {
+    /// No line was read.
+    fn new() -> Deciding
+        ensures { result ≡ undecided }
+    {
+        Deciding {
+            revoking: None,
+            recording: None,
+            contrary: None,
+        }
+    }
+
+    /// The same after one more line, by what that line says.
+    fn with_line(self, said: Option<Finding>, line: u64) -> Deciding
+        ensures { result ≡ with_line self said line }
+    {
+        match said {
+            Some(Finding::Revokes) => Deciding {
+                revoking: self.revoking.or(Some(line)),
+                recording: self.recording,
+                contrary: self.contrary,
+            },
+            Some(Finding::Records) => Deciding {
+                revoking: self.revoking,
+                recording: self.recording.or(Some(line)),
+                contrary: self.contrary,
+            },
+            Some(Finding::Contradicts) => Deciding {
+                revoking: self.revoking,
+                recording: self.recording,
+                contrary: Some(line),
+            },
+            None => self,
+        }
+    }
+
+    /// The status of the key.
+    fn status(self) -> HostStatus
+        ensures { result ≡ status self.revoking self.recording self.contrary }
+    {
+        match (self.revoking, self.recording, self.contrary) {
+            (Some(line), _, _) => HostStatus::Revoked { line },
+            (None, Some(line), _) => HostStatus::Known { line },
+            (None, None, Some(line)) => HostStatus::Changed { line },
+            (None, None, None) => HostStatus::Unknown,
+        }
+    }
+}
+
+/// The status of the key for the host of this name.
+fn status_by(alloc: Global, text: &[u8], name: &[u8], key: &KeyData) -> Result<HostStatus, NoMemory>
+    ensures { IfOk result (λ status. status ≡ status_by text.now name.now (view key.now)) }
+{
+    let mut deciding = Deciding::new();
+    let mut number = 1u64;
+    let mut left = text;
+    'lines: loop {
+        let (line, rest) = cut(left, b'\n');
+        let said = said_by(alloc, name, key, line)?;
+        deciding = deciding.with_line(said, number);
+        number += 1;
+        match rest {
+            None => return Ok(deciding.status()),
+            Some(others) => left = others,
+        }
+    }
+}
+
+/// What a known hosts text says of the key for the host at the port, as OpenSSH's `ssh` reads it, but for lines that
+/// mark authorities: a certificate is judged by the key that it certifies, and is refused where that key or the one
+/// that signed it is revoked.
+pub fn judge_openssh_text(
+    alloc: Global,
+    text: &[u8],
+    host: &str,
+    port: u16,
+    key: &PublicKey,
+) -> Result<HostStatus, NoMemory>
+    ensures status { IfOk result (λ status. status ≡ status_by text.now (name_of host.now port) key.now.0) }
+{
+    let name = name_of(alloc, host, port)?;
+    status_by(alloc, text, name.as_slice(), &key.key)
+}
