@@ -1,7 +1,7 @@
 -- What a known hosts text says of a key for a host (OpenSSH's sshd(8), "SSH_KNOWN_HOSTS FILE FORMAT").
--- Each line says one thing of the key, or nothing; the standing follows from what all of them say, by four cases, of
+-- Each line says one thing of the key, or nothing; the status follows from what all of them say, by four cases, of
 -- which the first that fits is the result. The code reads the lines once.
-use Rattle.std.specs.Prelude.{ℕ, Bool, true, false, ◌||◌, if◌then◌else◌, List, [], ◌∷◌, Option, Some, None, option_map}
+use Rattle.std.specs.Prelude.{ℕ, Bool, true, false, ◌||◌, ◌==◌, if◌then◌else◌, List, [], ◌∷◌, Option, Some, None, option_map}
 use Rattle.std.specs.List.{filter_map, enumerate_from}
 use Rattle.std.specs.Option.{option_and_then, option_or}
 use Rattle.sshc_key.specs.KeyGrammar.{Key, plain, certificate}
@@ -12,7 +12,7 @@ use Rattle.sshc_hosts_openssh.specs.declared.judgement.Finding.{Finding}
 use Rattle.sshc_hosts_openssh.specs.declared.judgement.Finding.TheVariants.{Revokes, Records, Contradicts}
 use Rattle.sshc_hosts_openssh.specs.declared.judgement.HostStatus.{HostStatus}
 use Rattle.sshc_hosts_openssh.specs.declared.judgement.HostStatus.TheVariants.{Known, Changed, Revoked, Unknown}
-use Rattle.sshc_hosts_openssh.specs.HostsField.{field_names}
+use Rattle.sshc_hosts_openssh.specs.HostsField.{field_names, name_of}
 use Rattle.sshc_hosts_openssh.specs.Lines.{Entry, visible, words, entry_of, lines}
 use Rattle.sshc_hosts_openssh.specs.LineKeys.{bare, key_on}
 
@@ -79,6 +79,19 @@ status None None None = Unknown
 abbrev pub status_among : List (ℕ × Finding) → HostStatus
 status_among said = status (first_line revokes said) (first_line records said) (last_line contradicts said)
 
--- the standing of a key by a known hosts text, for the host that a name stands for
+-- the status of a key by a known hosts text, for the host that a name stands for
 unfoldable pub status_by : List ℕ → List ℕ → Key → HostStatus
 status_by text name key = status_among (findings text name key)
+
+-- a key of which nothing is said for the host at its port may be known or revoked for the host alone
+abbrev pub or_without_port : HostStatus → HostStatus → HostStatus
+or_without_port Unknown (Changed line) = Unknown
+or_without_port Unknown status = status
+or_without_port (Known line) status = Known line
+or_without_port (Changed line) status = Changed line
+or_without_port (Revoked line) status = Revoked line
+
+-- the status of a key by a known hosts text, for a host at a port
+unfoldable pub status_at : List ℕ → List ℕ → ℕ → Key → HostStatus
+status_at text host port key =
+    if port == 22 then status_by text (name_of host port) key else or_without_port (status_by text (name_of host port) key) (status_by text (name_of host 22) key)

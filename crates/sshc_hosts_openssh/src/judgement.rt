@@ -6,7 +6,8 @@ ghost use Rattle.sshc_key.specs.View.{view};
 ghost use Rattle.sshc_hosts_openssh.specs.Cuts.{entry_seen};
 ghost use Rattle.sshc_hosts_openssh.specs.HostsField.{name_of};
 ghost use Rattle.sshc_hosts_openssh.specs.HostStatus.{is_revoked_by, is_signed_by, said_by, said_for, said_of, status};
-ghost use Rattle.sshc_hosts_openssh.specs.HostStatus.{status_by};
+ghost use Rattle.sshc_hosts_openssh.specs.HostStatus.{or_without_port, status_at, status_by};
+ghost use Rattle.sshc_hosts_openssh.specs.declared.judgement.HostStatus.TheVariants.{Unknown};
 ghost use Rattle.sshc_hosts_openssh.specs.Reading.{undecided, with_line};
 
 use crate::cutting::cut;
@@ -16,6 +17,9 @@ use crate::line_key::{bare, key_on};
 use sshc_key::{KeyData, PublicKey};
 use sshc_wire::NoMemory;
 use std::alloc::Global;
+
+/// The port whose hosts are named alone.
+const DEFAULT_PORT: u16 = 22;
 
 /// What a known hosts text says of a key for a host. Lines are counted from 1.
 #[derive(Clone, Copy, Debug, PartialEq, Eq)]
@@ -197,9 +201,27 @@ fn status_by(alloc: Global, text: &[u8], name: &[u8], key: &KeyData) -> Result<H
     }
 }
 
+/// The status of the key for the host, whatever the port is; another key of the host says nothing here.
+fn status_without_port(
+    alloc: Global,
+    text: &[u8],
+    host: &str,
+    key: &KeyData,
+) -> Result<HostStatus, NoMemory>
+    ensures { IfOk result
+        (λ status. status ≡ or_without_port Unknown (status_by text.now (name_of host.now 22) (view key.now))) }
+{
+    let name = name_of(alloc, host, DEFAULT_PORT)?;
+    match status_by(alloc, text, name.as_slice(), key)? {
+        HostStatus::Changed { line: _ } => Ok(HostStatus::Unknown),
+        status => Ok(status),
+    }
+}
+
 /// What a known hosts text says of the key for the host at the port, as OpenSSH's `ssh` reads it, but for lines that
-/// mark authorities: a certificate is judged by the key that it certifies, and is refused where that key or the one
-/// that signed it is revoked.
+/// mark authorities: a certificate is judged by the key that it certifies, and is refused if that key or the one that
+/// signed it is revoked. Where nothing is said for the port, a key that is known or revoked for the host alone is so.
+#[tactic(auto, unfolding(crate::specs::HostStatus::status_at))]
 pub fn judge_openssh_text(
     alloc: Global,
     text: &[u8],
@@ -207,8 +229,19 @@ pub fn judge_openssh_text(
     port: u16,
     key: &PublicKey,
 ) -> Result<HostStatus, NoMemory>
-    ensures status { IfOk result (λ status. status ≡ status_by text.now (name_of host.now port) key.now.0) }
+    ensures status { IfOk result (λ status. status ≡ status_at text.now host.now port key.now.0) }
 {
     let name = name_of(alloc, host, port)?;
-    status_by(alloc, text, name.as_slice(), &key.key)
+    match status_by(alloc, text, name.as_slice(), &key.key)? {
+        HostStatus::Known { line } => Ok(HostStatus::Known { line }),
+        HostStatus::Changed { line } => Ok(HostStatus::Changed { line }),
+        HostStatus::Revoked { line } => Ok(HostStatus::Revoked { line }),
+        HostStatus::Unknown => {
+            if port == DEFAULT_PORT {
+                Ok(HostStatus::Unknown)
+            } else {
+                status_without_port(alloc, text, host, &key.key)
+            }
+        }
+    }
 }
