@@ -8,6 +8,8 @@ mod hosts_field;
 mod judgement;
 mod line_key;
 mod pattern;
+#[cfg(test)]
+mod tests;
 
 pub use hosts_field::names_host;
 pub use judgement::{HostStatus, judge_openssh_text};
