@@ -2,7 +2,8 @@
 use Rattle.std.specs.Prelude.{◌≡◌, ℕ, Bool, false, ◌&&◌, ◌||◌, not, if◌then◌else◌, List, [], ◌∷◌}
 use Rattle.std.specs.List.{list_any, list_all}
 use Rattle.sshc_hosts_openssh.specs.declared.entry.LineEntry.{LineEntry}
-use Rattle.sshc_key.specs.KeyGrammar.{Key}
+use Rattle.sshc_key.specs.KeyGrammar.{Key, plain, certificate}
+use Rattle.sshc_hosts_openssh.specs.Certificates.{is_valid}
 use Rattle.sshc_hosts_openssh.specs.Lines.{Entry, is_blank}
 use Rattle.sshc_hosts_openssh.specs.declared.hosts_field.PartSays.{PartSays}
 use Rattle.sshc_hosts_openssh.specs.declared.hosts_field.PartSays.TheVariants.{Nothing, Included, Excluded}
@@ -29,3 +30,8 @@ said_part name part =
 -- a key without its comment
 abbrev pub key_seen : Key × List ℕ → Key
 key_seen key = key.0
+
+-- what a certificate says is valid
+abbrev pub is_valid_certificate : ℕ → List ℕ → Key → Bool
+is_valid_certificate now host (plain k) = false
+is_valid_certificate now host (certificate nonce key says signer signature) = is_valid now host says

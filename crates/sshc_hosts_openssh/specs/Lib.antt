@@ -2,6 +2,7 @@ pub mod Patterns
 pub mod HostsField
 pub mod Lines
 pub mod LineKeys
+pub mod Certificates
 pub mod HostStatus
 pub mod PatternSteps
 pub mod Cuts

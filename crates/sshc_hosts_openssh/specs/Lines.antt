@@ -1,7 +1,8 @@
 -- Lines of a known hosts file and their fields (OpenSSH's sshd(8), "SSH_KNOWN_HOSTS FILE FORMAT").
 -- A line is the list of its words; the code cuts off one word after another.
-use Rattle.std.specs.Prelude.{ℕ, Bool, true, false, ◌||◌, ◌==◌, if◌then◌else◌, List, [], ◌∷◌, filter, codes, bytes_eq, Option, Some, None}
-use Rattle.std.specs.List.{slice_split}
+use Rattle.std.specs.Prelude.{ℕ, Bool, true, false, ◌&&◌, ◌||◌, ◌==◌, if◌then◌else◌, List, [], ◌∷◌, filter, codes, bytes_eq, Option, Some, None}
+use Rattle.std.specs.List.{slice_split, list_any}
+use Rattle.std.specs.Option.{option_and_then}
 use Rattle.sshc_hosts.specs.MatchingLines.{parts_at}
 use Rattle.sshc_hosts_openssh.specs.declared.entry.Mark.{Mark}
 use Rattle.sshc_hosts_openssh.specs.declared.entry.Mark.TheVariants.{Recorded, Revoked, Authority}
@@ -55,3 +56,17 @@ abbrev pub entry_of : List (List ℕ) → Option Entry
 entry_of [] = None
 entry_of (first ∷ words) =
     if begins 35 first then None else if begins 64 first then marked_fields (mark_named first) words else fields_of Recorded (first ∷ words)
+
+-- a line of an authority that has a tab is passed over, since OpenSSH ends its mark at the first space of the line
+abbrev pub is_authority : Mark → Bool
+is_authority Authority = true
+is_authority mark = false
+
+abbrev pub has_tab : List ℕ → Bool
+has_tab line = list_any (λ b. b == 9) line
+
+abbrev pub unless_tabbed : List ℕ → Entry → Option Entry
+unless_tabbed line entry = if is_authority entry.mark && has_tab line then None else Some entry
+
+abbrev pub read_line : List ℕ → Option Entry
+read_line line = option_and_then (unless_tabbed (visible line)) (entry_of (words (visible line)))

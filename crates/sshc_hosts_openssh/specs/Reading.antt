@@ -3,16 +3,15 @@ use Rattle.std.specs.Prelude.{ℕ, Option, Some, None}
 use Rattle.std.specs.Option.{option_or}
 use Rattle.sshc_hosts_openssh.specs.declared.judgement.Deciding.{Deciding}
 use Rattle.sshc_hosts_openssh.specs.declared.judgement.Finding.{Finding}
-use Rattle.sshc_hosts_openssh.specs.declared.judgement.Finding.TheVariants.{Revokes, Records, Contradicts}
+use Rattle.sshc_hosts_openssh.specs.declared.judgement.Finding.TheVariants.{Revokes, Certifies, Records, Contradicts}
 
 abbrev pub undecided : Deciding
-undecided = record { revoking = None; recording = None; contrary = None }
+undecided = record { revoking = None; certifying = None; recording = None; contrary = None }
 
 -- after one more line
 abbrev pub with_line : Deciding → Option Finding → ℕ → Deciding
-with_line deciding (Some Revokes) line =
-    record { revoking = option_or deciding.revoking (Some line); recording = deciding.recording; contrary = deciding.contrary }
-with_line deciding (Some Records) line =
-    record { revoking = deciding.revoking; recording = option_or deciding.recording (Some line); contrary = deciding.contrary }
-with_line deciding (Some Contradicts) line = record { revoking = deciding.revoking; recording = deciding.recording; contrary = Some line }
+with_line deciding (Some Revokes) line = record deciding { revoking = option_or deciding.revoking (Some line) }
+with_line deciding (Some Certifies) line = record deciding { certifying = option_or deciding.certifying (Some line) }
+with_line deciding (Some Records) line = record deciding { recording = option_or deciding.recording (Some line) }
+with_line deciding (Some Contradicts) line = record deciding { contrary = Some line }
 with_line deciding None line = deciding

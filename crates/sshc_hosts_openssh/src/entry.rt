@@ -2,7 +2,8 @@
 
 ghost use Rattle.std.specs.Prelude.{◌≡◌, option_map};
 ghost use Rattle.sshc_hosts_openssh.specs.Cuts.{entry_seen};
-ghost use Rattle.sshc_hosts_openssh.specs.Lines.{entry_of, fields_of, mark_named, marked_fields, visible, words};
+ghost use Rattle.sshc_hosts_openssh.specs.Lines.{entry_of, fields_of, has_tab, is_authority, mark_named, marked_fields};
+ghost use Rattle.sshc_hosts_openssh.specs.Lines.{read_line, words};
 ghost use Rattle.sshc_hosts_openssh.specs.declared.entry.Mark.TheVariants.{Recorded};
 ghost use Rattle.std.specs.Prelude.{◌∷◌};
 
@@ -69,10 +70,10 @@ fn marked_fields(mark: Option<Mark>, rest: &[u8]) -> Option<LineEntry<'_>>
 
 /// The mark and the fields of a line that is neither empty nor a comment. A line with a mark that OpenSSH doesn't have,
 /// with more than one mark or with too few fields has none.
-pub fn entry_of(line: &[u8]) -> Option<LineEntry<'_>>
-    ensures { option_map entry_seen result ≡ entry_of (words (visible line.now)) }
+fn entry_of(line: &[u8]) -> Option<LineEntry<'_>>
+    ensures { option_map entry_seen result ≡ entry_of (words line.now) }
 {
-    let (first, rest) = next_word(visible(line))?;
+    let (first, rest) = next_word(line)?;
     if begins(first, b'#') {
         None
     } else if begins(first, b'@') {
@@ -80,4 +81,31 @@ pub fn entry_of(line: &[u8]) -> Option<LineEntry<'_>>
     } else {
         fields_of(Mark::Recorded, first, rest)
     }
+}
+
+fn is_authority(mark: Mark) -> bool
+    ensures { result ≡ is_authority mark }
+{
+    match mark {
+        Mark::Authority => true,
+        Mark::Recorded | Mark::Revoked => false,
+    }
+}
+
+fn has_tab(line: &[u8]) -> bool
+    ensures { result ≡ has_tab line.now }
+{
+    line.iter().any(|b| *b == b'\t')
+}
+
+/// The mark and the fields of a line, up to its first NUL byte. An authority's line that has a tab is passed over.
+pub fn read_line(line: &[u8]) -> Option<LineEntry<'_>>
+    ensures { option_map entry_seen result ≡ read_line line.now }
+{
+    let line = visible(line);
+    let entry = entry_of(line)?;
+    if is_authority(entry.mark) && has_tab(line) {
+        return None;
+    }
+    Some(entry)
 }

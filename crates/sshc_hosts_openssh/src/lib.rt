@@ -1,6 +1,7 @@
 //! Known hosts as OpenSSH reads them: the status of a host key by a known hosts text.
 #![tactic(auto)]
 
+mod certificate;
 mod cutting;
 mod entry;
 mod hashed;
@@ -12,5 +13,5 @@ mod pattern;
 mod tests;
 
 pub use hosts_field::names_host;
-pub use judgement::{HostStatus, judge_openssh_text};
+pub use judgement::{HostStatus, judge_openssh_certificate, judge_openssh_text};
 pub use pattern::matches_pattern;

@@ -1,15 +1,14 @@
 use Rattle.std.proofs.Common.{ap, ◌∙◌, arith}
 use Rattle.sshc_key.specs.View.{view}
-use Rattle.sshc_hosts_openssh.specs.declared.judgement.Deciding.{Deciding}
-use Rattle.sshc_hosts_openssh.specs.HostStatus.{findings, status}
-use Rattle.sshc_hosts_openssh.proofs.ReadingLemmas.{next_line, last_of}
+use Rattle.sshc_hosts_openssh.specs.HostStatus.{findings}
+use Rattle.sshc_hosts_openssh.proofs.ReadingLemmas.{next_line, last_of, status_of}
 use Rattle.sshc_hosts_openssh.proofs.judgement.status_by.Goals as goal
 
 pub returns-in-None : goal.returns-in-None
 returns-in-None c =
     let last = rw c.in-None.is at c.cut.ensures.none in
-    c.status.ensures ∙ ap (λ (d : Deciding). status d.revoking d.recording d.contrary) c.with_line-deciding.ensures
-    ∙ last_of c.args.text.now c.args.name.now (view c.args.key.now) c.lines.deciding c.in_ok-said.said c.lines.number c.lines.left.now _ c.lines.invariant.0 last c.in_ok-said.ensures
+    c.status.ensures ∙ ap (status_of c.args.good) c.with_line-deciding.ensures
+    ∙ last_of c.args.text.now c.args.name.now (view c.args.key.now) c.args.good c.lines.deciding c.in_ok-said.said c.lines.number c.lines.left.now _ c.lines.invariant.0 last c.in_ok-said.ensures
 
 pub lines-preserved : goal.lines-preserved
 lines-preserved c =
