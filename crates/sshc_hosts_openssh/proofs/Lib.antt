@@ -2,3 +2,4 @@ pub mod PatternLemmas
 pub mod WordLemmas
 pub mod ListLemmas
 pub mod ReadingLemmas
+pub mod AcceptanceLemmas

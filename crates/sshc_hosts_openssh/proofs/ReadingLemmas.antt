@@ -23,7 +23,7 @@ abbrev pub findings_from : List ℕ → Key → ℕ → List ℕ → List (ℕ �
 findings_from name key number left = filter_map (numbered name key) (enumerate_from number (lines left))
 
 -- one more finding
-abbrev and_more : Option Finding → ℕ → List (ℕ × Finding) → List (ℕ × Finding)
+abbrev pub and_more : Option Finding → ℕ → List (ℕ × Finding) → List (ℕ × Finding)
 and_more None number left = left
 and_more (Some finding) number left = (number, finding) ∷ left
 
@@ -63,7 +63,7 @@ more deciding (Some Contradicts) number left all so = record {
   contrary = sym (or_or (last_line contradicts left) (Some number) deciding.contrary) ∙ so.contrary;
 }
 
-cut_off : (name : List ℕ) (key : Key) (line : List ℕ) (number : ℕ) (others : List (List ℕ)) (said : Option Finding) → said_by name key line ≡ said
+pub cut_off : (name : List ℕ) (key : Key) (line : List ℕ) (number : ℕ) (others : List (List ℕ)) (said : Option Finding) → said_by name key line ≡ said
     → filter_map (numbered name key) (enumerate_from number (line ∷ others)) ≡ and_more said number (filter_map (numbered name key) (enumerate_from (number + 1) others))
 cut_off name key line number others None is = rw is refl
 cut_off name key line number others (Some finding) is = rw is refl

@@ -4,6 +4,7 @@ pub mod Lines
 pub mod LineKeys
 pub mod Certificates
 pub mod HostStatus
+pub mod Acceptance
 pub mod PatternSteps
 pub mod Cuts
 pub mod Reading

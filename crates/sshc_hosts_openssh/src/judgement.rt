@@ -5,6 +5,7 @@ ghost use Rattle.std.specs.Option.{option_and_then};
 ghost use Rattle.sshc_key.specs.View.{view};
 ghost use Rattle.sshc_hosts_openssh.specs.Cuts.{entry_seen};
 ghost use Rattle.sshc_hosts_openssh.specs.HostsField.{name_of};
+ghost use Rattle.sshc_hosts_openssh.specs.Acceptance.{AcceptsUnrevoked};
 ghost use Rattle.sshc_hosts_openssh.specs.Certificates.{is_signed_by};
 ghost use Rattle.sshc_hosts_openssh.specs.HostStatus.{is_revoked_by, only_if, said_by, said_for, said_of, status};
 ghost use Rattle.sshc_hosts_openssh.specs.HostStatus.{certified_status, or_without_port, status_at, status_by};
@@ -284,6 +285,8 @@ pub fn judge_openssh_text(
     key: &PublicKey,
 ) -> Result<HostStatus, NoMemory>
     ensures status { IfOk result (λ status. status ≡ status_at text.now host.now port key.now.0 false) }
+    // A key that a line revokes for the host at the port is never accepted, whatever other lines say.
+    ensures unrevoked { IfOk result (AcceptsUnrevoked text.now host.now port key.now.0) }
 {
     status_at(alloc, text, host, port, &key.key, false)
 }
@@ -302,6 +305,8 @@ pub fn judge_openssh_certificate<V: Verifier>(
 ) -> Result<HostStatus, NoMemory>
     ensures status { IfOk result
         (λ status. status ≡ certified_status (V.accepts verifier.now) now text.now host.now port key.now.0) }
+    // A key that a line revokes for the host at the port is never accepted, whatever other lines say.
+    ensures unrevoked { IfOk result (AcceptsUnrevoked text.now host.now port key.now.0) }
 {
     let name = name_of(alloc, host, DEFAULT_PORT)?;
     let good = is_good(alloc, verifier, now, name.as_slice(), &key.key)?;
