@@ -28,20 +28,23 @@ has_no_options (option ∷ options) = false
 -- the certificate is a host's, of this host, at this moment (seconds since 1970)
 abbrev pub is_valid : ℕ → List ℕ → Statement → Bool
 is_valid now host says =
-    is_of_host says.cert_type && nat_le says.valid_after now && nat_lt now says.valid_before && has_no_options says.critical_options && is_principal host says.valid_principals
+    is_of_host says.cert_type && nat_le says.valid_after now && nat_lt now says.valid_before
+    && has_no_options says.critical_options && is_principal host says.valid_principals
 
 -- the algorithms with which an authority may sign
 abbrev pub is_signing_name : List ℕ → Bool
 is_signing_name name =
-    bytes_eq name (codes "ssh-ed25519") || bytes_eq name (codes "ecdsa-sha2-nistp256") || bytes_eq name (codes "ecdsa-sha2-nistp384")
-    || bytes_eq name (codes "ecdsa-sha2-nistp521") || bytes_eq name (codes "sk-ssh-ed25519@openssh.com")
-    || bytes_eq name (codes "sk-ecdsa-sha2-nistp256@openssh.com") || bytes_eq name (codes "rsa-sha2-512") || bytes_eq name (codes "rsa-sha2-256")
+    bytes_eq name (codes "ssh-ed25519") || bytes_eq name (codes "ecdsa-sha2-nistp256")
+    || bytes_eq name (codes "ecdsa-sha2-nistp384") || bytes_eq name (codes "ecdsa-sha2-nistp521")
+    || bytes_eq name (codes "sk-ssh-ed25519@openssh.com") || bytes_eq name (codes "sk-ecdsa-sha2-nistp256@openssh.com")
+    || bytes_eq name (codes "rsa-sha2-512") || bytes_eq name (codes "rsa-sha2-256")
 
 -- what an authority signs: all of a certificate's fields but the signature
 abbrev pub signed_text : Key → List ℕ
 signed_text (plain k) = []
 signed_text (certificate nonce key says signer signature) =
-    string_text (key_name (certificate nonce key says signer signature)) ++ (string_text nonce ++ (fields_text key ++ (statement_text says ++ string_text (key_text signer))))
+    string_text (key_name (certificate nonce key says signer signature))
+    ++ (string_text nonce ++ (fields_text key ++ (statement_text says ++ string_text (key_text signer))))
 
 -- the certificate is valid, and its signature is accepted as its signer's
 abbrev pub is_good : (Key → List ℕ → Signature → Bool) → ℕ → List ℕ → Key → Bool

@@ -11,11 +11,13 @@ use Rattle.sshc_hosts_openssh.specs.Patterns.{matches}
 use Rattle.sshc_hosts_openssh.specs.HostsField.{includes, excludes, is_negated, is_short, pattern_in}
 
 abbrev pub entry_seen : LineEntry → Entry
-entry_seen entry = record { mark = entry.mark; hosts = entry.hosts.now; key_type = entry.key_type.now; key = entry.key.now }
+entry_seen entry =
+    record { mark = entry.mark; hosts = entry.hosts.now; key_type = entry.key_type.now; key = entry.key.now }
 
 -- a list names the name, if patterns before it included it or not
 abbrev pub names_from : Bool → List ℕ → List (List ℕ) → Bool
-names_from included name parts = (included || list_any (includes name) parts) && not (list_any (excludes name) parts) && list_all is_short parts
+names_from included name parts =
+    (included || list_any (includes name) parts) && not (list_any (excludes name) parts) && list_all is_short parts
 
 -- the text begins with a word
 abbrev pub BeginsWord : List ℕ → Type 0
@@ -25,7 +27,8 @@ BeginsWord (b ∷ rest) = is_blank b ≡ false
 -- what one pattern says of a name
 abbrev pub said_part : List ℕ → List ℕ → PartSays
 said_part name part =
-    if not (is_short part) then Excluded else if not (matches (pattern_in part) name) then Nothing else if is_negated part then Excluded else Included
+    if not (is_short part) then Excluded else if not (matches (pattern_in part) name) then Nothing
+    else if is_negated part then Excluded else Included
 
 -- a key without its comment
 abbrev pub key_seen : Key × List ℕ → Key

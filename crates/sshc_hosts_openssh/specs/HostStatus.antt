@@ -24,7 +24,8 @@ use Rattle.sshc_key.specs.declared.signature.Signature.{Signature}
 abbrev pub is_revoked_by : Key → Key → Bool
 is_revoked_by key other = key_eq (bare key) (bare other) || is_signed_by key (bare other)
 
--- what a line with this mark and another key says of the key; an unmarked line speaks of the key that a certificate certifies
+-- what a line with this mark and another key says of the key; an unmarked line speaks of the key that a certificate
+-- certifies
 abbrev pub said_of : Key → Mark → Key → Option Finding
 said_of key marks.Recorded other = if key_eq (bare key) other then Some Records else Some Contradicts
 said_of key marks.Revoked other = if is_revoked_by key other then Some Revokes else None
@@ -32,7 +33,8 @@ said_of key marks.Authority other = if is_signed_by key (bare other) then Some C
 
 -- only a line that names the host says anything
 abbrev pub said_for : List ℕ → Key → Entry → Option Finding
-said_for name key entry = if field_names name entry.hosts then option_and_then (said_of key entry.mark) (key_on entry.key_type entry.key) else None
+said_for name key entry =
+    if field_names name entry.hosts then option_and_then (said_of key entry.mark) (key_on entry.key_type entry.key) else None
 
 abbrev pub said_by : List ℕ → Key → List ℕ → Option Finding
 said_by name key line = option_and_then (said_for name key) (read_line line)
@@ -84,7 +86,9 @@ abbrev pub only_if : Bool → Option ℕ → Option ℕ
 only_if good line = if good then line else None
 
 abbrev pub status_among : Bool → List (ℕ × Finding) → HostStatus
-status_among good said = status (first_line revokes said) (only_if good (first_line certifies said)) (first_line records said) (last_line contradicts said)
+status_among good said =
+    status (first_line revokes said) (only_if good (first_line certifies said)) (first_line records said)
+    (last_line contradicts said)
 
 -- the status of a key, which is a good certificate or not, by a known hosts text, for the host that a name stands for
 unfoldable pub status_by : List ℕ → List ℕ → Key → Bool → HostStatus
@@ -106,5 +110,7 @@ status_at text host port key good =
     else or_without_port (status_by text (name_of host port) key good) (status_by text (name_of host 22) key good)
 
 -- the status where certificates are judged, at a moment: their principals are hosts without ports
-abbrev pub certified_status : (Key → List ℕ → Signature → Bool) → ℕ → List ℕ → List ℕ → ℕ → Key → HostStatus
-certified_status accepts now text host port key = status_at text host port key (is_good accepts now (name_of host 22) key)
+abbrev pub certified_status :
+    (Key → List ℕ → Signature → Bool) → ℕ → List ℕ → List ℕ → ℕ → Key → HostStatus
+certified_status accepts now text host port key =
+    status_at text host port key (is_good accepts now (name_of host 22) key)

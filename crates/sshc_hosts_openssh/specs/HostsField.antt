@@ -1,5 +1,5 @@
--- The hosts field of a known hosts line, and the name that is looked for in it (OpenSSH's sshd(8), "SSH_KNOWN_HOSTS FILE
--- FORMAT"; ssh_config(5), "PATTERNS"; ssh_config(5), "HashKnownHosts").
+-- The hosts field of a known hosts line, and the name that is looked for in it (OpenSSH's sshd(8), "SSH_KNOWN_HOSTS
+-- FILE FORMAT"; ssh_config(5), "PATTERNS"; ssh_config(5), "HashKnownHosts").
 -- Statements about all patterns of the field; the code goes over them once.
 use Rattle.std.specs.Prelude.{ℕ, Bool, false, not, ◌&&◌, ◌==◌, nat_lt, if◌then◌else◌, List, [], ◌∷◌, ◌++◌, length, drop, map, codes, bytes_eq, Option, Some, None}
 use Rattle.std.specs.List.{list_any, list_all}
@@ -41,7 +41,8 @@ is_short part = nat_lt (length (pattern_in part)) 1023
 
 -- a list names what one of its patterns matches, unless a pattern behind `!` matches it too
 abbrev pub list_names : List ℕ → List (List ℕ) → Bool
-list_names name parts = list_any (includes name) parts && not (list_any (excludes name) parts) && list_all is_short parts
+list_names name parts =
+    list_any (includes name) parts && not (list_any (excludes name) parts) && list_all is_short parts
 
 -- ---- hashed names
 
@@ -61,4 +62,6 @@ is_hashed_under (Some salt) name field = length salt == 20 && bytes_eq field (ha
 
 -- a field that begins with `|` is one hashed name, and any other a list of patterns
 abbrev pub field_names : List ℕ → List ℕ → Bool
-field_names name field = if begins 124 field then is_hashed_under (salt_in (parts_at 124 field)) name field else list_names name (parts_at 44 field)
+field_names name field =
+    if begins 124 field then is_hashed_under (salt_in (parts_at 124 field)) name field
+    else list_names name (parts_at 44 field)

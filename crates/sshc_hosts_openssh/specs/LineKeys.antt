@@ -29,12 +29,15 @@ is_known_type (plain (opaque name body)) = false
 is_known_type (plain k) = true
 is_known_type (certificate nonce key says signer signature) = false
 
--- the word is the name of the key's type, or for an RSA key of its signatures by one of the hashes (RFC 8332, section 3)
+-- the word is the name of the key's type, or for an RSA key of its signatures by one of the hashes (RFC 8332,
+-- section 3)
 abbrev pub is_named : List ℕ → Key → Option HashAlg → Bool
 is_named word key hash = bytes_eq word (request_name key hash)
 
 abbrev pub is_type_of : List ℕ → Key → Bool
-is_type_of word key = is_known_type (bare key) && (is_named word key None || is_named word key (Some Sha256) || is_named word key (Some Sha512))
+is_type_of word key =
+    is_known_type (bare key)
+    && (is_named word key None || is_named word key (Some Sha256) || is_named word key (Some Sha512))
 
 -- a key that can't be read, or has another type, is none
 abbrev pub of_type : List ℕ → Key → Option Key

@@ -39,12 +39,15 @@ pub record Entry : Type 0 where
   pub key : List ℕ
 
 abbrev pub fields_of : Mark → List (List ℕ) → Option Entry
-fields_of mark (hosts ∷ key_type ∷ key ∷ comment) = Some (record { mark = mark; hosts = hosts; key_type = key_type; key = key })
+fields_of mark (hosts ∷ key_type ∷ key ∷ comment) =
+    Some (record { mark = mark; hosts = hosts; key_type = key_type; key = key })
 fields_of mark words = None
 
 -- a line with another mark is passed over
 abbrev pub mark_named : List ℕ → Option Mark
-mark_named word = if bytes_eq word (codes "@revoked") then Some Revoked else if bytes_eq word (codes "@cert-authority") then Some Authority else None
+mark_named word =
+    if bytes_eq word (codes "@revoked") then Some Revoked
+    else if bytes_eq word (codes "@cert-authority") then Some Authority else None
 
 -- and so is a line with more than one mark
 abbrev pub marked_fields : Option Mark → List (List ℕ) → Option Entry
@@ -55,7 +58,8 @@ marked_fields mark words = None
 abbrev pub entry_of : List (List ℕ) → Option Entry
 entry_of [] = None
 entry_of (first ∷ words) =
-    if begins 35 first then None else if begins 64 first then marked_fields (mark_named first) words else fields_of Recorded (first ∷ words)
+    if begins 35 first then None else if begins 64 first then marked_fields (mark_named first) words
+    else fields_of Recorded (first ∷ words)
 
 -- a line of an authority that has a tab is passed over, since OpenSSH ends its mark at the first space of the line
 abbrev pub is_authority : Mark → Bool

@@ -23,7 +23,8 @@ abbrev pub front : List ℕ → List ℕ → Stop
 front [] [] = ends
 front [] (c ∷ name) = fails
 front (p ∷ pattern) [] = if p == 42 then star pattern [] else fails
-front (p ∷ pattern) (c ∷ name) = if p == 42 then star pattern (c ∷ name) else if fits p c then front pattern name else fails
+front (p ∷ pattern) (c ∷ name) =
+    if p == 42 then star pattern (c ∷ name) else if fits p c then front pattern name else fails
 
 -- the same at the first ending of the name at which the pattern doesn't fail
 abbrev pub or_later : Stop → Stop → Stop

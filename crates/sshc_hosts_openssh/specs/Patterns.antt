@@ -1,4 +1,5 @@
--- Patterns of host names (OpenSSH's ssh_config(5), "PATTERNS", to which sshd(8) refers in "SSH_KNOWN_HOSTS FILE FORMAT").
+-- Patterns of host names (OpenSSH's ssh_config(5), "PATTERNS", to which sshd(8) refers in "SSH_KNOWN_HOSTS FILE
+-- FORMAT").
 -- A `*` is tried at every ending of a name; the code goes over the name once for each `*`.
 use Rattle.std.specs.Prelude.{ℕ, Bool, true, false, ◌&&◌, ◌||◌, ◌==◌, if◌then◌else◌, List, [], ◌∷◌}
 use Rattle.std.specs.List.{list_any}

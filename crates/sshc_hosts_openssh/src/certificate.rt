@@ -129,7 +129,7 @@ fn is_good_certificate<V: Verifier>(
     verifier.verifies(&certificate.signature_key, &signed, &certificate.signature)
 }
 
-/// Whether the key is a host certificate that is valid for the host at this moment, and whose signature is its signer's.
+/// Whether the key is a host certificate that is valid for the host at this moment, and that its signer signed.
 pub fn is_good<V: Verifier>(
     alloc: Global,
     verifier: &V,

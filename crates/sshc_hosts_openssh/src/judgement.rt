@@ -274,9 +274,9 @@ fn status_at(
     }
 }
 
-/// What a known hosts text says of the key for the host at the port, as OpenSSH's `ssh` reads it, but for authorities: a
-/// certificate is judged by the key that it certifies, and is refused if that key or the one that signed it is revoked.
-/// Where nothing is said for the port, a key that is known or revoked for the host alone is so.
+/// What a known hosts text says of the key for the host at the port, as OpenSSH's `ssh` reads it, but for authorities:
+/// a certificate is judged by the key that it certifies, and is refused if that key or the one that signed it is
+/// revoked. Where nothing is said for the port, a key that is known or revoked for the host alone is so.
 pub fn judge_openssh_text(
     alloc: Global,
     text: &[u8],
@@ -291,9 +291,9 @@ pub fn judge_openssh_text(
     status_at(alloc, text, host, port, &key.key, false)
 }
 
-/// The same with authorities: a host certificate is accepted that is valid for the host at this moment, in seconds since
-/// 1970, has no critical option, and whose signature the verifier accepts, if a line marks the key that signed it as an
-/// authority for the host. Any other certificate is judged by the key that it certifies.
+/// The same with authorities: a host certificate is accepted that is valid for the host at this moment, in seconds
+/// since 1970, has no critical option, and whose signature the verifier accepts, if a line marks the key that signed it
+/// as an authority for the host. Any other certificate is judged by the key that it certifies.
 pub fn judge_openssh_certificate<V: Verifier>(
     alloc: Global,
     verifier: &V,

@@ -6,7 +6,8 @@ ghost use Rattle.base64.specs.GeneralPurpose.{decoded_of};
 ghost use Rattle.sshc_key.specs.Nesting.{whole_blob_key};
 ghost use Rattle.sshc_key.specs.View.{view};
 ghost use Rattle.sshc_hosts_openssh.specs.Cuts.{key_seen};
-ghost use Rattle.sshc_hosts_openssh.specs.LineKeys.{bare, is_known_type, is_named, is_no_space, is_type_of, key_in, key_on};
+ghost use Rattle.sshc_hosts_openssh.specs.LineKeys.{bare, is_known_type, is_named, is_no_space, is_type_of, key_in};
+ghost use Rattle.sshc_hosts_openssh.specs.LineKeys.{key_on};
 
 use crate::hashed::decoded;
 use sshc_key::{Error, HashAlg, KeyData, PublicKey, parse_whole_public_key};
