@@ -1,0 +1,5 @@
+pub mod PatternLemmas
+pub mod WordLemmas
+pub mod ListLemmas
+pub mod ReadingLemmas
+pub mod AcceptanceLemmas

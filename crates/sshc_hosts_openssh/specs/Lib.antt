@@ -1,0 +1,10 @@
+pub mod Patterns
+pub mod HostsField
+pub mod Lines
+pub mod LineKeys
+pub mod Certificates
+pub mod HostStatus
+pub mod Acceptance
+pub mod PatternSteps
+pub mod Cuts
+pub mod Reading
