@@ -57,7 +57,7 @@ abbrev Wants : List ℕ → List ReplyEntry → (List ReplyEntry → Type 0) →
 Wants rest entries Next =
     (name : List ℕ) × (body : List ℕ)
     × (((rest ≡ string_text name ++ 1 ∷ body) × (first : ReplyEntry) × (others : List ReplyEntry) × (entries ≡ first ∷ others) × IsEntry name body first × Next others)
-      ⊎ ((rest ≡ string_text name ++ 0 ∷ body) × Next entries))
+    ⊎ ((rest ≡ string_text name ++ 0 ∷ body) × Next entries))
 
 wants_more : (rest : List ℕ) (x y : List ReplyEntry) (A B : List ReplyEntry → Type 0) → ((z : List ReplyEntry) → A z → B (z ++ y)) → Wants rest x A → Wants rest (x ++ y) B
 wants_more rest x y A B more (name, body, inl (is, first, others, same, entry, next)) =

@@ -41,8 +41,8 @@ abbrev pub Queues : List Record → List ReplyEntry → Type 0
 Queues [] entries = entries ≡ []
 Queues (Payload (n ∷ rest) ∷ records) entries =
     (n ≡ GLOBAL_REQUEST → (name : List ℕ) × (body : List ℕ)
-        × (((rest ≡ string_text name ++ 1 ∷ body) × (first : ReplyEntry) × (others : List ReplyEntry)
-            × (entries ≡ first ∷ others) × IsEntry name body first × Queues records others)
-          ⊎ ((rest ≡ string_text name ++ 0 ∷ body) × Queues records entries)))
+    × (((rest ≡ string_text name ++ 1 ∷ body) × (first : ReplyEntry) × (others : List ReplyEntry)
+    × (entries ≡ first ∷ others) × IsEntry name body first × Queues records others)
+    ⊎ ((rest ≡ string_text name ++ 0 ∷ body) × Queues records entries)))
     × (n ≢ GLOBAL_REQUEST → Queues records entries)
 Queues (output ∷ records) entries = Queues records entries

@@ -7,8 +7,8 @@ ghost use Rattle.sshc_forward_core.specs.EventText.{one_number, two_numbers, num
 ghost use Rattle.sshc_forward_core.specs.EventText.{body_at};
 ghost use Rattle.sshc_forward_core.specs.EventReading.{GivesAll, NextGives};
 
-use crate::error::{EventFault, NextFault, not_read, read_failed};
 use crate::FwdEvent;
+use crate::error::{EventFault, NextFault, not_read, read_failed};
 use sshc_wire::{Cursor, Octets, Source, Text, read_into};
 use std::alloc::Global;
 
