@@ -80,6 +80,8 @@ function look() {
   if (rest.textContent) list.append(rest);
 }
 input.addEventListener("input", look);
+// The word after # is looked for: index.html#Outbox
+input.value = decodeURIComponent(location.hash.slice(1));
 look();
 """
 
