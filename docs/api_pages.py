@@ -178,6 +178,12 @@ class Site:
                 return href
         return None
 
+    def type_at(self, scope, name):
+        """The place of a type that a clause names as the code does, without an import of its own."""
+        first = name.split(".")[0]
+        item = self.item_named(scope.file, first) if first[:1].isupper() and hasattr(scope, "file") and first not in scope.imports else None
+        return self.homes[item][1] if item else None
+
 
 def members(item):
     """What is inside an item that people use: variants, a trait's members, public fields, methods and their constants."""
@@ -245,7 +251,7 @@ class Writer:
         there = closure.meant(scope, token)
         if there in wanted:
             return self.site.definitions.get(there)
-        return None if there else self.site.declared_at(scope, token)
+        return None if there else self.site.declared_at(scope, token) or self.site.type_at(scope, token)
 
     def rust(self, file, text):
         """A signature, with a link at each type that has a place."""
@@ -477,7 +483,7 @@ def pages(site, families):
     for file, name in site.definitions:
         out[site.definitions[file, name]] = definition_page(site, file, name)
     site.counts["definitions"] = len(site.definitions)
-    says = f"{site.counts['items']:,} items with {site.counts['clauses']:,} clauses; each definition that a clause names, and those that it rests on, has a page: {len(site.definitions):,}. A name in a clause without a link is the kit's."
+    says = f"{site.counts['items']:,} items with {site.counts['clauses']:,} clauses; each definition that a clause names, and those that it rests on, has a page: {len(site.definitions):,}. A name in a clause without a link is a parameter, or the kit's."
     out["index.html"] = index_page(site, families, says)
     out["style.css"], out["search.js"] = STYLE, SEARCH
     names = ",\n".join(json.dumps(name, ensure_ascii=False) for name in sorted(site.names))

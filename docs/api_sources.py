@@ -198,7 +198,8 @@ class Scope:
     GHOST_USE = re.compile(r"ghost use (\w[\w.]*?)(?:\.\{([^}]*)\})?(?: as (\S+?))?;")
 
     def __init__(self, file):
-        self.path, self.lines, self.homes, self.imports, self.aliases = file.path, {}, {}, {}, {}
+        self.file, self.path = file, file.path
+        self.lines, self.homes, self.imports, self.aliases = {}, {}, {}, {}
         for source, names, alias in self.GHOST_USE.findall(file.text):
             for part in re.split(r",\s*", names.strip()) if names else []:
                 name, _, called = part.partition(" as ")
