@@ -117,6 +117,7 @@ struct sazh_connection {
   char *ciphers, *algorithms, *alias; /* of the settings; NULL: the default */
   bool blocking, inside;
   phase phase;
+  uint64_t changes;
   failure failed;
 
   dial dial;

@@ -235,6 +235,26 @@ sazh_code sazh_forward_remote(sazh_connection *it, const sazh_end *there, const 
 
 uint16_t sazh_forward_port(const sazh_forward *it) { return it->port; }
 
+/* Its answer isn't awaited. */
+static void ask_cancel(sazh_forward *it) {
+  size_t begun;
+  bytes *event = todo_begin(it->of, it->listens.path != NULL ? SSHC_EVENT_CANCEL_STREAMLOCAL_FORWARD : SSHC_EVENT_CANCEL_TCPIP_FORWARD, &begun);
+  put_u32(event, ++it->of->tickets);
+  put_text(event, it->listens.path != NULL ? it->listens.path : it->listens.host);
+  if (it->listens.path == NULL) put_u32(event, it->port);
+  todo_end(it->of, begun);
+}
+
+void sazh_forward_free(sazh_forward *it) {
+  if (it == NULL || it->of->inside) return;
+  bool is_heard_there = it->kind == FORWARD_REMOTE && it->ticket == 0 && it->answer == SAZH_OK && it->of->phase == PHASE_OPEN;
+  if (is_heard_there) ask_cancel(it);
+  sazh_forward **at = &it->of->forwards;
+  while (*at != it) at = &(*at)->next;
+  *at = it->next;
+  free_forward(it);
+}
+
 bool forward_resolved(sazh_connection *it, uint32_t ticket, uint8_t how, reader *fields) {
   for (sazh_forward *at = it->forwards; at != NULL; at = at->next) {
     if (at->ticket == 0 || at->ticket != ticket) continue;
