@@ -13,7 +13,7 @@ from .errors import (  # noqa: F401
     AgentError, AuthenticationFailed, BadSignature, CannotConnect, CannotListen, ChannelClosed, ChannelError, ChannelRefused, Closed, Code,
     ConnectionLost, Details, Disconnected, Error, ForwardError, ForwardRefused, HostKeyChanged, HostKeyError, HostKeyReplaced,
     HostKeyRevoked, HostKeyUnknown, KeyFileError, KnownHostsError, LibraryMissing, Misuse, NoAddress, NoAlgorithm, NoAnswer, NoMemory,
-    PassphraseError, ProtocolError, RequestRefused, Status, TimedOut,
+    NoSuchFile, PassphraseError, PermissionDenied, ProtocolError, RequestRefused, SFTPError, Status, TimedOut,
 )
 from .library import (  # noqa: F401
     ABI, ALLOW, ASKS_KEY, ASKS_REQUEST, ASKS_SIGNATURE, BAD_INPUT, BAD_KEY, CLOSE, CLOSED, CLOSED_REFUSED, CLOSED_TOO_LONG,
