@@ -291,16 +291,7 @@ static const sazh_forward *forward_of_path(const sazh_connection *it, slice path
   return NULL;
 }
 
-static void refuse(sazh_connection *it, uint32_t channel, uint32_t reason) {
-  size_t begun;
-  bytes *reply = todo_begin(it, SSHC_EVENT_SERVER_OPEN_REPLY, &begun);
-  put_u32(reply, channel);
-  put_u8(reply, 0);
-  put_u32(reply, reason);
-  todo_end(it, begun);
-}
-
-/* Only what was asked for is joined: a port, a socket, the agent. */
+/* Only what was asked for is joined: a port, a socket, the agent. The rest is closed. */
 void server_opened(sazh_connection *it, reader *fields) {
   uint32_t channel = get_u32(fields);
   uint8_t type = get_u8(fields);
@@ -309,11 +300,11 @@ void server_opened(sazh_connection *it, reader *fields) {
                              type == SSHC_OPENED_FORWARDED_STREAMLOCAL ? forward_of_path(it, name) : NULL;
   bool is_agent = type == SSHC_OPENED_AGENT && it->agent_path != NULL;
   if ((from == NULL && !is_agent) || it->join_count >= MOST_JOINS) {
-    refuse(it, channel, from == NULL && !is_agent ? SSHC_OPEN_PROHIBITED : SSHC_OPEN_RESOURCE_SHORTAGE);
+    join_refused(it, channel);
     return;
   }
   const char *path = is_agent ? it->agent_path : from->connects.path;
   int file = path == NULL ? -1 : connect_unix(path, false);
-  if (path != NULL && file < 0) refuse(it, channel, SSHC_OPEN_CONNECT_FAILED);
+  if (path != NULL && file < 0) join_refused(it, channel);
   else join_served(it, channel, file, path == NULL ? &from->connects : NULL);
 }

@@ -280,14 +280,47 @@ def local_forward(t, server):
 
 @on(*EVERY)
 def remote_forward(t, server):
-    """a remote forward likewise, by a port of the server's choice"""
+    """a remote forward likewise (sshd: by a port of its choice)"""
     data = os.urandom(MB)
     with Listening(echo) as target, server.connect() as c:
-        port = 0 if server.name != "dropbear" else free_port()  # dropbear chooses none
+        # dropbear chooses no port, and asyncssh tells the one that it chose as 0 where a client comes
+        port = 0 if server.name == "sshd" else free_port()
         with c.forward_remote(("localhost", port), ("127.0.0.1", target.port)) as forward:
             port = forward.port
             t.assertTrue(said_back(port, data) == data)
-        until(lambda: not can_connect(port), "the server listens no longer")
+        if server.name == "dropbear":  # it goes on listening; what comes is closed at once
+            with socket.create_connection(("127.0.0.1", port), 10) as line:
+                t.assertEqual(line.recv(1), b"")
+        else:
+            until(lambda: not can_connect(port), "the server listens no longer")
+
+
+@on(*SHELLS)
+def slow_target(t, server):
+    """a remote forward to a listener that answers after a second: what was sent meanwhile isn't lost"""
+    with socket.socket() as listener, server.connect() as c:
+        listener.bind(("127.0.0.1", 0))
+        listener.listen(0)
+        there = listener.getsockname()
+        with contextlib.ExitStack() as stack:
+            while True:  # until nobody more fits
+                filler = stack.enter_context(socket.socket())
+                filler.settimeout(0.3)
+                try:
+                    filler.connect(there)
+                except OSError:
+                    break
+            forward = c.forward_remote(("localhost", free_port()), there)
+            with socket.create_connection(("127.0.0.1", forward.port), 10) as line:
+                line.sendall(b"sent at once")
+                line.shutdown(socket.SHUT_WR)
+                time.sleep(0.3)
+        said, end = b"", time.monotonic() + 20
+        listener.settimeout(10)
+        while said != b"sent at once" and time.monotonic() < end:
+            with listener.accept()[0] as one:
+                said = b"".join(iter(lambda: one.recv(100), b""))
+        t.assertEqual(said, b"sent at once")
 
 
 @on("sshd")
@@ -405,6 +438,15 @@ def paused_reader(t, server):
 
 
 @on(*EVERY)
+def rekeys_between_commands(t, server):
+    """new keys before each command"""
+    with server.connect() as c:
+        for n in range(5):
+            c.rekey()
+            t.assertEqual(c.run(f"echo {n}").stdout, f"{n}\n")
+
+
+@on(*SHELLS)
 def rekeys_under_load(t, server):
     """new keys after each 256 kB, and others at once, with 10 MB each way"""
     data = os.urandom(10 * MB)
@@ -427,7 +469,7 @@ def rekeys_under_load(t, server):
 # ---- threads, closing
 
 
-@on(*EVERY)
+@on("sshd", "asyncssh")
 def threads(t, server):
     """eight threads on one connection, 20 commands each, and bytes on a channel of their own"""
     failed = []
