@@ -38,7 +38,7 @@ echo "int main(void) { return 0; }" > "$out/empty.c"
 cc $sanitizers "$out/empty.c" -o "$out/empty" 2> /dev/null && "$out/empty" || { echo "bindings: passed over, since cc has no AddressSanitizer"; exit 3; }
 
 # the formats in Python, without the library
-(cd "$here/python" && python3 -m unittest discover) > "$out/formats.log" 2>&1 || { cat "$out/formats.log"; exit 1; }
+(cd "$here/python" && python3 -m unittest tests.test_events tests.test_formats tests.test_records tests.test_show) > "$out/formats.log" 2>&1 || { cat "$out/formats.log"; exit 1; }
 done=" formats"
 
 python3 "$here/check_header.py" "$here/include/sazhonthil.h" "$top/crates/sazhonthil" "$out/libsazhonthil.a"
@@ -83,6 +83,13 @@ python3 "$here/tests/snippets.py" "$here/README.md" "$out"
 done="$done snippets"
 
 if [ -f /usr/include/openssl/evp.h ] && command -v make > /dev/null; then
+  # connections from Python, by the SSH library as one shared object, and the wheel with it
+  make -s -C "$here/ssh" OUT="$out/shared" LIB="$out/libsazhonthil.a" shared
+  export SAZHONTHIL_SSH="$out/shared/libsazhonthil_ssh.so"
+  (cd "$here/python" && python3 -m unittest) > "$out/connections.log" 2>&1 || { cat "$out/connections.log"; exit 1; }
+  tail -n 3 "$out/connections.log" | tr '\n' ' ' | sed 's/^/python: /; s/ *$/\n/'
+  python3 "$here/python/build_wheel.py" "$out" > /dev/null
+  done="$done connections"
   make -s -C "$top/clients/c" OUT="$out" LIB="$out/libsazhonthil.a"
   with=""
   [ $servers = yes ] && with=--with-servers || left="$left logins (--with-servers)"
@@ -91,6 +98,6 @@ if [ -f /usr/include/openssl/evp.h ] && command -v make > /dev/null; then
   make -s -C "$top/clients/agent" OUT="$out" LIB="$out/libsazhonthil.a" test
   done="$done agent"
 else
-  left="$left client agent"
+  left="$left connections client agent"
 fi
 echo "bindings: all well:$done${left:+; left out:$left}"

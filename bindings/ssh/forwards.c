@@ -28,8 +28,12 @@ static void free_end(end_of *it) {
   free(it->path);
 }
 
+/* While another thread waits in poll for a listener, close alone would leave it listening. */
 static void free_forward(sazh_forward *it) {
-  for (size_t i = 0; i < it->count; i++) close(it->listeners[i]);
+  for (size_t i = 0; i < it->count; i++) {
+    shutdown(it->listeners[i], SHUT_RDWR);
+    close(it->listeners[i]);
+  }
   if (it->count != 0 && it->listens.path != NULL) unlink(it->listens.path);
   free_end(&it->listens);
   free_end(&it->connects);

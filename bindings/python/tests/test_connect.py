@@ -319,6 +319,7 @@ def slow_target(t, server):
         listener.settimeout(10)
         while said != b"sent at once" and time.monotonic() < end:
             with listener.accept()[0] as one:
+                one.settimeout(5)
                 said = b"".join(iter(lambda: one.recv(100), b""))
         t.assertEqual(said, b"sent at once")
 
