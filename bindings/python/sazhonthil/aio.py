@@ -36,6 +36,7 @@ class _LoopWaits(Waits):
         self._futures: Set[asyncio.Future[None]] = set()
         self._engine: Optional[Engine] = None
         self._stamp, self._is_over = 0, False
+        self._rested = loop.time()
         loop.add_reader(self._epoll.fileno(), self._ready)
 
     async def wait(self, engine: Engine, seen: int, deadline: Optional[float]) -> None:
@@ -51,6 +52,12 @@ class _LoopWaits(Waits):
             self._futures.discard(future)
             if timer is not None:
                 timer.cancel()
+
+    async def rest(self) -> None:
+        """A caller for whom all is there already gives the loop a turn each ten milliseconds."""
+        if self._loop.time() - self._rested > 0.01:
+            await asyncio.sleep(0)
+            self._rested = self._loop.time()
 
     def noted(self, engine: Engine, stamp: int) -> None:
         self._engine = engine

@@ -89,6 +89,9 @@ class Waits:
         """Returns once the engine's stamp isn't `seen` any more, and maybe earlier. TimedOut at the deadline."""
         raise NotImplementedError
 
+    async def rest(self) -> None:
+        """Before a call: lets others go on, where that is the caller's duty."""
+
     def noted(self, engine: Engine, stamp: int) -> None:
         """After each call of the library, under the guard."""
 
@@ -186,6 +189,7 @@ class Engine:
 
     async def until(self, attempt: Attempt, deadline: Optional[float] = None, also: Collection[Code] = ()) -> Code:
         """Makes a call again and again, until it is done."""
+        await self.waits.rest()
         while True:
             with self.guard:
                 self.check()

@@ -148,7 +148,9 @@ class Connections(unittest.IsolatedAsyncioTestCase):
             with open(f"{there}/big", "wb") as file:
                 file.truncate(200 * MB)
             getting = asyncio.ensure_future(files.get(f"{there}/big", self.place.path("big")))
-            await asyncio.sleep(0.01)
+            for _ in range(5):
+                await asyncio.sleep(0.01)
+            self.assertFalse(getting.done())  # it lets the loop go on
             getting.cancel()
             with self.assertRaises(asyncio.CancelledError):
                 await getting
