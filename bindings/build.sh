@@ -71,14 +71,6 @@ else
   left="$left Rust"
 fi
 
-if command -v go > /dev/null; then
-  (cd "$here/go" && CGO_LDFLAGS="-L$out -lsazhonthil -lsazhonthil_runtime" GOCACHE="$out/gocache" GOFLAGS=-mod=mod go test -v ./...) > "$out/go.log" 2>&1 || { cat "$out/go.log"; exit 1; }
-  grep -o 'go: .* rows' "$out/go.log"
-  done="$done Go"
-else
-  left="$left Go"
-fi
-
 python3 "$here/tests/snippets.py" "$here/README.md" "$out"
 done="$done snippets"
 
@@ -90,6 +82,15 @@ if [ -f /usr/include/openssl/evp.h ] && command -v make > /dev/null; then
   tail -n 3 "$out/connections.log" | tr '\n' ' ' | sed 's/^/python: /; s/ *$/\n/'
   python3 "$here/python/build_wheel.py" "$out" > /dev/null
   done="$done connections"
+  if command -v go > /dev/null; then
+    # the sources name bindings/out/shared as the library's folder
+    (cd "$here/go" && CGO_LDFLAGS="-L$out/shared -Wl,-rpath,$out/shared" GOCACHE="$out/gocache" GOFLAGS=-mod=mod go test -v ./...) > "$out/go.log" 2>&1 || { cat "$out/go.log"; exit 1; }
+    grep -o 'go: .* rows' "$out/go.log"
+    echo "go: $(grep -c '^        --- PASS' "$out/go.log") rows of connections to servers"
+    done="$done Go"
+  else
+    left="$left Go"
+  fi
   make -s -C "$top/clients/c" OUT="$out" LIB="$out/libsazhonthil.a"
   with=""
   [ $servers = yes ] && with=--with-servers || left="$left logins (--with-servers)"
@@ -98,6 +99,6 @@ if [ -f /usr/include/openssl/evp.h ] && command -v make > /dev/null; then
   make -s -C "$top/clients/agent" OUT="$out" LIB="$out/libsazhonthil.a" test
   done="$done agent"
 else
-  left="$left connections client agent"
+  left="$left connections Go client agent"
 fi
 echo "bindings: all well:$done${left:+; left out:$left}"

@@ -272,24 +272,26 @@ func (c *Client) RunInput(ctx context.Context, command string, input io.Reader) 
 		}
 	}()
 	var out, err2 bytes.Buffer
-	var both sync.WaitGroup
+	var reading, writing sync.WaitGroup
 	var failed [2]error
-	both.Add(2)
+	reading.Add(1)
 	go func() {
-		defer both.Done()
+		defer reading.Done()
+		_, failed[1] = io.Copy(&err2, s.Stderr)
+	}()
+	writing.Add(1)
+	go func() {
+		defer writing.Done()
 		if input != nil {
 			io.Copy(s, input) // a command that takes no more may still say something
 		}
 		s.CloseWrite()
 	}()
-	go func() {
-		defer both.Done()
-		_, failed[1] = io.Copy(&err2, s.Stderr)
-	}()
 	_, failed[0] = io.Copy(&out, s)
+	reading.Wait()
 	exit, err := s.Wait(ctx)
-	s.Close()
-	both.Wait()
+	s.Close() // ends what is still written
+	writing.Wait()
 	done := &Completed{out.Bytes(), err2.Bytes(), exit}
 	if ctx.Err() != nil {
 		return done, ctx.Err()
