@@ -91,6 +91,10 @@ if [ -f /usr/include/openssl/evp.h ] && command -v make > /dev/null; then
   else
     left="$left Go"
   fi
+  if command -v cargo > /dev/null; then
+    (cd "$here/rust_ssh" && SAZHONTHIL_SSH_LIB="$out/shared" CARGO_TARGET_DIR="$out/target" cargo test --offline -- --nocapture) > "$out/rust_ssh.log" 2>&1 || { cat "$out/rust_ssh.log"; exit 1; }
+    echo "rust: $(grep -c '^on ' "$out/rust_ssh.log") times a test of connections on a server"
+  fi
   make -s -C "$top/clients/c" OUT="$out" LIB="$out/libsazhonthil.a"
   with=""
   [ $servers = yes ] && with=--with-servers || left="$left logins (--with-servers)"
