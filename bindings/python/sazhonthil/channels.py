@@ -178,11 +178,17 @@ class Channel(Held):
             return _exit_of(self.engine.lib.sazh_exit_of(self.at()))
 
     async def wait_exit(self, deadline: Optional[float]) -> Exit:
+        exits: List[Exit] = []
+        await self.engine.until(lambda: self._exited(exits), deadline)
+        return exits[-1]
+
+    def _exited(self, to: List[Exit]) -> int:
+        """Under the guard: the library's texts go with the channel, so that they are copied at once."""
         told = native.Exit()
-        await self.engine.until(lambda: self.engine.lib.sazh_wait_exit(self.at(), c.byref(told)), deadline)
-        with self.engine.guard:
-            self.at()
-            return _exit_of(told)
+        code = int(self.engine.lib.sazh_wait_exit(self.at(), c.byref(told)))
+        if code == Code.OK:
+            to.append(_exit_of(told))
+        return code
 
     def signal(self, name: str) -> None:
         given = plain(name)
@@ -226,7 +232,7 @@ class Running:
     def __init__(self, channel: Channel, given: bytes, ends: bool) -> None:
         self.channel, self.writing, self.ends = channel, Writing(channel, given), ends
         self.parts: Tuple[List[bytes], List[bytes]] = ([], [])
-        self.told = native.Exit()
+        self.exits: List[Exit] = []
 
     def _put(self) -> None:
         if self.writing.done < len(self.writing.data):
@@ -245,7 +251,7 @@ class Running:
             while lib.sazh_readable(at, stream):
                 self.parts[stream].append(self.channel._take(stream, 1 << 20)[1])
         if lib.sazh_at_eof(at, OUT) and lib.sazh_at_eof(at, ERR):
-            return int(lib.sazh_wait_exit(at, c.byref(self.told)))
+            return self.channel._exited(self.exits)
         return Code.AGAIN
 
     def so_far(self) -> Tuple[bytes, bytes]:
@@ -253,7 +259,7 @@ class Running:
 
     @property
     def exit(self) -> Exit:
-        return _exit_of(self.told)
+        return self.exits[-1]
 
 
 def port_of(number: int) -> int:

@@ -93,7 +93,7 @@ def connect(
                          or a function that is shown the HostKey and returns one. A changed or revoked key is always refused
     host_alias           the name to look for in the known hosts, in place of host and port
     timeout              seconds for connecting and the first key exchange
-    login_timeout        seconds for each method's way in, together
+    login_timeout        seconds for logging in, all methods together
     keepalive            every how many seconds the server is asked whether it is there; keepalive_max may stay unanswered
     rekey_bytes, rekey_seconds, window, ciphers, host_key_algorithms   as in include/sazhonthil_ssh.h; 0 and None: its own
     banner               is called with what the server says before the login

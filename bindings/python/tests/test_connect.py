@@ -568,7 +568,7 @@ def left_to_the_collector(t, server):
 
 @on("sshd")
 def callbacks(t, server):
-    """a banner; a callback that uses its own connection, or fails"""
+    """a banner, and a callback that fails"""
     banner = server.place.sshd(more=f"Banner {server.place.write('banner', 'Hello, this is a test.')}")
     said = []
     with banner.connect(banner=said.append) as c:
