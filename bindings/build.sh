@@ -81,6 +81,12 @@ if [ -f /usr/include/openssl/evp.h ] && command -v make > /dev/null; then
   (cd "$here/python" && python3 -m unittest) > "$out/connections.log" 2>&1 || { cat "$out/connections.log"; exit 1; }
   tail -n 3 "$out/connections.log" | tr '\n' ' ' | sed 's/^/python: /; s/ *$/\n/'
   python3 "$here/python/build_wheel.py" "$out" > /dev/null
+  # the same once more under AddressSanitizer and UndefinedBehaviorSanitizer, which the interpreter has to load first
+  make -s -C "$here/ssh" OUT="$out/sanitized" LIB="$out/libsazhonthil.a" CFLAGS="-g -O1 $sanitizers" HARDENING=-fPIC LDHARDENING= shared
+  (cd "$here/python" && LD_PRELOAD="$(cc -print-file-name=libasan.so):$(cc -print-file-name=libubsan.so)" ASAN_OPTIONS=detect_leaks=0 \
+    UBSAN_OPTIONS=halt_on_error=1 SAZHONTHIL_SSH="$out/sanitized/libsazhonthil_ssh.so" \
+    python3 -c 'import os, unittest; del os.environ["LD_PRELOAD"]; unittest.main(module=None)' tests.test_connect tests.test_aio tests.test_library) \
+    > "$out/sanitized.log" 2>&1 || { cat "$out/sanitized.log"; exit 1; }
   done="$done connections"
   if command -v go > /dev/null; then
     # the sources name bindings/out/shared as the library's folder

@@ -209,22 +209,17 @@ async def _connected(options: Options, jump: Optional[Connection]) -> Connection
         if not native.load().sazh_is_host_name(plain(options.host)):
             raise NoAddress(f"the host's name has a sign that no name has: {options.host}", Details(Code.BAD_NAME, options.host))
         begun = deadline_in(options.timeout)
-        line = options.sock if options.sock is not None or jump is not None else await _dialled(options.host, options.port, options.timeout)
-        options.timeout = left_to(begun)
-        waits = _LoopWaits(asyncio.get_running_loop())
-        try:
-            engine = login.make_engine(options, waits, jump._engine if jump is not None else None)
-        except BaseException:
-            waits.end()
-            raise
+        engine = login.make_engine(options, _LoopWaits(asyncio.get_running_loop()), jump._engine if jump is not None else None)
         lib, host = engine.lib, plain(options.host)
         try:
-            if line is not None:
+            if jump is not None:
+                through = jump._engine
+                await login.secure(engine, options, lambda: lib.sazh_connect_through(engine.handle, through.handle, host, options.port))
+            else:
+                line = options.sock if options.sock is not None else await _dialled(options.host, options.port, options.timeout)
+                options.timeout = left_to(begun)
                 file = line.detach()
                 await login.secure(engine, options, lambda: lib.sazh_connect_fd(engine.handle, file, host, options.port))
-            else:
-                through = cast(Connection, jump)._engine
-                await login.secure(engine, options, lambda: lib.sazh_connect_through(engine.handle, through.handle, host, options.port))
             await login.log_in(engine, options, keys)
         except BaseException:
             engine.close()

@@ -118,6 +118,20 @@ def _settings(options: Options) -> native.Settings:
 
 def make_engine(options: Options, waits: Waits, jump: Optional[Engine] = None) -> Engine:
     """An engine that isn't connected."""
+    try:
+        engine = _made(options, waits, jump)
+    except BaseException:
+        waits.end()
+        raise
+    try:
+        _add_known_hosts(engine, options)
+    except BaseException:
+        engine.close()
+        raise
+    return engine
+
+
+def _made(options: Options, waits: Waits, jump: Optional[Engine]) -> Engine:
     port_of(options.port)
     settings, show = _settings(options), options.banner
     made: List[Engine] = []
@@ -132,15 +146,9 @@ def make_engine(options: Options, waits: Waits, jump: Optional[Engine] = None) -
     call = native.BANNER(banner)
     if show is not None:
         settings.banner = c.cast(call, native.Pointer)
-    engine = Engine(settings, waits, jump)
-    made.append(engine)
-    engine.kept.append(call)
-    try:
-        _add_known_hosts(engine, options)
-    except BaseException:
-        engine.close()
-        raise
-    return engine
+    made.append(Engine(settings, waits, jump))
+    made[0].kept.append(call)
+    return made[0]
 
 
 def _add_known_hosts(engine: Engine, options: Options) -> None:

@@ -549,8 +549,11 @@ def closing(t, server):
 
 @on("sshd")
 def left_to_the_collector(t, server):
-    """connections and channels that are dropped are freed, and their threads end"""
-    before = threading.active_count()
+    """connections and channels that are dropped are freed, and their threads end; no descriptor is left"""
+    before, files = threading.active_count(), len(os.listdir("/proc/self/fd"))
+    for wrong in ({"ciphers": "rot13"}, {"known_hosts": "/"}, {"known_hosts": ()}, {"key": server.place.path("other_ed25519")}):
+        with t.assertRaises(sazhonthil.Error):
+            server.connect(**wrong)
     for _ in range(5):
         c = server.connect()
         for _ in range(20):
@@ -559,6 +562,7 @@ def left_to_the_collector(t, server):
     del c
     gc.collect()
     until(lambda: threading.active_count() <= before, "the threads end")
+    t.assertEqual(len(os.listdir("/proc/self/fd")), files)
     with server.connect() as c, c.open("cat") as kept:
         del c
         gc.collect()
