@@ -61,9 +61,9 @@ pub extern "C" fn sshc_known_hosts_check_openssh(
     // No line revokes a key that is accepted.
     ensures unrevoked { result ≡ 0 → IsUnrevokedBlob known.now host.now port key.now }
 {
-    let answer = check_openssh_key(alloc, host, port, known, key);
-    *line = answer.line;
-    answer.status
+    let found = check_openssh_key(alloc, host, port, known, key);
+    *line = found.line;
+    found.status
 }
 
 /// Copies what is to be added to the known hosts text, so that it has the key of the blob for the host at the port, to
