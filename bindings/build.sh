@@ -38,7 +38,7 @@ echo "int main(void) { return 0; }" > "$out/empty.c"
 cc $sanitizers "$out/empty.c" -o "$out/empty" 2> /dev/null && "$out/empty" || { echo "bindings: passed over, since cc has no AddressSanitizer"; exit 3; }
 
 # the formats in Python, without the library
-(cd "$here/python" && python3 -m unittest discover) > "$out/formats.log" 2>&1 || { cat "$out/formats.log"; exit 1; }
+(cd "$here/python" && python3 -m unittest tests.test_events tests.test_formats tests.test_records tests.test_show) > "$out/formats.log" 2>&1 || { cat "$out/formats.log"; exit 1; }
 done=" formats"
 
 python3 "$here/check_header.py" "$here/include/sazhonthil.h" "$top/crates/sazhonthil" "$out/libsazhonthil.a"
@@ -71,18 +71,36 @@ else
   left="$left Rust"
 fi
 
-if command -v go > /dev/null; then
-  (cd "$here/go" && CGO_LDFLAGS="-L$out -lsazhonthil -lsazhonthil_runtime" GOCACHE="$out/gocache" GOFLAGS=-mod=mod go test -v ./...) > "$out/go.log" 2>&1 || { cat "$out/go.log"; exit 1; }
-  grep -o 'go: .* rows' "$out/go.log"
-  done="$done Go"
-else
-  left="$left Go"
-fi
-
 python3 "$here/tests/snippets.py" "$here/README.md" "$out"
 done="$done snippets"
 
 if [ -f /usr/include/openssl/evp.h ] && command -v make > /dev/null; then
+  # connections from Python, by the SSH library as one shared object, and the wheel with it
+  make -s -C "$here/ssh" OUT="$out/shared" LIB="$out/libsazhonthil.a" shared
+  export SAZHONTHIL_SSH="$out/shared/libsazhonthil_ssh.so"
+  (cd "$here/python" && python3 -m unittest) > "$out/connections.log" 2>&1 || { cat "$out/connections.log"; exit 1; }
+  tail -n 3 "$out/connections.log" | tr '\n' ' ' | sed 's/^/python: /; s/ *$/\n/'
+  python3 "$here/python/build_wheel.py" "$out" > /dev/null
+  # the same once more under AddressSanitizer and UndefinedBehaviorSanitizer, which the interpreter has to load first
+  make -s -C "$here/ssh" OUT="$out/sanitized" LIB="$out/libsazhonthil.a" CFLAGS="-g -O1 $sanitizers" HARDENING=-fPIC LDHARDENING= shared
+  (cd "$here/python" && LD_PRELOAD="$(cc -print-file-name=libasan.so):$(cc -print-file-name=libubsan.so)" ASAN_OPTIONS=detect_leaks=0 \
+    UBSAN_OPTIONS=halt_on_error=1 SAZHONTHIL_SSH="$out/sanitized/libsazhonthil_ssh.so" \
+    python3 -c 'import os, unittest; del os.environ["LD_PRELOAD"]; unittest.main(module=None)' tests.test_connect tests.test_aio tests.test_library) \
+    > "$out/sanitized.log" 2>&1 || { cat "$out/sanitized.log"; exit 1; }
+  done="$done connections"
+  if command -v go > /dev/null; then
+    # the sources name bindings/out/shared as the library's folder
+    (cd "$here/go" && CGO_LDFLAGS="-L$out/shared -Wl,-rpath,$out/shared" GOCACHE="$out/gocache" GOFLAGS=-mod=mod go test -v ./...) > "$out/go.log" 2>&1 || { cat "$out/go.log"; exit 1; }
+    grep -o 'go: .* rows' "$out/go.log"
+    echo "go: $(grep -c '^        --- PASS' "$out/go.log") rows of connections to servers"
+    done="$done Go"
+  else
+    left="$left Go"
+  fi
+  if command -v cargo > /dev/null; then
+    (cd "$here/rust_ssh" && SAZHONTHIL_SSH_LIB="$out/shared" CARGO_TARGET_DIR="$out/target" cargo test --offline -- --nocapture) > "$out/rust_ssh.log" 2>&1 || { cat "$out/rust_ssh.log"; exit 1; }
+    echo "rust: $(grep -c '^on ' "$out/rust_ssh.log") times a test of connections on a server"
+  fi
   make -s -C "$top/clients/c" OUT="$out" LIB="$out/libsazhonthil.a"
   with=""
   [ $servers = yes ] && with=--with-servers || left="$left logins (--with-servers)"
@@ -91,6 +109,6 @@ if [ -f /usr/include/openssl/evp.h ] && command -v make > /dev/null; then
   make -s -C "$top/clients/agent" OUT="$out" LIB="$out/libsazhonthil.a" test
   done="$done agent"
 else
-  left="$left client agent"
+  left="$left connections Go client agent"
 fi
 echo "bindings: all well:$done${left:+; left out:$left}"

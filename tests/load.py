@@ -1,11 +1,11 @@
 #!/usr/bin/env python3
 """Loads that nobody means well with: an agent with 512 connections that send garbage or close within a frame, 10,000 channels
-opened and closed, a known hosts text of 100 MB, a script of the greatest length. Of each it prints the time, the greatest
-memory, and what was to be seen; a load that isn't borne is named, and the status is 1.
+opened and closed, a write in packets of one byte, a known hosts text of 100 MB, a script of the greatest length. For each it
+prints the time, the greatest memory, and what was to be seen; a load that isn't borne is named, and the status is 1.
 
 Usage: tests/load.py FOLDER [LOAD ..]
 FOLDER is where the proved programs lie as NAME/out/NAME (crates, say): sshc, sshc_forward_main, and for channels sshc_bench.
-LOAD is agent, channels, script-channels, pairs, known-hosts or script (all of them). It needs /usr/bin/time (Debian's package
+LOAD is agent, channels, script-channels, pieces, pairs, known-hosts or script (all of them). It needs /usr/bin/time (Debian's package
 `time`), and 2.2 GB of disk for the script.
 """
 import base64
@@ -119,6 +119,20 @@ def u32(number):
     return struct.pack(">I", number)
 
 
+def pieces(program, folder):
+    """One write on a channel whose server takes packets of 32,768 bytes, and of a single byte."""
+    row, known = login(folder)
+    body, one, good = b"x" * (LONGEST - 144), u32(1), True
+    for size in (32768, 1):
+        confirmed = event(0x03, b"\x5b" + one + one + u32(1 << 21) + u32(size))
+        script = row.script + opens(1) + confirmed + event(0x21, one + b"\0" + string(body))
+        done, took, most = measured([program, "script", "localhost", "13265", known], input=script)
+        packets = sum(line.startswith(b"015e") for line in done.stdout.split(b"\n"))
+        print(f"pieces: {len(body)} bytes in packets of {size} in {took:.3f} s, {most} KiB: {packets} packets")
+        good &= packets == -(-len(body) // size) and most <= 20_000
+    return good
+
+
 def opens(number):
     return event(0x17, u32(9))
 
@@ -205,6 +219,7 @@ def events_of(script):
 
 LOADS = {
     "agent": (agent, "sshc"), "channels": (channels, "sshc_bench"), "script-channels": (script_channels, "sshc"),
+    "pieces": (pieces, "sshc"),
     "pairs": (pairs, "sshc_forward_main"), "known-hosts": (known_hosts, "sshc"), "script": (longest_script, "sshc"),
 }
 

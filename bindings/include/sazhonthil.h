@@ -64,7 +64,7 @@ extern "C" {
 
 /* The number of the interface that this header declares. It grows with each call that is added; its high half changes
  * where a call that was there changes. Compare with what the library returns before the first other call. */
-#define SSHC_ABI 0x00010000u
+#define SSHC_ABI 0x00010001u
 uint32_t sshc_abi(void);
 
 /* Below 20 the statuses are this interface's own; from 20 they are those of the program `sshc` (docs/FORMATS.md, "The
@@ -291,7 +291,11 @@ enum {
 
 /* ---- known hosts
  *
- * What differs from OpenSSH, and matters: hosts are compared byte by byte, so hand in lower case (`Host` isn't `host`).
+ * There are two judgements. sshc_known_hosts_check_openssh reads a text as OpenSSH does, and is the one for files that
+ * people have. sshc_known_hosts_check has a narrower rule, by which a session judges too (sshc_session_new): where the first
+ * one accepts a key, hand the session a text of the one line that sshc_known_hosts_learn makes of it for an empty text.
+ *
+ * What differs from OpenSSH in the narrower one, and matters: hosts are compared byte by byte, so hand in lower case (`Host` isn't `host`).
  * Patterns (*, ?, !) aren't read: a line for *.example.org is a line for a host of that very name, and a pattern marked
  * @revoked revokes nothing. Lines marked @cert-authority aren't read. Fields are parted by one space: a tab, two spaces or a
  * blank in front hide a line. One byte that isn't UTF-8, anywhere in the text, refuses every host (SSHC_NOT_TEXT). A line for
@@ -303,6 +307,14 @@ enum {
  * SSHC_BAD_KEY, SSHC_NOT_TEXT, SSHC_NO_MEMORY. *line is 0 but for those two. */
 sshc_status sshc_known_hosts_check(const uint8_t *host, size_t host_len, uint16_t port, const uint8_t *known, size_t known_len,
                                    const uint8_t *key, size_t key_len, uint64_t *line);
+
+/* The same as OpenSSH reads the text: patterns, names in any case, hashed names, any blanks; a line that can't be read is
+ * passed over, and @revoked refuses a key whatever other lines say. SSHC_OK, SSHC_UNKNOWN, SSHC_KEY_CHANGED or SSHC_REVOKED
+ * with the line's number from 1 in *line, SSHC_BAD_KEY, SSHC_NOT_TEXT (the host alone: the known hosts may be any bytes),
+ * SSHC_NO_MEMORY. A certificate is judged by the key that it certifies; authorities (@cert-authority) certify none here.
+ * docs/DIFFERENCES.md has what still differs from OpenSSH. */
+sshc_status sshc_known_hosts_check_openssh(const uint8_t *host, size_t host_len, uint16_t port, const uint8_t *known,
+                                           size_t known_len, const uint8_t *key, size_t key_len, uint64_t *line);
 
 /* Copies what is to be added at the end of the known hosts text so that it has the key: SSHC_OK, SSHC_NO_ROOM,
  * SSHC_BAD_KEY, SSHC_NOT_TEXT, SSHC_NO_MEMORY. Nothing is judged: check first. *size is set with the first two alone. THE

@@ -43,7 +43,7 @@ extern "C" {
 
 /* The number of the interface that this header declares: it grows with each call that is added, and its high half changes
  * where a call that was there changes. */
-#define SAZH_ABI 0x00010000u
+#define SAZH_ABI 0x00010001u
 uint32_t sazh_abi(void);
 
 typedef struct sazh_connection sazh_connection;
@@ -290,7 +290,7 @@ sazh_exit sazh_exit_of(const sazh_channel *it);
 /* The same once the server has told it or has closed the channel; SAZH_AGAIN where the connection doesn't block. */
 sazh_code sazh_wait_exit(sazh_channel *it, sazh_exit *to);
 
-/* ---- forwards: they last until the connection is freed, and work while sazh_step is called */
+/* ---- forwards: they last until they or the connection are freed, and work while sazh_step is called */
 
 /* One end of a forward: a host and port, or a socket's path where path isn't NULL. */
 typedef struct sazh_end {
@@ -309,6 +309,9 @@ sazh_code sazh_forward_remote(sazh_connection *it, const sazh_end *there, const 
 sazh_code sazh_forward_wait(sazh_forward *it);
 /* The port that is listened at. */
 uint16_t sazh_forward_port(const sazh_forward *it);
+/* Ends the listening, here or there (the server is told so, and its answer isn't awaited), and frees the forward. The
+ * connections that came through it go on. NULL is allowed. */
+void sazh_forward_free(sazh_forward *it);
 
 /* ---- driving a connection that doesn't block */
 
@@ -316,6 +319,10 @@ void sazh_set_blocking(sazh_connection *it, bool blocking);
 /* Does what can be done at once: reads, sends, exchanges keys, moves the bytes of forwards. SAZH_OK, or the error that
  * ended the connection. */
 sazh_code sazh_step(sazh_connection *it);
+/* A number that grows whenever a call took something that came, sent something that waited, or ended the connection. Where
+ * threads take turns with a connection, one whose call returned SAZH_AGAIN asks again once it has grown, whoever's call
+ * that was. */
+uint64_t sazh_changes(const sazh_connection *it);
 /* Fills in what is waited for, at most `room` of it, and returns how many there are (call again with more room). */
 size_t sazh_poll(const sazh_connection *it, struct pollfd *to, size_t room);
 /* For how many milliseconds poll may wait; -1: for ever. */

@@ -213,6 +213,7 @@ sazh_names sazh_names_of(const sazh_connection *it) {
 static void dial_on(sazh_connection *it) {
   dialled how = dial_step(&it->dial);
   if (how == DIAL_WAITS) return;
+  it->changes++;
   if (how == DIAL_DONE) {
     it->socket = dial_take(&it->dial);
     start(it, wire_of(&it->socket));
@@ -274,6 +275,8 @@ static void step(sazh_connection *it) {
   transport_write(&it->line);
   channels_sweep(it);
 }
+
+uint64_t sazh_changes(const sazh_connection *it) { return it->changes + it->line.written; }
 
 sazh_code sazh_step(sazh_connection *it) {
   if (it == NULL || it->inside) return SAZH_MISUSE;

@@ -117,6 +117,7 @@ struct sazh_connection {
   char *ciphers, *algorithms, *alias; /* of the settings; NULL: the default */
   bool blocking, inside;
   phase phase;
+  uint64_t changes;
   failure failed;
 
   dial dial;
@@ -219,6 +220,8 @@ size_t joins_poll(const sazh_connection *it, struct pollfd *to, size_t room, siz
 bool join_accepted(sazh_connection *it, const sazh_forward *from, int file);
 /* A join of a channel that the server opened, with a socket that is there, or is dialled. */
 void join_served(sazh_connection *it, uint32_t channel, int file, const end_of *to);
+/* Closes a channel that the server opened and that nobody wants. */
+void join_refused(sazh_connection *it, uint32_t channel);
 size_t add_poll(struct pollfd *to, size_t room, size_t count, int file, short events);
 
 #endif

@@ -75,6 +75,7 @@ sazh_code end(sazh_connection *it, sazh_code code, const char *format, ...) {
   fill(it, code, format, given);
   va_end(given);
   it->phase = PHASE_OVER;
+  it->changes++;
   if (it->login.pending) it->login.pending = false, it->login.result = code;
   channels_end(it);
   return code;

@@ -263,6 +263,7 @@ static void take_end(sazh_connection *it) {
 void take_arrivals(sazh_connection *it) {
   while (it->phase != PHASE_OVER && it->phase != PHASE_ASKING) {
     arrival came = transport_next(&it->line);
+    if (came.kind != ARRIVED_NOTHING) it->changes++;
     switch (came.kind) {
     case ARRIVED_NOTHING:
       if (!it->line.closed) return;

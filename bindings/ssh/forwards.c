@@ -28,8 +28,12 @@ static void free_end(end_of *it) {
   free(it->path);
 }
 
+/* While another thread waits in poll for a listener, close alone would leave it listening. */
 static void free_forward(sazh_forward *it) {
-  for (size_t i = 0; i < it->count; i++) close(it->listeners[i]);
+  for (size_t i = 0; i < it->count; i++) {
+    shutdown(it->listeners[i], SHUT_RDWR);
+    close(it->listeners[i]);
+  }
   if (it->count != 0 && it->listens.path != NULL) unlink(it->listens.path);
   free_end(&it->listens);
   free_end(&it->connects);
@@ -235,6 +239,26 @@ sazh_code sazh_forward_remote(sazh_connection *it, const sazh_end *there, const 
 
 uint16_t sazh_forward_port(const sazh_forward *it) { return it->port; }
 
+/* Its answer isn't awaited. */
+static void ask_cancel(sazh_forward *it) {
+  size_t begun;
+  bytes *event = todo_begin(it->of, it->listens.path != NULL ? SSHC_EVENT_CANCEL_STREAMLOCAL_FORWARD : SSHC_EVENT_CANCEL_TCPIP_FORWARD, &begun);
+  put_u32(event, ++it->of->tickets);
+  put_text(event, it->listens.path != NULL ? it->listens.path : it->listens.host);
+  if (it->listens.path == NULL) put_u32(event, it->port);
+  todo_end(it->of, begun);
+}
+
+void sazh_forward_free(sazh_forward *it) {
+  if (it == NULL || it->of->inside) return;
+  bool is_heard_there = it->kind == FORWARD_REMOTE && it->ticket == 0 && it->answer == SAZH_OK && it->of->phase == PHASE_OPEN;
+  if (is_heard_there) ask_cancel(it);
+  sazh_forward **at = &it->of->forwards;
+  while (*at != it) at = &(*at)->next;
+  *at = it->next;
+  free_forward(it);
+}
+
 bool forward_resolved(sazh_connection *it, uint32_t ticket, uint8_t how, reader *fields) {
   for (sazh_forward *at = it->forwards; at != NULL; at = at->next) {
     if (at->ticket == 0 || at->ticket != ticket) continue;
@@ -271,16 +295,7 @@ static const sazh_forward *forward_of_path(const sazh_connection *it, slice path
   return NULL;
 }
 
-static void refuse(sazh_connection *it, uint32_t channel, uint32_t reason) {
-  size_t begun;
-  bytes *reply = todo_begin(it, SSHC_EVENT_SERVER_OPEN_REPLY, &begun);
-  put_u32(reply, channel);
-  put_u8(reply, 0);
-  put_u32(reply, reason);
-  todo_end(it, begun);
-}
-
-/* Only what was asked for is joined: a port, a socket, the agent. */
+/* Only what was asked for is joined: a port, a socket, the agent. The rest is closed. */
 void server_opened(sazh_connection *it, reader *fields) {
   uint32_t channel = get_u32(fields);
   uint8_t type = get_u8(fields);
@@ -289,11 +304,11 @@ void server_opened(sazh_connection *it, reader *fields) {
                              type == SSHC_OPENED_FORWARDED_STREAMLOCAL ? forward_of_path(it, name) : NULL;
   bool is_agent = type == SSHC_OPENED_AGENT && it->agent_path != NULL;
   if ((from == NULL && !is_agent) || it->join_count >= MOST_JOINS) {
-    refuse(it, channel, from == NULL && !is_agent ? SSHC_OPEN_PROHIBITED : SSHC_OPEN_RESOURCE_SHORTAGE);
+    join_refused(it, channel);
     return;
   }
   const char *path = is_agent ? it->agent_path : from->connects.path;
   int file = path == NULL ? -1 : connect_unix(path, false);
-  if (path != NULL && file < 0) refuse(it, channel, SSHC_OPEN_CONNECT_FAILED);
+  if (path != NULL && file < 0) join_refused(it, channel);
   else join_served(it, channel, file, path == NULL ? &from->connects : NULL);
 }

@@ -9,7 +9,7 @@
 #include <sys/socket.h>
 #include <unistd.h>
 
-enum { DIAL_SECONDS = 120, MOST_HEAD = 65536 };
+enum { DIAL_SECONDS = 120, MOST_HEAD = 65536, MOST_UNASKED = 1024 };
 
 static join *join_new(sazh_connection *it, join_state state, int file) {
   join *made = calloc(1, sizeof *made);
@@ -82,48 +82,49 @@ bool join_accepted(sazh_connection *it, const sazh_forward *from, int file) {
 
 /* ---- a channel came from the server */
 
-static void reply_open(sazh_connection *it, uint32_t channel, bool accept) {
-  size_t begun;
-  bytes *reply = todo_begin(it, SSHC_EVENT_SERVER_OPEN_REPLY, &begun);
-  put_u32(reply, channel);
-  put_u8(reply, accept);
-  put_u32(reply, SSHC_OPEN_CONNECT_FAILED);
-  todo_end(it, begun);
-}
-
-static void accept_channel(sazh_connection *it, join *at) {
-  at->state = JOIN_MOVING;
-  at->channel->is_open = true;
-  reply_open(it, at->channel->number, true);
+/* The core has accepted it by the time its record is read (crates/sazhonthil asks nobody), so that what comes is kept from
+ * now on, and what isn't wanted is closed. */
+static sazh_channel *served(sazh_connection *it, uint32_t number) {
+  sazh_channel *made = channel_new(it);
+  if (made == NULL) {
+    end_no_memory(it);
+    return NULL;
+  }
+  made->is_open = true;
+  made->number = number;
+  made->peer = it->last.peer;
+  made->window = it->last.window;
+  made->most = it->last.most < CHUNK ? it->last.most : CHUNK;
+  return made;
 }
 
 void join_served(sazh_connection *it, uint32_t channel, int file, const end_of *to) {
-  join *made = join_new(it, JOIN_DIALLING, file);
-  sazh_channel *with = made == NULL ? NULL : channel_new(it);
-  if (with == NULL) {
-    if (made == NULL && file >= 0) close(file);
-    reply_open(it, channel, false);
+  sazh_channel *with = served(it, channel);
+  join *made = with == NULL ? NULL : join_new(it, to == NULL ? JOIN_MOVING : JOIN_DIALLING, file);
+  if (made == NULL) {
+    if (file >= 0) close(file);
+    sazh_channel_free(with);
     return;
   }
-  with->number = channel;
-  with->peer = it->last.peer;
-  with->window = it->last.window;
-  with->most = it->last.most < CHUNK ? it->last.most : CHUNK;
   made->channel = with;
-  if (to == NULL) accept_channel(it, made);
-  else if (!dial_begin(&made->dial, to->host, to->port, it->set.family, DIAL_SECONDS)) made->dial.error = EHOSTUNREACH;
+  if (to != NULL && !dial_begin(&made->dial, to->host, to->port, it->set.family, DIAL_SECONDS)) made->dial.error = EHOSTUNREACH;
 }
 
-static void dial_on(sazh_connection *it, join *at) {
+void join_refused(sazh_connection *it, uint32_t channel) {
+  size_t count = 0;
+  for (const sazh_channel *at = it->channels; at != NULL; at = at->next) count += !at->is_owned;
+  if (count > MOST_UNASKED) end(it, SAZH_BAD_PACKET, "the server opens too many channels that nobody asked for");
+  else sazh_channel_free(served(it, channel));
+}
+
+static void broke(join *at);
+
+static void dial_on(join *at) {
   dialled how = at->dial.all == NULL ? DIAL_FAILED : dial_step(&at->dial);
   if (how == DIAL_WAITS) return;
-  if (how == DIAL_DONE) {
-    at->file = dial_take(&at->dial);
-    accept_channel(it, at);
-    return;
-  }
-  reply_open(it, at->channel->number, false);
-  at->channel->is_refused = true;
+  at->state = JOIN_MOVING;
+  if (how == DIAL_DONE) at->file = dial_take(&at->dial);
+  else broke(at);
 }
 
 /* ---- SOCKS5 (RFC 1928): no authentication, and CONNECT alone */
@@ -267,7 +268,7 @@ static bool is_finished(const join *at) {
 static void move_one(sazh_connection *it, join *at) {
   bool is_over = it->phase == PHASE_OVER;
   if (at->state == JOIN_SOCKS && !is_over) socks_on(it, at);
-  if (at->state == JOIN_DIALLING && !is_over && !at->channel->is_refused) dial_on(it, at);
+  if (at->state == JOIN_DIALLING && !is_over) dial_on(at);
   if (at->state == JOIN_OPENING && !is_over) open_on(at);
   if (at->file >= 0 && at->state != JOIN_DIALLING) move_out(at);
   if (at->state != JOIN_MOVING || is_over) return;

@@ -439,6 +439,7 @@ void transport_write(transport *it) {
       return;
     }
     bytes_take(&it->out, (size_t)written);
+    it->written += (uint64_t)written;
   }
 }
 

@@ -59,7 +59,7 @@ typedef struct transport {
 
   bytes session_id, secret, host_key, signature;
   uint8_t hash[32];
-  uint64_t bytes_since, packets_since;
+  uint64_t bytes_since, packets_since, written;
   const char *ciphers, *host_key_algorithms;
 } transport;
 

@@ -10,7 +10,7 @@ import sys
 
 readme, out = pathlib.Path(sys.argv[1]), pathlib.Path(sys.argv[2])
 here = readme.parent
-blocks = re.findall(r"```(c|python|rust)\n(.*?)```\n+```text\n(.*?)```", readme.read_text(), re.S)
+blocks = re.findall(r"^```(c|python|rust)\n((?:(?!```).*\n)*)```\n+```text\n((?:(?!```).*\n)*)```", readme.read_text(), re.M)
 folder = out / "snippets"
 folder.mkdir(exist_ok=True)
 

@@ -60,7 +60,7 @@ class RawEvent(NamedTuple):
         """The event. BadEvent where the fields are broken."""
         reader = Reader(self.fields)
         try:
-            event = Event.FAMILY[self.kind].read(reader)
+            event: Event = Event.FAMILY[self.kind].read(reader)
             reader.end()
         except WireError as error:
             raise BadEvent(self.place, str(error)) from None
@@ -464,4 +464,4 @@ class AgentClose(Event, number=0x43, name="AGENT_CLOSE"):
 
 
 # The kinds of events by their names in docs/FORMATS.md.
-EventKind = IntEnum("EventKind", {kind.NAME: number for number, kind in Event.FAMILY.items()})
+EventKind = IntEnum("EventKind", {kind.NAME: number for number, kind in Event.FAMILY.items()})  # type: ignore[misc]

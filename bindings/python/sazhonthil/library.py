@@ -1,22 +1,28 @@
 """The proved SSH client core by ctypes: known hosts, a session, an agent whose caller signs. include/sazhonthil.h says what
 each call returns.
 
-The library is found by the variable SAZHONTHIL, the path of libsazhonthil.so, and loaded by the first call of it."""
+The library is loaded by the first call of it: libsazhonthil.so, whose path is in the variable SAZHONTHIL, or else
+libsazhonthil_ssh.so, which has the core in it (native.py says where that is looked for).
+
+A session or an agent is used by one thread at a time: a second one waits. What is closed raises Closed."""
 from __future__ import annotations
 
 import ctypes as c
 import functools
 import os
-from typing import Any, Callable, List, NamedTuple, Optional, Tuple
+import threading
+from typing import Any, Callable, List, NamedTuple, Optional, Tuple, TypeVar
 
-from . import records
-from .events import Event
+from . import native, records
+from .errors import Closed, Error, Misuse, Status
+from .events import LONGEST, Event
 
-OK, UNKNOWN, MISUSE, NOT_TEXT, BAD_INPUT, BAD_KEY, NOTHING, NO_ROOM, OVER = range(9)
-REMOTE_DISCONNECT, DISCONNECTED, CLOSED = 9, 10, 11
-ASKS_SIGNATURE, ASKS_REQUEST, ASKS_KEY = 12, 13, 14
-CLOSED_TOO_LONG, CLOSED_UNREADABLE, CLOSED_REFUSED = 15, 16, 17
-NO_MEMORY, KEY_CHANGED, REVOKED = 20, 29, 42
+OK, UNKNOWN, MISUSE, NOT_TEXT, BAD_INPUT, BAD_KEY = Status.OK, Status.UNKNOWN, Status.MISUSE, Status.NOT_TEXT, Status.BAD_INPUT, Status.BAD_KEY
+NOTHING, NO_ROOM, OVER = Status.NOTHING, Status.NO_ROOM, Status.OVER
+REMOTE_DISCONNECT, DISCONNECTED, CLOSED = Status.REMOTE_DISCONNECT, Status.DISCONNECTED, Status.CLOSED
+ASKS_SIGNATURE, ASKS_REQUEST, ASKS_KEY = Status.ASKS_SIGNATURE, Status.ASKS_REQUEST, Status.ASKS_KEY
+CLOSED_TOO_LONG, CLOSED_UNREADABLE, CLOSED_REFUSED = Status.CLOSED_TOO_LONG, Status.CLOSED_UNREADABLE, Status.CLOSED_REFUSED
+NO_MEMORY, KEY_CHANGED, REVOKED = Status.NO_MEMORY, Status.KEY_CHANGED, Status.REVOKED
 
 ABI = 0x00010000
 
@@ -70,8 +76,9 @@ _CALLS: List[Tuple[Any, ...]] = [
 
 @functools.lru_cache(maxsize=None)
 def load() -> c.CDLL:
-    """The library. OSError where there is none, ImportError where its interface is another one."""
-    lib = c.CDLL(os.environ.get("SAZHONTHIL", "libsazhonthil.so"))
+    """The library. OSError or LibraryMissing where there is none, ImportError where its interface is another one."""
+    named = os.environ.get("SAZHONTHIL")
+    lib: c.CDLL = c.CDLL(named) if named else native.load()
     for name, result, *given in _CALLS:
         call = getattr(lib, name)
         call.restype, call.argtypes = result, given
@@ -80,11 +87,11 @@ def load() -> c.CDLL:
     return lib
 
 
-class Refused(Exception):
+class Refused(Error):
     """A status of the header that isn't success."""
 
-    def __init__(self, status: int, detail: int = 0) -> None:
-        super().__init__(f"status {status}" + (f", {detail}" if detail else ""))
+    def __init__(self, status: Status, detail: int = 0) -> None:
+        super().__init__(status.name.lower().replace("_", " ") + (f", {detail}" if detail else ""))
         self.status, self.detail = status, detail
 
 
@@ -92,7 +99,7 @@ def _went(status: int) -> None:
     if status == NO_MEMORY:
         raise MemoryError
     if status != OK:
-        raise Refused(status)
+        raise Refused(Status(status))
 
 
 def _copied(call: Callable[..., int], *given: Any) -> Tuple[int, bytes]:
@@ -106,13 +113,13 @@ def _copied(call: Callable[..., int], *given: Any) -> Tuple[int, bytes]:
         room = size.value
 
 
-def check_host(host: bytes, port: int, known_hosts: bytes, key: bytes) -> Tuple[int, int]:
+def check_host(host: bytes, port: int, known_hosts: bytes, key: bytes) -> Tuple[Status, int]:
     """(status, line): OK, UNKNOWN, KEY_CHANGED or REVOKED with the line, or why there is no verdict."""
     line = c.c_uint64()
     status = load().sshc_known_hosts_check(host, len(host), port, known_hosts, len(known_hosts), key, len(key), c.byref(line))
     if status == NO_MEMORY:
         raise MemoryError
-    return status, line.value
+    return Status(status), line.value
 
 
 def learn_host(host: bytes, port: int, known_hosts: bytes, key: bytes) -> bytes:
@@ -128,26 +135,43 @@ def default_settings() -> Settings:
     return settings
 
 
+H = TypeVar("H", bound="_Handled")
+
+
 class _Handled:
-    """What holds memory of the library until it is closed."""
+    """What holds memory of the library until it is closed, which may be done any number of times."""
 
     _free = ""
 
     def __init__(self) -> None:
-        self.lib: Optional[c.CDLL] = None
+        self._lock, self._is_closed = threading.RLock(), False
         self.lib, self.handle = load(), Handle()
 
-    def close(self) -> None:
-        if self.lib is not None:
-            getattr(self.lib, self._free)(c.byref(self.handle))
+    def _check(self) -> None:
+        """Under the lock."""
+        if self._is_closed:
+            raise Closed(f"the {type(self).__name__.lower()} is closed")
 
-    def __enter__(self) -> Any:
+    @property
+    def is_closed(self) -> bool:
+        return self._is_closed
+
+    def close(self) -> None:
+        if not hasattr(self, "handle"):  # it was never made
+            return
+        with self._lock:
+            if not self._is_closed:
+                self._is_closed = True
+                getattr(self.lib, self._free)(c.byref(self.handle))
+
+    def __enter__(self: H) -> H:
         return self
 
     def __exit__(self, *_: object) -> None:
         self.close()
 
-    __del__ = close
+    def __del__(self) -> None:
+        self.close()
 
 
 class Session(_Handled):
@@ -162,23 +186,29 @@ class Session(_Handled):
         _went(self.lib.sshc_session_new(c.byref(self.handle), given, host, len(host), port, known_hosts, len(known_hosts)))
 
     def take(self, events: bytes) -> List[bytes]:
-        """The records of these events, each as bytes: a number and its fields."""
-        detail = c.c_uint64()
-        self.status = self.lib.sshc_session_take(c.byref(self.handle), events, len(events), c.byref(detail))
-        self.detail = detail.value
-        taken = []
-        while True:
-            status, record = _copied(self.lib.sshc_session_record, c.byref(self.handle))
-            if status != OK:
-                return taken
-            taken.append(record)
+        """The records of these events of a script, each as bytes: a number and its fields. What isn't an event ends the
+        session, as include/sazhonthil.h says; `event` and `step` refuse one that is too long before it is handed in."""
+        with self._lock:
+            self._check()
+            detail = c.c_uint64()
+            status = self.lib.sshc_session_take(c.byref(self.handle), events, len(events), c.byref(detail))
+            self.status, self.detail = Status(status), detail.value
+            taken: List[bytes] = []
+            while True:
+                status, record = _copied(self.lib.sshc_session_record, c.byref(self.handle))
+                if status != OK:
+                    return taken
+                taken.append(record)
 
     def event(self, moment: int, kind: int, fields: bytes = b"") -> List[bytes]:
-        """The records of one event, all as bytes."""
+        """The records of one event, all as bytes. Misuse, and nothing is taken, where it is longer than a session takes."""
+        if 9 + len(fields) > LONGEST:
+            raise Misuse(f"an event of {9 + len(fields)} bytes, and {LONGEST} are the most: data is cut into pieces")
         return self.take((9 + len(fields)).to_bytes(4, "big") + moment.to_bytes(8, "big") + bytes([kind]) + fields)
 
     def step(self, event: Event, moment: int = 0) -> List[records.Record]:
-        """The records of one event (see events.py and records.py)."""
+        """The records of one event (see events.py and records.py). ValueError, and nothing is taken, where it is longer than a
+        session takes: data is cut into pieces."""
         return [records.decode(record) for record in self.take(event.encode(moment))]
 
 
@@ -198,13 +228,13 @@ class Question(NamedTuple):
 class Output(NamedTuple):
     """What a step of an agent returns."""
 
-    status: int
+    status: Status
     bytes: _Bytes
     request: int
 
 
 class Agent(_Handled):
-    """An agent whose caller signs."""
+    """An agent whose caller signs. A thread that asks and then takes has to do both before another asks."""
 
     _free = "sshc_agent_free"
 
@@ -214,13 +244,15 @@ class Agent(_Handled):
 
     def asks(self, moment: int, connection: int, input: int, frame: bytes = b"") -> Optional[Question]:
         """What a step with this input asks to be signed, or None."""
-        hash = c.c_uint32()
-        status = self.lib.sshc_agent_asks(c.byref(self.handle), moment, connection, input, frame, len(frame), c.byref(hash))
-        if status == NOTHING:
-            return None
-        if status != ASKS_SIGNATURE:
-            _went(status)
-        parts = [_copied(self.lib.sshc_agent_asked, c.byref(self.handle), part) for part in range(3)]
+        with self._lock:
+            self._check()
+            hash = c.c_uint32()
+            status = self.lib.sshc_agent_asks(c.byref(self.handle), moment, connection, input, frame, len(frame), c.byref(hash))
+            if status == NOTHING:
+                return None
+            if status != ASKS_SIGNATURE:
+                _went(status)
+            parts = [_copied(self.lib.sshc_agent_asked, c.byref(self.handle), part) for part in range(3)]
         for status, _ in parts:
             _went(status)
         return Question(hash.value, *[part for _, part in parts])
@@ -231,11 +263,15 @@ class Agent(_Handled):
         """The output for an input, with the answer to what it asks."""
         request = c.c_uint32()
         given = (moment, connection, input, frame, len(frame), told, signature, len(signature))
-        status = self.lib.sshc_agent_take(c.byref(self.handle), *given, c.byref(request))
-        if status in (MISUSE, BAD_INPUT):
-            raise Refused(status)
-        return Output(status, _copied(self.lib.sshc_agent_answer, c.byref(self.handle))[1], request.value)
+        with self._lock:
+            self._check()
+            status = Status(self.lib.sshc_agent_take(c.byref(self.handle), *given, c.byref(request)))
+            if status in (MISUSE, BAD_INPUT):
+                raise Refused(status)
+            return Output(status, _copied(self.lib.sshc_agent_answer, c.byref(self.handle))[1], request.value)
 
     def forget(self, connection: int) -> None:
         """Drops what the agent keeps of a connection that is closed."""
-        _went(self.lib.sshc_agent_forget(c.byref(self.handle), connection))
+        with self._lock:
+            self._check()
+            _went(self.lib.sshc_agent_forget(c.byref(self.handle), connection))

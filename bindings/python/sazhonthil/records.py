@@ -53,7 +53,7 @@ def decode(data: bytes) -> Record:
         kind = Record.FAMILY.get(reader.u8())
         if kind is None:
             raise WireError("no such record")
-        record = kind.read(reader)
+        record: Record = kind.read(reader)
     except WireError as error:
         raise NotARecord(str(error)) from None
     if record.encode() != data:

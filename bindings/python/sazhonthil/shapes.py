@@ -337,7 +337,7 @@ class Fields:
     def parts(cls) -> List[Tuple[str, str, Shape[Any]]]:
         """The name, the word and the shape of each field."""
         found = []
-        for field in dataclasses.fields(cls):  # type: ignore[arg-type]
+        for field in dataclasses.fields(cls):
             word = field.metadata["word"]
             found.append((field.name, field.name.replace("_", "-") if word is None else word, field.metadata["shape"]))
         return found
@@ -411,7 +411,8 @@ class OneOf(Shape[Variant]):
         number = reader.u8()
         if number not in self.family.FAMILY:
             raise WireError(f"{number} is no {self.family.__name__}")
-        return self.family.FAMILY[number].read(reader)
+        kind: Type[Variant] = self.family.FAMILY[number]
+        return kind.read(reader)
 
     def write(self, value: Variant) -> bytes:
         return wire.u8(value.NUMBER) + value.write()

@@ -5,7 +5,7 @@ import argparse
 import sys
 from typing import BinaryIO, List, Optional
 
-from . import events, records
+from . import events, records, requests
 from .packets import Asked, show_packet
 from .words import Line
 
@@ -16,12 +16,12 @@ SHOWN, NOT_ALL_SHOWN = 0, 1
 
 # How the packets 60 and 61 are read after an AUTHENTICATE by this method.
 _ASKED_BY = {
-    events.Pair: Asked.PUBLIC_KEY,
-    events.PairAndCertificate: Asked.PUBLIC_KEY,
-    events.OutsideKey: Asked.PUBLIC_KEY,
-    events.OutsideCertificate: Asked.PUBLIC_KEY,
-    events.KeyboardInteractive: Asked.PROMPTS,
-    events.GssapiWithMic: Asked.GSSAPI,
+    requests.Pair: Asked.PUBLIC_KEY,
+    requests.PairAndCertificate: Asked.PUBLIC_KEY,
+    requests.OutsideKey: Asked.PUBLIC_KEY,
+    requests.OutsideCertificate: Asked.PUBLIC_KEY,
+    requests.KeyboardInteractive: Asked.PROMPTS,
+    requests.GssapiWithMic: Asked.GSSAPI,
 }
 
 

@@ -6,6 +6,7 @@
 #include <stdlib.h>
 #include <string.h>
 #include <sys/socket.h>
+#include <unistd.h>
 
 static int wrong;
 static char **words;
@@ -222,6 +223,48 @@ static void without_waiting(void) {
   sazh_free(it);
 }
 
+/* ---- forwards that end, and a connection that is told of what nobody asked for */
+
+/* Whether somebody listens at a port of the loopback; then a line to it is left in *file. */
+static int listens(uint16_t at_port, int *file) {
+  struct sockaddr_in at = {.sin_family = AF_INET, .sin_port = htons(at_port), .sin_addr.s_addr = htonl(INADDR_LOOPBACK)};
+  *file = socket(AF_INET, SOCK_STREAM, 0);
+  if (*file >= 0 && connect(*file, (struct sockaddr *)&at, sizeof at) == 0) return 1;
+  if (*file >= 0) close(*file);
+  return 0;
+}
+
+static void ended_forwards(void) {
+  sazh_connection *it = logged_in();
+  sazh_forward *here = NULL, *there = NULL, *kept = NULL;
+  sazh_end any = {"127.0.0.1", 0, NULL}, server = {"127.0.0.1", port(), NULL};
+  int file;
+  char text[8] = "";
+  check(sazh_forward_local(it, &any, &server, &here) == SAZH_OK && sazh_forward_dynamic(it, &any, &kept) == SAZH_OK, "two forwards");
+  check(sazh_forward_remote(it, &any, &server, &there) == SAZH_OK && sazh_forward_port(there) != 0, "one that the server listens for");
+  uint16_t at = sazh_forward_port(here), far = sazh_forward_port(there);
+  check(listens(at, &file), "the first one");
+  uint64_t before = sazh_changes(it);
+  for (int i = 0; i < 20 && recv(file, text, 4, MSG_DONTWAIT) != 4; i++) sazh_turn(it, 200);
+  check(strcmp(text, "SSH-") == 0 && sazh_changes(it) > before, "what came through it");
+  before = sazh_changes(it);
+  check(sazh_step(it) == SAZH_OK && sazh_changes(it) == before, "nothing changes where nothing comes");
+  sazh_forward_free(here);
+  sazh_forward_free(there);
+  sazh_forward_free(NULL);
+  check(send(file, "x", 1, MSG_NOSIGNAL) == 1 && sazh_turn(it, 200) == SAZH_OK, "its connection goes on");
+  close(file);
+  check(!listens(at, &file), "nobody listens here");
+  int ended = 0;
+  for (int i = 0; i < 50 && !ended; i++) {
+    sazh_turn(it, 50);
+    ended = !listens(far, &file);
+    if (!ended) close(file);
+  }
+  check(ended, "nobody listens there");
+  sazh_free(it); /* with one that wasn't freed */
+}
+
 int main(int count, char **given) {
   if (count != 6) return 2;
   words = given;
@@ -234,6 +277,7 @@ int main(int count, char **given) {
   ignored_streams();
   keys_by_packets();
   without_waiting();
+  ended_forwards();
   printf("library: calls in and out of order; wrong: %d\n", wrong);
   return wrong != 0;
 }

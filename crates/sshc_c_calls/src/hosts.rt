@@ -26,14 +26,14 @@ pub struct HostAnswer {
 }
 
 /// A status without a line.
-fn bare(status: u32) -> HostAnswer
+pub(crate) fn bare(status: u32) -> HostAnswer
     ensures { result ≡ host_answer status 0 }
 {
     HostAnswer { status, line: 0 }
 }
 
 /// Lets a value go: its variants needn't be told apart.
-fn let_go<T: Drop>(_value: T) {}
+pub(crate) fn let_go<T: Drop>(_value: T) {}
 
 /// The answer for a judgement.
 fn answer_of(verdict: Result<bool, Error>) -> HostAnswer

@@ -1,5 +1,5 @@
 -- What a known hosts text says of a key for a host (OpenSSH's sshd(8), "SSH_KNOWN_HOSTS FILE FORMAT").
--- Each line says one thing of the key, or nothing; the status follows from what all of them say, by four cases, of
+-- Each line says one thing of the key, or nothing; the status follows from what all of them say, by five cases, of
 -- which the first that fits is the result. The code reads the lines once.
 use Rattle.std.specs.Prelude.{ℕ, Bool, true, false, ◌||◌, ◌==◌, if◌then◌else◌, List, [], ◌∷◌, Option, Some, None, option_map}
 use Rattle.std.specs.List.{filter_map, enumerate_from}

@@ -1,4 +1,4 @@
-package sazhonthil
+package core
 
 import (
 	"bytes"
@@ -16,6 +16,9 @@ func field(word string) []byte {
 
 // The worked runs, as tests/rows.py prints them to the file that ROWS names.
 func TestRows(t *testing.T) {
+	if os.Getenv("ROWS") == "" {
+		t.Skip("no rows: bindings/build.sh names them in the variable ROWS")
+	}
 	text, err := os.ReadFile(os.Getenv("ROWS"))
 	if err != nil {
 		t.Fatal(err)
@@ -50,6 +53,9 @@ func TestAgentAndHosts(t *testing.T) {
 		t.Fatal(err)
 	}
 	defer agent.Close()
+	if err := agent.Forget(7); err != nil {
+		t.Error(err)
+	}
 	if question, err := agent.Asks(0, 1, 0, []byte{11}); question != nil || err != nil {
 		t.Error(question, err)
 	}
@@ -59,5 +65,45 @@ func TestAgentAndHosts(t *testing.T) {
 	}
 	if status, _ := CheckHost("localhost", 22, "", nil); status != 5 {
 		t.Error(status)
+	}
+}
+
+// Closed twice, used after the end, used by two goroutines, and an event that is too long.
+func TestMisuse(t *testing.T) {
+	session, err := NewSession("localhost", 13265, "")
+	if err != nil {
+		t.Fatal(err)
+	}
+	if _, status, _ := session.Event(0, 0x21, make([]byte, 300000)); status != BadInput {
+		t.Error(status)
+	}
+	done := make(chan Status)
+	for i := 0; i < 2; i++ {
+		go func() {
+			worst := OK
+			for n := 0; n < 2000; n++ {
+				if _, status, _ := session.Event(0, 0x08, nil); status != OK {
+					worst = status
+				}
+			}
+			done <- worst
+		}()
+	}
+	if one, two := <-done, <-done; one != OK || two != OK {
+		t.Error(one, two)
+	}
+	agent, _ := NewAgent(false)
+	for i := 0; i < 3; i++ {
+		session.Close()
+		agent.Close()
+	}
+	if _, status, _ := session.Event(0, 1, nil); status != Misuse {
+		t.Error(status)
+	}
+	if status, _, _ := agent.Take(0, 1, 0, []byte{11}, 0, nil); status != Misuse || agent.Forget(1) != Misuse {
+		t.Error(status)
+	}
+	if KeyChanged.Error() == "" || KeyChanged.Error() == Status(99).Error() {
+		t.Error(KeyChanged)
 	}
 }
