@@ -3,3 +3,4 @@ pub mod WordLemmas
 pub mod ListLemmas
 pub mod ReadingLemmas
 pub mod AcceptanceLemmas
+pub mod LearnableLemmas

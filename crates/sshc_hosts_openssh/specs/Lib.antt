@@ -8,3 +8,4 @@ pub mod Acceptance
 pub mod PatternSteps
 pub mod Cuts
 pub mod Reading
+pub mod Learnable

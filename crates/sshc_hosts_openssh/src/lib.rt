@@ -7,6 +7,7 @@ mod entry;
 mod hashed;
 mod hosts_field;
 mod judgement;
+mod learnable;
 mod line_key;
 mod pattern;
 #[cfg(test)]
@@ -14,4 +15,5 @@ mod tests;
 
 pub use hosts_field::names_host;
 pub use judgement::{HostStatus, judge_openssh_certificate, judge_openssh_text};
+pub use learnable::is_learnable;
 pub use pattern::matches_pattern;
