@@ -70,7 +70,7 @@ typedef enum sazh_code {
   SAZH_NO_ALGORITHM,      /* no algorithm in common with the server */
   SAZH_BAD_SIGNATURE,     /* the server doesn't have the host key that it showed */
   SAZH_HOST_UNKNOWN,      /* no line of the known hosts has the server's key; see sazh_host_accept */
-  SAZH_HOST_CHANGED,      /* a line has another key of this type: somebody may be in between */
+  SAZH_HOST_CHANGED,      /* a line has another key, and none this one: somebody may be in between */
   SAZH_HOST_REVOKED,      /* a line revokes the server's key */
   SAZH_HOST_REKEYED,      /* a later key exchange showed another host key than the first */
   SAZH_HOSTS_FILE,        /* a known hosts file can't be read or written, or a line of it can't be read */

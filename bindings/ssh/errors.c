@@ -112,7 +112,7 @@ sazh_code judged(sazh_connection *it, sshc_status status, uint64_t line) {
     show_key(it);
     return code;
   case SSHC_KEY_CHANGED:
-    return end_at_line(it, SAZH_HOST_CHANGED, status, line, "has another key of this type: the host was set up anew, or somebody is in between");
+    return end_at_line(it, SAZH_HOST_CHANGED, status, line, "has another key: the host was set up anew, or somebody is in between");
   case SSHC_REVOKED:
     return end_at_line(it, SAZH_HOST_REVOKED, status, line, "revokes it");
   case SSHC_NO_MEMORY:

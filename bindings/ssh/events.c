@@ -1,6 +1,7 @@
 /* Between the transport and the core: what came becomes events, and records become packets and what the caller sees. */
 #include "connection.h"
 
+#include <errno.h>
 #include <openssl/crypto.h>
 #include <stdio.h>
 #include <string.h>
@@ -170,7 +171,17 @@ static bool start_core(sazh_connection *it) {
   settings.keepalive_interval = it->set.keepalive_seconds * 1000ull;
   settings.keepalive_max = it->set.keepalive_max;
   settings.window_size = it->set.window;
-  sshc_status made = core_start(&it->core, &settings, text_of(it->look), it->look_port, bytes_slice(&it->hosts.text));
+  /* The key was judged, or accepted by the user; the session is to accept just this one. */
+  bytes known = {0};
+  int error = hosts_line_of(text_of(it->look), it->look_port, bytes_slice(&it->line.host_key), &known);
+  if (error != 0) {
+    bytes_free(&known);
+    if (error == ENOMEM) end_no_memory(it);
+    else end(it, SAZH_BAD_NAME, "%s: %s", sazh_code_text(SAZH_BAD_NAME), it->look);
+    return false;
+  }
+  sshc_status made = core_start(&it->core, &settings, text_of(it->look), it->look_port, bytes_slice(&known));
+  bytes_free(&known);
   if (made != SSHC_OK) end_by_status(it, made, 0);
   return made == SSHC_OK;
 }
@@ -206,7 +217,7 @@ static void first_exchange(sazh_connection *it) {
   name_to(it->key_type, get_string(&blob));
   fingerprint_of(key, it->fingerprint);
   uint64_t at = 0;
-  sshc_status says = sshc_known_hosts_check(host.at, host.len, it->look_port, known.at, known.len, key.at, key.len, &at);
+  sshc_status says = sshc_known_hosts_check_openssh(host.at, host.len, it->look_port, known.at, known.len, key.at, key.len, &at);
   sazh_code code = judged(it, says, at);
   if (code == SAZH_OK) begin_session(it);
   else if (code == SAZH_HOST_UNKNOWN) it->phase = PHASE_ASKING;

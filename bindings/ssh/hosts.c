@@ -113,11 +113,40 @@ static bool is_hash_of(slice word, slice name) {
   return is;
 }
 
+static uint8_t lowered(uint8_t byte) { return byte >= 'A' && byte <= 'Z' ? (uint8_t)(byte + 32) : byte; }
+
+/* A pattern of ssh_config(5): `*` is any bytes, `?` one, and letters match in either case; the name is in lower case. */
+static bool pattern_matches(slice pattern, slice name) {
+  size_t at = 0, in = 0, star = SIZE_MAX, kept = 0;
+  while (in < name.len) {
+    if (at < pattern.len && pattern.at[at] == '*') star = at++, kept = in;
+    else if (at < pattern.len && (pattern.at[at] == '?' || lowered(pattern.at[at]) == name.at[in])) at++, in++;
+    else if (star != SIZE_MAX) at = star + 1, in = ++kept;
+    else return false;
+  }
+  while (at < pattern.len && pattern.at[at] == '*') at++;
+  return at == pattern.len;
+}
+
+/* A list of patterns names what one of them matches, unless one behind `!` matches it too. */
+static bool list_names(slice list, slice name) {
+  bool is_named = false;
+  while (list.len != 0) {
+    slice pattern = next_name(&list);
+    bool is_negated = pattern.len != 0 && pattern.at[0] == '!';
+    if (is_negated) pattern = slice_of(pattern.at + 1, pattern.len - 1);
+    bool is_match = pattern_matches(pattern, name);
+    if (is_match && is_negated) return false;
+    is_named = is_named || is_match;
+  }
+  return is_named;
+}
+
 static void note_line(slice line, slice name, bytes *types) {
   if (line.len != 0 && line.at[line.len - 1] == '\r') line.len--;
   slice hosts_word = next_word(&line);
   if (hosts_word.len == 0 || hosts_word.at[0] == '#' || hosts_word.at[0] == '@') return;
-  if (!list_has(hosts_word, name) && !is_hash_of(hosts_word, name)) return;
+  if (!list_names(hosts_word, name) && !is_hash_of(hosts_word, name)) return;
   slice type = next_word(&line);
   if (type.len == 0 || list_has(bytes_slice(types), type)) return;
   if (bytes_count(types) != 0) put_u8(types, ',');
@@ -169,9 +198,8 @@ static int append(const char *path, slice line) {
   return error;
 }
 
-int hosts_learn(hosts *it, slice host, uint16_t port, slice key, bool write_it) {
-  if (!host_is_name(host)) return EINVAL;
-  slice old = it->count == 0 ? (slice){NULL, 0} : slice_of(bytes_slice(&it->text).at, it->files[0].len);
+/* What the core adds to the old text so that it has the key. */
+static int line_after(slice old, slice host, uint16_t port, slice key, bytes *to) {
   size_t room = host.len + 2 * key.len + 256, size = 0;
   uint8_t *line = malloc(room);
   if (line == NULL) return ENOMEM;
@@ -179,10 +207,22 @@ int hosts_learn(hosts *it, slice host, uint16_t port, slice key, bool write_it) 
   int error = made == SSHC_OK ? 0 : made == SSHC_NO_MEMORY ? ENOMEM : EINVAL;
   /* the line feed in front ends a last line that has none; an empty file has no such line */
   size_t skipped = error == 0 && old.len == 0 && size != 0 && line[0] == '\n' ? 1 : 0;
-  slice added = slice_of(line + skipped, error == 0 ? size - skipped : 0);
-  put(&it->text, added.at, added.len);
-  if (error == 0 && it->text.bad) error = ENOMEM;
-  if (error == 0 && write_it) error = it->count == 0 ? ENOENT : append(it->files[0].path, added);
+  if (error == 0) put(to, line + skipped, size - skipped);
   free(line);
+  return error == 0 && to->bad ? ENOMEM : error;
+}
+
+int hosts_line_of(slice host, uint16_t port, slice key, bytes *to) { return line_after((slice){NULL, 0}, host, port, key, to); }
+
+int hosts_learn(hosts *it, slice host, uint16_t port, slice key, bool write_it) {
+  if (!host_is_name(host)) return EINVAL;
+  /* only its end counts, and the file may be of any bytes */
+  bool begins_line = it->count == 0 || it->files[0].len == 0 || bytes_front(&it->text)[it->files[0].len - 1] == '\n';
+  bytes added = {0};
+  int error = line_after(begins_line ? (slice){NULL, 0} : text_of("-"), host, port, key, &added);
+  if (error == 0) put(&it->text, bytes_front(&added), bytes_count(&added));
+  if (error == 0 && it->text.bad) error = ENOMEM;
+  if (error == 0 && write_it) error = it->count == 0 ? ENOENT : append(it->files[0].path, bytes_slice(&added));
+  bytes_free(&added);
   return error;
 }

@@ -28,6 +28,8 @@ const char *hosts_where(const hosts *it, uint64_t *line);
 bool host_is_name(slice host);
 /* The name that a line has for the host at the port: host, or [host]:port. */
 bool put_host_name(bytes *to, slice host, uint16_t port);
+/* The one line by which known hosts have this key for the host at the port, and no other; 0, or errno. */
+int hosts_line_of(slice host, uint16_t port, slice key, bytes *to);
 /* The algorithms, first those of the types of keys that lines have for the host. Only an order: nothing is judged. */
 bool hosts_order(const hosts *it, slice host, uint16_t port, const char *algorithms, bytes *to);
 /* Adds a line for the key to the text, and where `write` to the first file; 0, or errno. */

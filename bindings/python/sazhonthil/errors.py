@@ -234,7 +234,7 @@ class _AtLine(HostKeyError):
 
 
 class HostKeyChanged(_AtLine):
-    """A line has another key of this type: the host was set up anew, or somebody is in between."""
+    """A line has another key, and none this one: the host was set up anew, or somebody is in between."""
 
     code = Code.HOST_CHANGED
 

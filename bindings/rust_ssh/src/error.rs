@@ -55,7 +55,7 @@ kinds! {
     BadSignature = 14,
     /// No line of the known hosts has the server's key.
     HostUnknown = 15,
-    /// A line has another key of this type: somebody may be in between.
+    /// A line has another key, and none this one: somebody may be in between.
     HostChanged = 16,
     /// A line revokes the server's key.
     HostRevoked = 17,

@@ -265,7 +265,7 @@ class Peer:
 
 ENDED = "the server closed the connection"
 WRONG = "the server sent what it may not send now"
-CHANGED = "the known hosts have another host key: ssh-ed25519 FINGERPRINT of NAME; FILE line 1 has another key of this type: the host was set up anew, or somebody is in between"
+CHANGED = "the known hosts have another host key: ssh-ed25519 FINGERPRINT of NAME; FILE line 1 has another key: the host was set up anew, or somebody is in between"
 # what the server does wrong, and what the client says then; "" is nothing, with status 0, and None nothing, with 255
 WANTED = {
     "nothing": "",
