@@ -67,6 +67,18 @@ fn known_hosts() {
 }
 
 #[test]
+fn known_hosts_as_openssh_reads_them() {
+    let key = bytes(KEY);
+    let blob = KNOWN.split_whitespace().nth(2).unwrap();
+    let judge = |text: &str| check_known_hosts_openssh("box.example", 22, text.as_bytes(), &key);
+    assert_eq!(judge(&format!("*.EXAMPLE\tssh-ed25519  {blob}\n")), Ok(HostKey::Known));
+    assert_eq!(judge(&format!("*.example,!box.example ssh-ed25519 {blob}\n")), Ok(HostKey::Unknown));
+    assert_eq!(judge(&format!("* ssh-ed25519 {blob}\n@revoked  *.example ssh-ed25519 {blob}\n")), Ok(HostKey::Revoked { line: 2 }));
+    let text = [b"# \xff\nbox.example ssh-ed25519 ", blob.as_bytes(), b"\n"].concat();
+    assert_eq!(check_known_hosts_openssh("box.example", 22, &text, &key), Ok(HostKey::Known));
+}
+
+#[test]
 fn an_agent_on_another_thread() {
     let mut agent = Agent::new(false).unwrap();
     let answer = std::thread::spawn(move || {
