@@ -1,6 +1,6 @@
 //! Worked runs, as tests/rows.py prints them to the file that ROWS names, and each kind of call once.
 
-use sazhonthil::{Agent, Error, Event, Exchange, HostKey, Input, Output, Session, Settings, Step, Told, check_host, learn_host};
+use sazhonthil::{Agent, Error, Event, Exchange, HostKey, Input, Output, Session, Settings, Step, Told, check_host, check_known_hosts_openssh, learn_host};
 
 const KEY: &str = "0000000b7373682d65643235353139000000209743ef2dda2eae39e325817702d66e2794d5e6f3f7f72eeff4045e7f4e21e649";
 const KNOWN: &str = "[localhost]:13265 ssh-ed25519 AAAAC3NzaC1lZDI1NTE5AAAAIJdD7y3aLq454yWBdwLWbieU1ebz9/cu7/QEXn9OIeZJ\n";
