@@ -146,7 +146,7 @@ enum {
   SSHC_EVENT_CLOSE = 0x1f,
   SSHC_EVENT_DISCONNECT = 0x20,       /* with an SSHC_DISCONNECT reason */
   SSHC_EVENT_CHANNEL = 0x21,          /* something of a channel: an SSHC_ASK */
-  SSHC_EVENT_SERVER_OPEN_REPLY = 0x22,
+  SSHC_EVENT_SERVER_OPEN_REPLY = 0x22, /* of no effect here: the session accepts each open at once */
   SSHC_EVENT_REKEY = 0x24,
   SSHC_EVENT_AWAIT_EXTENSION_INFO = 0x25,
   SSHC_EVENT_GET_SERVER_SIG_ALGS = 0x26,
@@ -215,7 +215,7 @@ enum {
   SSHC_RECORD_CHANNEL_CLOSE = 0x25,
   SSHC_RECORD_CHANNEL_EOF = 0x26,
   SSHC_RECORD_CHANNEL_OPEN_FAILURE = 0x27,
-  SSHC_RECORD_SERVER_OPENED = 0x28,    /* a channel of an SSHC_OPENED type: SERVER_OPEN_REPLY answers it */
+  SSHC_RECORD_SERVER_OPENED = 0x28,    /* a channel of an SSHC_OPENED type, accepted already: CLOSE ends it */
   SSHC_RECORD_CHANNEL_DATA = 0x29,
   SSHC_RECORD_CHANNEL_EXTENDED_DATA = 0x2a,
   SSHC_RECORD_CHANNEL_XON_XOFF = 0x2b,
@@ -295,9 +295,9 @@ enum {
  * people have. sshc_known_hosts_check has a narrower rule, by which a session judges too (sshc_session_new): where the first
  * one accepts a key, hand the session a text of the one line that sshc_known_hosts_learn makes of it for an empty text.
  *
- * What differs from OpenSSH in the narrower one, and matters: hosts are compared byte by byte, so hand in lower case (`Host` isn't `host`).
- * Patterns (*, ?, !) aren't read: a line for *.example.org is a line for a host of that very name, and a pattern marked
- * @revoked revokes nothing. Lines marked @cert-authority aren't read. Fields are parted by one space: a tab, two spaces or a
+ * What differs from OpenSSH in the narrower one, and matters: hosts are compared byte by byte, so hand in lower case (`Host`
+ * isn't `host`). Patterns (*, ?, !) aren't read: a line for *.example.org is a line for a host of that very name, and a
+ * pattern marked @revoked revokes nothing. Lines marked @cert-authority aren't read. Fields are parted by one space: a tab, two spaces or a
  * blank in front hide a line. One byte that isn't UTF-8, anywhere in the text, refuses every host (SSHC_NOT_TEXT). A line for
  * the host whose key isn't base64, or is of a type that isn't known here, refuses the host (SSHC_DECODE, SSHC_SSH_KEY) where
  * OpenSSH passes over it. */

@@ -43,7 +43,7 @@ extern "C" {
 
 /* The number of the interface that this header declares: it grows with each call that is added, and its high half changes
  * where a call that was there changes. */
-#define SAZH_ABI 0x00010001u
+#define SAZH_ABI 0x00010002u
 uint32_t sazh_abi(void);
 
 typedef struct sazh_connection sazh_connection;
@@ -145,6 +145,12 @@ void sazh_free(sazh_connection *it);
 /* Adds a known hosts file, before connecting. The first one is the one that is learned to. A file that isn't there is read
  * as empty, unless must_exist. SAZH_HOSTS_FILE, SAZH_NO_MEMORY, SAZH_MISUSE. */
 sazh_code sazh_hosts_file(sazh_connection *it, const char *path, bool must_exist);
+
+/* Host keys are judged by the known hosts as OpenSSH reads them (sshc_known_hosts_check_openssh in sazhonthil.h): patterns,
+ * names in any case, any blanks, any bytes; a line that can't be read is passed over. With true they are judged by the
+ * narrow reading of sshc_known_hosts_check instead: no patterns, names byte by byte in lower case, fields parted by one
+ * space, text in UTF-8, and a line for the host that can't be read refuses it. Before connecting. SAZH_MISUSE. */
+sazh_code sazh_hosts_narrow(sazh_connection *it, bool narrow);
 
 /* Whether a text can be a host's name or address, and be only itself in a line of known hosts: letters, digits, and - . _ : %
  * + ~, without a - in front. Hosts are refused otherwise (SAZH_BAD_NAME). */

@@ -102,11 +102,17 @@ sazh_code sazh_hosts_file(sazh_connection *it, const char *path, bool must_exist
   return SAZH_HOSTS_FILE;
 }
 
+sazh_code sazh_hosts_narrow(sazh_connection *it, bool narrow) {
+  if (it == NULL || it->inside || it->phase != PHASE_NEW) return SAZH_MISUSE;
+  it->is_narrow = narrow;
+  return SAZH_OK;
+}
+
 /* ---- connecting */
 
 bool sazh_is_host_name(const char *text) { return text != NULL && host_is_name(text_of(text)); }
 
-/* Names are looked up in lower case, as OpenSSH writes them; the core compares byte by byte. */
+/* Names are looked up in lower case, as OpenSSH writes them; the session compares byte by byte. */
 static void lower(char *text) {
   for (; *text != 0; text++)
     if (*text >= 'A' && *text <= 'Z') *text = (char)(*text - 'A' + 'a');
@@ -124,7 +130,7 @@ static sazh_code begin(sazh_connection *it, const char *host, uint16_t port) {
   const char *all = it->algorithms;
   bool done = put_host_name(&it->name, text_of(it->look), it->look_port);
   put_u8(&it->name, 0);
-  if (all == NULL) done = done && hosts_order(&it->hosts, text_of(it->look), it->look_port, DEFAULT_HOST_KEYS, &it->ordered);
+  if (all == NULL) done = done && hosts_order(&it->hosts, it->is_narrow, text_of(it->look), it->look_port, DEFAULT_HOST_KEYS, &it->ordered);
   if (!done || it->name.bad) return end_no_memory(it);
   it->deadline = it->set.connect_seconds == 0 ? 0 : now_ms() + it->set.connect_seconds * 1000ull;
   return SAZH_OK;

@@ -116,6 +116,7 @@ struct sazh_connection {
   sazh_settings set;
   char *ciphers, *algorithms, *alias; /* of the settings; NULL: the default */
   bool blocking, inside;
+  bool is_narrow; /* known hosts are read as by sshc_known_hosts_check */
   phase phase;
   uint64_t changes;
   failure failed;

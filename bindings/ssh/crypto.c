@@ -437,8 +437,3 @@ bool put_base64_of(bytes *to, slice text) {
   bytes_grew(to, (size_t)(made - padding));
   return true;
 }
-
-bool hmac_sha1(slice key, slice it, uint8_t hash[20]) {
-  size_t made = 0;
-  return EVP_Q_mac(NULL, "HMAC", NULL, "SHA1", NULL, key.at, key.len, it.at, it.len, hash, 20, &made) != NULL;
-}

@@ -71,7 +71,5 @@ bool random_bytes(uint8_t *to, size_t count);
 void fingerprint_of(slice blob, char to[64]);
 /* Whether the base64 text was read; the bytes are put. */
 bool put_base64_of(bytes *to, slice text);
-/* HMAC with SHA-1, as hashed lines of known hosts have it. */
-bool hmac_sha1(slice key, slice it, uint8_t hash[20]);
 
 #endif

@@ -1,7 +1,6 @@
 /* Between the transport and the core: what came becomes events, and records become packets and what the caller sees. */
 #include "connection.h"
 
-#include <errno.h>
 #include <openssl/crypto.h>
 #include <stdio.h>
 #include <string.h>
@@ -165,23 +164,19 @@ static void hand_in_exchange(sazh_connection *it) {
   if (deliver(it)) transport_release(&it->line);
 }
 
+/* The session judges by the narrow reading. Once the known hosts accepted the key as OpenSSH reads them, or the user did, it
+ * gets the one line that has this key for this host, and so goes on with no other. */
 static bool start_core(sazh_connection *it) {
   sshc_settings settings;
   sshc_settings_default(&settings);
   settings.keepalive_interval = it->set.keepalive_seconds * 1000ull;
   settings.keepalive_max = it->set.keepalive_max;
   settings.window_size = it->set.window;
-  /* The key was judged, or accepted by the user; the session is to accept just this one. */
-  bytes known = {0};
-  int error = hosts_line_of(text_of(it->look), it->look_port, bytes_slice(&it->line.host_key), &known);
-  if (error != 0) {
-    bytes_free(&known);
-    if (error == ENOMEM) end_no_memory(it);
-    else end(it, SAZH_BAD_NAME, "%s: %s", sazh_code_text(SAZH_BAD_NAME), it->look);
-    return false;
-  }
-  sshc_status made = core_start(&it->core, &settings, text_of(it->look), it->look_port, bytes_slice(&known));
-  bytes_free(&known);
+  slice host = text_of(it->look);
+  bytes line = {0};
+  sshc_status made = it->is_narrow ? SSHC_OK : hosts_line(host, it->look_port, bytes_slice(&it->line.host_key), &line);
+  if (made == SSHC_OK) made = core_start(&it->core, &settings, host, it->look_port, bytes_slice(it->is_narrow ? &it->hosts.text : &line));
+  bytes_free(&line);
   if (made != SSHC_OK) end_by_status(it, made, 0);
   return made == SSHC_OK;
 }
@@ -212,12 +207,12 @@ static void first_exchange(sazh_connection *it) {
   name_to(it->cipher_in, line->chosen.cipher_in);
   name_to(it->mac_out, line->chosen.mac_out);
   name_to(it->mac_in, line->chosen.mac_in);
-  slice key = bytes_slice(&line->host_key), host = text_of(it->look), known = bytes_slice(&it->hosts.text);
+  slice key = bytes_slice(&line->host_key);
   reader blob = read_slice(key);
   name_to(it->key_type, get_string(&blob));
   fingerprint_of(key, it->fingerprint);
   uint64_t at = 0;
-  sshc_status says = sshc_known_hosts_check_openssh(host.at, host.len, it->look_port, known.at, known.len, key.at, key.len, &at);
+  sshc_status says = hosts_judge(bytes_slice(&it->hosts.text), it->is_narrow, text_of(it->look), it->look_port, key, &at);
   sazh_code code = judged(it, says, at);
   if (code == SAZH_OK) begin_session(it);
   else if (code == SAZH_HOST_UNKNOWN) it->phase = PHASE_ASKING;

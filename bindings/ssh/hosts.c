@@ -86,6 +86,13 @@ bool put_host_name(bytes *to, slice host, uint16_t port) {
   return !to->bad;
 }
 
+/* ---- judging: by the core, in one of its two readings */
+
+sshc_status hosts_judge(slice text, bool is_narrow, slice host, uint16_t port, slice key, uint64_t *line) {
+  if (is_narrow) return sshc_known_hosts_check(host.at, host.len, port, text.at, text.len, key.at, key.len, line);
+  return sshc_known_hosts_check_openssh(host.at, host.len, port, text.at, text.len, key.at, key.len, line);
+}
+
 /* ---- which keys there are for a host */
 
 static slice next_word(slice *line) {
@@ -97,60 +104,40 @@ static slice next_word(slice *line) {
   return word;
 }
 
-/* |1|SALT|HASH, both in base64: HMAC-SHA1 of the name under the salt (sshd(8), SSH_KNOWN_HOSTS FILE FORMAT). */
-static bool is_hash_of(slice word, slice name) {
-  if (word.len < 4 || memcmp(word.at, "|1|", 3) != 0) return false;
-  slice rest = slice_of(word.at + 3, word.len - 3);
-  const uint8_t *bar = memchr(rest.at, '|', rest.len);
-  if (bar == NULL) return false;
-  size_t len = (size_t)(bar - rest.at);
-  bytes salt = {0}, hash = {0};
-  uint8_t made[20];
-  bool is = put_base64_of(&salt, slice_of(rest.at, len)) && put_base64_of(&hash, slice_of(bar + 1, rest.len - len - 1)) &&
-            hmac_sha1(bytes_slice(&salt), name, made) && slices_equal(bytes_slice(&hash), slice_of(made, 20));
-  bytes_free(&salt);
-  bytes_free(&hash);
-  return is;
-}
-
-static uint8_t lowered(uint8_t byte) { return byte >= 'A' && byte <= 'Z' ? (uint8_t)(byte + 32) : byte; }
-
-/* A pattern of ssh_config(5): `*` is any bytes, `?` one, and letters match in either case; the name is in lower case. */
-static bool pattern_matches(slice pattern, slice name) {
-  size_t at = 0, in = 0, star = SIZE_MAX, kept = 0;
-  while (in < name.len) {
-    if (at < pattern.len && pattern.at[at] == '*') star = at++, kept = in;
-    else if (at < pattern.len && (pattern.at[at] == '?' || lowered(pattern.at[at]) == name.at[in])) at++, in++;
-    else if (star != SIZE_MAX) at = star + 1, in = ++kept;
-    else return false;
-  }
-  while (at < pattern.len && pattern.at[at] == '*') at++;
-  return at == pattern.len;
-}
-
-/* A list of patterns names what one of them matches, unless one behind `!` matches it too. */
-static bool list_names(slice list, slice name) {
-  bool is_named = false;
-  while (list.len != 0) {
-    slice pattern = next_name(&list);
-    bool is_negated = pattern.len != 0 && pattern.at[0] == '!';
-    if (is_negated) pattern = slice_of(pattern.at + 1, pattern.len - 1);
-    bool is_match = pattern_matches(pattern, name);
-    if (is_match && is_negated) return false;
-    is_named = is_named || is_match;
-  }
-  return is_named;
-}
-
-static void note_line(slice line, slice name, bytes *types) {
+/* The key that stands in a line, whosever it is; false where none can be read. */
+static bool key_of_line(slice line, bytes *key) {
   if (line.len != 0 && line.at[line.len - 1] == '\r') line.len--;
-  slice hosts_word = next_word(&line);
-  if (hosts_word.len == 0 || hosts_word.at[0] == '#' || hosts_word.at[0] == '@') return;
-  if (!list_names(hosts_word, name) && !is_hash_of(hosts_word, name)) return;
-  slice type = next_word(&line);
-  if (type.len == 0 || list_has(bytes_slice(types), type)) return;
-  if (bytes_count(types) != 0) put_u8(types, ',');
-  put(types, type.at, type.len);
+  slice names = next_word(&line);
+  if (names.len == 0 || names.at[0] == '#' || names.at[0] == '@') return false;
+  next_word(&line);
+  return put_base64_of(key, next_word(&line));
+}
+
+/* A line counts where it alone, in the reading by which the host will be judged, has its key for the name. The port is a part
+ * of the name here, so that no line for the host at another port counts. */
+static void note_line(slice line, bool is_narrow, slice name, bytes *types) {
+  bytes key = {0};
+  uint64_t at = 0;
+  if (key_of_line(line, &key) && hosts_judge(line, is_narrow, name, 22, bytes_slice(&key), &at) == SSHC_OK) {
+    reader blob = read_slice(bytes_slice(&key));
+    slice type = get_string(&blob);
+    if (!list_has(bytes_slice(types), type)) {
+      if (bytes_count(types) != 0) put_u8(types, ',');
+      put(types, type.at, type.len);
+    }
+  }
+  types->bad = types->bad || key.bad;
+  bytes_free(&key);
+}
+
+static void note_lines(slice rest, bool is_narrow, slice name, bytes *types) {
+  while (rest.len != 0) {
+    const uint8_t *end = memchr(rest.at, '\n', rest.len);
+    size_t len = end == NULL ? rest.len : (size_t)(end - rest.at);
+    note_line(slice_of(rest.at, len), is_narrow, name, types);
+    size_t skipped = end == NULL ? len : len + 1;
+    rest = slice_of(rest.at + skipped, rest.len - skipped);
+  }
 }
 
 static slice type_of_algorithm(slice algorithm) {
@@ -166,17 +153,13 @@ static void put_some(slice algorithms, slice types, bool known, bytes *to) {
   }
 }
 
-bool hosts_order(const hosts *it, slice host, uint16_t port, const char *algorithms, bytes *to) {
+bool hosts_order(const hosts *it, bool is_narrow, slice host, uint16_t port, const char *algorithms, bytes *to) {
   bytes name = {0}, types = {0};
   bool done = put_host_name(&name, host, port);
-  slice rest = bytes_slice(&it->text);
-  while (done && rest.len != 0) {
-    const uint8_t *end = memchr(rest.at, '\n', rest.len);
-    size_t len = end == NULL ? rest.len : (size_t)(end - rest.at);
-    note_line(slice_of(rest.at, len), bytes_slice(&name), &types);
-    size_t skipped = end == NULL ? len : len + 1;
-    rest = slice_of(rest.at + skipped, rest.len - skipped);
-  }
+  slice text = bytes_slice(&it->text);
+  if (done) note_lines(text, is_narrow, bytes_slice(&name), &types);
+  /* where no line has the host at this port, OpenSSH takes those for the host */
+  if (done && !is_narrow && port != 22 && bytes_count(&types) == 0) note_lines(text, false, host, &types);
   put_some(text_of(algorithms), bytes_slice(&types), true, to);
   put_some(text_of(algorithms), bytes_slice(&types), false, to);
   put_u8(to, 0); /* it is handed on as a text */
@@ -198,31 +181,32 @@ static int append(const char *path, slice line) {
   return error;
 }
 
-/* What the core adds to the old text so that it has the key. */
-static int line_after(slice old, slice host, uint16_t port, slice key, bytes *to) {
+sshc_status hosts_line(slice host, uint16_t port, slice key, bytes *to) {
   size_t room = host.len + 2 * key.len + 256, size = 0;
   uint8_t *line = malloc(room);
-  if (line == NULL) return ENOMEM;
-  sshc_status made = sshc_known_hosts_learn(host.at, host.len, port, old.at, old.len, key.at, key.len, line, room, &size);
-  int error = made == SSHC_OK ? 0 : made == SSHC_NO_MEMORY ? ENOMEM : EINVAL;
-  /* the line feed in front ends a last line that has none; an empty file has no such line */
-  size_t skipped = error == 0 && old.len == 0 && size != 0 && line[0] == '\n' ? 1 : 0;
-  if (error == 0) put(to, line + skipped, size - skipped);
+  if (line == NULL) return SSHC_NO_MEMORY;
+  sshc_status made = sshc_known_hosts_learn(host.at, host.len, port, NULL, 0, key.at, key.len, line, room, &size);
+  size_t skipped = made == SSHC_OK && size != 0 && line[0] == '\n' ? 1 : 0; /* nothing stands before it */
+  if (made == SSHC_OK) put(to, line + skipped, size - skipped);
+  if (made == SSHC_OK && to->bad) made = SSHC_NO_MEMORY;
   free(line);
-  return error == 0 && to->bad ? ENOMEM : error;
+  return made;
 }
 
-int hosts_line_of(slice host, uint16_t port, slice key, bytes *to) { return line_after((slice){NULL, 0}, host, port, key, to); }
+/* Whether the first file's last line has no end of its own. hosts_add put one into the text, which `len` leaves out. */
+static bool is_unended(const hosts *it) {
+  return it->count != 0 && it->files[0].len != 0 && bytes_front(&it->text)[it->files[0].len - 1] != '\n';
+}
 
 int hosts_learn(hosts *it, slice host, uint16_t port, slice key, bool write_it) {
   if (!host_is_name(host)) return EINVAL;
-  /* only its end counts, and the file may be of any bytes */
-  bool begins_line = it->count == 0 || it->files[0].len == 0 || bytes_front(&it->text)[it->files[0].len - 1] == '\n';
-  bytes added = {0};
-  int error = line_after(begins_line ? (slice){NULL, 0} : text_of("-"), host, port, key, &added);
-  if (error == 0) put(&it->text, bytes_front(&added), bytes_count(&added));
+  bytes line = {0};
+  if (is_unended(it)) put_u8(&line, '\n');
+  sshc_status made = hosts_line(host, port, key, &line);
+  int error = made == SSHC_OK ? 0 : made == SSHC_NO_MEMORY ? ENOMEM : EINVAL;
+  if (error == 0) put(&it->text, bytes_front(&line), bytes_count(&line));
   if (error == 0 && it->text.bad) error = ENOMEM;
-  if (error == 0 && write_it) error = it->count == 0 ? ENOENT : append(it->files[0].path, bytes_slice(&added));
-  bytes_free(&added);
+  if (error == 0 && write_it) error = it->count == 0 ? ENOENT : append(it->files[0].path, bytes_slice(&line));
+  bytes_free(&line);
   return error;
 }

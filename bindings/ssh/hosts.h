@@ -5,6 +5,8 @@
 
 #include "bytes.h"
 
+#include <sazhonthil.h>
+
 enum { MOST_HOSTS_FILES = 8 };
 
 typedef struct hosts_file {
@@ -28,10 +30,13 @@ const char *hosts_where(const hosts *it, uint64_t *line);
 bool host_is_name(slice host);
 /* The name that a line has for the host at the port: host, or [host]:port. */
 bool put_host_name(bytes *to, slice host, uint16_t port);
-/* The one line by which known hosts have this key for the host at the port, and no other; 0, or errno. */
-int hosts_line_of(slice host, uint16_t port, slice key, bytes *to);
-/* The algorithms, first those of the types of keys that lines have for the host. Only an order: nothing is judged. */
-bool hosts_order(const hosts *it, slice host, uint16_t port, const char *algorithms, bytes *to);
+/* What a text says of the key for the host at the port: as OpenSSH reads it, or as narrowly as sshc_known_hosts_check. The
+ * line that refuses it is in *line, or 0. */
+sshc_status hosts_judge(slice text, bool is_narrow, slice host, uint16_t port, slice key, uint64_t *line);
+/* The algorithms, first those of the types of keys that lines have for the host in that reading. Only an order. */
+bool hosts_order(const hosts *it, bool is_narrow, slice host, uint16_t port, const char *algorithms, bytes *to);
+/* Puts the one line that records the key for the host at the port, as the core writes it. */
+sshc_status hosts_line(slice host, uint16_t port, slice key, bytes *to);
 /* Adds a line for the key to the text, and where `write` to the first file; 0, or errno. */
 int hosts_learn(hosts *it, slice host, uint16_t port, slice key, bool write);
 

@@ -95,6 +95,8 @@ static void hosts(void) {
   uint8_t to[256];
   check(sshc_known_hosts_check(NOT_TEXT, 2, 22, NULL, 0, NULL, 0, &line) == SSHC_NOT_TEXT && line == 0, "a host that is no text");
   check(sshc_known_hosts_check(HOST, 9, 22, NULL, 0, HOST, 9, &line) == SSHC_BAD_KEY && line == 0, "no key");
+  check(sshc_known_hosts_check_openssh(NOT_TEXT, 2, 22, NULL, 0, HOST, 9, &line) == SSHC_NOT_TEXT && line == 0, "the same as OpenSSH reads it");
+  check(sshc_known_hosts_check_openssh(HOST, 9, 22, NOT_TEXT, 2, HOST, 9, &line) == SSHC_BAD_KEY && line == 0, "no key, as OpenSSH reads it");
   check(sshc_known_hosts_learn(HOST, 9, 22, NULL, 0, HOST, 9, to, sizeof to, &size) == SSHC_BAD_KEY, "no key to learn");
 }
 

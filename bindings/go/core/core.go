@@ -114,6 +114,17 @@ func CheckHost(host string, port uint16, known string, key []byte) (Status, uint
 	return Status(status), uint64(line)
 }
 
+// CheckKnownHostsOpenSSH does the same as OpenSSH reads the known hosts, which may be any bytes: patterns, names in any
+// case, any blanks; a line that can't be read is passed over.
+func CheckKnownHostsOpenSSH(host string, port uint16, known, key []byte) (Status, uint64) {
+	h, hl := at([]byte(host))
+	k, kl := at(known)
+	b, bl := at(key)
+	var line C.uint64_t
+	status := C.sshc_known_hosts_check_openssh(h, hl, C.uint16_t(port), k, kl, b, bl, &line)
+	return Status(status), uint64(line)
+}
+
 // LearnHost returns what is to be added to the known hosts so that they have the key.
 func LearnHost(host string, port uint16, known string, key []byte) ([]byte, error) {
 	h, hl := at([]byte(host))

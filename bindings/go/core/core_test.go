@@ -2,6 +2,7 @@ package core
 
 import (
 	"bytes"
+	"encoding/base64"
 	"encoding/hex"
 	"os"
 	"strconv"
@@ -65,6 +66,23 @@ func TestAgentAndHosts(t *testing.T) {
 	}
 	if status, _ := CheckHost("localhost", 22, "", nil); status != 5 {
 		t.Error(status)
+	}
+}
+
+func TestKnownHostsOpenSSH(t *testing.T) {
+	const blob = "AAAAC3NzaC1lZDI1NTE5AAAAIJdD7y3aLq454yWBdwLWbieU1ebz9/cu7/QEXn9OIeZJ"
+	key, _ := base64.StdEncoding.DecodeString(blob)
+	for text, wanted := range map[string]struct {
+		status Status
+		line   uint64
+	}{
+		"*.EXAMPLE\tssh-ed25519  " + blob:                 {OK, 0},
+		"*.example,!box.example ssh-ed25519 " + blob:      {Unknown, 0},
+		"# \xff\n@revoked  *.example ssh-ed25519 " + blob: {42, 2},
+	} {
+		if status, line := CheckKnownHostsOpenSSH("box.example", 22, []byte(text), key); status != wanted.status || line != wanted.line {
+			t.Errorf("%q: %v %d", text, status, line)
+		}
 	}
 }
 

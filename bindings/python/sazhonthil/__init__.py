@@ -19,7 +19,7 @@ from .library import (  # noqa: F401
     ABI, ALLOW, ASKS_KEY, ASKS_REQUEST, ASKS_SIGNATURE, BAD_INPUT, BAD_KEY, CLOSE, CLOSED, CLOSED_REFUSED, CLOSED_TOO_LONG,
     CLOSED_UNREADABLE, CONFIRM, DENY, DISCONNECTED, FRAME, KEY_CHANGED, MISUSE, NO_MEMORY, NO_ROOM, NOT_TEXT, NOTHING, OK, OVER,
     OVERSIZE, REFUSE, REFUSED, REMOTE_DISCONNECT, REVOKED, SIGNED, UNASKED, UNKNOWN, Agent, Handle, Output, Question, Refused, Session,
-    Settings, check_host, default_settings, learn_host,
+    Settings, check_host, check_known_hosts_openssh, default_settings, learn_host,
 )
 from .login import Accept, Challenge, HostKey  # noqa: F401
 

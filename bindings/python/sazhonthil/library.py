@@ -24,7 +24,7 @@ ASKS_SIGNATURE, ASKS_REQUEST, ASKS_KEY = Status.ASKS_SIGNATURE, Status.ASKS_REQU
 CLOSED_TOO_LONG, CLOSED_UNREADABLE, CLOSED_REFUSED = Status.CLOSED_TOO_LONG, Status.CLOSED_UNREADABLE, Status.CLOSED_REFUSED
 NO_MEMORY, KEY_CHANGED, REVOKED = Status.NO_MEMORY, Status.KEY_CHANGED, Status.REVOKED
 
-ABI = 0x00010000
+ABI = 0x00010001
 
 # what is handed in as an agent's input
 FRAME, OVERSIZE, ALLOW, DENY, CONFIRM, REFUSE, CLOSE = range(7)
@@ -58,6 +58,7 @@ _u16, _u32, _u64 = c.c_uint16, c.c_uint32, c.c_uint64
 _CALLS: List[Tuple[Any, ...]] = [
     ("sshc_abi", _u32),
     ("sshc_known_hosts_check", _u32, *_bytes, _u16, *_bytes, *_bytes, c.POINTER(_u64)),
+    ("sshc_known_hosts_check_openssh", _u32, *_bytes, _u16, *_bytes, *_bytes, c.POINTER(_u64)),
     ("sshc_known_hosts_learn", _u32, *_bytes, _u16, *_bytes, *_bytes, *_out),
     ("sshc_settings_default", None, c.POINTER(Settings)),
     ("sshc_session_new", _u32, _handle, c.POINTER(Settings), *_bytes, _u16, *_bytes),
@@ -79,11 +80,12 @@ def load() -> c.CDLL:
     """The library. OSError or LibraryMissing where there is none, ImportError where its interface is another one."""
     named = os.environ.get("SAZHONTHIL")
     lib: c.CDLL = c.CDLL(named) if named else native.load()
+    lib.sshc_abi.restype, lib.sshc_abi.argtypes = _u32, []
+    if lib.sshc_abi() >> 16 != ABI >> 16 or lib.sshc_abi() < ABI:
+        raise ImportError("the library's interface is another one")
     for name, result, *given in _CALLS:
         call = getattr(lib, name)
         call.restype, call.argtypes = result, given
-    if lib.sshc_abi() >> 16 != ABI >> 16:
-        raise ImportError("the library's interface is another one")
     return lib
 
 
@@ -113,13 +115,23 @@ def _copied(call: Callable[..., int], *given: Any) -> Tuple[int, bytes]:
         room = size.value
 
 
-def check_host(host: bytes, port: int, known_hosts: bytes, key: bytes) -> Tuple[Status, int]:
-    """(status, line): OK, UNKNOWN, KEY_CHANGED or REVOKED with the line, or why there is no verdict."""
+def _judged(call: Callable[..., int], host: bytes, port: int, known_hosts: bytes, key: bytes) -> Tuple[Status, int]:
     line = c.c_uint64()
-    status = load().sshc_known_hosts_check(host, len(host), port, known_hosts, len(known_hosts), key, len(key), c.byref(line))
+    status = call(host, len(host), port, known_hosts, len(known_hosts), key, len(key), c.byref(line))
     if status == NO_MEMORY:
         raise MemoryError
     return Status(status), line.value
+
+
+def check_host(host: bytes, port: int, known_hosts: bytes, key: bytes) -> Tuple[Status, int]:
+    """(status, line): OK, UNKNOWN, KEY_CHANGED or REVOKED with the line, or why there is no verdict."""
+    return _judged(load().sshc_known_hosts_check, host, port, known_hosts, key)
+
+
+def check_known_hosts_openssh(host: bytes, port: int, known_hosts: bytes, key: bytes) -> Tuple[Status, int]:
+    """The same as OpenSSH reads the text, which may be any bytes: patterns, names in any case, any blanks; a line that
+    can't be read is passed over."""
+    return _judged(load().sshc_known_hosts_check_openssh, host, port, known_hosts, key)
 
 
 def learn_host(host: bytes, port: int, known_hosts: bytes, key: bytes) -> bytes:

@@ -10,7 +10,7 @@ from typing import Any, Dict, List, Tuple
 
 from .errors import LibraryMissing
 
-ABI = 0x00010001
+ABI = 0x00010002
 NAME = "libsazhonthil_ssh.so"
 
 Pointer = c.c_void_p
@@ -120,6 +120,7 @@ CALLS: Dict[str, Tuple[Any, ...]] = {
     "sazh_new": (_code, _made, c.POINTER(Settings)),
     "sazh_free": (None, Pointer),
     "sazh_hosts_file": (_code, Pointer, Text, c.c_bool),
+    "sazh_hosts_narrow": (_code, Pointer, c.c_bool),
     "sazh_is_host_name": (c.c_bool, Text),
     "sazh_connect": (_code, Pointer, Text, _u16),
     "sazh_connect_fd": (_code, Pointer, c.c_int, Text, _u16),

@@ -33,6 +33,13 @@ class Sessions(unittest.TestCase):
             self.assertIs(session.status, Status.OK)
         self.assertEqual(sazhonthil.check_host(b"localhost", 13265, KNOWN, KEY), (Status.OK, 0))
 
+    def test_known_hosts_as_openssh_reads_them(self):
+        blob = KNOWN.split()[2]
+        for text, wanted in ((b"*.EXAMPLE\tssh-ed25519  " + blob, (Status.OK, 0)), (b"*,!box.example ssh-ed25519 " + blob, (Status.UNKNOWN, 0)),
+                             (b"# \xff\n@revoked  *.example ssh-ed25519 " + blob, (Status.REVOKED, 2))):
+            self.assertEqual(sazhonthil.check_known_hosts_openssh(b"box.example", 22, text, KEY), wanted, text)
+        self.assertIs(sazhonthil.check_known_hosts_openssh(b"\xff", 22, b"", KEY)[0], Status.NOT_TEXT)
+
     def test_two_threads(self):
         """Two threads hand in events at once: none is lost, and the session isn't broken."""
         with sazhonthil.Session(b"localhost", 13265, KNOWN) as session:

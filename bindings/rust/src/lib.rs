@@ -79,6 +79,22 @@ pub fn check_host(host: &str, port: u16, known_hosts: &str, key: &[u8]) -> Resul
             host.as_ptr(), host.len(), port, known_hosts.as_ptr(), known_hosts.len(), key.as_ptr(), key.len(), &mut line,
         )
     };
+    verdict(status, line)
+}
+
+/// The same as OpenSSH reads the text, which may be any bytes: patterns, names in any case, any blanks; a line that can't
+/// be read is passed over.
+pub fn check_known_hosts_openssh(host: &str, port: u16, known_hosts: &[u8], key: &[u8]) -> Result<HostKey, Error> {
+    let mut line = 0;
+    let status = unsafe {
+        sys::sshc_known_hosts_check_openssh(
+            host.as_ptr(), host.len(), port, known_hosts.as_ptr(), known_hosts.len(), key.as_ptr(), key.len(), &mut line,
+        )
+    };
+    verdict(status, line)
+}
+
+fn verdict(status: u32, line: u64) -> Result<HostKey, Error> {
     match status {
         1 => Ok(HostKey::Unknown),
         29 => Ok(HostKey::Changed { line }),

@@ -17,6 +17,9 @@ extern "C" {
     pub fn sshc_known_hosts_check(
         host: *const u8, host_len: usize, port: u16, known: *const u8, known_len: usize, key: *const u8, key_len: usize, line: *mut u64,
     ) -> u32;
+    pub fn sshc_known_hosts_check_openssh(
+        host: *const u8, host_len: usize, port: u16, known: *const u8, known_len: usize, key: *const u8, key_len: usize, line: *mut u64,
+    ) -> u32;
     pub fn sshc_known_hosts_learn(
         host: *const u8, host_len: usize, port: u16, known: *const u8, known_len: usize, key: *const u8, key_len: usize,
         to: *mut u8, to_len: usize, size: *mut usize,

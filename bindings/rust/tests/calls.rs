@@ -1,6 +1,6 @@
 //! Worked runs, as tests/rows.py prints them to the file that ROWS names, and each kind of call once.
 
-use sazhonthil::{Agent, Error, Event, Exchange, HostKey, Input, Output, Session, Settings, Step, Told, check_host, learn_host};
+use sazhonthil::{Agent, Error, Event, Exchange, HostKey, Input, Output, Session, Settings, Step, Told, check_host, check_known_hosts_openssh, learn_host};
 
 const KEY: &str = "0000000b7373682d65643235353139000000209743ef2dda2eae39e325817702d66e2794d5e6f3f7f72eeff4045e7f4e21e649";
 const KNOWN: &str = "[localhost]:13265 ssh-ed25519 AAAAC3NzaC1lZDI1NTE5AAAAIJdD7y3aLq454yWBdwLWbieU1ebz9/cu7/QEXn9OIeZJ\n";
@@ -64,6 +64,18 @@ fn known_hosts() {
     let added = learn_host("elsewhere", 22, KNOWN, &key).unwrap();
     let text = format!("{KNOWN}{}", String::from_utf8(added).unwrap());
     assert_eq!(check_host("elsewhere", 22, &text, &key), Ok(HostKey::Known));
+}
+
+#[test]
+fn known_hosts_as_openssh_reads_them() {
+    let key = bytes(KEY);
+    let blob = KNOWN.split_whitespace().nth(2).unwrap();
+    let judge = |text: &str| check_known_hosts_openssh("box.example", 22, text.as_bytes(), &key);
+    assert_eq!(judge(&format!("*.EXAMPLE\tssh-ed25519  {blob}\n")), Ok(HostKey::Known));
+    assert_eq!(judge(&format!("*.example,!box.example ssh-ed25519 {blob}\n")), Ok(HostKey::Unknown));
+    assert_eq!(judge(&format!("* ssh-ed25519 {blob}\n@revoked  *.example ssh-ed25519 {blob}\n")), Ok(HostKey::Revoked { line: 2 }));
+    let text = [b"# \xff\nbox.example ssh-ed25519 ", blob.as_bytes(), b"\n"].concat();
+    assert_eq!(check_known_hosts_openssh("box.example", 22, &text, &key), Ok(HostKey::Known));
 }
 
 #[test]

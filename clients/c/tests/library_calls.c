@@ -1,4 +1,5 @@
 /* Calls of the library in their order and out of it, blocking and not: library_calls PORT USER KEY OTHER_KEY KNOWN_HOSTS */
+#define _POSIX_C_SOURCE 200809L
 #include <sazhonthil_ssh.h>
 
 #include <arpa/inet.h>
@@ -99,6 +100,29 @@ static void unknown_hosts(void) {
   check(sazh_host_accept(it, false) == SAZH_OK && sazh_login_none(it, words[2]) == SAZH_DENIED, "accepted for this time");
   check(strstr(sazh_methods(it), "publickey") != NULL && !sazh_is_partial(it), "the methods");
   sazh_free(it);
+}
+
+/* A pattern is one by default, and none where the narrow reading is asked for. */
+static void narrow_hosts(void) {
+  char path[] = "/tmp/sazh-narrow-XXXXXX";
+  int file = mkstemp(path);
+  sazh_connection *it = made(NULL, NULL);
+  check(file >= 0 && sazh_connect(it, "localhost", port()) == SAZH_HOST_UNKNOWN, "a key that isn't known");
+  check(sazh_hosts_narrow(it, true) == SAZH_MISUSE, "no other reading once it is connected");
+  FILE *to = fdopen(file, "w"), *from = fopen(words[5], "r");
+  char line[1000] = "", *key = from == NULL || fgets(line, sizeof line, from) == NULL ? NULL : strchr(line, ' ');
+  check(to != NULL && key != NULL && fprintf(to, "*%s", key) > 0 && fclose(to) == 0, "a line for every host");
+  if (from != NULL) fclose(from);
+  sazh_free(it);
+  for (int narrow = 0; narrow < 2; narrow++) {
+    it = made(NULL, path);
+    check(sazh_hosts_narrow(it, narrow) == SAZH_OK, "the reading");
+    check(sazh_connect(it, "localhost", port()) == (narrow ? SAZH_HOST_UNKNOWN : SAZH_OK), narrow ? "no pattern" : "a pattern");
+    check(!narrow || sazh_host_accept(it, false) == SAZH_OK, "a key that is accepted in the narrow reading");
+    sazh_free(it);
+  }
+  check(sazh_hosts_narrow(NULL, true) == SAZH_MISUSE, "no connection");
+  unlink(path);
 }
 
 static void logins(void) {
@@ -272,6 +296,7 @@ int main(int count, char **given) {
   before_connecting();
   no_connection();
   unknown_hosts();
+  narrow_hosts();
   logins();
   channels();
   ignored_streams();

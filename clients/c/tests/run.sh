@@ -26,7 +26,7 @@ fi
 python3 "$here/bad_servers.py" "$tested"
 if [ -x /usr/sbin/sshd ]; then
   [ "$client" = "$tested" ] || python3 "$here/uses.py" "$client"
-  for file in uses faults terminals; do python3 "$here/$file.py" "$tested"; done
+  for file in uses faults hosts terminals; do python3 "$here/$file.py" "$tested"; done
   python3 "$here/library.py"
 else
   echo "client: no tests against sshd, since openssh-server isn't installed"
