@@ -283,44 +283,6 @@ def a_host_is_known_by_any_of_its_keys(place):
             want((status, wanted in said), (0, True), f"known by {kind} alone, hashed {hashed}")
 
 
-def known_hosts_are_read_as_openssh_does(place):
-    name, kind_and_key = f"[localhost]:{PORT}", " ".join(place.read("host_ed25519.pub").split()[:2])
-    kind, key = kind_and_key.split()
-    good = f"{name} {kind_and_key}\n"
-    accepted = {
-        "a star": f"[local*]:{PORT} {kind_and_key}\n",
-        "a question mark": f"[l?calhost]:{PORT} {kind_and_key}\n",
-        "a list": f"other.example,{name},!elsewhere {kind_and_key}\n",
-        "upper case": f"[LocalHost]:{PORT} {kind_and_key}\n",
-        "tabs and blanks": f" {name}\t{kind}  {key}\ta comment\n",
-        "a carriage return": f"{name} {kind_and_key}\r\n",
-        "a type that is unknown": f"{name} ssh-new AAAAB3Nz\n{good}",
-        "a key that can't be read": f"{name} {kind} AAAA!\n{good}",
-        "bytes that are no text": f"other.example\udcff {kind_and_key}\n{good}",
-        "the host alone": f"localhost {kind_and_key}\n",
-    }
-    refused = {
-        "a negation": (f"[*]:{PORT},!{name} {kind_and_key}\n", name),
-        "a revocation in upper case": (f"@revoked [LOCALHOST]:{PORT} {kind_and_key}\n{good}", "line 1 revokes"),
-        "a revocation behind two blanks": (f"{good}@revoked  {name} {kind_and_key}\n", "line 2 revokes"),
-        "a revocation by a pattern": (f"{good}@revoked * {kind_and_key}\n", "line 2 revokes"),
-        "a mark that is unknown": (f"@other {name} {kind_and_key}\n", name),
-    }
-    words = ("-o", "StrictHostKeyChecking=yes", "-o", "HostKeyAlgorithms=ssh-ed25519")
-    for what, text in accepted.items():
-        with open(place.path("as_openssh"), "w", encoding="utf-8", errors="surrogateescape", newline="") as file:
-            file.write(text)
-        status, _, said = place.run(PORT, *words, known="as_openssh")
-        want(status, 0, f"{what}: {said}")
-    for what, (text, reason) in refused.items():
-        place.write("as_openssh", text)
-        status, _, said = place.run(PORT, *words, known="as_openssh")
-        want((status, reason in said), (255, True), f"{what}: {said}")
-    place.write("as_openssh", f"[LOCAL*]:{PORT} {' '.join(place.read('host_ecdsa.pub').split()[:2])}\n")
-    status, _, said = place.run(PORT, "-v", "-o", "StrictHostKeyChecking=yes", known="as_openssh")
-    want((status, "ecdsa-sha2-nistp256" in said), (0, True), f"a pattern says which algorithm comes first: {said}")
-
-
 def errors_name_key_file_line_and_words(place):
     fingerprint = lambda name: subprocess.run(["ssh-keygen", "-l", "-f", place.path(name)], capture_output=True, text=True, check=True).stdout.split()[1]
     ours = fingerprint("host_ed25519.pub")
@@ -425,7 +387,7 @@ if __name__ == "__main__":
     TESTS = [a_closed_descriptor_is_no_socket, output_that_cant_be_written_is_an_error, standard_descriptors_are_left_as_they_are, whole_packets_before_the_end_are_read,
              a_signal_at_the_password_prompt_brings_the_echo_back, a_forward_whose_reader_breaks_is_closed, a_forward_whose_reader_pauses_stops_no_other,
              a_server_that_sends_beyond_the_window_is_left,
-             a_local_forward_listens_in_both_families, a_remote_forward_tells_its_port, a_host_that_takes_nothing_holds_no_other, a_host_is_known_by_any_of_its_keys, known_hosts_are_read_as_openssh_does,
+             a_local_forward_listens_in_both_families, a_remote_forward_tells_its_port, a_host_that_takes_nothing_holds_no_other, a_host_is_known_by_any_of_its_keys,
              errors_name_key_file_line_and_words, wrong_words_are_refused, a_server_that_exchanges_no_keys_is_left, secrets_are_wiped_before_they_are_freed,
              it_is_built_and_installed_as_packages_want]
     with Place(sys.argv[1]) as place:
