@@ -295,12 +295,12 @@ enum {
  * people have. sshc_known_hosts_check has a narrower rule, by which a session judges too (sshc_session_new): where the first
  * one accepts a key, hand the session a text of the one line that sshc_known_hosts_learn makes of it for an empty text.
  *
- * What differs from OpenSSH in the narrower one, and matters: hosts are compared byte by byte, so hand in lower case (`Host`
- * isn't `host`). Patterns (*, ?, !) aren't read: a line for *.example.org is a line for a host of that very name, and a
- * pattern marked @revoked revokes nothing. Lines marked @cert-authority aren't read. Fields are parted by one space: a tab, two spaces or a
- * blank in front hide a line. One byte that isn't UTF-8, anywhere in the text, refuses every host (SSHC_NOT_TEXT). A line for
- * the host whose key isn't base64, or is of a type that isn't known here, refuses the host (SSHC_DECODE, SSHC_SSH_KEY) where
- * OpenSSH passes over it. */
+ * What differs from OpenSSH in the narrower one, and matters: hosts are compared byte by byte, so hand in lower case
+ * (`Host` isn't `host`). Patterns (*, ?, !) aren't read: a line for *.example.org is a line for a host of that very name,
+ * and a pattern marked @revoked revokes nothing. Lines marked @cert-authority aren't read. Fields are parted by one
+ * space: a tab, two spaces or a blank in front hide a line. One byte that isn't UTF-8, anywhere in the text, refuses
+ * every host (SSHC_NOT_TEXT). A line for the host whose key isn't base64, or is of a type that isn't known here, refuses
+ * the host (SSHC_DECODE, SSHC_SSH_KEY) where OpenSSH passes over it. */
 
 /* Whether the known hosts text accepts the key (its blob, RFC 4253, section 6.6) for the host at the port: SSHC_OK,
  * SSHC_UNKNOWN, SSHC_KEY_CHANGED or SSHC_REVOKED with the line's number from 1 in *line, SSHC_DECODE, SSHC_SSH_KEY,
