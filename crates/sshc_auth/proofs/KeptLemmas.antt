@@ -14,7 +14,10 @@ use Rattle.sshc_auth.specs.declared.opening.Phase.TheVariants as phases
 use Rattle.sshc_auth.specs.declared.step.Asks.TheVariants as asking
 use Rattle.sshc_auth.specs.declared.step.Step.TheVariants as steps
 use Rattle.sshc_auth.specs.declared.step.Told.TheVariants as telling
-use Rattle.sshc_auth.specs.AskedLaws.{AsksFor, IsKeyAtMost, asks_for, first_at_most}
+use Rattle.sshc_auth.specs.AnswerLaws.{NextOpens, RowAnswers, row_answers}
+use Rattle.sshc_auth.specs.AskedLaws.{AsksFor, IsKeyAtMost, asks_for, first_at_most, unasked}
+use Rattle.sshc_auth.specs.OpeningAnswers.{MayAdd, OpensBy}
+use Rattle.sshc_auth.specs.Stepping.{may_ask}
 use Rattle.sshc_auth.specs.GateLaws.{FirstRow, FirstOrTaken, TakesFirst, first_row}
 use Rattle.sshc_auth.specs.OneKeyLaws.{HasKeyNext, HasKeyRow, later_row}
 use Rattle.sshc_auth.specs.KeepLaws.{HandsAll, HandsBytes, Keeps, KeepsNext, KeepsState, KeepsAsked, KeepsAsking, SettledNext, open_keeps}
@@ -332,10 +335,44 @@ key_of gate s event told calls at (steps.Ended e) result is steps_so = λ later 
 key_of gate s event told calls at (steps.Refused e) result is steps_so = λ later goes. absurd (subst Continues is goes)
 key_of gate s event told calls at steps.Closed result is never = absurd never
 
+-- ---- what is answered
+
+-- a gate that isn't asked adds nothing
+quiet_unasked : {E : Type 0} (gate : GateAnswers E) (event : Event) (old mid : Outgoing) (told : Result Told E) (wanted : Asks) (answered : Answered gate (exchange_in event) old mid told wanted) → wanted ≡ asking.Nothing → (gate_adds gate event old mid told wanted answered).more ≡ []
+unfolding gate_adds nothing_added
+quiet_unasked gate event old mid told asking.Nothing (is, same) none = refl
+quiet_unasked gate event old mid told (asking.HostKey key) answered none = absurd cc
+quiet_unasked gate event old mid told asking.Exchange answered none = absurd cc
+quiet_unasked gate event old mid told (asking.Banner text) answered none = absurd cc
+
+-- the gate adds nothing, or it is told of an exchange or a banner
+abbrev pub Quiet : {old mid : Outgoing} → Event → GateAdds old mid → Type 0
+Quiet event adds = (adds.more ≡ []) ⊎ (may_ask event ≡ true)
+
+quiet_by : {E : Type 0} (gate : GateAnswers E) (s : OpeningState) (event : Event) (old mid : Outgoing) (told : Result Told E) (answered : Answered gate (exchange_in event) old mid told (asked_of s event)) → Quiet event (gate_adds gate event old mid told (asked_of s event) answered)
+quiet_by gate s event old mid told answered = by (may_ask event) refl
+  where
+    by : (may : Bool) → may_ask event ≡ may → Quiet event (gate_adds gate event old mid told (asked_of s event) answered)
+    by true is = inr is
+    by false is = inl (quiet_unasked gate event old mid told (asked_of s event) answered (unasked s event is))
+
+no_quiet : (event : Event) (old : Outgoing) → Quiet event (nothing_added old old refl)
+unfolding nothing_added
+no_quiet event old = inl refl
+
+-- a session that a row opens is opened by what may open it
+opens_by : {E : Type 0} (told_as : Error → E) (s : OpeningState) (event : Event) (told : Told) (calls : List SignCall) (at : Span) (answer : Step Error) (result : Step E) → result ≡ map_step told_as answer → Steps (open_row s event told) calls at answer → OpensBy s event result
+opens_by told_as s event told calls at steps.Went result same steps_so = rw same tt
+opens_by told_as s event told calls at steps.Opened result same (row, to, (makes, adds), next, after) =
+    rw same (subst (NextOpens s event) next (always_makes (RowAnswers s event) (open_row s event told) calls row (row_answers s event told) makes).1)
+opens_by told_as s event told calls at (steps.Ended e) result same steps_so = rw same tt
+opens_by told_as s event told calls at (steps.Refused e) result same steps_so = rw same tt
+opens_by told_as s event told calls at steps.Closed result same never = absurd never
+
 -- ---- a step
 
-refused_keeps : {E : Type 0} (gate : GateAnswers E) (event : Event) (e : E) (was is : Lent) (mid : Outgoing) (result : Step E) → GateAdds was.outbox mid → GateRefused e (record was { outbox = mid }) is result → KeepsTo gate event was is result
-refused_keeps gate event e was is mid result adds (refused, shut_so, outbox, calls) = record {
+refused_keeps : {E : Type 0} (gate : GateAnswers E) (event : Event) (e : E) (was is : Lent) (mid : Outgoing) (result : Step E) (adds : GateAdds was.outbox mid) → Quiet event adds → GateRefused e (record was { outbox = mid }) is result → KeepsTo gate event was is result
+refused_keeps gate event e was is mid result adds quiet (refused, shut_so, outbox, calls) = record {
   first = λ first. record {
     unwritten = adds_gate IsNoPacket was is mid no_packet adds outbox;
     behind = inl (rw (refused, shut_so) first.exchanging);
@@ -346,6 +383,15 @@ refused_keeps gate event e was is mid result adds (refused, shut_so, outbox, cal
   handed = adds_gate (HandsStored (kept_of was.opening)) was is mid (none_handed (kept_of was.opening)) adds outbox;
   once = let only = adds_gate HandsNothing was is mid nothing_handed adds outbox in (only.0, only.1, none_once is.opening (gained was is) only.0 only.2);
   request = rw shut_so (inl (refl, inl refl));
+  answers = record {
+    by_gate = adds.more;
+    own = [];
+    added = ap (λ (o : Outgoing). o.records) outbox ∙ adds.added ∙ ap (λ (more : List Record). was.outbox.records ++ more) (sym (append-nil adds.more));
+    resolved = adds.answers;
+    told = quiet;
+    may = tt;
+    opens = rw refused tt;
+  };
 }
   where
     none : gained was is ≡ []
@@ -375,12 +421,24 @@ told_keeps gate event was is mid told answer result answered same steps_so =
       handed = adds_both (HandsStored (kept_of s)) was is mid handed.0 (none_handed (kept_of s)) adds handed.1 handed.2;
       once = adds_once was is mid once.0 adds once.1 once.2;
       request = kept_so.request;
+      answers =
+          let own = row_adds (MayAdd s event) (open_row s event told) (gained was is) at answer
+          (λ row makes. (always_makes (RowAnswers s event) (open_row s event told) (gained was is) row (row_answers s event told) makes).0) steps_so in
+          record {
+            by_gate = adds.more;
+            own = shown mid.muted own.0;
+            added = added_behind was is mid own.0 adds own.1;
+            resolved = adds.answers;
+            told = quiet_by gate s event was.outbox mid (Ok told) answered;
+            may = shown_all (MayAdd s event) mid.muted own.0 own.2;
+            opens = opens_by gate.told_as s event told (gained was is) at answer result same steps_so;
+          };
     }
 
 by_told : {E : Type 0} (gate : GateAnswers E) (event : Event) (was is : Lent) (result : Step E) → StepsBy gate event was is result → KeepsTo gate event was is result
-by_told gate event was is result (inl refused) = refused_keeps gate event (gate.told_as NoMemory) was is was.outbox result (nothing_added was.outbox was.outbox refl) refused
+by_told gate event was is result (inl refused) = refused_keeps gate event (gate.told_as NoMemory) was is was.outbox result (nothing_added was.outbox was.outbox refl) (no_quiet event was.outbox) refused
 by_told gate event was is result (inr (Ok told, mid, answered, (answer, same, steps_so))) = told_keeps gate event was is mid told answer result answered same steps_so
-by_told gate event was is result (inr (Err e, mid, answered, refused)) = refused_keeps gate event e was is mid result (gate_adds gate event was.outbox mid (Err e) (asked_of was.opening event) answered) refused
+by_told gate event was is result (inr (Err e, mid, answered, refused)) = refused_keeps gate event e was is mid result (gate_adds gate event was.outbox mid (Err e) (asked_of was.opening event) answered) (quiet_by gate was.opening event was.outbox mid (Err e) answered) refused
 
 closed_keeps : {E : Type 0} (gate : GateAnswers E) (event : Event) (was is : Lent) (result : Step E) → was.opening.closed ≡ true → StaysClosed was is result → KeepsTo gate event was is result
 closed_keeps gate event was is result shut_before closed =
@@ -393,6 +451,15 @@ closed_keeps gate event was is result shut_before closed =
       handed = ([], ap (λ (o : Outgoing). o.records) so.2 ∙ sym (append-nil was.outbox.records), tt);
       once = ([], ap (λ (o : Outgoing). o.records) so.2 ∙ sym (append-nil was.outbox.records), tt);
       request = rw so.1 (inl (refl, inl refl));
+      answers = record {
+        by_gate = [];
+        own = [];
+        added = ap (λ (o : Outgoing). o.records) so.2 ∙ sym (append-nil was.outbox.records);
+        resolved = tt;
+        told = inl refl;
+        may = tt;
+        opens = rw so.0 tt;
+      };
     }
 
 by_closed : {E : Type 0} (gate : GateAnswers E) (event : Event) (was is : Lent) (result : Step E) (closed : Bool) → was.opening.closed ≡ closed → StaysClosed was is result → (was.opening.closed ≡ false → StepsBy gate event was is result) → KeepsTo gate event was is result

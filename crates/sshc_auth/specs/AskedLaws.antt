@@ -8,21 +8,11 @@ use Rattle.sshc_auth_event.specs.declared.event.Event.TheVariants as events
 use Rattle.sshc_transport.specs.declared.exchange.ExchangeFlag.TheVariants as flags
 use Rattle.sshc_auth.specs.declared.opening.Phase.TheVariants as phases
 use Rattle.sshc_auth.specs.declared.step.Asks.TheVariants as asking
-use Rattle.sshc_auth.specs.Stepping.{HasExchange}
+use Rattle.sshc_auth.specs.Stepping.{HasExchange, is_banner}
+pub use Rattle.sshc_auth.specs.Stepping.{may_ask}
 use Rattle.sshc_auth.specs.RowNames.{asked_of, Asks, banner_asks, banner_at_end, Event, event_asks, exchange_asks, exchange_in, ExchangeResult, has_kept_key, host_key, is_held_back, is_out_of_turn, key_asked, number_asks, OpeningState, Phase, PublicKeyOrCertificate, text_at, WireError, with_part}
 
 -- ---- one walk over what the table asks
-
--- the packet has the number of a banner (RFC 4252, section 5.4)
-abbrev pub is_banner : List ℕ → Bool
-is_banner [] = false
-is_banner (n ∷ body) = n == USERAUTH_BANNER
-
--- the kinds of events whose rows may ask the gate
-abbrev pub may_ask : Event → Bool
-may_ask (events.ExchangeDone x) = true
-may_ask (events.Payload packet) = is_banner packet
-may_ask event = false
 
 -- what holds of each question, where an event may ask it, holds of what the event asks
 record Questions (Q : Event → Asks → Type 0) (s : OpeningState) : Type 0 where

@@ -5,6 +5,7 @@ use Rattle.sshc_transport.specs.declared.exchange.ExchangeFlag.TheVariants as fl
 use Rattle.sshc_auth.specs.declared.error.Error.TheVariants as errors
 use Rattle.sshc_auth.specs.declared.opening.Phase.TheVariants as phases
 pub use Rattle.sshc_auth.specs.EachRowLaws.{not_kept}
+use Rattle.sshc_auth.specs.Said.{Said}
 use Rattle.sshc_auth.specs.EachRowLaws.{IsOther, PacketRows, TableRows, UserRows, each_row}
 use Rattle.sshc_auth.specs.Row.{ends as ends_with}
 use Rattle.sshc_auth.specs.RowNames.{AllCaused, Answer, Asking, asks, authenticate_again_row, authenticate_first_row, Caused, done, Error, Event, ExchangeResult, HashAlg, info_response_row, IsCause, Key, Next, open_row, OpeningState, opens, refuses, rekey_row, Row, signed_by_row, stays, Told, user_disconnect_row, WasToldNo, Why, why}
@@ -31,18 +32,18 @@ signed_cause P s key hash None fault = fault
 signed_cause P s key hash (Some signature) fault = tt
 
 -- the state of a packet's rows differs in the bytes that are counted
-packet_causes : (s t : OpeningState) (told : Told) (event : Event) →
-    PacketRows (HasCauses s told event) (IsCause (WasToldNo told) s event) t
-packet_causes s t told event = record {
+packet_causes : (s t : OpeningState) (told : Told) (event : Event) (W : Said → Type 0) →
+    PacketRows (HasCauses s told event) (IsCause (WasToldNo told) s event) W t
+packet_causes s t told event W = record {
   passed = (tt, tt);
-  extended = λ told. (tt, tt);
+  extended = λ told says. (tt, tt);
   started = λ is. (tt, tt);
-  unknown = λ partial none. (none, tt);
-  failed = λ method known partial. (tt, tt);
-  succeeded = (tt, tt);
-  banner = λ shown. (tt, tt);
-  prompted = λ name instructions asked. (tt, tt);
-  gssapi = λ step. (tt, tt);
+  unknown = λ partial none says. (none, tt);
+  failed = λ method known partial says. (tt, tt);
+  succeeded = λ says. (tt, tt);
+  banner = λ shown says. (tt, tt);
+  prompted = λ name instructions asked says. (tt, tt);
+  gssapi = λ step says. (tt, tt);
   cleared = (tt, tt);
   signs = λ pair key hash fault stored.
       (λ answer. signed_cause (why (WasToldNo told) s event) t key hash answer fault, λ signature. tt);
@@ -60,12 +61,12 @@ user_causes s told = record {
   complete = λ token. (tt, tt);
   rekeys = (tt, tt);
   waits = λ ticket name. (tt, tt);
-  resolves = λ event ticket resolution. (tt, tt);
+  resolves = λ event ticket resolution may. (tt, tt);
   leaves = λ reason description language. (tt, tt);
   gone = λ calm. ((refl, calm), tt);
   responds = λ responses. (tt, tt);
   signs = λ body awaits is. (tt, tt);
-  unsigned = λ event. (tt, tt);
+  unsigned = λ event lost. (tt, tt);
 }
 
 table_causes : (s : OpeningState) (told : Told) → TableRows (HasCauses s told) s told
@@ -76,9 +77,9 @@ table_causes s told = record {
   begins = λ idle. (tt, tt);
   joins = λ running. (tt, tt);
   accepted = λ x first went. (tt, tt);
-  opened = λ x first went. (tt, tt);
+  opened = λ x first went anonymous. (tt, tt);
   later = λ x behind same. (tt, tt);
-  packets = λ n body counted behind. packet_causes s (record s { counted = counted }) told (events.Payload (n ∷ body));
+  packets = λ n body counted behind. packet_causes s (record s { counted = counted }) told (events.Payload (n ∷ body)) _;
   users = λ turn. user_causes s told;
 }
 

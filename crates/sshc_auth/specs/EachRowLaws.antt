@@ -1,6 +1,6 @@
 -- One walk over the opening table: what holds of each row that the table comes to, where its tests lead to that row,
 -- holds of the row of every event. A law of the table is a record of what it says of these rows (`TableRows`).
-use Rattle.std.proofs.Common.{◌≡◌, ◌≢◌, ◌⊎◌, ◌<◌, ◌≤◌, ◌+◌, ◌-◌, ◌*◌, ◌^◌, inl, inr, ℕ, Bool, true, false, List, [], ◌∷◌, ◌++◌, ◌/◌, length, Option, Some, None, Result, Ok, Err, refl, sym, ◌∙◌, subst, arith}
+use Rattle.std.proofs.Common.{◌≡◌, ◌≢◌, ◌⊎◌, ◌<◌, ◌≤◌, ◌+◌, ◌-◌, ◌*◌, ◌^◌, inl, inr, ℕ, Bool, true, false, List, [], ◌∷◌, ◌++◌, ◌/◌, length, Option, Some, None, Result, Ok, Err, refl, ap, sym, ◌∙◌, subst, arith}
 use Rattle.std.specs.Prelude.{min, not, ◌==◌, if◌then◌else◌, bytes_eq, codes}
 use Rattle.std.specs.Int.{w32}
 use Rattle.std.specs.List.{AllByRecursion}
@@ -44,7 +44,11 @@ use Rattle.sshc_auth.specs.OpeningTable.ExtInfo.{ext_info_row, is_third}
 use Rattle.sshc_auth.specs.OpeningTable.Order.{sort_of, is_early, is_early_at, is_early_awaiting, packet_in, ticket_of}
 use Rattle.sshc_auth.specs.OpeningTable.Packets.{disconnect_row, disconnect_reason_row, is_ignored, waits_for_exchange}
 use Rattle.sshc_auth.specs.OpeningTable.Service.{service_accept_row, service_packet_row}
-use Rattle.sshc_auth.specs.OpeningTable.User.{gone_row, host_keys_answer, await_extension_info_row, get_server_sig_algs_row, is_seen, sig_algs_answer}
+use Rattle.sshc_auth.specs.OpeningTable.User.{gone_row, await_extension_info_row, get_server_sig_algs_row, is_seen, sig_algs_answer}
+use Rattle.sshc_auth.specs.OpeningAnswers.{ArePrompts, LosesLogin, MayResolve, Says}
+use Rattle.sshc_auth.specs.Said as said
+use Rattle.sshc_auth.specs.Said.{Said}
+use Rattle.sshc_auth.specs.PromptLaws.{AreRead, are_prompts}
 use Rattle.sshc_auth.specs.Row.{ends as ends_with}
 use Rattle.sshc_auth.specs.RowNames.{accepted_row, answered_row, Asking, auth_packet_row, auth_row, authenticate_again_row, authenticate_first_row, behind_session_id, broken_row, Class, counted_with, Disconnect, done, ends_at, Error, Event, exchange_done_row, exchange_in, exchange_row_in, exchanged, ExchangeFlag, ExchangeKey, ExchangeResult, Extension, extensions_row, goes, gssapi_complete, gssapi_mic, gssapi_step, gssapi_token, HandsCertificate, HandsKey, has_kept_key, HashAlg, held_packet_row, info_response_row, is_awaiting, is_exchanging, is_out_of_turn, is_pk_ok, is_same_key, is_signed, is_too_much, IsCause, IsKeptKey, kept_of, Key, key_text, last_token, Method, MethodKind, numbered_row, open_row, OpeningState, opens, packet_row_in, passed_over, payload_row, peer_kexinit_row_at, Phase, plain_row, refused, rekey_row, Resolution, resolved, Row, signed, SignsStored, stored_request, string_at, taken, text_at, Ticket, Told, turn_row, unsigned_row, user_disconnect_row, userauth_banner_row, WasToldNo, WireError, with_part}
 
@@ -85,18 +89,19 @@ waiting_row s ticket name =
 abbrev pub handed_row : OpeningState → List ℕ → Row
 handed_row s body = goes (records.Payload (behind_session_id s body) ∷ []) (record s { phase = phases.Auth })
 
--- a packet's, behind the first exchange; `R` says for which causes its errors come
-pub record PacketRows (P : Asking Row → Type 0) (R : Error → Type 0) (s : OpeningState) : Type 0 where
+-- a packet's, after the first exchange; `R` says for which causes its errors come, and `W` what the packet says
+pub record PacketRows (P : Asking Row → Type 0) (R : Error → Type 0) (W : Said → Type 0) (s : OpeningState) : Type 0 where
   pub passed : P (done (passed_over s))
-  pub extended : (told : List Extension) → P (done (extensions_row s told))
+  pub extended : (told : List Extension) → W (said.extensions told) → P (done (extensions_row s told))
   pub started : s.phase ≡ phases.Service → P (done (started_row s))
-  pub unknown : (partial : Bool) → R errors.NoAuthMethod → P (done (failed_row s [] partial))
-  pub failed : (method : MethodKind) (known : List MethodKind) (partial : Bool) →
+  pub unknown : (partial : Bool) → R errors.NoAuthMethod → W (said.failure [] partial) → P (done (failed_row s [] partial))
+  pub failed : (method : MethodKind) (known : List MethodKind) (partial : Bool) → W (said.failure (method ∷ known) partial) →
       P (done (failed_row s (method ∷ known) partial))
-  pub succeeded : P (done (succeeded_row s))
-  pub banner : (shown : List ℕ) → P (done (goes (records.AuthBanner shown ∷ []) s))
-  pub prompted : (name instructions : List ℕ) (asked : List Prompt) → P (done (prompted_row s name instructions asked))
-  pub gssapi : (step : GssapiRecord) → P (done (gssapi_step s step))
+  pub succeeded : W said.success → P (done (succeeded_row s))
+  pub banner : (shown : List ℕ) → W (said.banner shown) → P (done (goes (records.AuthBanner shown ∷ []) s))
+  pub prompted : (name instructions : List ℕ) (asked : List Prompt) → W (said.prompts name instructions asked) →
+      P (done (prompted_row s name instructions asked))
+  pub gssapi : (step : GssapiRecord) → W (said.step step) → P (done (gssapi_step s step))
   pub cleared : P (done (goes [] (taken s)))
   pub signs : (pair : KeyPair) (key : Key) (hash : Option HashAlg) → R errors.SignerFault →
       SignsStored s.method (kept_of s) pair hash (signed s.session_id s.user key hash) → P (sign_row s pair key hash)
@@ -123,14 +128,15 @@ pub record UserRows (P : Event → Asking Row → Type 0) (s : OpeningState) : T
   pub rekeys : P events.Rekey (done (rekey_row s))
   pub waits : (ticket : Ticket) (name : List ℕ) →
       P (events.AwaitExtensionInfo ticket name) (done (waiting_row s ticket name))
-  pub resolves : (event : Event) (ticket : Ticket) (answer : Resolution) → P event (done (answered_row s ticket answer))
+  pub resolves : (event : Event) (ticket : Ticket) (answer : Resolution) → MayResolve s event ticket answer →
+      P event (done (answered_row s ticket answer))
   pub leaves : (reason : Disconnect) (description language : List ℕ) →
       P (events.Disconnect reason description language) (done (user_disconnect_row reason description language))
   pub gone : is_awaiting s.phase ≡ false → P events.Gone (done gone_row)
   pub responds : (texts : List (List ℕ)) → P (events.AuthInfoResponse texts) (done (info_response_row s texts))
   pub signs : (body : List ℕ) → s.phase ≡ phases.AwaitSignature → is_signed s.handed body ≡ true →
       P (events.Signed body) (done (handed_row s body))
-  pub unsigned : (event : Event) → P event (done (unsigned_row s))
+  pub unsigned : (event : Event) → LosesLogin s event → P event (done (unsigned_row s))
 
 -- all of them; the rows of a packet are those of a state that differs only in the bytes that are counted
 pub record TableRows (P : Event → Asking Row → Type 0) (s : OpeningState) (told : Told) : Type 0 where
@@ -144,12 +150,12 @@ pub record TableRows (P : Event → Asking Row → Type 0) (s : OpeningState) (t
   pub accepted : (x : ExchangeResult) → s.phase ≡ phases.Exchanging → told ≡ telling.Went →
       P (events.ExchangeDone x) (done (accepted_row false s x))
   pub opened : (x : ExchangeResult) → s.phase ≡ phases.Exchanging → told ≡ telling.Went →
-      P (events.ExchangeDone x) (done (accepted_row true s x))
+      s.settings.anonymous ≡ true → P (events.ExchangeDone x) (done (accepted_row true s x))
   pub later : (x : ExchangeResult) → s.phase ≢ phases.Exchanging → has_kept_key s x ≡ true →
       P (events.ExchangeDone x) (done (goes (records.KexDone x.names.kex ∷ []) (exchanged s)))
   pub packets : (n : ℕ) (body : List ℕ) (counted : ℕ) → s.phase ≢ phases.Exchanging →
       PacketRows (P (events.Payload (n ∷ body))) (IsCause (WasToldNo told) s (events.Payload (n ∷ body)))
-      (record s { counted = counted })
+      (Says s n body) (record s { counted = counted })
   pub users : (is_awaiting s.phase ≡ true) ⊎ (s.flag ≡ flags.Idle) → UserRows P s
 
 -- ---- tests and parts
@@ -168,13 +174,18 @@ part_row : {A : Type 0} (Q : Row → Type 0) (parts : List FieldKind) (read : Re
 part_row Q parts (Ok x) on breaks each = each x.0 x.1 refl breaks
 part_row Q parts (Err e) on breaks each = breaks tt
 
-end_row : (Q : Row → Type 0) (left : List ℕ) (row : Row) → (Breaks (end ∷ []) left → Q broken_row) → Q row →
-    Q (ends_at left row)
-end_row Q [] row breaks holds = holds
+end_row : (Q : Row → Type 0) (left : List ℕ) (row : Row) → (Breaks (end ∷ []) left → Q broken_row) →
+    (left ≡ [] → Q row) → Q (ends_at left row)
+end_row Q [] row breaks holds = holds refl
 end_row Q (b ∷ left) row breaks holds = breaks tt
 
 pub same_number : (n m : ℕ) → (n == m) ≡ true → n ≡ m
 same_number n m is = grind (arith, nat_tests)
+
+-- where nothing is left, the part is the last
+last_part : {A : Type 0} (read : Result (A × List ℕ) WireError) (x : A) (left : List ℕ) → read ≡ Ok (x, left) → left ≡ [] →
+    read ≡ Ok (x, [])
+last_part read x left is none = subst (λ (bytes : List ℕ). read ≡ Ok (x, bytes)) none is
 
 -- ---- known methods
 
@@ -364,7 +375,7 @@ module _ (P : Event → Asking Row → Type 0) (s : OpeningState) (told : Told) 
       abbrev t : OpeningState
       t = record s { counted = counted }
 
-      abbrev leaf : PacketRows (P packet) (IsCause (WasToldNo told) s packet) t
+      abbrev leaf : PacketRows (P packet) (IsCause (WasToldNo told) s packet) (Says s n body) t
       leaf = rows.packets n body counted behind
 
       abbrev Broken : List FieldKind → Type 0
@@ -380,20 +391,21 @@ module _ (P : Event → Asking Row → Type 0) (s : OpeningState) (told : Told) 
           Holds (if n == m then x else y)
       by_number m x y one other = by_test Holds (n == m) x y (λ is. one (same_number n m is)) other
 
-      ext_info_holds : Broken (extensions ∷ end ∷ []) → (2 ≤ s.ext_infos → Holds (refused errors.Inconsistent)) →
+      ext_info_holds : n ≡ EXT_INFO → Broken (extensions ∷ end ∷ []) → (2 ≤ s.ext_infos → Holds (refused errors.Inconsistent)) →
           Holds (ext_info_row t body)
       unfolding ext_info_row
-      ext_info_holds breaks third =
+      ext_info_holds ext breaks third =
           by_test Holds (is_third s) _ _ (λ is. third (grind (arith, nat_tests))) (λ is.
           part_row Holds (end ∷ []) (extensions_at body) _ breaks (λ told left read breaks.
-          end_row Holds left (extensions_row t told) breaks (leaf.extended told)))
+          end_row Holds left (extensions_row t told) breaks (λ none.
+          leaf.extended told (ext, last_part (extensions_at body) told left read none))))
 
       -- Service: a SERVICE_ACCEPT is broken where its name can't be read, or bytes follow that of our service
       named_holds : (x : List ℕ × List ℕ) (known : Bool) → s.phase ≡ phases.Service → string_at body ≡ Ok x →
           bytes_eq x.0 (codes "ssh-userauth") ≡ known → Broken (accept_parts (Ok x)) →
           Holds (if known then ends_at x.1 (started_row t) else passed_over t)
       named_holds x true is read name breaks =
-          end_row Holds x.1 (started_row t) (λ broken. breaks (rw (name, read) broken)) (leaf.started is)
+          end_row Holds x.1 (started_row t) (λ broken. breaks (rw (name, read) broken)) (λ none. leaf.started is)
       named_holds x false is read name breaks = leaf.passed
 
       accept_holds : (read : Result (List ℕ × List ℕ) WireError) → s.phase ≡ phases.Service → string_at body ≡ read →
@@ -408,72 +420,97 @@ module _ (P : Event → Asking Row → Type 0) (s : OpeningState) (told : Told) 
           by_test Holds (n == SERVICE_ACCEPT) _ _ (λ accept. by_test Holds (not s.requested) _ _
           (λ asked. unexpected (rw is (inr (inl (same_number n SERVICE_ACCEPT accept, not_true s.requested asked)))))
           (λ asked. accept_holds (string_at body) is refl (λ broken. breaks (rw (is, accept) broken)))) (λ no6.
-          by_number EXT_INFO _ _ (λ same. ext_info_holds (λ broken. breaks (rw (is, same) broken))
+          by_number EXT_INFO _ _ (λ same. ext_info_holds same (λ broken. breaks (rw (is, same) broken))
           (λ third. unexpected (rw is (inr (inr (same, third))))))
           (λ no7. unexpected (rw is (inl (rw (no6, no7) refl)))))
 
       -- Auth
       failed_holds : (known : List MethodKind) (partial : Bool) →
-          (known ≡ [] → IsCause (WasToldNo told) s packet errors.NoAuthMethod) → Holds (failed_row t known partial)
-      failed_holds [] partial none = leaf.unknown partial (none refl)
-      failed_holds (method ∷ known) partial none = leaf.failed method known partial
+          (known ≡ [] → IsCause (WasToldNo told) s packet errors.NoAuthMethod) → Says s n body (said.failure known partial) →
+          Holds (failed_row t known partial)
+      failed_holds [] partial none says = leaf.unknown partial (none refl) says
+      failed_holds (method ∷ known) partial none says = leaf.failed method known partial says
 
-      failure_holds : Broken (text ∷ boolean ∷ end ∷ []) →
+      failure_holds : s.phase ≡ phases.Auth → n ≡ USERAUTH_FAILURE → Broken (text ∷ boolean ∷ end ∷ []) →
           (AreUnknown (text_at body) → IsCause (WasToldNo told) s packet errors.NoAuthMethod) →
           Holds (userauth_failure_row t body)
       unfolding userauth_failure_row
-      failure_holds breaks unknown =
+      failure_holds is same breaks unknown =
           part_row Holds (boolean ∷ end ∷ []) (text_at body) _ breaks (λ list rest read breaks.
           part_row Holds (end ∷ []) (boolean_at rest) _ breaks (λ partial left also breaks.
-          let known = known_methods (names_in list) in end_row Holds left (failed_row t known partial) breaks
-          (failed_holds known partial (λ none. unknown (rw read (none_behind [] (names_in list) none).1)))))
+          let known = known_methods (names_in list) in end_row Holds left (failed_row t known partial) breaks (λ whole.
+          failed_holds known partial (λ none. unknown (rw read (none_behind [] (names_in list) none).1))
+          (is, same, list, rest, read, last_part (boolean_at rest) partial left also whole, refl))))
 
-      banner_holds : Broken (text ∷ text ∷ end ∷ []) → Holds (userauth_banner_row t body)
+      banner_holds : s.phase ≡ phases.Auth → n ≡ USERAUTH_BANNER → Broken (text ∷ text ∷ end ∷ []) → Holds (userauth_banner_row t body)
       unfolding userauth_banner_row
-      banner_holds breaks =
+      banner_holds is same breaks =
           part_row Holds (text ∷ end ∷ []) (text_at body) _ breaks (λ banner rest read breaks.
-          part_row Holds (end ∷ []) (text_at rest) _ breaks (λ language left read breaks.
-          end_row Holds left _ breaks (leaf.banner banner)))
+          part_row Holds (end ∷ []) (text_at rest) _ breaks (λ language left also breaks.
+          end_row Holds left _ breaks (λ whole.
+          leaf.banner banner (is, same, rest, language, read, last_part (text_at rest) language left also whole))))
 
-      asked_holds : (name instructions : List ℕ) (n : ℕ) (rest : List ℕ) →
-          (BreaksBehind (λ left. Breaks (end ∷ []) left) (rest_of (prompts_at n rest)) → Holds broken_row) →
-          (length rest / 5 < n → Holds (refused errors.Inconsistent)) → Holds (prompts_row t name instructions n rest)
+      -- as many prompts as are counted make the packet whole
+      abbrev Prompting : List ℕ → List ℕ → Result (ℕ × List ℕ) WireError → Type 0
+      Prompting name instructions read =
+          (asked : List Prompt) (rest : List ℕ) → read ≡ Ok (length asked, rest) → ArePrompts asked rest [] →
+          Says s n body (said.prompts name instructions asked)
+
+      asked_holds : (name instructions : List ℕ) (count : ℕ) (rest : List ℕ) →
+          Prompting name instructions (Ok (count, rest)) →
+          (BreaksBehind (λ left. Breaks (end ∷ []) left) (rest_of (prompts_at count rest)) → Holds broken_row) →
+          (length rest / 5 < count → Holds (refused errors.Inconsistent)) →
+          Holds (prompts_row t name instructions count rest)
       unfolding prompts_row
-      asked_holds name instructions n rest breaks many =
-          by_test Holds (is_too_many n rest) _ _ (λ is. many (grind (arith, nat_tests))) (λ is.
-          part_row Holds (end ∷ []) (prompts_at n rest) _ breaks (λ asked left read breaks.
-          end_row Holds left (prompted_row t name instructions asked) breaks (leaf.prompted name instructions asked)))
+      asked_holds name instructions count rest says breaks many =
+          by_test Holds (is_too_many count rest) _ _ (λ is. many (grind (arith, nat_tests))) (λ is.
+          part_row Holds (end ∷ []) (prompts_at count rest) _ breaks (λ asked left read breaks.
+          end_row Holds left (prompted_row t name instructions asked) breaks (λ whole.
+          let all : AreRead count asked rest [] =
+          are_prompts count rest asked [] (last_part (prompts_at count rest) asked left read whole) in
+          leaf.prompted name instructions asked
+          (says asked rest (ap (λ (k : ℕ). Ok (k, rest)) all.count) all.prompts))))
 
       count_holds : (name instructions : List ℕ) (read : Result (ℕ × List ℕ) WireError) →
+          Prompting name instructions read →
           (BreaksBehind (λ left. Breaks (end ∷ []) left) (after_prompts read) → Holds broken_row) →
           (AreTooMany read → Holds (refused errors.Inconsistent)) →
           Holds (with_part broken_row read (λ n rest. prompts_row t name instructions n rest))
-      count_holds name instructions (Ok n) breaks many = asked_holds name instructions n.0 n.1 breaks many
-      count_holds name instructions (Err e) breaks many = breaks tt
+      count_holds name instructions (Ok n) says breaks many = asked_holds name instructions n.0 n.1 says breaks many
+      count_holds name instructions (Err e) says breaks many = breaks tt
 
-      prompts_hold : Broken (text ∷ text ∷ text ∷ prompts ∷ end ∷ []) →
+      prompts_hold : s.phase ≡ phases.Auth → s.class ≡ classes.Prompts → n ≡ USERAUTH_PK_OK →
+          Broken (text ∷ text ∷ text ∷ prompts ∷ end ∷ []) →
           (HasTooManyPrompts body → Holds (refused errors.Inconsistent)) → Holds (info_request_row t body)
       unfolding info_request_row
-      prompts_hold breaks many =
+      prompts_hold auth class same breaks many =
           part_row Holds (text ∷ text ∷ prompts ∷ end ∷ []) (text_at body) _ breaks (λ name rest read breaks.
           part_row Holds (text ∷ prompts ∷ end ∷ []) (text_at rest) _ breaks (λ instructions rest' read' breaks.
           part_row Holds (prompts ∷ end ∷ []) (text_at rest') _ breaks (λ language rest'' read'' breaks.
-          count_holds name instructions (number_at w32 rest'') breaks (λ more. many (rw (read, read', read'') more)))))
+          count_holds name instructions (number_at w32 rest'')
+          (λ asked after counted are.
+          (auth, class, same, rest, rest', rest'', after, language, read, read', read'', counted, are))
+          breaks (λ more. many (rw (read, read', read'') more)))))
 
-      string_holds : (on : List ℕ → GssapiRecord) → Broken (string ∷ end ∷ []) →
+      string_holds : (on : List ℕ → GssapiRecord) →
+          ((x : List ℕ) → string_at body ≡ Ok (x, []) → Says s n body (said.step (on x))) → Broken (string ∷ end ∷ []) →
           Holds (with_part broken_row (string_at body) (λ x left. ends_at left (gssapi_step t (on x))))
-      string_holds on breaks =
+      string_holds on says breaks =
           part_row Holds (end ∷ []) (string_at body) _ breaks (λ x left read breaks.
-          end_row Holds left (gssapi_step t (on x)) breaks (leaf.gssapi (on x)))
+          end_row Holds left (gssapi_step t (on x)) breaks (λ whole.
+          leaf.gssapi (on x) (says x (last_part (string_at body) x left read whole))))
 
-      error_holds : Broken (number ∷ number ∷ text ∷ text ∷ end ∷ []) → Holds (gssapi_error_row t body)
+      error_holds : s.phase ≡ phases.Auth → s.class ≡ classes.Gssapi → n ≡ USERAUTH_GSSAPI_ERROR →
+          Broken (number ∷ number ∷ text ∷ text ∷ end ∷ []) → Holds (gssapi_error_row t body)
       unfolding gssapi_error_row
-      error_holds breaks =
-          part_row Holds (number ∷ text ∷ text ∷ end ∷ []) (number_at w32 body) _ breaks (λ major rest read breaks.
-          part_row Holds (text ∷ text ∷ end ∷ []) (number_at w32 rest) _ breaks (λ minor rest read breaks.
-          part_row Holds (text ∷ end ∷ []) (text_at rest) _ breaks (λ message rest read breaks.
-          part_row Holds (end ∷ []) (text_at rest) _ breaks (λ language left read breaks.
-          end_row Holds left _ breaks (leaf.gssapi (gssapi.Error major minor message))))))
+      error_holds auth class same breaks =
+          part_row Holds (number ∷ text ∷ text ∷ end ∷ []) (number_at w32 body) _ breaks (λ major a first breaks.
+          part_row Holds (text ∷ text ∷ end ∷ []) (number_at w32 a) _ breaks (λ minor b second breaks.
+          part_row Holds (text ∷ end ∷ []) (text_at b) _ breaks (λ message c third breaks.
+          part_row Holds (end ∷ []) (text_at c) _ breaks (λ language left last breaks.
+          end_row Holds left _ breaks (λ whole.
+          leaf.gssapi (gssapi.Error major minor message)
+          (auth, class, (same, a, b, c, language, first, second, third, last_part (text_at c) language left last whole)))))))
 
       gssapi_holds : (class : Class) → s.phase ≡ phases.Auth → s.class ≡ class → (n == USERAUTH_FAILURE) ≡ false →
           (n == USERAUTH_SUCCESS) ≡ false → (n == USERAUTH_BANNER) ≡ false → (n == USERAUTH_PK_OK) ≡ false →
@@ -481,12 +518,12 @@ module _ (P : Event → Asking Row → Type 0) (s : OpeningState) (told : Told) 
       unfolding gssapi_row gssapi_token_row gssapi_errtok_row
       gssapi_holds classes.Gssapi is class no51 no52 no53 no60 no7 =
           by_number USERAUTH_GSSAPI_TOKEN _ _ (λ same.
-          string_holds (λ x. gssapi.Token x (mic s.session_id s.user))
+          string_holds (λ x. gssapi.Token x (mic s.session_id s.user)) (λ x read. (is, class, (same, read, refl)))
           (λ broken. breaks (rw (is, class, same) broken))) (λ no61.
           by_number USERAUTH_GSSAPI_ERROR _ _ (λ same.
-          error_holds (λ broken. breaks (rw (is, class, same) broken))) (λ no64.
+          error_holds is class same (λ broken. breaks (rw (is, class, same) broken))) (λ no64.
           by_number USERAUTH_GSSAPI_ERRTOK _ _ (λ same.
-          string_holds (λ x. gssapi.ErrorToken x) (λ broken. breaks (rw (is, class, same) broken))) (λ no65.
+          string_holds (λ x. gssapi.ErrorToken x) (λ x read. (is, class, (same, read))) (λ broken. breaks (rw (is, class, same) broken))) (λ no65.
           unexpected (rw (is, class) (inl (rw (no51, no52, no53, no60, no7, no61, no64, no65) refl))))))
       gssapi_holds class is same no51 no52 no53 no60 no7 =
           unexpected (rw (is, same) (inl (rw (no51, no52, no53, no60, no7) refl)))
@@ -495,22 +532,24 @@ module _ (P : Event → Asking Row → Type 0) (s : OpeningState) (told : Told) 
           Holds (answer_row class t body)
       unfolding answer_row gssapi_response_row
       answer_holds classes.Prompts is class ok =
-          prompts_hold (λ broken. breaks (rw (is, class, ok) broken))
+          prompts_hold is class ok (λ broken. breaks (rw (is, class, ok) broken))
           (λ many. unexpected (rw is (inr (inl (class, ok, many)))))
       answer_holds classes.Gssapi is class ok =
-          string_holds (λ x. gssapi.Response x (mic s.session_id s.user)) (λ broken. breaks (rw (is, class, ok) broken))
+          string_holds (λ x. gssapi.Response x (mic s.session_id s.user)) (λ x read. (is, class, (ok, read, refl)))
+          (λ broken. breaks (rw (is, class, ok) broken))
       answer_holds class is same ok = leaf.cleared
 
       auth_holds : s.phase ≡ phases.Auth → Holds (auth_row t n body)
       unfolding auth_row userauth_success_row
       auth_holds is =
           by_number USERAUTH_FAILURE _ _ (λ same.
-          failure_holds (λ broken. breaks (rw (is, same) broken)) (λ names. (is, same, names))) (λ no51.
+          failure_holds is same (λ broken. breaks (rw (is, same) broken)) (λ names. (is, same, names))) (λ no51.
           by_number USERAUTH_SUCCESS _ _ (λ same.
-          end_row Holds body (succeeded_row t) (λ broken. breaks (rw (is, same) broken)) leaf.succeeded) (λ no52.
-          by_number USERAUTH_BANNER _ _ (λ same. banner_holds (λ broken. breaks (rw (is, same) broken))) (λ no53.
+          end_row Holds body (succeeded_row t) (λ broken. breaks (rw (is, same) broken))
+          (λ whole. leaf.succeeded (is, same, whole))) (λ no52.
+          by_number USERAUTH_BANNER _ _ (λ same. banner_holds is same (λ broken. breaks (rw (is, same) broken))) (λ no53.
           by_number USERAUTH_PK_OK _ _ (λ ok. answer_holds s.class is refl ok) (λ no60.
-          by_number EXT_INFO _ _ (λ same. ext_info_holds (λ broken. breaks (rw (is, same) broken))
+          by_number EXT_INFO _ _ (λ same. ext_info_holds same (λ broken. breaks (rw (is, same) broken))
           (λ third. unexpected (rw is (inr (inr (same, third))))))
           (λ no7. gssapi_holds s.class is refl no51 no52 no53 no60 no7)))))
 
@@ -584,19 +623,25 @@ module _ (P : Event → Asking Row → Type 0) (s : OpeningState) (told : Told) 
         no_channel (events.ChannelOpenDirectTcpIp ticket host port address own) tt
     unopened_has (events.ChannelOpenDirectStreamLocal ticket path) none =
         no_channel (events.ChannelOpenDirectStreamLocal ticket path) tt
-    unopened_has (events.TcpIpForward ticket address port) none = mine.resolves _ ticket answers.Denied
-    unopened_has (events.CancelTcpIpForward ticket address port) none = mine.resolves _ ticket answers.Denied
-    unopened_has (events.StreamLocalForward ticket path) none = mine.resolves _ ticket answers.Denied
-    unopened_has (events.CancelStreamLocalForward ticket path) none = mine.resolves _ ticket answers.Denied
-    unopened_has (events.Ping ticket) none = mine.resolves _ ticket answers.Denied
-    unopened_has (events.SendGlobalRequest ticket name body) none = mine.resolves _ ticket answers.Denied
-    unopened_has (events.HostKeysProve ticket keys) none = mine.resolves _ ticket (host_keys_answer keys)
+    unopened_has (events.TcpIpForward ticket address port) none = mine.resolves _ ticket answers.Denied refl
+    unopened_has (events.CancelTcpIpForward ticket address port) none = mine.resolves _ ticket answers.Denied refl
+    unopened_has (events.StreamLocalForward ticket path) none = mine.resolves _ ticket answers.Denied refl
+    unopened_has (events.CancelStreamLocalForward ticket path) none = mine.resolves _ ticket answers.Denied refl
+    unopened_has (events.Ping ticket) none = mine.resolves _ ticket answers.Denied refl
+    unopened_has (events.SendGlobalRequest ticket name body) none = mine.resolves _ ticket answers.Denied refl
+    unopened_has (events.HostKeysProve ticket []) none = mine.resolves _ ticket answers.HostKeysProved refl
+    unopened_has (events.HostKeysProve ticket (key ∷ keys)) none = mine.resolves _ ticket answers.Denied refl
     unopened_has event none = rows.passed event none
 
     gssapi_has : (event : Event) (row : Row) → exchange_in event ≡ None → Has event row →
         Has event (if is_gssapi s.phase s.class then row else passed_over s)
     gssapi_has event row none holds =
         by_test (Has event) (is_gssapi s.phase s.class) _ _ (λ is. holds) (λ other. rows.passed event none)
+
+    names_has : (ticket : Ticket) (listed : Option (List (List ℕ))) → s.sig_algs ≡ listed →
+        Has (events.GetServerSigAlgs ticket) (answered_row s ticket (sig_algs_answer listed))
+    names_has ticket None is = mine.resolves _ ticket (answers.SigAlgs false []) (refl, is, refl)
+    names_has ticket (Some names) is = mine.resolves _ ticket (answers.SigAlgs true names) (refl, is)
 
     user_has : (event : Event) → exchange_in event ≡ None → Has event (user_row s event)
     unfolding user_row user_token_row user_mic_row user_complete_row await_extension_info_row get_server_sig_algs_row
@@ -610,16 +655,16 @@ module _ (P : Event → Asking Row → Type 0) (s : OpeningState) (told : Told) 
     user_has events.Rekey none = mine.rekeys
     user_has (events.AwaitExtensionInfo ticket name) none =
         by_test (Has (events.AwaitExtensionInfo ticket name)) (is_seen s.seen name) _ _
-        (λ is. mine.resolves (events.AwaitExtensionInfo ticket name) ticket answers.ExtInfoSeen)
+        (λ is. mine.resolves (events.AwaitExtensionInfo ticket name) ticket answers.ExtInfoSeen (inl (refl, is)))
         (λ is. mine.waits ticket name)
-    user_has (events.GetServerSigAlgs ticket) none = mine.resolves _ ticket (sig_algs_answer s.sig_algs)
+    user_has (events.GetServerSigAlgs ticket) none = names_has ticket s.sig_algs refl
     user_has events.Gone none = mine.gone calm
     user_has event none = unopened_has event none
 
-  accepted_has : (x : ExchangeResult) (anonymous : Bool) → s.phase ≡ phases.Exchanging → told ≡ telling.Went →
-      Has (events.ExchangeDone x) (accepted_row anonymous s x)
-  accepted_has x false first went = rows.accepted x first went
-  accepted_has x true first went = rows.opened x first went
+  accepted_has : (x : ExchangeResult) (anonymous : Bool) → s.settings.anonymous ≡ anonymous →
+      s.phase ≡ phases.Exchanging → told ≡ telling.Went → Has (events.ExchangeDone x) (accepted_row anonymous s x)
+  accepted_has x false is first went = rows.accepted x first went
+  accepted_has x true is first went = rows.opened x first went is
 
   kexinit_has : (flag : ExchangeFlag) → s.flag ≡ flag → Has events.PeerKexinit (peer_kexinit_row_at flag s)
   kexinit_has flags.Idle is = rows.begins is
@@ -631,7 +676,7 @@ module _ (P : Event → Asking Row → Type 0) (s : OpeningState) (told : Told) 
   plain_has events.PeerKexinit calm early = kexinit_has s.flag refl
   plain_has (events.ExchangeDone x) calm early =
       exchange_holds (P (events.ExchangeDone x)) s x told (rows.refusal (events.ExchangeDone x))
-      (accepted_has x s.settings.anonymous) (rows.later x) s.phase (peers s.flag early) refl
+      (accepted_has x s.settings.anonymous refl) (rows.later x) s.phase (peers s.flag early) refl
   plain_has (events.Payload packet) calm early = rows.passed (events.Payload packet) refl
   plain_has events.TransportFailed calm early =
       rows.refusal events.TransportFailed errors.TransportFailed tt (refl, calm)
@@ -648,15 +693,15 @@ module _ (P : Event → Asking Row → Type 0) (s : OpeningState) (told : Told) 
   module _ (own : UserRows P s) (awaits : is_awaiting s.phase ≡ true) where
     responses_has : (event : Event) → Has event (responses_row s event)
     responses_has (events.AuthInfoResponse responses) = own.responds responses
-    responses_has event = own.resolves event (ticket_of event) answers.Dropped
+    responses_has event = own.resolves event (ticket_of event) answers.Dropped (inr (awaits, refl))
 
     signature_has : (event : Event) → s.phase ≡ phases.AwaitSignature → Has event (signature_row s event)
     unfolding signed_row
     signature_has (events.Signed body) is =
         by_test (Has (events.Signed body)) (is_signed s.handed body) _ _
-        (λ signed. own.signs body is signed) (λ other. own.unsigned (events.Signed body))
-    signature_has events.SignFailed is = own.unsigned events.SignFailed
-    signature_has event is = own.resolves event (ticket_of event) answers.Dropped
+        (λ signed. own.signs body is signed) (λ other. own.unsigned (events.Signed body) (is, other))
+    signature_has events.SignFailed is = own.unsigned events.SignFailed is
+    signature_has event is = own.resolves event (ticket_of event) answers.Dropped (inr (awaits, refl))
 
     answer_has : (event : Event) (phase : Phase) → s.phase ≡ phase → Has event (answer_row_in phase s event)
     answer_has event phases.AwaitResponses is = responses_has event

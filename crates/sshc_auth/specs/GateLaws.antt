@@ -62,7 +62,7 @@ first_rows s told first = record {
   joins = λ running denied.
       (tt, (record { exchanging = first.exchanging; runs = λ same. absurd cc; fresh = first.fresh }, tt));
   accepted = λ x exchanging went denied. absurd (denied went);
-  opened = λ x exchanging went denied. absurd (denied went);
+  opened = λ x exchanging went anonymous denied. absurd (denied went);
   later = λ x behind same denied. absurd (behind first.exchanging);
   packets = λ n body counted behind. absurd (behind first.exchanging);
   users = λ turn. absurd (no_users s first turn);

@@ -8,6 +8,7 @@ use Rattle.sshc_key.specs.declared.signer.Asker.TheVariants.{Session}
 use Rattle.sshc_auth_event.specs.declared.event.Event.TheVariants as events
 use Rattle.sshc_auth.specs.declared.opening.Phase.TheVariants as phases
 use Rattle.sshc_auth.specs.AddedLaws.{HoldsOfLists, behind_resolved, resolved_has, service_has, stored_has, token_has, told_has}
+use Rattle.sshc_auth.specs.Said.{Said}
 use Rattle.sshc_auth.specs.EachRowLaws.{PacketRows, TableRows, UserRows, each_row, failed_row, started_row, succeeded_row}
 use Rattle.sshc_auth.specs.RowNames.{Answer, answered_row, Asking, asks, authenticate_again_row, authenticate_first_row, done, ends, Error, Event, extensions_row, goes, gssapi_complete, gssapi_mic, HandsCertificate, HandsKey, HandsNothing, HashAlg, info_response_row, KeepsRequest, KeepsSession, Kept, kept_of, Key, last_token, Next, open_row, OpeningState, opens, Phase, Record, refuses, rekey_row, request, Row, signed_by_row, SignsStored, stays, Told, unsigned_row, user_disconnect_row}
 
@@ -104,22 +105,22 @@ module _ (s : OpeningState) where
   signed_keeps event key hash (Some signature) =
       (((tt, tt), ((λ later. (refl, later)), inl (refl, inr refl))), refl, (tt, tt))
 
-  packet_keeps : (event : Event) (R : Error → Type 0) → PacketRows (RowKeeps event) R s
-  packet_keeps event R = record {
+  packet_keeps : (event : Event) (R : Error → Type 0) (W : Said → Type 0) → PacketRows (RowKeeps event) R W s
+  packet_keeps event R W = record {
     passed = (tt, still s event);
-    extended = λ told. none_keeps event (extensions_row s told) (told_has lists told s.waiters)
+    extended = λ told says. none_keeps event (extensions_row s told) (told_has lists told s.waiters)
         ((λ later. (refl, later)), inl (refl, inl refl));
     started = λ is. none_keeps event (started_row s) (stored_has lists s.user s.method (λ stored. (tt, tt)))
         (moved s event phases.Auth in_auth);
-    unknown = λ partial without. none_keeps event (failed_row s [] partial) (resolved_has lists s.ticket _) tt;
-    failed = λ method known partial.
+    unknown = λ partial without says. none_keeps event (failed_row s [] partial) (resolved_has lists s.ticket _) tt;
+    failed = λ method known partial says.
         none_keeps event (failed_row s (method ∷ known) partial) (resolved_has lists s.ticket _)
         ((λ later. (refl, later)), inl (refl, inr refl));
-    succeeded = none_keeps event (succeeded_row s) (behind_resolved lists s.ticket _ (records.Opened ∷ []) (tt, tt))
+    succeeded = λ says. none_keeps event (succeeded_row s) (behind_resolved lists s.ticket _ (records.Opened ∷ []) (tt, tt))
         ((λ later. (refl, λ same. absurd cc)), inl (refl, inr refl));
-    banner = λ shown. ((tt, tt), still s event);
-    prompted = λ name instructions asked. ((tt, tt), moved s event phases.AwaitResponses (λ same. absurd cc));
-    gssapi = λ step. ((tt, tt), still s event);
+    banner = λ shown says. ((tt, tt), still s event);
+    prompted = λ name instructions asked says. ((tt, tt), moved s event phases.AwaitResponses (λ same. absurd cc));
+    gssapi = λ step says. ((tt, tt), still s event);
     cleared = (tt, ((λ later. (refl, later)), inl (refl, inr refl)));
     signs = λ pair key hash fault stored. (refl, stored, λ answer. signed_keeps event key hash answer);
     hands_key = λ key hash stored. (
@@ -154,13 +155,13 @@ module _ (s : OpeningState) where
         (token_has lists token _ (λ other. (tt, tt)) (tt, tt)) (still s (events.AuthGssapiExchangeComplete token));
     rekeys = ((tt, tt), still s events.Rekey);
     waits = λ ticket name. (tt, still s (events.AwaitExtensionInfo ticket name));
-    resolves = λ event ticket answer.
+    resolves = λ event ticket answer may.
         none_keeps event (answered_row s ticket answer) (resolved_has lists ticket answer) (still s event);
     leaves = λ reason description language. ((tt, tt), tt);
     gone = λ calm. (tt, tt);
     responds = λ responses. ((tt, tt), moved s (events.AuthInfoResponse responses) phases.Auth in_auth);
     signs = λ body awaits is. ((tt, tt), moved s (events.Signed body) phases.Auth in_auth);
-    unsigned = λ event. none_keeps event (unsigned_row s) (resolved_has lists s.ticket _)
+    unsigned = λ event lost. none_keeps event (unsigned_row s) (resolved_has lists s.ticket _)
         ((λ later. (refl, in_auth)), inl (refl, inl refl));
   }
 
@@ -172,9 +173,9 @@ table_keeps s told = record {
   begins = λ idle. ((tt, tt), still s events.PeerKexinit);
   joins = λ running. (tt, still s events.PeerKexinit);
   accepted = λ x first went. ((tt, tt), ((λ later. absurd (later first)), inl (refl, inl refl)));
-  opened = λ x first went. ((tt, (tt, tt)), ((λ later. absurd (later first)), inl (refl, inl refl)));
+  opened = λ x first went anonymous. ((tt, (tt, tt)), ((λ later. absurd (later first)), inl (refl, inl refl)));
   later = λ x behind same. ((tt, tt), still s (events.ExchangeDone x));
-  packets = λ n body counted behind. packet_keeps (record s { counted = counted }) (events.Payload (n ∷ body)) _;
+  packets = λ n body counted behind. packet_keeps (record s { counted = counted }) (events.Payload (n ∷ body)) _ _;
   users = λ turn. user_keeps s;
 }
 

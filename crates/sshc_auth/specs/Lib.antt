@@ -12,7 +12,10 @@ pub mod Causes
 pub mod RowNames
 pub mod CauseLaws
 pub mod AskedLaws
+pub mod Said
+pub mod OpeningAnswers
 pub mod SessionWords
+pub mod PromptLaws
 pub mod AddedLaws
 pub mod EachRowLaws
 pub mod GateLaws
@@ -23,5 +26,6 @@ pub mod PasswordLaws
 pub mod SignedRuns
 pub mod SignedRunLaws
 pub mod AskerLaws
+pub mod AnswerLaws
 pub mod ToldLaws
 pub mod Promises

@@ -20,6 +20,7 @@ use Rattle.sshc_auth_event.specs.declared.method.Method.TheVariants as methods
 use Rattle.sshc_auth_request.specs.RequestTexts.{disconnect, info_response, key_part, method_text, request_head, signed_request, unsigned_request}
 use Rattle.sshc_auth.specs.declared.opening.Phase.TheVariants as phases
 use Rattle.sshc_auth.specs.AddedLaws.{HoldsOfLists, behind_resolved, resolved_has, service_has, token_has, told_has}
+use Rattle.sshc_auth.specs.Said.{Said}
 use Rattle.sshc_auth.specs.EachRowLaws.{PacketRows, TableRows, UserRows, each_row}
 use Rattle.sshc_auth.specs.Passwords.{FitsIn, once_if, times_waiting_in}
 use Rattle.sshc_auth.specs.RowNames.{Always, Answer, asked_for_service, Asking, authenticate_again_row, authenticate_first_row, behind_session_id, ends, Error, Event, FitsRequest, goes, gssapi_complete, gssapi_mic, gssapi_token, HashAlg, HasShortUser, info_response_row, is_signed, IsShort, Key, key_text, Method, Next, open_row, OpeningState, opens, password_packet, Phase, Record, refuses, rekey_row, request, resolved, Row, service_request, signed, signed_by_row, stays, stored_request, string_at, Ticket, times_asked, times_waiting, times_written, Told, user_disconnect_row, WireError}
@@ -164,14 +165,14 @@ module _ (user password : List ℕ) (short : IsShort user) where
   abbrev SoundRow : OpeningState → Event → Asking Row → Type 0
   SoundRow s event row = HasShortUser event → Always (Sound packet s event) row
 
-  packet_sound : (s : OpeningState) (event : Event) (R : Error → Type 0) → FitsRequest s →
-      PacketRows (SoundRow s event) R s
-  packet_sound s event R fits = record {
+  packet_sound : (s : OpeningState) (event : Event) (R : Error → Type 0) (W : Said → Type 0) → FitsRequest s →
+      PacketRows (SoundRow s event) R W s
+  packet_sound s event R W fits = record {
     passed = λ has. (omega arith, fits);
-    extended = λ told has. (omega (arith, told_has lists told s.waiters), fits);
+    extended = λ told says has. (omega (arith, told_has lists told s.waiters), fits);
     started = λ is has. stored_sound s event s.method is refl fits;
-    unknown = λ partial none has. (omega (arith, resolved_has lists s.ticket (answers.AuthFailure [] partial)), tt);
-    failed = λ kind known partial has. (
+    unknown = λ partial none says has. (omega (arith, resolved_has lists s.ticket (answers.AuthFailure [] partial)), tt);
+    failed = λ kind known partial says has. (
       omega (
         arith,
         resolved_has lists s.ticket (answers.AuthFailure (kind ∷ known) partial),
@@ -179,13 +180,13 @@ module _ (user password : List ℕ) (short : IsShort user) where
       ),
       settled s fits,
     );
-    succeeded = λ has. (
+    succeeded = λ says has. (
       omega (arith, behind_resolved lists s.ticket answers.AuthSuccess (records.Opened ∷ []) refl),
       fits_in tt fits.short,
     );
-    banner = λ shown has. (omega arith, fits);
-    prompted = λ name instructions asked has. (omega arith, fits_in tt fits.short);
-    gssapi = λ step has. (omega arith, fits);
+    banner = λ shown says has. (omega arith, fits);
+    prompted = λ name instructions asked says has. (omega arith, fits_in tt fits.short);
+    gssapi = λ step says has. (omega arith, fits);
     cleared = λ has. (omega (arith, none_waits packet s.phase s.user), settled s fits);
     signs = λ pair key hash fault stored has answer. by_answer s event key hash answer fits;
     hands_key = λ key hash stored has. (omega arith, handed_fits s key hash fits);
@@ -242,12 +243,12 @@ module _ (user password : List ℕ) (short : IsShort user) where
     complete = λ token has. (omega (arith, token_has lists token gssapi_complete (λ other. refl) refl), fits);
     rekeys = λ has. (omega arith, fits);
     waits = λ ticket name has. (omega arith, fits);
-    resolves = λ event ticket answer has. (omega (arith, resolved_has lists ticket answer), fits);
+    resolves = λ event ticket answer may has. (omega (arith, resolved_has lists ticket answer), fits);
     leaves = λ reason description language has. (omega arith, tt);
     gone = λ calm has. (omega arith, tt);
     responds = λ responses has. (omega arith, fits_in tt fits.short);
     signs = λ body awaits is has. (omega (arith, signed_body s body is awaits fits), fits_in tt fits.short);
-    unsigned = λ event has. (omega (arith, resolved_has lists s.ticket answers.Dropped), fits_in tt fits.short);
+    unsigned = λ event lost has. (omega (arith, resolved_has lists s.ticket answers.Dropped), fits_in tt fits.short);
   }
 
   table_sound : (s : OpeningState) (told : Told) → FitsRequest s → TableRows (SoundRow s) s told
@@ -259,9 +260,9 @@ module _ (user password : List ℕ) (short : IsShort user) where
     joins = λ running has. (omega arith, fits);
     accepted = λ x first went has.
         (omega (arith, fresh_waits packet s.user s.method (fits.fresh first)), fits_in tt fits.short);
-    opened = λ x first went has. (omega arith, fits_in tt fits.short);
+    opened = λ x first went anonymous has. (omega arith, fits_in tt fits.short);
     later = λ x behind same has. (omega arith, fits);
-    packets = λ n body counted behind. packet_sound (record s { counted = counted }) (events.Payload (n ∷ body)) _ fits;
+    packets = λ n body counted behind. packet_sound (record s { counted = counted }) (events.Payload (n ∷ body)) _ _ fits;
     users = λ turn. user_sound s fits;
   }
 

@@ -29,6 +29,7 @@ use Rattle.sshc_auth.specs.declared.step.Asks.TheVariants as asking
 use Rattle.sshc_auth.specs.declared.step.Step.{Step}
 use Rattle.sshc_auth.specs.declared.step.Step.TheVariants as steps
 use Rattle.sshc_auth.specs.Causes.{IsKeptKey}
+use Rattle.sshc_auth.specs.OpeningAnswers.{AddsAnswers}
 use Rattle.sshc_auth.specs.OpeningState.{OpeningState}
 use Rattle.sshc_auth.specs.Stepping.{Lent, GateAnswers, gained}
 
@@ -201,3 +202,5 @@ pub record KeepsTo {E : Type 0} (gate : GateAnswers E) (event : Event) (was is :
   pub once : AddsHandedOnce (gained was is) was is
   -- the request that is stored is that of an event
   pub request : KeepsRequest (kept_of was.opening) event is.opening
+  -- what is answered is what the event says: success and failure of a login, banners, prompts, who waits
+  pub answers : AddsAnswers event was is result

@@ -1,9 +1,10 @@
 -- What a step does with a gate: the gate is asked what the event's row asks, and the row depends on what the gate
 -- returned.
 -- The gate's results are whatever its relations allow; the code calls it in between.
-use Rattle.std.specs.Prelude.{◌≡◌, ◌≤◌, ◌⊎◌, ℕ, Bool, true, false, List, ◌++◌, Option, Some, None, Result, Ok, Err}
+use Rattle.std.specs.Prelude.{◌≡◌, ◌≤◌, ◌⊎◌, ◌==◌, ℕ, Bool, true, false, List, [], ◌∷◌, ◌++◌, Option, Some, None, Result, Ok, Err}
 use Rattle.std.specs.List.{AllByRecursion}
 use Rattle.sshc_wire.specs.declared.record.Record.{Record}
+use Rattle.sshc_wire.specs.MessageNumbers.{USERAUTH_BANNER}
 use Rattle.sshc_wire.specs.Outgoing.{Outgoing}
 use Rattle.sshc_wire.specs.Records.{IsResolved}
 use Rattle.sshc_key.specs.Signers.{SignCall, since}
@@ -11,7 +12,7 @@ use Rattle.sshc_key.specs.declared.identity.PublicKeyOrCertificate.{PublicKeyOrC
 use Rattle.sshc_auth.specs.declared.error.Error.{Error}
 use Rattle.sshc_auth.specs.declared.error.Error.TheVariants.{NoMemory}
 use Rattle.sshc_auth_event.specs.declared.event.Event.{Event}
-use Rattle.sshc_auth_event.specs.declared.event.Event.TheVariants.{ExchangeDone}
+use Rattle.sshc_auth_event.specs.declared.event.Event.TheVariants.{ExchangeDone, Payload}
 use Rattle.sshc_transport.specs.declared.exchange.ExchangeResult.{ExchangeResult}
 use Rattle.sshc_transport.specs.declared.exchange.ExchangeNames.{ExchangeNames}
 use Rattle.sshc_auth.specs.declared.step.Asks.{Asks}
@@ -99,6 +100,17 @@ Answered gate x old new result asking.Nothing = (result ≡ Ok telling.NotAsked)
 Answered {E = E} gate x old new result (asking.HostKey key) = (verdict : Result Bool E) × gate.judges key verdict × Judged (told_of gate x) old new result verdict
 Answered gate x old new result asking.Exchange = Tells (told_of gate x) old new result
 Answered gate x old new result (asking.Banner text) = Tells (gate.tells_banner text) old new result
+
+-- the packet has the number of a banner (RFC 4252, section 5.4)
+abbrev pub is_banner : List ℕ → Bool
+is_banner [] = false
+is_banner (n ∷ body) = n == USERAUTH_BANNER
+
+-- the kinds of events whose rows may ask the gate
+abbrev pub may_ask : Event → Bool
+may_ask (ExchangeDone x) = true
+may_ask (Payload packet) = is_banner packet
+may_ask event = false
 
 -- an exchange is there where the gate is asked for one
 abbrev pub HasExchange : Asks → Option ExchangeResult → Type 0

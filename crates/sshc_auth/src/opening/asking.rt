@@ -1,7 +1,7 @@
 //! What an event's row asks of the gate.
 
 ghost use Rattle.std.specs.Prelude.{◌≡◌, IfOk, false, if◌then◌else◌};
-ghost use Rattle.sshc_auth.specs.AskedLaws.{is_banner, may_ask};
+ghost use Rattle.sshc_auth.specs.Stepping.{is_banner, may_ask};
 ghost use Rattle.sshc_auth.specs.OpeningTable.{asked_of, exchange_asks, banner_asks, is_held_back, number_asks};
 ghost use Rattle.sshc_auth.specs.OpeningTable.{packet_asks};
 ghost use Rattle.sshc_auth.specs.OpeningTable.Exchange.{has_kept_key};
