@@ -70,6 +70,9 @@ stopped_laws accepts event s last laws = record {
   resolves = laws.resolves;
   opened = laws.opened;
   quiet = laws.quiet;
+  says = laws.says;
+  calls = record { calls = laws.calls.calls; table = laws.calls.table; by = laws.calls.by };
+  waiting = laws.waiting;
   key = λ on. absurd cc;
 }
 

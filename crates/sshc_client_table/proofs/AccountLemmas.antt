@@ -1,5 +1,5 @@
 -- The channels' packets among the records of moves are those of the moves' calls of the channel table.
-use Rattle.std.proofs.Common.{◌≡◌, ℕ, Bool, true, false, List, [], ◌∷◌, ◌++◌, eqb, if◌then◌else◌, Option, Some, None, refl, ap, sym, subst, ◌∙◌, append_assoc}
+use Rattle.std.proofs.Common.{◌≡◌, ℕ, Bool, true, false, List, [], ◌∷◌, ◌++◌, eqb, if◌then◌else◌, Option, Some, None, refl, ap, sym, ◌∙◌, append_assoc}
 use Rattle.std.proofs.lemmas.List.{append-nil}
 use Rattle.sshc_wire.specs.Outgoing.{listed}
 use Rattle.sshc_wire.specs.declared.channel_open_failure.ChannelOpenFailure.{ChannelOpenFailure}
@@ -30,7 +30,7 @@ use Rattle.sshc_client_table.specs.SessionState.{SessionState}
 use Rattle.sshc_client_table.specs.Moves as m
 use Rattle.sshc_client_table.specs.Moves.{Deed, Move, after, calls_in, calls_of, deed, deed_of, did, done, done_if, may_go, onto, still, with_deed}
 use Rattle.sshc_client_table.specs.SessionAccount.{Accounted, HasItsAccount, Lives, channel_packet, channel_packets, said_packets}
-use Rattle.sshc_client_table.specs.ListLaws.{onto-append, onto-two}
+use Rattle.sshc_client_table.specs.ListLaws.{onto-two}
 
 -- ---- lists one after another
 

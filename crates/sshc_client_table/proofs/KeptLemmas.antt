@@ -1,5 +1,5 @@
 -- What the moves of methods keep of each channel.
-use Rattle.std.proofs.Common.{◌≡◌, ◌⊎◌, inl, inr, ℕ, ◌+◌, ◌-◌, sum, Bool, true, false, not, ◌&&◌, List, [], ◌∷◌, ◌++◌, length, eqb, if◌then◌else◌, Option, Some, None, refl, ap, sym, subst, ◌∙◌, append_assoc, length-append, arith}
+use Rattle.std.proofs.Common.{◌≡◌, inl, inr, ℕ, ◌+◌, ◌-◌, sum, Bool, true, false, not, ◌&&◌, List, [], ◌∷◌, ◌++◌, length, eqb, if◌then◌else◌, Option, Some, None, refl, ap, sym, subst, ◌∙◌, append_assoc, length-append, arith}
 use Rattle.std.proofs.lemmas.List.{append-nil}
 use Rattle.std.specs.List.{AllByRecursion}
 use Rattle.std.proofs.lemmas.Bool.Decides.{eqb_tells}
@@ -8,14 +8,14 @@ use Rattle.sshc_mux.specs.declared.chunk.Stream.{Stream}
 use Rattle.sshc_mux.specs.ChannelState.{ChannelState, Head, TableState, channel_of, with_channel}
 use Rattle.sshc_mux.specs.Packets.{Packet, Piece, Eof, Close, Adjust}
 use Rattle.sshc_mux.specs.ChannelTable.{ChannelPacket, Turn, close_turn, data_turn, eof_turn, turned}
-use Rattle.sshc_mux.specs.ChannelTable.Ends.{is_unasked, takes}
+use Rattle.sshc_mux.specs.ChannelTable.Ends.{takes}
 use Rattle.sshc_mux.specs.ChannelTable.Opens.{next_number, opened_by_user}
 use Rattle.sshc_mux.specs.ChannelAccount.{AskClose, AskEof, Bytes, Call, answered, EachCallDoesItsPart, EachCallKeepsTheRules, ExchangesAreQuiet, IsLegal, LegalStays, Moves, OpenUser, CallPart, bytes_in, bytes_part, called, close_part, eof_part, marked, may_send, no_part, opened, packets_by, packets_in, part, pending}
 use Rattle.sshc_auth.specs.OpeningState.{OpeningState}
 use Rattle.sshc_client_table.specs.SessionState.{SessionState, exchanging, is_running}
 use Rattle.sshc_client_table.specs.Moves as m
 use Rattle.sshc_client_table.specs.Moves.{Deed, Move, after, deed, deed_of, did, done, done_if, may_go, still, with_deed}
-use Rattle.sshc_client_table.specs.Grown.{Grown, May}
+use Rattle.sshc_client_table.specs.Grown.{May}
 use Rattle.sshc_client_table.specs.Keeps.{SameOrBegun}
 use Rattle.sshc_client_table.specs.KeptChannels.{ChannelKeeps, GrownSessionsKeepChannels, IsKept}
 use Rattle.sshc_mux.proofs.NumbersLemmas.{number_of, with_other, with_same}

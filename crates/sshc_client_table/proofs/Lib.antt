@@ -14,4 +14,6 @@ mod StepAdds
 mod ResolveLemmas
 mod QueueLemmas
 mod OpenAnswers
+mod PeerLemmas
+mod WaitingLemmas
 pub mod StepLawLemmas

@@ -1,5 +1,5 @@
 -- An open of ours is answered while it waits, and then doesn't wait any more.
-use Rattle.std.proofs.Common.{◌≡◌, ◌⊎◌, inl, inr, ℕ, Bool, true, false, List, [], ◌∷◌, ◌++◌, eqb, if◌then◌else◌, Option, Some, None, is_some, refl, ap, sym, subst, ◌∙◌}
+use Rattle.std.proofs.Common.{◌≡◌, ◌⊎◌, inl, inr, ℕ, Bool, true, false, List, [], ◌∷◌, eqb, if◌then◌else◌, Option, Some, None, is_some, refl, ap, ◌∙◌}
 use Rattle.std.specs.List.{AllByRecursion}
 use Rattle.sshc_wire.specs.declared.channel_open_failure.ChannelOpenFailure.{ChannelOpenFailure}
 use Rattle.sshc_wire.specs.declared.record.Record.{Record}
@@ -9,19 +9,17 @@ use Rattle.sshc_wire.specs.declared.resolution.Resolution.TheVariants.{ChannelOp
 use Rattle.sshc_wire.specs.declared.ticket.Ticket.{Ticket}
 use Rattle.sshc_transport.specs.declared.exchange.ExchangeFlag.{ExchangeFlag}
 use Rattle.sshc_transport.specs.declared.exchange.ExchangeFlag.TheVariants.{Idle}
-use Rattle.sshc_auth.specs.Row.{resolved}
-use Rattle.sshc_mux.specs.ChannelState.{ChannelState, TableState, channel_of, with_channel, without}
+use Rattle.sshc_mux.specs.ChannelState.{ChannelState, TableState, channel_of, without}
 use Rattle.sshc_mux.specs.ChannelTable.{confirm_turn, is_awaited, no_packets_of, taken_away, turned}
 use Rattle.sshc_mux.specs.ChannelTable.Opens.{awaited, awaited_by, confirmed}
 use Rattle.sshc_mux.specs.ChannelAccount.{IsLegal}
 use Rattle.sshc_mux.specs.Places.{Apart, numbers}
 use Rattle.sshc_mux.proofs.NumbersLemmas.{number_of, with_same, without_same}
-use Rattle.sshc_client_packets.specs.declared.channel_open.Confirmation.{Confirmation}
 use Rattle.sshc_client_packets.specs.declared.channel_open.Sender.{Sender}
 use Rattle.sshc_client_packets.specs.ChannelOpens.{ChannelOpen}
 use Rattle.sshc_client_packets.specs.Messages.{Message}
 use Rattle.sshc_client_table.specs.declared.reply_entry.ReplyEntry.{ReplyEntry}
-use Rattle.sshc_client_table.specs.SessionState.{SessionState, is_live}
+use Rattle.sshc_client_table.specs.SessionState.{SessionState}
 use Rattle.sshc_client_table.specs.Moves as m
 use Rattle.sshc_client_table.specs.Moves.{Deed, Move, after, deed, deed_of, did, done_if, may_go, still, with_deed}
 use Rattle.sshc_client_table.specs.OpensOnce.{AnswersOne, NoOpenAnswer, Opened, Failed, AnswersOpen}

@@ -5,7 +5,6 @@ use Rattle.std.specs.Prelude.{◌==◌, ◌⊎◌}
 use Rattle.std.specs.List.{AllByRecursion}
 use Rattle.sshc_wire.specs.MessageNumbers.{GLOBAL_REQUEST}
 use Rattle.sshc_wire.specs.Wire.{bool_text, string_text}
-use Rattle.sshc_wire.specs.declared.channel_open_failure.ChannelOpenFailure.{ChannelOpenFailure}
 use Rattle.sshc_wire.specs.declared.disconnect.Disconnect.{Disconnect}
 use Rattle.sshc_wire.specs.declared.record.Record.{Record}
 use Rattle.sshc_wire.specs.declared.record.Record.TheVariants as output
@@ -31,6 +30,7 @@ use Rattle.sshc_client_table.specs.Messages as asking
 use Rattle.sshc_client_table.specs.Moves as m
 use Rattle.sshc_client_table.specs.Moves.{Deed, Move, after, deed, deed_of, did, done, done_if, may_go, open_answer, or_none}
 use Rattle.sshc_client_table.specs.QueuedRequests.{IsEntry, Queues}
+use Rattle.sshc_client_table.specs.RowMovesLaws.{is_report}
 use Rattle.sshc_client_table.specs.RowMoves.{IsReport}
 use Rattle.sshc_client_table.specs.SessionState.{SessionState}
 use Rattle.sshc_client_table.specs.StepLaws.{IsReply}
@@ -176,7 +176,7 @@ deed_queues event (m.Fails id reason) s fits = none_queue (deed (m.Fails id reas
 deed_queues event (m.Replied resolution) s fits = none_queue (deed (m.Replied resolution) s).says (no_reply s.replies resolution)
 deed_queues event (m.Resolves ticket resolution) s fits = none_queue (deed (m.Resolves ticket resolution) s).says (no_direct ticket resolution)
 deed_queues event (m.DeniesTicket ticket) s fits = none_queue (deed (m.DeniesTicket ticket) s).says (no_resolved ticket Denied)
-deed_queues event (m.Tells record_) s is = none_queue (deed (m.Tells record_) s).says (plain_holds NoAsk plain_kinds (m.Tells record_) s is)
+deed_queues event (m.Tells record_) s is = none_queue (deed (m.Tells record_) s).says (plain_holds NoAsk plain_kinds (m.Tells record_) s (is_report event record_ is))
 deed_queues event move s fits = none_queue (deed move s).says (plain_holds NoAsk plain_kinds move s tt)
 
 gated_queues : (b : Bool) (d : Deed) (s : SessionState) → Queues d.says d.asks → Queues (done_if b d s).says (done_if b d s).asks

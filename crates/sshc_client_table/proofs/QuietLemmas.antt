@@ -1,9 +1,7 @@
 -- No exchange runs after a move in which bytes may be sent.
-use Rattle.std.proofs.Common.{◌≡◌, Bool, true, false, not, List, [], ◌∷◌, Option, Some, None, refl}
+use Rattle.std.proofs.Common.{Bool, true, false, refl}
 use Rattle.sshc_wire.specs.CasesLaws.{not_true}
 use Rattle.sshc_wire.specs.Outgoing.{listed}
-use Rattle.sshc_transport.specs.declared.exchange.ExchangeFlag.TheVariants.{Idle}
-use Rattle.sshc_mux.specs.ChannelAccount.{Call, may_send}
 use Rattle.sshc_client_table.specs.SessionState.{SessionState, exchanging, is_running}
 use Rattle.sshc_client_table.specs.Moves as m
 use Rattle.sshc_client_table.specs.Moves.{Deed, Move, after, calls_of, deed, deed_of, done_if, may_go, still, with_deed}

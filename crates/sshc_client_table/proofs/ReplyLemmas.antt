@@ -1,11 +1,10 @@
 -- What moves do to the requests that wait.
 use Rattle.std.proofs.Common.{◌≡◌, Bool, true, false, List, [], ◌∷◌, ◌++◌, if◌then◌else◌, refl, ap, sym, ◌∙◌, append_assoc}
 use Rattle.std.proofs.lemmas.List.{append-nil}
-use Rattle.sshc_wire.specs.declared.ticket.Ticket.{Ticket}
 use Rattle.sshc_client_table.specs.declared.reply_entry.ReplyEntry.{ReplyEntry}
-use Rattle.sshc_client_table.specs.Messages.{Ask, entry_of, is_ticket, queued, wants_answer}
+use Rattle.sshc_client_table.specs.Messages.{Ask, entry_of, queued, wants_answer}
 use Rattle.sshc_client_table.specs.SessionState.{SessionState}
-use Rattle.sshc_client_table.specs.Moves.{Deed, Move, after, deed_of, done, left_of, onto, with_deed}
+use Rattle.sshc_client_table.specs.Moves.{Deed, Move, after, deed_of, done, left_of, with_deed}
 use Rattle.sshc_client_table.specs.ReplyQueue.{asked_by, asked_in, is_any}
 use Rattle.sshc_client_table.specs.ListLaws.{onto-append}
 

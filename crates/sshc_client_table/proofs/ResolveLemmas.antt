@@ -1,5 +1,5 @@
 -- Without a reply, a step of an open session resolves no ticket but an open's and the event's own.
-use Rattle.std.proofs.Common.{◌≡◌, ℕ, Bool, true, false, ◌&&◌, not, List, [], ◌∷◌, eqb, if◌then◌else◌, Option, Some, None, refl, ap, sym, ◌∙◌}
+use Rattle.std.proofs.Common.{◌≡◌, Bool, true, false, ◌&&◌, not, List, [], ◌∷◌, eqb, if◌then◌else◌, Option, Some, None, refl, ap, ◌∙◌}
 use Rattle.std.specs.List.{AllByRecursion}
 use Rattle.sshc_wire.specs.declared.channel_id.ChannelId.{ChannelId}
 use Rattle.sshc_wire.specs.declared.channel_open_failure.ChannelOpenFailure.{ChannelOpenFailure}
@@ -10,7 +10,6 @@ use Rattle.sshc_wire.specs.declared.resolution.Resolution.{Resolution}
 use Rattle.sshc_wire.specs.declared.resolution.Resolution.TheVariants.{ChannelOpened, ChannelOpenFailed, Dropped, ExtInfoSeen, HostKeysProved, SigAlgs}
 use Rattle.sshc_wire.specs.declared.ticket.Ticket.{Ticket}
 use Rattle.sshc_auth_event.specs.declared.event.Event.{Event}
-use Rattle.sshc_auth.specs.declared.opening.Phase.{Phase}
 use Rattle.sshc_auth.specs.OpeningState.{OpeningState}
 use Rattle.sshc_transport.specs.declared.exchange.ExchangeFlag.{ExchangeFlag}
 use Rattle.sshc_transport.specs.declared.exchange.ExchangeFlag.TheVariants.{Idle, Ours, Peer}
@@ -18,6 +17,7 @@ use Rattle.sshc_mux.specs.ChannelTable.{ChannelPacket, records_of}
 use Rattle.sshc_mux.specs.ChannelTable.Opens.{awaited}
 use Rattle.sshc_client_table.specs.Moves as m
 use Rattle.sshc_client_table.specs.Moves.{Deed, Move, after, deed, deed_of, did, done_if, may_go, open_answer, or_none}
+use Rattle.sshc_client_table.specs.RowMovesLaws.{is_report}
 use Rattle.sshc_client_table.specs.RowMoves.{IsReport, ResolvesOwn}
 use Rattle.sshc_client_table.specs.SessionState.{SessionState, is_open, opens_later, runs}
 use Rattle.sshc_client_table.specs.StepLaws.{IsReply, ResolvesBy}
@@ -85,7 +85,7 @@ module _ (event : Event) where
   says_resolve (m.Fails id reason) s fits none is = gated_resolves (may_go (m.Fails id reason) s) (deed (m.Fails id reason) s) s (failed_resolves (awaited id s.table) reason)
   says_resolve (m.DeniesTicket ticket) s fits none is = denies_none (opens_later s) ticket s (never_later (is_open s.opening.phase) (runs s.life) is)
   says_resolve (m.Asks ask) s fits none is = gated_resolves (may_go (m.Asks ask) s) (deed (m.Asks ask) s) s (tt, tt)
-  says_resolve (m.Tells record_) s is none stays = gated_resolves (may_go (m.Tells record_) s) (deed (m.Tells record_) s) s (plain_holds (λ r. ResolvesBy event r) (plain_resolves event) (m.Tells record_) s is)
+  says_resolve (m.Tells record_) s is none stays = gated_resolves (may_go (m.Tells record_) s) (deed (m.Tells record_) s) s (plain_holds (λ r. ResolvesBy event r) (plain_resolves event) (m.Tells record_) s (is_report event record_ is))
   says_resolve move s fits none is = gated_resolves (may_go move s) (deed move s) s (plain_holds (λ r. ResolvesBy event r) (plain_resolves event) move s tt)
 
 -- ---- the session stays open

@@ -1,5 +1,5 @@
 -- Worked rows of an open session, computed from the definitions.
-use Rattle.std.proofs.Common.{◌≡◌, ℕ, Bool, true, false, List, [], ◌∷◌, ◌++◌, Ok, Err, Some, None, refl}
+use Rattle.std.proofs.Common.{◌≡◌, ℕ, true, false, List, [], ◌∷◌, ◌++◌, Err, Some, None, refl}
 use Rattle.std.specs.Prelude.{codes, drop}
 use Rattle.sshc_wire.specs.Reads.{number_at, string_at}
 use Rattle.sshc_wire.specs.Wire.{bool_text, string_text, u32_text}
@@ -10,7 +10,7 @@ use Rattle.sshc_wire.specs.declared.resolution.HostKeysFault.TheVariants as faul
 use Rattle.sshc_wire.specs.declared.resolution.Resolution.TheVariants.{ChannelOpened, Denied, ForwardPort, Pong}
 use Rattle.sshc_wire.specs.declared.ticket.Ticket.{Ticket}
 use Rattle.sshc_key.specs.KeyGrammar.{Key}
-use Rattle.sshc_transport.specs.declared.exchange.ExchangeFlag.TheVariants.{Idle, Ours, Peer}
+use Rattle.sshc_transport.specs.declared.exchange.ExchangeFlag.TheVariants.{Idle, Peer}
 use Rattle.sshc_transport.specs.declared.exchange.ExchangeResult.{ExchangeResult}
 use Rattle.sshc_auth_event.specs.declared.event.Event.TheVariants as events
 use Rattle.sshc_auth.specs.declared.error.Error.TheVariants.{Inconsistent, KeepaliveTimeout, OutOfTurn, RekeyKey, SshEncoding}
@@ -26,7 +26,7 @@ use Rattle.sshc_client_table.specs.declared.reply_entry.ReplyKind.TheVariants as
 use Rattle.sshc_client_table.specs.declared.life.Life.TheVariants.{Runs}
 use Rattle.sshc_client_table.specs.Messages.{KeepAlive, Ping, queued, waits_for}
 use Rattle.sshc_client_table.specs.SessionState.{SessionState}
-use Rattle.sshc_client_table.specs.Moves.{Asks, Begins, Confirms, Misses, Opens, PeerBegins, PeerCloses, Rejects, Replied, RequestsOn, Reserves, after, done}
+use Rattle.sshc_client_table.specs.Moves.{Asks, Begins, Confirms, Misses, Opens, PeerCloses, Rejects, Replied, RequestsOn, Reserves, after, done}
 use Rattle.sshc_client_table.specs.SessionRow.{Opinions, UnknownOffered, behind_moves, opining, passed_over, plain_row, refused}
 use Rattle.sshc_client_table.specs.SessionTable.{held_row, session_row}
 use Rattle.sshc_client_table.specs.SessionTable.Exchanges.{exchange_done_row, peer_kexinit_row}

@@ -1,9 +1,8 @@
 -- If no open of ours waits under a number, none does until an open takes the number.
 use Rattle.std.proofs.Common.{◌≡◌, inl, inr, ℕ, ◌-◌, Bool, true, false, not, ◌&&◌, List, [], ◌∷◌, ◌++◌, length, eqb, if◌then◌else◌, Option, Some, None, is_some, refl, ap, sym, ◌∙◌}
-use Rattle.std.proofs.lemmas.Bool.{ne_eqb}
 use Rattle.std.proofs.lemmas.Bool.Decides.{eqb_tells}
 use Rattle.sshc_wire.specs.declared.ticket.Ticket.{Ticket}
-use Rattle.sshc_mux.specs.ChannelState.{ChannelState, Head, TableState, channel_of, with_channel, without}
+use Rattle.sshc_mux.specs.ChannelState.{ChannelState, Head, TableState, channel_of}
 use Rattle.sshc_mux.specs.ChannelTable.{Turn, accept_turn, all_flushed, confirm_turn, data_turn, eof_turn, close_turn, grant_turn, is_awaited, is_up, last_packets, no_packets_of, received_turn, taken_away, turned}
 use Rattle.sshc_mux.specs.declared.chunk.Stream.{Stream}
 use Rattle.sshc_mux.specs.ChannelTable.Ends.{takes}
@@ -12,9 +11,9 @@ use Rattle.sshc_mux.specs.Packets.{Packet}
 use Rattle.sshc_mux.specs.ChannelTable.Opens.{accepted_head, awaited, awaited_by, awaited_in, confirmed_head, is_reserved, next_number, opened_by_user, reserved_by_server}
 use Rattle.sshc_mux.specs.ChannelAccount.{Call, OpenUser, ReserveServer, SettleServer, Confirm, Fail, Bytes, AskEof, AskClose, PeerClose, Grant, FlushAll, Received, EachCallDoesItsPart, IsLegal, CallPart, accept_part, answered, bytes_part, called, close_part, confirm_part, eof_part, grant_part, no_part, opened, part, received_part}
 use Rattle.sshc_mux.proofs.NumbersLemmas.{has_none, none_has, number_of, numbers-flushed, with_other, without_other}
-use Rattle.sshc_mux.specs.Places.{has, numbers}
+use Rattle.sshc_mux.specs.Places.{has}
 use Rattle.sshc_client_table.specs.SessionState.{SessionState}
-use Rattle.sshc_client_table.specs.Moves.{Deed, Move, after, deed_of, did, with_deed}
+use Rattle.sshc_client_table.specs.Moves.{Move, after, deed_of, did}
 use Rattle.sshc_client_table.specs.OpensOnce.{call_opens, is_number}
 
 -- ---- a channel that was there

@@ -1,7 +1,6 @@
 -- What a step adds to the records authenticates nobody, holds no bytes while keys are exchanged, and without a reply the
 -- requests wait on.
-use Rattle.std.proofs.Common.{◌≡◌, ℕ, Bool, true, false, List, [], ◌∷◌, ◌++◌, eqb, if◌then◌else◌, Option, Some, None, refl, ap, sym, ◌∙◌, append_assoc}
-use Rattle.std.proofs.lemmas.List.{append-nil}
+use Rattle.std.proofs.Common.{◌≡◌, ℕ, Bool, true, false, List, [], ◌∷◌, ◌++◌, eqb, if◌then◌else◌, Option, Some, None, refl, ap, sym, ◌∙◌}
 use Rattle.std.specs.List.{AllByRecursion}
 use Rattle.sshc_wire.specs.Outgoing.{listed}
 use Rattle.sshc_wire.specs.declared.disconnect.Disconnect.{Disconnect}
@@ -27,11 +26,11 @@ use Rattle.sshc_client_packets.specs.ChannelRequests.{channel_request_text}
 use Rattle.sshc_client_packets.specs.GlobalRequests.{global_request_text}
 use Rattle.sshc_client_packets.specs.Messages.{Message, message_text}
 use Rattle.sshc_client_packets.specs.Messages as messages
-use Rattle.sshc_client_table.specs.declared.reply_entry.ReplyEntry.{ReplyEntry}
 use Rattle.sshc_client_table.specs.ListLaws.{onto-append}
 use Rattle.sshc_client_table.specs.Messages.{asking_message}
 use Rattle.sshc_client_table.specs.Moves as m
 use Rattle.sshc_client_table.specs.Moves.{Deed, Fronts, Move, after, deed, deed_of, did, done, done_if, may_go, open_answer, or_none}
+use Rattle.sshc_client_table.specs.RowMovesLaws.{is_report}
 use Rattle.sshc_client_table.specs.RowMoves.{IsExchange, IsReport}
 use Rattle.sshc_client_table.specs.SessionAccount.{AllIdle}
 use Rattle.sshc_client_table.specs.SessionState.{SessionState, exchanging, is_running}
@@ -59,7 +58,7 @@ module _ (P : Record → Type 0) (kinds : Kinds P) (answer : (ticket : Ticket) (
   says_all : (event : Event) (move : Move) (s : SessionState) → StepFits event move → AllByRecursion P (deed_of move s).says
   says_all event (m.Confirms c) s fits = gated_says (may_go (m.Confirms c) s) (deed (m.Confirms c) s) s (open_says (awaited c.recipient s.table) (ChannelOpened (record { 0 = c.recipient })))
   says_all event (m.Fails id reason) s fits = gated_says (may_go (m.Fails id reason) s) (deed (m.Fails id reason) s) s (open_says (awaited id s.table) (ChannelOpenFailed reason))
-  says_all event (m.Tells record_) s is = says_hold P kinds (m.Tells record_) s is
+  says_all event (m.Tells record_) s is = says_hold P kinds (m.Tells record_) s (is_report event record_ is)
   says_all event move s fits = says_hold P kinds move s tt
 
 -- ---- nothing authenticates

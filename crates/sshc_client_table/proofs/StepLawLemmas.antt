@@ -28,12 +28,15 @@ use Rattle.sshc_client_table.specs.NoRequests.{IsSameRequest}
 use Rattle.sshc_client_table.specs.NoRequestsLaws.{moves_request}
 use Rattle.sshc_client_table.specs.OpenCauseLaws.{RowHolds, open_why, session_holds}
 use Rattle.sshc_client_table.specs.QueuedRequests.{Queues}
+use Rattle.sshc_client_table.proofs.PeerLemmas.{brings, makes_calls}
+use Rattle.sshc_client_table.proofs.WaitingLemmas.{opens_wait}
+use Rattle.sshc_client_table.specs.RowMovesLaws.{confirms_packet, fails_packet, is_report}
 use Rattle.sshc_client_table.specs.RowMoves.{Fits, IsPacket}
 use Rattle.sshc_client_table.specs.SessionRow.{Opinions, SessionRow, asking, behind_moves, goes, refused, with_read}
 use Rattle.sshc_client_table.specs.SessionState.{SessionState, is_live}
 use Rattle.sshc_client_table.specs.SessionTable.{session_row}
 use Rattle.sshc_client_table.specs.SessionTable.Opens.{confirmed_row, failed_row, open_confirmation_row, open_failure_row}
-use Rattle.sshc_client_table.specs.StepLaws.{AuthenticatesNone, Followed, IsNoData, OpenStepLaws, Replied, ResolvesBy, answer_to, answers_open, open_answers, opens_answered, whole}
+use Rattle.sshc_client_table.specs.StepLaws.{AuthenticatesNone, Followed, IsBrought, IsNoData, OpenStepLaws, Replied, ResolvesBy, answer_to, answers_open, open_answers, opens_answered, whole}
 use Rattle.sshc_client_table.proofs.AnswerRows.{HeldOrRefused, IsFirst, confirmation_held, failure_answered, first_same, heard_alone, heard_counted, refusal_held, success_answered}
 use Rattle.sshc_client_table.proofs.SaidLemmas.{SaysPlainly}
 use Rattle.sshc_client_table.proofs.OpenAnswers.{AllPlain, AnswersBy, OneAnswer, answers_two, opened_by, packets_answer, plain_one}
@@ -152,9 +155,9 @@ refusal_by accepts o s body live =
 -- ---- every other row
 
 fits_plain : (event : Event) (move : Move) → (IsPacket CHANNEL_OPEN_CONFIRMATION event → ⊥) → (IsPacket CHANNEL_OPEN_FAILURE event → ⊥) → Fits event move → SaysPlainly move
-fits_plain event (m.Confirms c) unconfirmed unrefused fits = unconfirmed fits
-fits_plain event (m.Fails id reason) unconfirmed unrefused fits = unrefused fits
-fits_plain event (m.Tells record_) unconfirmed unrefused fits = fits
+fits_plain event (m.Confirms c) unconfirmed unrefused fits = unconfirmed (confirms_packet c event fits)
+fits_plain event (m.Fails id reason) unconfirmed unrefused fits = unrefused (fails_packet id event fits)
+fits_plain event (m.Tells record_) unconfirmed unrefused fits = is_report event record_ fits
 fits_plain event move unconfirmed unrefused fits = tt
 
 all_fits_plain : (event : Event) (moves : List Move) → (IsPacket CHANNEL_OPEN_CONFIRMATION event → ⊥) → (IsPacket CHANNEL_OPEN_FAILURE event → ⊥) → AllByRecursion (λ move. Fits event move) moves → AllPlain moves
@@ -232,5 +235,8 @@ rows_keep accepts o event s new went live followed =
       resolves = λ none. subst (λ (rs : List Record). AllByRecursion (λ output. ResolvesBy event output) rs) (sym is) (resolves event steps.moves s steps.fit none (open_so _ _ live));
       opened = opened_by event row s new went (event_by accepts o s event live holds) followed;
       quiet = λ runs none. subst (λ (rs : List Record). AllByRecursion IsNoData rs) (sym is) (quiet event steps.moves s steps.fit none runs);
+      says = subst (λ (rs : List Record). AllByRecursion (IsBrought event) rs) (sym is) (brings event steps.moves s steps.fit);
+      calls = makes_calls event steps.moves s new steps.fit steps.is;
+      waiting = opens_wait event steps.moves s new steps.fit steps.is;
       key = λ on. kept_key accepts o s event (next_goes row s new (subst (λ (b : Bool). Followed row s new b) on followed));
     }

@@ -3,7 +3,6 @@
 use Rattle.std.proofs.Common.{◌≡◌, inl, inr, Bool, List, [], ◌∷◌, ◌++◌, length, drop, Option, Some, None, refl, ap, sym, ◌∙◌, append_assoc}
 use Rattle.std.proofs.lemmas.List.{append-nil, drop_at}
 use Rattle.std.specs.List.{AllByRecursion}
-use Rattle.sshc_wire.specs.MessageNumbers.{CHANNEL_OPEN_CONFIRMATION, CHANNEL_OPEN_FAILURE}
 use Rattle.sshc_wire.specs.declared.record.Record.{Record}
 use Rattle.sshc_auth_event.specs.declared.event.Event.{Event}
 use Rattle.sshc_mux.specs.ChannelTable.{records_of}
@@ -12,42 +11,43 @@ use Rattle.sshc_client_table.specs.GrownLaws.{done-append}
 use Rattle.sshc_client_table.specs.ListLaws.{onto-two}
 use Rattle.sshc_client_table.specs.Moves as m
 use Rattle.sshc_client_table.specs.Moves.{Deed, Fronts, Move, after, deed_of, did, done}
-use Rattle.sshc_client_table.specs.RowMoves.{Fits, IsExchange, IsPacket, IsReport, ResolvesOwn}
+use Rattle.sshc_client_table.specs.RowMoves.{Fits}
 use Rattle.sshc_client_table.specs.SessionRow.{Callback, SessionRow}
 use Rattle.sshc_client_table.specs.SessionState.{SessionState}
-use Rattle.sshc_client_table.specs.StepLaws.{Borrowed, Followed, IsReply, behind, front, whole}
+use Rattle.sshc_client_table.specs.StepLaws.{Borrowed, Followed, behind, front, whole}
 
 -- ---- the moves
 
--- a move of the event's row, or of a handler
+-- A move of the event's row, or of a handler: whatever a handler may do, users may do too, and the peer's packets bring
+-- the rest.
 abbrev pub StepFits : Event → Move → Type 0
-StepFits event (m.Replied resolution) = IsReply event
-StepFits event (m.Confirms c) = IsPacket CHANNEL_OPEN_CONFIRMATION event
-StepFits event (m.Fails id reason) = IsPacket CHANNEL_OPEN_FAILURE event
-StepFits event m.Resumes = IsExchange event
-StepFits event (m.Tells output) = IsReport output
-StepFits event (m.Resolves ticket resolution) = ResolvesOwn event ticket resolution
-StepFits event move = Unit {0}
+StepFits event m.Leaves = Unit {0}
+StepFits event m.Stops = Unit {0}
+StepFits event move = Fits event move
 
 abbrev pub AllFit : Event → List Move → Type 0
 AllFit event moves = AllByRecursion (λ move. StepFits event move) moves
 
 fits_step : (event : Event) (move : Move) → Fits event move → StepFits event move
-fits_step event (m.Replied resolution) fits = fits
-fits_step event (m.Confirms c) fits = fits
-fits_step event (m.Fails id reason) fits = fits
-fits_step event m.Resumes fits = fits
-fits_step event (m.Tells output) fits = fits
-fits_step event (m.Resolves ticket resolution) fits = fits
-fits_step event move fits = tt
+fits_step event m.Leaves never = absurd never
+fits_step event m.Stops never = absurd never
+fits_step event move fits = fits
 
 may_step : (event : Event) (move : Move) → May move → StepFits event move
-may_step event (m.Replied resolution) never = absurd never
+may_step event (m.Reserves sender) never = absurd never
+may_step event (m.PeerCloses id) never = absurd never
+may_step event (m.Grants id amount) never = absurd never
+may_step event (m.Receives id len) never = absurd never
 may_step event (m.Confirms c) never = absurd never
 may_step event (m.Fails id reason) never = absurd never
-may_step event m.Resumes never = absurd never
-may_step event (m.Tells output) never = absurd never
+may_step event (m.Accepts id) never = absurd never
+may_step event (m.Rejects id reason) never = absurd never
+may_step event (m.AnswersOn id done) never = absurd never
+may_step event (m.Answers done) never = absurd never
+may_step event (m.Replied resolution) never = absurd never
 may_step event (m.Resolves ticket resolution) never = absurd never
+may_step event (m.Tells output) never = absurd never
+may_step event m.Resumes never = absurd never
 may_step event move may = tt
 
 pub row_fit : (event : Event) (moves : List Move) → AllByRecursion (λ move. Fits event move) moves → AllFit event moves

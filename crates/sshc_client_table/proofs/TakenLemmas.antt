@@ -1,5 +1,5 @@
 -- Records that were added before stay first, and change nothing.
-use Rattle.std.proofs.Common.{◌≡◌, Bool, true, false, List, [], ◌∷◌, ◌++◌, refl, ap, sym, ◌∙◌}
+use Rattle.std.proofs.Common.{◌≡◌, Bool, true, false, List, [], ◌∷◌, refl, ap, ◌∙◌}
 use Rattle.sshc_wire.specs.declared.record.Record.{Record}
 use Rattle.sshc_mux.specs.ChannelTable.{records_of}
 use Rattle.sshc_client_table.specs.SessionState.{SessionState}

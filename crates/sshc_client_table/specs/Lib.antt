@@ -23,6 +23,7 @@ pub mod KeptByMoves
 pub mod KeptByMovesLaws
 pub mod NoRequests
 pub mod NoRequestsLaws
+pub mod PeerSays
 pub mod RowMoves
 pub mod RowMovesLaws
 pub mod OpenCauses

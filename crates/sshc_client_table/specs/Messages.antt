@@ -1,6 +1,6 @@
 -- Global requests as a session makes them, each with what its reply is for (RFC 4254, section 4), and the records that
 -- carry packets. A reply to a forward is wanted if there is a ticket for it, and a reply to a ping or a proof always.
-use Rattle.std.specs.Prelude.{ℕ, Bool, true, false, not, List, [], ◌∷◌, Option, Some, None, ◌==◌, if◌then◌else◌}
+use Rattle.std.specs.Prelude.{ℕ, Bool, true, not, List, [], ◌∷◌, Option, Some, None, ◌==◌, if◌then◌else◌}
 use Rattle.sshc_wire.specs.declared.disconnect.Disconnect.{Disconnect}
 use Rattle.sshc_wire.specs.declared.record.Record.{Record}
 use Rattle.sshc_wire.specs.declared.record.Record.TheVariants.{Payload}

@@ -1,10 +1,10 @@
 -- How a move is done, stated for the calls that do it.
-use Rattle.std.proofs.Common.{◌≡◌, Bool, true, false, List, ◌++◌, refl, ap}
+use Rattle.std.proofs.Common.{◌≡◌, Bool, true, false, List, ◌++◌, ap}
 use Rattle.sshc_wire.specs.declared.record.Record.{Record}
 use Rattle.sshc_mux.specs.ChannelTable.{records_of}
 use Rattle.sshc_mux.specs.ChannelAccount.{Call, called}
 use Rattle.sshc_client_table.specs.SessionState.{SessionState}
-use Rattle.sshc_client_table.specs.Moves.{Deed, Move, after, calls_table, deed, done_if, may_go, onto, says_that, with_deed}
+use Rattle.sshc_client_table.specs.Moves.{Move, after, calls_table, deed, done_if, may_go, says_that, with_deed}
 use Rattle.sshc_client_table.specs.ListLaws.{onto-append}
 
 -- a move that may not be done changes nothing

@@ -2,7 +2,7 @@
 -- is what a handler does to a session that it borrows. What a move does is plain data (`Deed`): at most one call of the
 -- channel table, then records, then what else changes. So the channels' packets are those of the calls by construction,
 -- and a law has to look only at what a move adds to them.
-use Rattle.std.specs.Prelude.{◌≡◌, ◌⊎◌, ℕ, ◌+◌, ◌^◌, ◌-◌, min, Bool, true, false, not, ◌&&◌, List, [], ◌∷◌, ◌++◌, drop, Option, Some, None, Result, Ok, Err, if◌then◌else◌, ◌==◌}
+use Rattle.std.specs.Prelude.{◌≡◌, ◌⊎◌, ℕ, ◌+◌, ◌^◌, ◌-◌, min, Bool, true, false, not, ◌&&◌, List, [], ◌∷◌, ◌++◌, drop, Option, Some, None, Result, Ok, Err, if◌then◌else◌}
 use Rattle.sshc_wire.specs.declared.channel_open_failure.ChannelOpenFailure.{ChannelOpenFailure}
 use Rattle.sshc_wire.specs.declared.disconnect.Disconnect.{Disconnect}
 use Rattle.sshc_wire.specs.declared.error.NoMemory.{NoMemory}

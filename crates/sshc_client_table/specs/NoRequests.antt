@@ -1,6 +1,6 @@
 -- An open session writes no request to authenticate (RFC 4252, section 5.1: 50, USERAUTH_REQUEST), and keeps what is
 -- stored of the last one: what its moves write are packets of the connection protocol (RFC 4254), and disconnections.
-use Rattle.std.proofs.Common.{◌≡◌, ℕ, ◌+◌, List, ◌∷◌, ◌++◌}
+use Rattle.std.proofs.Common.{◌≡◌, ℕ, List, ◌∷◌, ◌++◌}
 use Rattle.sshc_wire.specs.MessageNumbers.{USERAUTH_REQUEST}
 use Rattle.sshc_wire.specs.declared.record.Record.{Record}
 use Rattle.sshc_auth.specs.OpeningState.{OpeningState}

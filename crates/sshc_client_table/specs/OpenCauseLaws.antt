@@ -72,7 +72,9 @@ use Rattle.sshc_client_table.specs.SessionTable.Streams.{channel_close_row, chan
 use Rattle.sshc_client_table.specs.SessionTable.Timers.{are_too_many, inactivity_timer_row, keepalive_row, keepalive_timer_row}
 use Rattle.sshc_client_table.specs.SessionTable.Users.{asked_row, channel_moves, extension_moves, forward_moves, forwarded_moves, global_moves, open_moves, program_moves, prove_moves, reply_moves, settled_by, terminal_moves, user_moves, user_row}
 use Rattle.sshc_client_table.specs.KeptByMoves.{KeepsSession}
+use Rattle.sshc_client_table.specs.PeerSays.{BytesCame, HappensOn, IsOpening, SaysBytes, SaysExtended, SaysGlobal, SaysGrant, SaysOnly, SaysOpen, SaysRequest}
 use Rattle.sshc_client_table.specs.RowMoves.{Fits}
+use Rattle.sshc_wire.specs.declared.channel_id.ChannelId.{ChannelId}
 use Rattle.sshc_client_table.specs.RowMovesLaws.{fits_keeps}
 use Rattle.sshc_client_table.specs.OpenCauses.{Fails, FirstIsBare, IsBare, IsBroken, IsOpenCause, OpenFails, RequestFails, adjustment, bytes, confirmation, disconnection, extended_bytes, failure, global, number_alone, opening, refusal, request, success}
 
@@ -133,8 +135,8 @@ established_holds : (P : RowLaw) (b : Bool) (row : SessionRow) → RowHolds P ro
 established_holds P true row holds = holds
 established_holds P false row holds = plain_holds P [] tt
 
-wanted_fit : (F : Move → Type 0) (b : Bool) (m : Move) → F m → AllByRecursion F (if_wanted b m)
-wanted_fit F true m fits = (fits, tt)
+wanted_fit : (F : Move → Type 0) (b : Bool) (m : Move) → (b ≡ true → F m) → AllByRecursion F (if_wanted b m)
+wanted_fit F true m fits = (fits refl, tt)
 wanted_fit F false m fits = tt
 
 reports_holds : (P : RowLaw) (front : List Move) (id : ℕ) (output : ChannelRecord) (back : List Move) → P.fits (Tells (on_channel id output)) → AllByRecursion P.fits front → AllByRecursion P.fits back → RowHolds P (reports front id output back)
@@ -150,8 +152,11 @@ part_holds P parts (Err e) on breaks each = record { caused = breaks tt; front =
 -- ---- packets
 
 module _ (accepts : Accepts) (o : Opinions) (s : SessionState) (n : ℕ) (body : List ℕ) where
+  abbrev packet : Event
+  packet = events.Payload (n ∷ body)
+
   abbrev P : RowLaw
-  P = open_why s (events.Payload (n ∷ body))
+  P = open_why s packet
 
   -- 1
   reason_holds : (reason : Option Disconnect) (rest : List ℕ) → (Breaks (text ∷ text ∷ []) rest → P.refusal errors.SshEncoding) → (reason ≡ None → P.refusal errors.InvalidDisconnect) →
@@ -172,15 +177,15 @@ module _ (accepts : Accepts) (o : Opinions) (s : SessionState) (n : ℕ) (body :
       reason_holds (disconnect_of code.0) code.1 breaks (λ none. (is, rw read none)) (λ info same texts. (is, (code.0, code.1, read, same, texts))))
 
   -- 80
-  global_holds_so : (g : PeerGlobal) → RowHolds P (global_row g)
+  global_holds_so : (g : PeerGlobal) → SaysGlobal g packet → RowHolds P (global_row g)
   unfolding asking
-  global_holds_so (globals.Keepalive want_reply) = plain_holds P _ (wanted_fit P.fits want_reply _ tt)
-  global_holds_so (globals.HostKeys keys) = record { caused = tt; front = (tt, tt); back = λ answer. (tt, tt) }
-  global_holds_so (globals.Unknown want_reply) = plain_holds P _ (wanted_fit P.fits want_reply _ tt)
+  global_holds_so (globals.Keepalive want_reply) says = plain_holds P _ (wanted_fit P.fits want_reply _ (λ is. subst (λ (b : Bool). SaysGlobal (globals.Keepalive b) packet) is says))
+  global_holds_so (globals.HostKeys keys) says = record { caused = tt; front = (tt, tt); back = λ answer. ((keys, says, refl), tt) }
+  global_holds_so (globals.Unknown want_reply) says = plain_holds P _ (wanted_fit P.fits want_reply _ (λ is. subst (λ (b : Bool). SaysGlobal (globals.Unknown b) packet) is says))
 
   global_holds : n ≡ GLOBAL_REQUEST → RowHolds P (global_request_row body)
   unfolding global_request_row
-  global_holds is = kept_holds P (peer_global_of body) _ (λ broken. global is broken) (λ g read. global_holds_so g)
+  global_holds is = kept_holds P (peer_global_of body) _ (λ broken. global is broken) (λ g read. global_holds_so g (is, read))
 
   -- 81
   bare_first : (replies : List ReplyEntry) (first : ReplyEntry) (rest : List ReplyEntry) → replies ≡ first ∷ rest → IsBare first.kind → FirstIsBare replies
@@ -213,25 +218,25 @@ module _ (accepts : Accepts) (o : Opinions) (s : SessionState) (n : ℕ) (body :
   failure_holds is = read_holds P (nothing_of body) _ (λ broken. failure is broken) (λ u read. failure_holds_so s.replies is)
 
   -- 90
-  settled_keep : (id : ℕ) (answer : OpenAnswer) → AllByRecursion P.fits (settled id answer)
-  settled_keep id answers.Accept = (tt, (tt, tt))
-  settled_keep id (answers.Reject reason) = (tt, tt)
-  settled_keep id answers.Later = tt
+  settled_keep : (id : ℕ) (answer : OpenAnswer) → IsOpening packet → AllByRecursion P.fits (settled id answer)
+  settled_keep id answers.Accept now = (inl now, (inl refl, tt))
+  settled_keep id (answers.Reject reason) now = (inl now, tt)
+  settled_keep id answers.Later now = tt
 
-  serving_holds : (sender : Sender) (id : ℕ) (opened : ServerOpen) → RowHolds P (serving_row sender id opened)
-  serving_holds sender id opened = record { caused = tt; front = (tt, tt); back = λ answer. (tt, settled_keep id answer) }
+  serving_holds : (sender : Sender) (id : ℕ) (opened : ServerOpen) → SaysOpen sender opened packet → RowHolds P (serving_row sender id opened)
+  serving_holds sender id opened says = record { caused = tt; front = ((opened, says), tt); back = λ answer. ((sender, says), settled_keep id answer (sender, opened, says)) }
 
-  offered_holds : (takes_unknown : Bool) (sender : Sender) (id : ℕ) (kind : List ℕ) → RowHolds P (offered_row takes_unknown sender id kind)
-  offered_holds true sender id kind = opining_holds P _ _ (serving_holds sender id Unknown)
-  offered_holds false sender id kind = opining_holds P _ _ (plain_holds P _ (tt, (tt, tt)))
+  offered_holds : (takes_unknown : Bool) (sender : Sender) (id : ℕ) (kind : List ℕ) → SaysOpen sender Unknown packet → RowHolds P (offered_row takes_unknown sender id kind)
+  offered_holds true sender id kind says = opining_holds P _ _ (serving_holds sender id Unknown says)
+  offered_holds false sender id kind says = opining_holds P _ _ (plain_holds P _ ((Unknown, says), (inl (sender, Unknown, says), tt)))
 
-  served_holds : (takes_unknown : Bool) (sender : Sender) (id : ℕ) (kind : List ℕ) (opened : ServerOpen) → RowHolds P (served_row takes_unknown sender id kind opened)
-  served_holds takes_unknown sender id kind Unknown = offered_holds takes_unknown sender id kind
-  served_holds takes_unknown sender id kind opened = serving_holds sender id opened
+  served_holds : (takes_unknown : Bool) (sender : Sender) (id : ℕ) (kind : List ℕ) (opened : ServerOpen) → SaysOpen sender opened packet → RowHolds P (served_row takes_unknown sender id kind opened)
+  served_holds takes_unknown sender id kind Unknown says = offered_holds takes_unknown sender id kind says
+  served_holds takes_unknown sender id kind opened says = serving_holds sender id opened says
 
-  numbered_open_holds : (id : Option ℕ) (sender : Sender) (kind : List ℕ) (opened : ServerOpen) → RowHolds P (numbered_open_row o id sender kind opened)
-  numbered_open_holds None sender kind opened = record { caused = tt; front = tt; back = λ answer. tt }
-  numbered_open_holds (Some id) sender kind opened = served_holds o.takes_unknown sender id kind opened
+  numbered_open_holds : (id : Option ℕ) (sender : Sender) (kind : List ℕ) (opened : ServerOpen) → SaysOpen sender opened packet → RowHolds P (numbered_open_row o id sender kind opened)
+  numbered_open_holds None sender kind opened says = record { caused = tt; front = tt; back = λ answer. tt }
+  numbered_open_holds (Some id) sender kind opened says = served_holds o.takes_unknown sender id kind opened says
 
   head_fails : (r : Result PeerOpen WireError) → Fails r → OpenFails r
   head_fails (Ok head) never = absurd never
@@ -242,60 +247,60 @@ module _ (accepts : Accepts) (o : Opinions) (s : SessionState) (n : ℕ) (body :
   open_holds is =
       read_holds P (peer_open_of body) _ (λ broken. opening is (head_fails (peer_open_of body) broken)) (λ head read.
       kept_holds P (server_open_of head.kind head.rest) _ (λ broken. opening is (rw read broken)) (λ opened read'.
-      numbered_open_holds (next_number s.table) head.sender head.kind opened))
+      numbered_open_holds (next_number s.table) head.sender head.kind opened (is, (head, read, refl, read'))))
 
   -- 91
   confirmed_holds : (waits : Option (Option Ticket)) (c : Confirmation) → awaited c.recipient s.table ≡ waits → confirmation_of body ≡ Ok c → n ≡ CHANNEL_OPEN_CONFIRMATION → RowHolds P (confirmed_row waits c)
   confirmed_holds None c none read is = record { caused = inr (is, rw read none); front = tt; back = λ answer. tt }
-  confirmed_holds (Some ticket) c waits read is = reports_holds P _ _ _ _ tt (is, tt) (tt, tt)
+  confirmed_holds (Some ticket) c waits read is = reports_holds P _ _ _ _ (c, (is, read), refl, refl, refl) ((is, read), tt) (inl refl, tt)
 
   confirmation_holds : n ≡ CHANNEL_OPEN_CONFIRMATION → RowHolds P (open_confirmation_row s body)
   unfolding open_confirmation_row
   confirmation_holds is = read_holds P (confirmation_of body) _ (λ broken. confirmation is broken) (λ c read. confirmed_holds (awaited c.recipient s.table) c refl read is)
 
   -- 92
-  failed_holds : (waits : Option (Option Ticket)) (r : Refusal) → n ≡ CHANNEL_OPEN_FAILURE → RowHolds P (failed_row waits r)
-  failed_holds None r is = plain_holds P [] tt
-  failed_holds (Some ticket) r is = reports_holds P _ _ _ _ tt (is, tt) tt
+  failed_holds : (waits : Option (Option Ticket)) (r : Refusal) → refusal_of body ≡ Ok r → n ≡ CHANNEL_OPEN_FAILURE → RowHolds P (failed_row waits r)
+  failed_holds None r read is = plain_holds P [] tt
+  failed_holds (Some ticket) r read is = reports_holds P _ _ _ _ (r, (is, read), refl, refl, refl, refl) ((r, (is, read), refl), tt) tt
 
   refusal_holds : n ≡ CHANNEL_OPEN_FAILURE → RowHolds P (open_failure_row s body)
   unfolding open_failure_row
-  refusal_holds is = read_holds P (refusal_of body) _ (λ broken. refusal is broken) (λ r read. failed_holds (awaited r.id.0 s.table) r is)
+  refusal_holds is = read_holds P (refusal_of body) _ (λ broken. refusal is broken) (λ r read. failed_holds (awaited r.id.0 s.table) r read is)
 
   -- 93 to 97, 99 and 100
   adjust_holds : n ≡ CHANNEL_WINDOW_ADJUST → RowHolds P (window_adjust_row s body)
   unfolding window_adjust_row
-  adjust_holds is = read_holds P (window_adjust_of body) _ (λ broken. adjustment is broken) (λ a read. established_holds P (is_established a.id.0 s.table) _ (reports_holds P _ _ _ _ tt (tt, tt) tt))
+  adjust_holds is = read_holds P (window_adjust_of body) _ (λ broken. adjustment is broken) (λ a read. let says : SaysGrant a.id.0 a.bytes_to_add packet = (is, (a, read, refl, refl)) in established_holds P (is_established a.id.0 s.table) _ (reports_holds P _ _ _ _ (a.bytes_to_add, says) (inr says, tt) tt))
 
   retargets_keep : (id len : ℕ) → AllByRecursion P.fits (retargets o s id len)
   retargets_keep id len = by_cases (AllByRecursion P.fits) (adjusted_at id len (own_window s) s.table && nat_lt 0 o.window_target) _ _ (tt, tt) tt
 
-  received_holds : (id len : ℕ) (output : ChannelRecord) → RowHolds P (received_row o s id len output)
-  received_holds id len output = established_holds P (is_established id s.table) _ (opining_holds P _ _ (reports_holds P _ _ _ _ tt (tt, retargets_keep id len) tt))
+  received_holds : (id len : ℕ) (output : ChannelRecord) → HappensOn id output packet → BytesCame id len packet → RowHolds P (received_row o s id len output)
+  received_holds id len output told came = established_holds P (is_established id s.table) _ (opining_holds P _ _ (reports_holds P _ _ _ _ told (came, retargets_keep id len) tt))
 
   data_holds : n ≡ CHANNEL_DATA → RowHolds P (channel_data_row o s body)
   unfolding channel_data_row
-  data_holds is = read_holds P (data_of body) _ (λ broken. bytes is broken) (λ d read. received_holds d.id.0 (length d.body) (happened.Data d.body))
+  data_holds is = read_holds P (data_of body) _ (λ broken. bytes is broken) (λ d read. let says : SaysBytes d.id.0 d.body packet = (is, (d, read, refl, refl)) in received_holds d.id.0 (length d.body) (happened.Data d.body) says (inl (d.body, says, refl)))
 
   extended_holds : n ≡ CHANNEL_EXTENDED_DATA → RowHolds P (channel_extended_data_row o s body)
   unfolding channel_extended_data_row
-  extended_holds is = read_holds P (extended_data_of body) _ (λ broken. extended_bytes is broken) (λ d read. received_holds d.id.0 (length d.body) (happened.ExtendedData d.ext d.body))
+  extended_holds is = read_holds P (extended_data_of body) _ (λ broken. extended_bytes is broken) (λ d read. let says : SaysExtended d.id.0 d.ext d.body packet = (is, (d, read, refl, refl, refl)) in received_holds d.id.0 (length d.body) (happened.ExtendedData d.ext d.body) says (inr (d.ext, d.body, says, refl)))
 
-  report_holds : (output : ChannelRecord) → (Fails (channel_of body) → IsBroken s n body) → RowHolds P (channel_report_row s output body)
+  report_holds : (output : ChannelRecord) → ((id : ChannelId) → channel_of body ≡ Ok id → HappensOn id.0 output packet) → (Fails (channel_of body) → IsBroken s n body) → RowHolds P (channel_report_row s output body)
   unfolding channel_report_row
-  report_holds output breaks = read_holds P (channel_of body) _ breaks (λ id read. established_holds P (is_established id.0 s.table) _ (reports_holds P _ _ _ _ tt tt tt))
+  report_holds output told breaks = read_holds P (channel_of body) _ breaks (λ id read. established_holds P (is_established id.0 s.table) _ (reports_holds P _ _ _ _ (told id read) tt tt))
 
   close_holds : n ≡ CHANNEL_CLOSE → RowHolds P (channel_close_row s body)
   unfolding channel_close_row
-  close_holds is = read_holds P (channel_of body) _ (λ broken. number_alone (inr (inl is)) broken) (λ id read. established_holds P (is_established id.0 s.table) _ (reports_holds P _ _ _ _ tt (tt, tt) tt))
+  close_holds is = read_holds P (channel_of body) _ (λ broken. number_alone (inr (inl is)) broken) (λ id read. let says : SaysOnly CHANNEL_CLOSE id.0 packet = (is, (id, read, refl)) in established_holds P (is_established id.0 s.table) _ (reports_holds P _ _ _ _ says (says, tt) tt))
 
   -- 98
-  requested_holds : (id : ℕ) (asked : PeerRequest) → RowHolds P (requested_row id asked)
-  requested_holds id (requests.XonXoff can_do) = reports_holds P _ _ _ _ tt tt tt
-  requested_holds id (requests.ExitStatus status) = reports_holds P _ _ _ _ tt tt tt
-  requested_holds id (requests.ExitSignal signal dumped message language) = reports_holds P _ _ _ _ tt tt tt
-  requested_holds id (requests.Keepalive want_reply) = plain_holds P _ (wanted_fit P.fits want_reply _ tt)
-  requested_holds id (requests.Unknown want_reply) = plain_holds P _ (wanted_fit P.fits want_reply _ tt)
+  requested_holds : (id : ℕ) (asked : PeerRequest) → SaysRequest id asked packet → RowHolds P (requested_row id asked)
+  requested_holds id (requests.XonXoff can_do) says = reports_holds P _ _ _ _ says tt tt
+  requested_holds id (requests.ExitStatus status) says = reports_holds P _ _ _ _ says tt tt
+  requested_holds id (requests.ExitSignal signal dumped message language) says = reports_holds P _ _ _ _ says tt tt
+  requested_holds id (requests.Keepalive want_reply) says = plain_holds P _ (wanted_fit P.fits want_reply _ (λ is. subst (λ (b : Bool). SaysRequest id (requests.Keepalive b) packet) is says))
+  requested_holds id (requests.Unknown want_reply) says = plain_holds P _ (wanted_fit P.fits want_reply _ (λ is. subst (λ (b : Bool). SaysRequest id (requests.Unknown b) packet) is says))
 
   request_fails : (r : Result RequestHead WireError) → Fails r → RequestFails r
   request_fails (Ok head) never = absurd never
@@ -306,7 +311,7 @@ module _ (accepts : Accepts) (o : Opinions) (s : SessionState) (n : ℕ) (body :
   request_holds is =
       read_holds P (request_head_of body) _ (λ broken. request is (request_fails (request_head_of body) broken)) (λ head read.
       established_holds P (is_established head.id.0 s.table) _
-      (kept_holds P (peer_request_of head.name head.rest) _ (λ broken. request is (rw read broken)) (λ asked read'. requested_holds head.id.0 asked)))
+      (kept_holds P (peer_request_of head.name head.rest) _ (λ broken. request is (rw read broken)) (λ asked read'. requested_holds head.id.0 asked (is, (head, read, refl, read')))))
 
   -- by the number
   numbered_holds : RowHolds P (numbered_row accepts o s n body)
@@ -321,11 +326,11 @@ module _ (accepts : Accepts) (o : Opinions) (s : SessionState) (n : ℕ) (body :
       by_test (RowHolds P) (n == CHANNEL_WINDOW_ADJUST) _ _ (λ is. adjust_holds (same_number n CHANNEL_WINDOW_ADJUST is)) (λ other.
       by_test (RowHolds P) (n == CHANNEL_DATA) _ _ (λ is. data_holds (same_number n CHANNEL_DATA is)) (λ other.
       by_test (RowHolds P) (n == CHANNEL_EXTENDED_DATA) _ _ (λ is. extended_holds (same_number n CHANNEL_EXTENDED_DATA is)) (λ other.
-      by_test (RowHolds P) (n == CHANNEL_EOF) _ _ (λ is. report_holds happened.Eof (λ broken. number_alone (inl (same_number n CHANNEL_EOF is)) broken)) (λ other.
+      by_test (RowHolds P) (n == CHANNEL_EOF) _ _ (λ is. report_holds happened.Eof (λ id read. (same_number n CHANNEL_EOF is, (id, read, refl))) (λ broken. number_alone (inl (same_number n CHANNEL_EOF is)) broken)) (λ other.
       by_test (RowHolds P) (n == CHANNEL_CLOSE) _ _ (λ is. close_holds (same_number n CHANNEL_CLOSE is)) (λ other.
       by_test (RowHolds P) (n == CHANNEL_REQUEST) _ _ (λ is. request_holds (same_number n CHANNEL_REQUEST is)) (λ other.
-      by_test (RowHolds P) (n == CHANNEL_SUCCESS) _ _ (λ is. report_holds happened.Success (λ broken. number_alone (inr (inr (inl (same_number n CHANNEL_SUCCESS is)))) broken)) (λ other.
-      by_test (RowHolds P) (n == CHANNEL_FAILURE) _ _ (λ is. report_holds happened.Failure (λ broken. number_alone (inr (inr (inr (same_number n CHANNEL_FAILURE is)))) broken)) (λ other.
+      by_test (RowHolds P) (n == CHANNEL_SUCCESS) _ _ (λ is. report_holds happened.Success (λ id read. (same_number n CHANNEL_SUCCESS is, (id, read, refl))) (λ broken. number_alone (inr (inr (inl (same_number n CHANNEL_SUCCESS is)))) broken)) (λ other.
+      by_test (RowHolds P) (n == CHANNEL_FAILURE) _ _ (λ is. report_holds happened.Failure (λ id read. (same_number n CHANNEL_FAILURE is, (id, read, refl))) (λ broken. number_alone (inr (inr (inr (same_number n CHANNEL_FAILURE is)))) broken)) (λ other.
       plain_holds P [] tt))))))))))))))
 
   -- while an exchange runs
@@ -369,7 +374,7 @@ exchange_holds : (s : SessionState) (x : ExchangeResult) (flag : ExchangeFlag) (
 unfolding asking
 exchange_holds s x flags.Idle same is kept = record { caused = λ peer. let clash : flags.Idle ≡ flags.Peer = sym is ∙ peer in absurd cc; front = tt; back = λ answer. tt }
 exchange_holds s x flags.Ours same is kept = record { caused = λ peer. let clash : flags.Ours ≡ flags.Peer = sym is ∙ peer in absurd cc; front = tt; back = λ answer. tt }
-exchange_holds s x flags.Peer true is kept = record { caused = tt; front = tt; back = λ answer. (tt, (tt, tt)) }
+exchange_holds s x flags.Peer true is kept = record { caused = tt; front = tt; back = λ answer. (refl, (tt, tt)) }
 exchange_holds s x flags.Peer false is kept = record { caused = (is, not_kept s.opening x kept); front = tt; back = λ answer. tt }
 
 not_none : (most count : ℕ) → are_too_many most count ≡ true → most ≢ 0
@@ -430,12 +435,12 @@ channel_keep event id msgs.Eof = (tt, tt)
 channel_keep event id msgs.Close = (tt, tt)
 channel_keep event id msg = terminal_keep event id msg
 
-settled_by_keep : (event : Event) (id : ℕ) (result : Result (Unit {0}) ChannelOpenFailure) → AllFit event (settled_by id result)
-settled_by_keep event id (Ok u) = (tt, (tt, tt))
-settled_by_keep event id (Err reason) = (tt, tt)
+settled_by_keep : (own : ChannelId) (result : Result (Unit {0}) ChannelOpenFailure) → AllFit (events.ServerChannelOpenReply own result) (settled_by own.0 result)
+settled_by_keep own (Ok u) = (inr refl, (inl refl, tt))
+settled_by_keep own (Err reason) = (inr (refl, refl), tt)
 
-reply_keep : (event : Event) (s : SessionState) (id : ℕ) (result : Result (Unit {0}) ChannelOpenFailure) → AllFit event (reply_moves s id result)
-reply_keep event s id result = by_cases (AllByRecursion (λ m. Fits event m)) (is_some (unsettled_at id s.table)) _ _ (settled_by_keep event id result) tt
+reply_keep : (s : SessionState) (own : ChannelId) (result : Result (Unit {0}) ChannelOpenFailure) → AllFit (events.ServerChannelOpenReply own result) (reply_moves s own.0 result)
+reply_keep s own result = by_cases (AllByRecursion (λ m. Fits (events.ServerChannelOpenReply own result) m)) (is_some (unsettled_at own.0 s.table)) _ _ (settled_by_keep own result) tt
 
 prove_keep : (ticket : Ticket) (keys : List (Key × List ℕ)) → AllFit (events.HostKeysProve ticket keys) (prove_moves ticket keys)
 prove_keep ticket [] = ((refl, refl), tt)
@@ -478,7 +483,7 @@ unfolding user_moves
 users_keep s (events.Authenticate ticket user method) = ((refl, refl), tt)
 users_keep s (events.Close id) = (tt, tt)
 users_keep s (events.Channel id msg) = channel_keep (events.Channel id msg) id.0 msg
-users_keep s (events.ServerChannelOpenReply id result) = reply_keep (events.ServerChannelOpenReply id result) s id.0 result
+users_keep s (events.ServerChannelOpenReply id result) = reply_keep s id result
 users_keep s events.Rekey = (tt, tt)
 users_keep s (events.AwaitExtensionInfo ticket name) = extension_keep (is_seen s.opening.seen name) ticket name
 users_keep s (events.GetServerSigAlgs ticket) = algs_keep ticket s.opening.sig_algs

@@ -3,6 +3,7 @@ use Rattle.std.proofs.Common.{◌≡◌, false, [], ◌∷◌, Option, Some, Non
 use Rattle.sshc_wire.specs.declared.record.Record.TheVariants.{Opened, Payload}
 use Rattle.sshc_wire.specs.declared.resolution.Resolution.TheVariants.{AuthFailure, AuthSuccess, Dropped}
 use Rattle.sshc_auth.specs.AddedLaws.{HoldsOfLists, behind_resolved, resolved_has, service_has, stored_has, token_has, told_has}
+use Rattle.sshc_auth.specs.Said.{Said}
 use Rattle.sshc_auth.specs.EachRowLaws.{PacketRows, TableRows, UserRows, each_row}
 use Rattle.sshc_client_table.specs.SessionState.{is_open}
 use Rattle.sshc_client_table.specs.SessionRecords.{AreSessions}
@@ -10,7 +11,7 @@ use Rattle.sshc_client_table.specs.SessionRecordsLaws.{sessions_on}
 use Rattle.sshc_client_table.specs.OpeningStays.{Stays}
 use Rattle.sshc_auth.specs.declared.error.Error.{Error}
 use Rattle.sshc_auth.specs.declared.step.Told.{Told}
-use Rattle.sshc_auth.specs.RowNames.{Always, Answer, asked_for_service, Asking, authenticate_again_row, authenticate_first_row, Event, gssapi_complete, gssapi_mic, HashAlg, info_response_row, Key, open_row, OpeningState, rekey_row, request, Row, signed_by_row, user_disconnect_row}
+use Rattle.sshc_auth.specs.RowNames.{Always, Answer, Asking, authenticate_again_row, authenticate_first_row, Event, gssapi_complete, gssapi_mic, HashAlg, info_response_row, Key, open_row, OpeningState, rekey_row, request, Row, signed_by_row, user_disconnect_row}
 
 lists : HoldsOfLists AreSessions
 lists = record { none = tt; two = sessions_on; resolves = λ ticket resolution. (refl, tt) }
@@ -20,18 +21,18 @@ signed_stays : (s : OpeningState) (key : Key) (hash : Option HashAlg) (answer : 
 signed_stays s key hash None is = (tt, tt)
 signed_stays s key hash (Some signature) is = ((refl, is), (refl, tt))
 
-packet_stays : (s : OpeningState) (R : Error → Type 0) → is_open s.phase ≡ false →
-    PacketRows (Always (Stays s.closed)) R s
-packet_stays s R is = record {
+packet_stays : (s : OpeningState) (R : Error → Type 0) (W : Said → Type 0) → is_open s.phase ≡ false →
+    PacketRows (Always (Stays s.closed)) R W s
+packet_stays s R W is = record {
   passed = ((refl, is), tt);
-  extended = λ told. ((refl, is), told_has lists told s.waiters);
+  extended = λ told says. ((refl, is), told_has lists told s.waiters);
   started = λ service. ((refl, refl), stored_has lists s.user s.method (λ stored. (refl, tt)));
-  unknown = λ partial none. (tt, resolved_has lists s.ticket (AuthFailure [] partial));
-  failed = λ method known partial. ((refl, is), resolved_has lists s.ticket (AuthFailure (method ∷ known) partial));
-  succeeded = (refl, behind_resolved lists s.ticket AuthSuccess (Opened ∷ []) (refl, tt));
-  banner = λ shown. ((refl, is), (refl, tt));
-  prompted = λ name instructions asked. ((refl, refl), (refl, tt));
-  gssapi = λ step. ((refl, is), (refl, tt));
+  unknown = λ partial none says. (tt, resolved_has lists s.ticket (AuthFailure [] partial));
+  failed = λ method known partial says. ((refl, is), resolved_has lists s.ticket (AuthFailure (method ∷ known) partial));
+  succeeded = λ says. (refl, behind_resolved lists s.ticket AuthSuccess (Opened ∷ []) (refl, tt));
+  banner = λ shown says. ((refl, is), (refl, tt));
+  prompted = λ name instructions asked says. ((refl, refl), (refl, tt));
+  gssapi = λ step says. ((refl, is), (refl, tt));
   cleared = ((refl, is), tt);
   signs = λ pair key hash fault stored answer. signed_stays s key hash answer is;
   hands_key = λ key hash stored. ((refl, refl), (refl, tt));
@@ -54,12 +55,12 @@ user_stays s is = record {
   complete = λ token. ((refl, is), token_has lists token gssapi_complete (λ other. (refl, tt)) (refl, tt));
   rekeys = ((refl, is), (refl, tt));
   waits = λ ticket name. ((refl, is), tt);
-  resolves = λ event ticket resolution. ((refl, is), resolved_has lists ticket resolution);
+  resolves = λ event ticket resolution may. ((refl, is), resolved_has lists ticket resolution);
   leaves = λ reason description language. (tt, (refl, tt));
   gone = λ calm. (tt, tt);
   responds = λ responses. ((refl, refl), (refl, tt));
   signs = λ body awaits signed. ((refl, refl), (refl, tt));
-  unsigned = λ event. ((refl, refl), resolved_has lists s.ticket Dropped);
+  unsigned = λ event lost. ((refl, refl), resolved_has lists s.ticket Dropped);
 }
 
 table_stays : (s : OpeningState) (told : Told) → is_open s.phase ≡ false → TableRows (StaysRow s) s told
@@ -70,9 +71,9 @@ table_stays s told is = record {
   begins = λ idle. ((refl, is), (refl, tt));
   joins = λ running. ((refl, is), tt);
   accepted = λ x first went. ((refl, refl), (refl, tt));
-  opened = λ x first went. (refl, (refl, (refl, tt)));
+  opened = λ x first went anonymous. (refl, (refl, (refl, tt)));
   later = λ x behind same. ((refl, is), (refl, tt));
-  packets = λ n body counted behind. packet_stays (record s { counted = counted }) _ is;
+  packets = λ n body counted behind. packet_stays (record s { counted = counted }) _ _ is;
   users = λ turn. user_stays s is;
 }
 

@@ -2,7 +2,8 @@
 -- answered only by the peer's reply, an open of ours only by its own packet, what waits on channels is sent anew only after
 -- an exchange, and a row neither leaves nor stops the session.
 use Rattle.std.specs.Prelude.{◌≡◌, ◌⊎◌, ℕ, Bool, List, [], ◌∷◌}
-use Rattle.sshc_wire.specs.MessageNumbers.{REQUEST_SUCCESS, REQUEST_FAILURE, CHANNEL_OPEN_CONFIRMATION, CHANNEL_OPEN_FAILURE}
+use Rattle.sshc_wire.specs.MessageNumbers.{REQUEST_SUCCESS, REQUEST_FAILURE, CHANNEL_CLOSE}
+use Rattle.sshc_wire.specs.declared.channel_record.ServerOpen.{ServerOpen}
 use Rattle.sshc_wire.specs.declared.record.Record.{Record}
 use Rattle.sshc_wire.specs.declared.record.Record.TheVariants as output
 use Rattle.sshc_wire.specs.declared.resolution.Resolution.{Resolution}
@@ -10,6 +11,8 @@ use Rattle.sshc_wire.specs.declared.resolution.Resolution.TheVariants.{Dropped, 
 use Rattle.sshc_wire.specs.declared.ticket.Ticket.{Ticket}
 use Rattle.sshc_auth_event.specs.declared.event.Event.{Event}
 use Rattle.sshc_auth_event.specs.declared.event.Event.TheVariants as events
+use Rattle.sshc_client_table.specs.PeerSays.{BytesCame, IsRefused, MayAccept, MayReject, Replies, RepliesOn, Reports, SaysConfirmed, SaysGrant, SaysOnly, SaysOpen}
+pub use Rattle.sshc_client_table.specs.PeerSays.{IsExchange}
 use Rattle.sshc_client_table.specs.Moves as m
 use Rattle.sshc_client_table.specs.Moves.{Move}
 
@@ -17,11 +20,6 @@ use Rattle.sshc_client_table.specs.Moves.{Move}
 abbrev pub IsPacket : ℕ → Event → Type 0
 IsPacket n (events.Payload (number ∷ body)) = number ≡ n
 IsPacket n event = ⊥
-
--- a key exchange is done
-abbrev pub IsExchange : Event → Type 0
-IsExchange (events.ExchangeDone x) = Unit {0}
-IsExchange event = ⊥
 
 -- what a row reports: an exchange, what happened on a channel, an open of the peer's, announced host keys
 abbrev pub IsReport : Record → Type 0
@@ -42,12 +40,22 @@ ResolvesOwn (events.GetServerSigAlgs own) ticket resolution =
 ResolvesOwn (events.HostKeysProve own []) ticket resolution = (ticket ≡ own) × (resolution ≡ HostKeysProved)
 ResolvesOwn event ticket resolution = ⊥
 
+-- what the peer's packets, the user's answer or an exchange bring; the other moves are those of users and handlers, and
+-- counts
 abbrev pub Fits : Event → Move → Type 0
 Fits event (m.Replied resolution) = IsPacket REQUEST_SUCCESS event ⊎ IsPacket REQUEST_FAILURE event
-Fits event (m.Confirms confirmation) = IsPacket CHANNEL_OPEN_CONFIRMATION event
-Fits event (m.Fails id reason) = IsPacket CHANNEL_OPEN_FAILURE event
+Fits event (m.Reserves sender) = (opened : ServerOpen) × SaysOpen sender opened event
+Fits event (m.Accepts id) = MayAccept id event
+Fits event (m.Rejects id reason) = MayReject id reason event
+Fits event (m.Confirms c) = SaysConfirmed c event
+Fits event (m.Fails id reason) = IsRefused id event
+Fits event (m.Grants id amount) = (amount ≡ 0) ⊎ SaysGrant id amount event
+Fits event (m.Receives id len) = BytesCame id len event
+Fits event (m.PeerCloses id) = SaysOnly CHANNEL_CLOSE id event
+Fits event (m.AnswersOn id done) = RepliesOn id done event
+Fits event (m.Answers done) = Replies done event
 Fits event m.Resumes = IsExchange event
-Fits event (m.Tells record_) = IsReport record_
+Fits event (m.Tells record_) = Reports event record_
 Fits event (m.Resolves ticket resolution) = ResolvesOwn event ticket resolution
 Fits event m.Leaves = ⊥
 Fits event m.Stops = ⊥

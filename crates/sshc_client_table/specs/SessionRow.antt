@@ -2,7 +2,6 @@
 -- and moves by what the handler returned; and, before that, at most one call that doesn't borrow it. Plain data; what a call does that follows a row is defined in the crate that
 -- has the handler.
 use Rattle.std.specs.Prelude.{ℕ, Bool, true, false, List, [], ◌∷◌, ◌++◌, Option, Some, None, Result, Ok, Err}
-use Rattle.sshc_wire.specs.declared.channel_open_failure.ChannelOpenFailure.{ChannelOpenFailure}
 use Rattle.sshc_wire.specs.declared.channel_record.ChannelRecord.{ChannelRecord}
 use Rattle.sshc_wire.specs.declared.channel_record.ServerOpen.{ServerOpen}
 use Rattle.sshc_wire.specs.declared.error.WireError.{WireError}

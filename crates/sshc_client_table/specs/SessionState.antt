@@ -1,9 +1,9 @@
 -- The state of a session between two events, as plain data: its opening, its channels, the requests whose replies are
 -- awaited, and the records that were not yet taken. The code keeps hash tables and an outbox besides.
-use Rattle.std.specs.Prelude.{ℕ, Bool, true, false, not, ◌&&◌, List, ◌++◌}
+use Rattle.std.specs.Prelude.{ℕ, Bool, true, false, not, ◌&&◌, List}
 use Rattle.sshc_wire.specs.declared.record.Record.{Record}
 use Rattle.sshc_transport.specs.declared.exchange.ExchangeFlag.{ExchangeFlag}
-use Rattle.sshc_transport.specs.declared.exchange.ExchangeFlag.TheVariants.{Idle, Ours, Peer}
+use Rattle.sshc_transport.specs.declared.exchange.ExchangeFlag.TheVariants.{Idle}
 use Rattle.sshc_auth.specs.declared.opening.Phase.{Phase}
 use Rattle.sshc_auth.specs.declared.opening.Phase.TheVariants.{Open}
 use Rattle.sshc_auth.specs.OpeningState.{OpeningState}

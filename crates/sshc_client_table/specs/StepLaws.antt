@@ -7,9 +7,10 @@ use Rattle.std.specs.Int.{w32, from_be_bytes}
 use Rattle.std.specs.List.{AllByRecursion}
 use Rattle.sshc_wire.specs.Wire.{IsBytes}
 use Rattle.sshc_wire.specs.declared.error.WireError.{WireError}
-use Rattle.sshc_wire.specs.MessageNumbers.{USERAUTH_REQUEST, REQUEST_SUCCESS, REQUEST_FAILURE, CHANNEL_OPEN_CONFIRMATION, CHANNEL_OPEN_FAILURE, CHANNEL_DATA, CHANNEL_EXTENDED_DATA}
+use Rattle.sshc_wire.specs.MessageNumbers.{USERAUTH_REQUEST, REQUEST_SUCCESS, REQUEST_FAILURE, CHANNEL_OPEN_CONFIRMATION, CHANNEL_OPEN_FAILURE, CHANNEL_DATA, CHANNEL_EXTENDED_DATA, CHANNEL_SUCCESS, CHANNEL_FAILURE}
+use Rattle.sshc_wire.specs.declared.channel_open_failure.ChannelOpenFailure.{ChannelOpenFailure}
 use Rattle.sshc_wire.specs.declared.record.Record.{Record}
-use Rattle.sshc_wire.specs.declared.record.Record.TheVariants.{Auth, Opened, Payload, Resolved}
+use Rattle.sshc_wire.specs.declared.record.Record.TheVariants.{Auth, BeginExchange, Opened, Payload, Resolved}
 use Rattle.sshc_wire.specs.declared.resolution.HostKeysFault.{HostKeysFault}
 use Rattle.sshc_wire.specs.declared.resolution.Resolution.{Resolution}
 use Rattle.sshc_wire.specs.declared.resolution.Resolution.TheVariants as told
@@ -19,6 +20,7 @@ use Rattle.sshc_auth_event.specs.declared.event.Event.{Event}
 use Rattle.sshc_auth_event.specs.declared.event.Event.TheVariants as events
 use Rattle.sshc_auth.specs.Row.{resolved}
 use Rattle.sshc_auth.specs.SessionWords.{HasKeptKey}
+use Rattle.sshc_mux.specs.ChannelAccount.{Call, ran}
 use Rattle.sshc_mux.specs.ChannelTable.Opens.{awaited}
 use Rattle.sshc_client_packets.specs.declared.channel_open.Confirmation.{Confirmation}
 use Rattle.sshc_client_packets.specs.ChannelPackets.{Refusal, confirmation_of, refusal_of}
@@ -31,7 +33,8 @@ use Rattle.sshc_client_table.specs.Grown.{Grown}
 use Rattle.sshc_client_table.specs.Moves.{Fronts, done}
 use Rattle.sshc_client_table.specs.NoRequests.{IsSameRequest}
 use Rattle.sshc_client_table.specs.QueuedRequests.{Queues}
-use Rattle.sshc_client_table.specs.RowMoves.{IsExchange, IsPacket, ResolvesOwn}
+use Rattle.sshc_client_table.specs.PeerSays.{AnswersOpenOf, IsExchange, MayAccept, MayCall, MayReject, Replies, RepliesOn, Reports}
+use Rattle.sshc_client_table.specs.RowMoves.{IsPacket, ResolvesOwn}
 use Rattle.sshc_client_table.specs.SessionRow.{Callback, Opinions, SessionRow, goes}
 use Rattle.sshc_client_table.specs.SessionState.{SessionState, exchanging, is_live}
 use Rattle.sshc_client_table.specs.SessionTable.{session_row}
@@ -154,6 +157,33 @@ AuthenticatesNone (Auth ticket asked) = ⊥
 AuthenticatesNone Opened = ⊥
 AuthenticatesNone output = Unit {0}
 
+-- ---- what the peer's packets bring
+
+-- What a record reports is what the packet says; a reply is one that is wanted, and an open of the peer's is confirmed
+-- or refused by its packet or the user's answer.
+abbrev pub IsBrought : Event → Record → Type 0
+IsBrought event (Payload (n ∷ body)) =
+    (n ≡ REQUEST_SUCCESS → Replies true event) × (n ≡ REQUEST_FAILURE → Replies false event)
+    × (n ≡ CHANNEL_SUCCESS → (id : ℕ) × RepliesOn id true event) × (n ≡ CHANNEL_FAILURE → (id : ℕ) × RepliesOn id false event)
+    × (n ≡ CHANNEL_OPEN_CONFIRMATION → (id : ℕ) × MayAccept id event)
+    × (n ≡ CHANNEL_OPEN_FAILURE → (id : ℕ) × (reason : ChannelOpenFailure) × MayReject id reason event)
+IsBrought event (Resolved ticket resolution) = Unit {0}
+IsBrought event (Payload []) = Unit {0}
+IsBrought event BeginExchange = Unit {0}
+IsBrought event output = Reports event output
+
+-- what happens to the channels are calls of the table, of which only the peer's packets, the user's answer or an exchange
+-- bring those that grant, open, close and receive
+pub record MakesCalls (event : Event) (was is : SessionState) : Type 0 where
+  pub calls : List Call
+  pub table : is.table ≡ (ran calls was.table).table
+  pub by : AllByRecursion (MayCall event) calls
+
+-- an open of ours that waits goes on waiting, unless the packet answers it
+abbrev pub OpensWait : Event → SessionState → SessionState → Type 0
+OpensWait event was is =
+    (id : ℕ) (ticket : Option Ticket) → awaited id was.table ≡ Some ticket → AnswersOpenOf id event ⊎ (awaited id is.table ≡ Some ticket)
+
 -- ---- a step
 
 -- `went` says that the session goes on
@@ -175,6 +205,12 @@ pub record OpenStepLaws (accepts : Accepts) (event : Event) (was is : SessionSta
   pub opened : OpensAnswered went event was added
   -- while keys are exchanged no bytes of a channel are written
   pub quiet : exchanging was ≡ true → (IsExchange event → ⊥) → AllByRecursion IsNoData added
+  -- what is reported, replied and settled is what the peer's packet or the user's answer says
+  pub says : AllByRecursion (IsBrought event) added
+  -- so is what is granted, opened, closed and received on the channels
+  pub calls : MakesCalls event was is
+  -- the opens of ours that aren't answered wait on
+  pub waiting : OpensWait event was is
   -- the session goes on after a key exchange only with the first exchange's host key
   pub key : went ≡ true → HasKeptKey was.opening event
 

@@ -1,5 +1,5 @@
 -- Rows of opens and their answers (RFC 4254, section 5.1).
-use Rattle.std.specs.Prelude.{ℕ, Bool, true, false, List, [], ◌∷◌, Option, Some, None, if◌then◌else◌}
+use Rattle.std.specs.Prelude.{ℕ, Bool, true, false, List, [], ◌∷◌, Option, Some, None}
 use Rattle.sshc_wire.specs.declared.channel_open_failure.ChannelOpenFailure.TheVariants.{UnknownChannelType}
 use Rattle.sshc_wire.specs.declared.channel_record.ChannelRecord.TheVariants as happened
 use Rattle.sshc_wire.specs.declared.channel_record.ServerOpen.{ServerOpen}

@@ -1,6 +1,6 @@
 -- Rows of windows, bytes and ends (RFC 4254, sections 5.2 and 5.3). On a channel that isn't established they are
 -- ignored.
-use Rattle.std.specs.Prelude.{ℕ, Bool, List, [], ◌∷◌, length, Option, Some, None, ◌&&◌, nat_lt, if◌then◌else◌}
+use Rattle.std.specs.Prelude.{ℕ, List, [], ◌∷◌, length, Option, Some, None, ◌&&◌, nat_lt, if◌then◌else◌}
 use Rattle.sshc_wire.specs.declared.channel_record.ChannelRecord.{ChannelRecord}
 use Rattle.sshc_wire.specs.declared.channel_record.ChannelRecord.TheVariants as happened
 use Rattle.sshc_mux.specs.ChannelTable.{adjusted_at, granted_at, is_established}

@@ -1,5 +1,5 @@
 -- Rows of timers. A keepalive is sent whatever exchange runs.
-use Rattle.std.specs.Prelude.{ℕ, ◌+◌, ◌^◌, ◌-◌, min, Bool, true, not, ◌&&◌, nat_lt, List, [], ◌∷◌, Option, Some, None, ◌==◌, if◌then◌else◌}
+use Rattle.std.specs.Prelude.{ℕ, ◌+◌, ◌^◌, ◌-◌, min, Bool, true, not, ◌&&◌, nat_lt, [], ◌∷◌, Option, Some, None, ◌==◌, if◌then◌else◌}
 use Rattle.sshc_auth.specs.declared.error.Error.TheVariants.{InactivityTimeout, KeepaliveTimeout}
 use Rattle.sshc_client_table.specs.Messages.{KeepAlive}
 use Rattle.sshc_client_table.specs.SessionState.{SessionState}

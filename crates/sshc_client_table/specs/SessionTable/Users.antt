@@ -1,5 +1,5 @@
 -- Rows of what the user asks of an open session. While an exchange runs they are out of turn.
-use Rattle.std.specs.Prelude.{ℕ, Bool, true, false, List, [], ◌∷◌, Option, Some, None, is_some, Result, Ok, Err, ◌==◌, if◌then◌else◌}
+use Rattle.std.specs.Prelude.{ℕ, Bool, true, false, List, [], ◌∷◌, is_some, Result, Ok, Err, if◌then◌else◌}
 use Rattle.sshc_wire.specs.declared.channel_open_failure.ChannelOpenFailure.{ChannelOpenFailure}
 use Rattle.sshc_wire.specs.declared.resolution.Resolution.TheVariants.{Dropped, ExtInfoSeen, HostKeysProved}
 use Rattle.sshc_wire.specs.declared.ticket.Ticket.{Ticket}
@@ -16,10 +16,10 @@ use Rattle.sshc_mux.specs.ChannelTable.Opens.{unsettled_at}
 use Rattle.sshc_client_packets.specs.declared.channel_request.TerminalSize.{TerminalSize}
 use Rattle.sshc_client_packets.specs.ChannelOpens.{ChannelOpen, DirectStreamLocal, DirectTcpIp, Session, X11 as X11Open}
 use Rattle.sshc_client_packets.specs.ChannelRequests.{AgentForward, Env, Exec, PtyReq, Shell, Signal, Subsystem, WindowChange, X11}
-use Rattle.sshc_client_table.specs.Messages.{Ask, asked_ticket, CancelForward, CancelForwardSocket, Forward, ForwardSocket, KeepAlive, NoMore, OwnRequest, Ping, Prove}
+use Rattle.sshc_client_table.specs.Messages.{asked_ticket, CancelForward, CancelForwardSocket, Forward, ForwardSocket, KeepAlive, NoMore, OwnRequest, Ping, Prove}
 use Rattle.sshc_client_table.specs.SessionState.{SessionState, exchanging}
 use Rattle.sshc_client_table.specs.Moves.{Accepts, Asks, Begins, Closes, Disconnects, EndsBytes, Grants, Move, Opens, Rejects, RequestsOn, Resolves, Sends}
-use Rattle.sshc_client_table.specs.SessionRow.{SessionRow, ending, passed_over, plain_row, refused}
+use Rattle.sshc_client_table.specs.SessionRow.{SessionRow, ending, plain_row, refused}
 
 abbrev pub opens : ChannelOpen → Ticket → List Move
 opens asked ticket = Opens asked (asked_ticket ticket) ∷ []
