@@ -227,6 +227,7 @@ stepped_with told_as judges accepts event was is r r2 setting setting2 result sa
     handed = step.laws.handed;
     once = step.laws.once;
     request = step.laws.request;
+    answers = step.laws.answers;
   };
   passwords = step.passwords;
   reports = step.reports;

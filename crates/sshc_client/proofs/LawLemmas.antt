@@ -73,6 +73,7 @@ stopped_laws accepts event s last laws = record {
   says = laws.says;
   calls = record { calls = laws.calls.calls; table = laws.calls.table; by = laws.calls.by };
   waiting = laws.waiting;
+  given = λ on. absurd cc;
   key = λ on. absurd cc;
 }
 

@@ -232,6 +232,7 @@ shut_stepped gate event s out calls calls2 x r r2 setting setting2 e fresh same 
     handed = ([], sym (append-nil out.records), tt);
     once = ([], sym (append-nil out.records), tt);
     request = inl (refl, inl refl);
+    answers = record { by_gate = []; own = []; added = sym (append-nil out.records); resolved = tt; told = inl refl; may = tt; opens = tt };
   };
   passwords = record { fits = λ fits has. fits; written = λ fits has user password short. ([], sym (append-nil out.records), omega arith) };
   reports = λ never. absurd never;

@@ -34,17 +34,17 @@ pub record IsSameTalk (s t : SessionState) : Type 0 where
   pub replies : t.replies ≡ s.replies
   pub table : t.table ≡ s.table
 
-heard_same : (s : SessionState) → is_live s ≡ true → IsSameTalk s (after Hears s)
+pub heard_same : (s : SessionState) → is_live s ≡ true → IsSameTalk s (after Hears s)
 heard_same s live =
     let is = is_done Hears s live in
     record { live = ap is_live is ∙ live; records = ap (λ (t : SessionState). t.records) is; replies = ap (λ (t : SessionState). t.replies) is; table = ap (λ (t : SessionState). t.table) is }
 
-counted_same : (len : ℕ) (s : SessionState) → is_live s ≡ true → IsSameTalk s (after (Counts len) s)
+pub counted_same : (len : ℕ) (s : SessionState) → is_live s ≡ true → IsSameTalk s (after (Counts len) s)
 counted_same len s live =
     let is = is_done (Counts len) s live in
     record { live = ap is_live is ∙ live; records = ap (λ (t : SessionState). t.records) is; replies = ap (λ (t : SessionState). t.replies) is; table = ap (λ (t : SessionState). t.table) is }
 
-talk_on : (s t u : SessionState) → IsSameTalk s t → IsSameTalk t u → IsSameTalk s u
+pub talk_on : (s t u : SessionState) → IsSameTalk s t → IsSameTalk t u → IsSameTalk s u
 talk_on s t u one other = record { live = other.live; records = other.records ∙ one.records; replies = other.replies ∙ one.replies; table = other.table ∙ one.table }
 
 -- the moves before a packet's own row

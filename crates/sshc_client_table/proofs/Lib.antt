@@ -16,4 +16,5 @@ mod QueueLemmas
 mod OpenAnswers
 mod PeerLemmas
 mod WaitingLemmas
+mod GivenLemmas
 pub mod StepLawLemmas

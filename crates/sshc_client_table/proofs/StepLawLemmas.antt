@@ -28,6 +28,7 @@ use Rattle.sshc_client_table.specs.NoRequests.{IsSameRequest}
 use Rattle.sshc_client_table.specs.NoRequestsLaws.{moves_request}
 use Rattle.sshc_client_table.specs.OpenCauseLaws.{RowHolds, open_why, session_holds}
 use Rattle.sshc_client_table.specs.QueuedRequests.{Queues}
+use Rattle.sshc_client_table.proofs.GivenLemmas.{gives}
 use Rattle.sshc_client_table.proofs.PeerLemmas.{brings, makes_calls}
 use Rattle.sshc_client_table.proofs.WaitingLemmas.{opens_wait}
 use Rattle.sshc_client_table.specs.RowMovesLaws.{confirms_packet, fails_packet, is_report}
@@ -238,5 +239,6 @@ rows_keep accepts o event s new went live followed =
       says = subst (λ (rs : List Record). AllByRecursion (IsBrought event) rs) (sym is) (brings event steps.moves s steps.fit);
       calls = makes_calls event steps.moves s new steps.fit steps.is;
       waiting = opens_wait event steps.moves s new steps.fit steps.is;
+      given = λ on. gives accepts o event s new live holds.front (subst (λ (b : Bool). Followed row s new b) on followed);
       key = λ on. kept_key accepts o s event (next_goes row s new (subst (λ (b : Bool). Followed row s new b) on followed));
     }

@@ -24,6 +24,7 @@ pub mod KeptByMovesLaws
 pub mod NoRequests
 pub mod NoRequestsLaws
 pub mod PeerSays
+pub mod Given
 pub mod RowMoves
 pub mod RowMovesLaws
 pub mod OpenCauses

@@ -33,6 +33,7 @@ use Rattle.sshc_client_table.specs.Grown.{Grown}
 use Rattle.sshc_client_table.specs.Moves.{Fronts, done}
 use Rattle.sshc_client_table.specs.NoRequests.{IsSameRequest}
 use Rattle.sshc_client_table.specs.QueuedRequests.{Queues}
+use Rattle.sshc_client_table.specs.Given.{Gives}
 use Rattle.sshc_client_table.specs.PeerSays.{AnswersOpenOf, IsExchange, MayAccept, MayCall, MayReject, Replies, RepliesOn, Reports}
 use Rattle.sshc_client_table.specs.RowMoves.{IsPacket, ResolvesOwn}
 use Rattle.sshc_client_table.specs.SessionRow.{Callback, Opinions, SessionRow, goes}
@@ -211,6 +212,8 @@ pub record OpenStepLaws (accepts : Accepts) (event : Event) (was is : SessionSta
   pub calls : MakesCalls event was is
   -- the opens of ours that aren't answered wait on
   pub waiting : OpensWait event was is
+  -- what the peer's packet says is reported, and the reply that it wants is written
+  pub given : went ≡ true → Gives event was added
   -- the session goes on after a key exchange only with the first exchange's host key
   pub key : went ≡ true → HasKeptKey was.opening event
 
