@@ -351,8 +351,8 @@ void sshc_settings_default(sshc_settings *settings);
 sshc_status sshc_session_new(sshc_session *session, const sshc_settings *settings, const uint8_t *host, size_t host_len,
                              uint16_t port, const uint8_t *known, size_t known_len);
 
-/* Hands in events, mostly one, as a script has them: u32 length of what follows, u64 moment, u8 kind, fields. The records
- * that weren't read are dropped.
+/* Hands in events, mostly one, as a script has them: u32 length of what follows, u64 moment, u8 kind, fields. Records
+ * that weren't read yet stay, and those of these events come after them.
  * SSHC_OK: the session took them and goes on; their records are there.
  * SSHC_REMOTE_DISCONNECT, SSHC_DISCONNECTED, SSHC_CLOSED: an event ended the session; the records up to that are there.
  * SSHC_NO_MEMORY and all above it: an event was refused, and the session is over; the records of the events before it
@@ -362,7 +362,8 @@ sshc_status sshc_session_new(sshc_session *session, const sshc_settings *setting
  * The agent of the kinds 40 to 43 is there too, but signs nothing: for one that does there is sshc_agent. */
 sshc_status sshc_session_take(sshc_session *session, const uint8_t *events, size_t events_len, uint64_t *detail);
 
-/* Copies the next record of the last `_take`: SSHC_OK, SSHC_NO_ROOM, SSHC_NOTHING after the last one, SSHC_MISUSE. */
+/* Copies the next record that wasn't read yet: SSHC_OK, SSHC_NO_ROOM, SSHC_NOTHING after the last one, SSHC_MISUSE. Their
+ * memory is used again once all are read. */
 sshc_status sshc_session_record(sshc_session *session, uint8_t *to, size_t to_len, size_t *size);
 
 /* Frees what the struct holds and leaves {0}. */

@@ -174,7 +174,7 @@ impl Session {
         Ok(Session { handle, events: Vec::new() })
     }
 
-    /// Hands in an event. The records are there until the next one.
+    /// Hands in an event. Records that aren't read come before those of the next one.
     pub fn event(&mut self, moment: u64, event: Event<'_>) -> (Step, Records<'_>) {
         let mut events = std::mem::take(&mut self.events);
         events.clear();

@@ -1,6 +1,6 @@
 -- How contracts see a session of the C library, and what its calls do: the promises are those of a run whose events come
 -- one at a time (PausedRuns of sshc_run_script), with a verifier that accepts nothing.
-use Rattle.std.specs.Prelude.{◌≡◌, ℕ, false, List}
+use Rattle.std.specs.Prelude.{◌≡◌, ◌++◌, ℕ, false, List}
 use Rattle.std.specs.Coded.{Coded, codes}
 use Rattle.sshc_key.specs.PairCode.{key_pair_code}
 use Rattle.sshc_key.specs.Signers.{SignCall}
@@ -9,6 +9,7 @@ use Rattle.sshc_client_packets.specs.HostKeyProof.{Accepts}
 use Rattle.sshc_hosts.specs.HostText.{host_text}
 use Rattle.sshc_run_script.specs.Paused.{Paused}
 use Rattle.sshc_run_script.specs.PausedRuns.{Takes}
+use Rattle.sshc_run_script.specs.RecordLines.{text_lines}
 use Rattle.sshc_run_script.specs.RunPromises.{RunAsked}
 use Rattle.sshc_run_script.specs.declared.run_step.RunStep.{RunStep}
 use Rattle.sazhonthil.specs.declared.settings.Settings.{Settings}
@@ -16,10 +17,10 @@ use Rattle.sazhonthil.specs.declared.step_answer.StepAnswer.{StepAnswer}
 use Rattle.sazhonthil.specs.SettingsKept.{run_settings}
 use Rattle.sazhonthil.specs.StepAnswers.{answer_of}
 
--- the run, and the lines of the last call's records that weren't read yet
+-- the run, and the texts of its records that weren't read yet (a record's number and fields, docs/FORMATS.md)
 pub record Taking : Type 0 where
   pub run : Paused
-  pub left : List ℕ
+  pub left : List (List ℕ)
 
 pub taking_code : Coded Taking
 taking_code = hlevel (codes, key_pair_code, session_code)
@@ -37,10 +38,12 @@ asked_by settings host port known = record {
   max_events = settings.max_events;
 }
 
--- the run took the events, for some calls of the signer, which refuses each; the lines of their records are those left;
--- and this is the answer
-pub record TakesEvents (old : Paused) (events : List ℕ) (new : Taking) (answer : StepAnswer) : Type 0 where
+-- the run took the events, for some calls of the signer, which refuses each; their records are left after those that were
+-- (the promises of a run speak of the lines of records, of which each tells its record); and this is the answer
+pub record TakesEvents (old : Taking) (events : List ℕ) (new : Taking) (answer : StepAnswer) : Type 0 where
   pub step : RunStep
   pub calls : List SignCall
-  pub takes : Takes accepts_none old events calls new.left new.run step
+  pub lines : List ℕ
+  pub takes : Takes accepts_none old.run events calls lines new.run step
+  pub left : text_lines new.left ≡ text_lines old.left ++ lines
   pub answers : answer ≡ answer_of step

@@ -114,8 +114,8 @@ pub extern "C" fn sshc_session_new(
     }
 }
 
-/// Hands in events, mostly one, as a script has them: a length, a moment, a kind, fields. The records of the call
-/// before are dropped. `detail` is the place or line that an error names, and otherwise 0.
+/// Hands in events, mostly one, as a script has them: a length, a moment, a kind, fields. Their records come after those
+/// of earlier calls that weren't read yet. `detail` is the place or line that an error names, and otherwise 0.
 #[unsafe(no_mangle)]
 pub extern "C" fn sshc_session_take(
     alloc: Global,
@@ -125,7 +125,7 @@ pub extern "C" fn sshc_session_take(
 ) -> u32
     // Whatever it was handed before: what was handed in, and the records, have all promises of a run of a script.
     ensures takes { IfSome session.old.held.run (λ before. IfSome session.new.held.run (λ after.
-        TakesEvents before.run events.now after (step_answer result detail.new))) }
+        TakesEvents before events.now after (step_answer result detail.new))) }
     ensures held { IsSome session.old.held.run → IsSome session.new.held.run }
     ensures misuse { session.old.held.run ≡ None →
         (result ≡ 2) × (detail.new ≡ 0) × (session.new.held.run ≡ None) }
@@ -144,7 +144,7 @@ pub extern "C" fn sshc_session_take(
     }
 }
 
-/// Copies the next record of the last call's to the front of the caller's memory, if it fits, and tells how many bytes
+/// Copies the next record that wasn't read yet to the front of the caller's memory, if it fits, and tells how many bytes
 /// it has. Nothing is taken where it doesn't fit.
 #[unsafe(no_mangle)]
 pub extern "C" fn sshc_session_record(

@@ -1,4 +1,4 @@
-//! A session that takes events as bytes, and the records of the last ones.
+//! A session that takes events as bytes, and its records that weren't read yet.
 
 ghost use Rattle.std.specs.Prelude.{◌≡◌, [], IfOk};
 ghost use Rattle.sshc_run_script.specs.PausedRuns.{nothing_yet, IsRun};
@@ -7,33 +7,28 @@ ghost use Rattle.sazhonthil.specs.Taking.{asked_by, TakesEvents};
 
 use crate::settings::{Settings, config_of};
 use crate::step_answer::{StepAnswer, answer_of};
-use sshc_c_calls::status::{NO_ROOM, NOTHING, OK};
-use sshc_c_calls::{ReadRecord, read_record};
-use sshc_run_script::{PausedRun, RefusingSigner, RefusingVerifier};
+use sshc_c_calls::copy_out;
+use sshc_c_calls::status::{NOTHING, OK};
+use sshc_run_script::{KeptRecords, PausedRun, RefusingSigner, RefusingVerifier};
 use sshc_wire::NoMemory;
 use std::alloc::Global;
 use std::marker::Model;
 
-/// A run of a script whose events come one at a time, the lines of the last ones' records, and where the first line
-/// begins that wasn't read yet. Contracts see the run and the lines that are left.
+/// A run of a script whose events come one at a time, and its records that weren't read yet.
 #[derive(Drop)]
 pub struct SessionRun {
     run: PausedRun,
-    lines: Vec<u8>,
-    at: usize,
+    records: KeptRecords,
 }
 
 impl Model for SessionRun {
-    ghost use Rattle.std.specs.Prelude.{drop, length, ◌≤◌};
     ghost use Rattle.sazhonthil.specs.Taking.{Taking, taking_code};
 
     ghost Value = { Taking };
 
     ghost coded = { taking_code };
 
-    ghost view = { λ s. record { run = s.run; left = drop s.at s.lines.items } };
-
-    ghost invariant = { λ s. s.at ≤ length s.lines.items };
+    ghost view = { λ s. record { run = s.run; left = s.records } };
 }
 
 impl SessionRun {
@@ -52,21 +47,18 @@ impl SessionRun {
         let config = config_of(alloc, settings)?;
         Ok(SessionRun {
             run: PausedRun::start(alloc, &config, host, port, known)?,
-            lines: Vec::new(alloc),
-            at: 0,
+            records: KeptRecords::new(alloc),
         })
     }
 
-    /// Takes the events of these bytes, mostly one. The lines that weren't read yet are dropped.
+    /// Takes the events of these bytes, mostly one. Their records come after those that weren't read yet.
     pub fn take(&mut self, alloc: Global, events: &[u8]) -> StepAnswer
-        ensures takes { TakesEvents self.old.run events.now self.new result }
+        ensures takes { TakesEvents self.old events.now self.new result }
     {
         let mut signer = RefusingSigner::new(alloc);
-        self.at = 0;
-        self.lines.clear();
         let step = self
             .run
-            .take(events, &mut signer, &RefusingVerifier, &mut self.lines);
+            .take_kept(events, &mut signer, &RefusingVerifier, &mut self.records);
         let answer = answer_of(&step);
         let_go(step);
         answer
@@ -74,24 +66,19 @@ impl SessionRun {
 
     /// Copies the bytes of the next record to the front of the caller's memory, if they fit, and tells how many there
     /// are.
+    #[tactic(auto, using(crate::proofs::SessionReads::copied_first, crate::proofs::SessionReads::kept_first, crate::proofs::SessionReads::none_left))]
     pub fn next_record(&mut self, to: &mut [u8], size: &mut usize) -> u32
         ensures reads { ReadsRecord self.old self.new to.old to.new size.new result }
     {
-        match read_record(&self.lines[self.at..], to) {
-            ReadRecord::Nothing => {
-                *size = 0;
-                NOTHING
-            }
-            ReadRecord::NoRoom { size: bytes } => {
-                *size = bytes;
-                NO_ROOM
-            }
-            ReadRecord::Copied { size: bytes } => {
-                *size = bytes;
-                self.at += 2 * bytes + 1;
-                OK
-            }
+        let Some(record) = self.records.first() else {
+            *size = 0;
+            return NOTHING;
+        };
+        let status = copy_out(record, to, size);
+        if status == OK {
+            self.records.drop_first();
         }
+        status
     }
 }
 

@@ -3,4 +3,3 @@ pub mod AgentOutputs
 pub mod CopiedOut
 pub mod HostAnswers
 pub mod Questions
-pub mod RecordLines

@@ -1,5 +1,5 @@
-//! What the calls of the C interface return, over values: statuses, bytes that are copied out, records read back from
-//! their lines, known hosts, and an agent whose caller signs.
+//! What the calls of the C interface return, over values: statuses, bytes that are copied out, known hosts, and an agent
+//! whose caller signs.
 #![tactic(auto)]
 
 mod agent;
@@ -8,7 +8,6 @@ mod copying;
 mod hosts;
 mod openssh_hosts;
 mod question;
-mod reading;
 pub mod status;
 
 pub use agent::AgentRun;
@@ -17,4 +16,3 @@ pub use copying::copy_out;
 pub use hosts::{HostAnswer, check_key, learn_key};
 pub use openssh_hosts::check_openssh_key;
 pub use question::Question;
-pub use reading::{ReadRecord, read_record};

@@ -1,6 +1,7 @@
 -- Facts that the proofs of the functions cite.
 pub mod RunNames
 pub mod Lines
+mod Keeping
 pub mod AnsweredQuestions
 pub mod TakenEvents
 pub mod OpeningSteps

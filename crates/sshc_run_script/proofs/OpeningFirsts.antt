@@ -9,7 +9,7 @@ use Rattle.sshc_run_script.specs.OpeningRun.{OpeningRun, OpeningStop, opens_befo
 use Rattle.sshc_run_script.specs.Part.{StoppedByOther}
 use Rattle.sshc_run_script.specs.RunFaults.{fault_counts}
 use Rattle.sshc_run_script.specs.Turn.{opening_machine}
-use Rattle.sshc_run_script.proofs.RunNames.{append-nil, prepend, Record, SignCall, Ended, Answer, done, since, Frame, ScriptStop, whole, taken, stop_of, RunError, RunStop, ended, unanswered_stop, Turns, Machine, Streams, stop_as, Ends, own_events, own_records, own_calls, own_answers, StopsElse, IsWholePart, PartOf, Run, at_end, events_run, script_run, answers_of, answers_since, Hosts, Accepts, RunSettings, run_machine, RunState, session_turn, OpeningState, session_own, IsAgentCause, agents_turn}
+use Rattle.sshc_run_script.proofs.RunNames.{append-nil, prepend, Record, SignCall, Ended, Answer, since, Frame, ScriptStop, whole, taken, stop_of, RunError, RunStop, ended, unanswered_stop, Turns, Machine, Streams, stop_as, Ends, own_events, own_records, own_calls, own_answers, StopsElse, IsWholePart, PartOf, Run, at_end, events_run, script_run, answers_of, answers_since, Hosts, Accepts, RunSettings, run_machine, RunState, session_turn, OpeningState, session_own, IsAgentCause, agents_turn}
 use Rattle.sshc_run_script.proofs.AnsweredQuestions.{answers_two, front_before}
 use Rattle.sshc_run_script.proofs.OpeningContinues.{prefixed}
 use Rattle.sshc_run_script.proofs.PartRuns.{parted}

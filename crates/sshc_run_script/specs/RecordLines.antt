@@ -11,3 +11,7 @@ line output = text_line (record_text output)
 
 abbrev pub lines : List Record → List ℕ
 lines records = flat_map line records
+
+-- the lines of records that are kept as their texts
+abbrev pub text_lines : List (List ℕ) → List ℕ
+text_lines texts = flat_map text_line texts

@@ -2,12 +2,14 @@
 #![tactic(auto)]
 
 mod error;
+mod kept_records;
 mod known_hosts_handler;
 mod laws;
 mod lent;
 mod paused_run;
 mod point;
 mod record_lines;
+mod record_sink;
 mod run;
 mod run_step;
 mod serving;
@@ -16,6 +18,7 @@ mod turn;
 mod turns;
 
 pub use error::RunError;
+pub use kept_records::KeptRecords;
 pub use known_hosts_handler::{HandlerError, KnownHostsHandler};
 pub use paused_run::PausedRun;
 pub use run::run_script;

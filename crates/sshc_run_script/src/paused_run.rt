@@ -11,22 +11,25 @@ ghost use Rattle.sshc_run_script.specs.Outcome.{streams, Ends};
 ghost use Rattle.sshc_run_script.specs.Paused.{is_stopped, paused, spot_of, started, table_from};
 ghost use Rattle.sshc_run_script.specs.PausedRuns.{nothing_yet, step_of, text_since, HasRun, IsRun, Takes};
 ghost use Rattle.sshc_run_script.specs.Ready.{IsReady};
+ghost use Rattle.sshc_run_script.specs.RecordLines.{text_lines};
 ghost use Rattle.sshc_run_script.specs.RunFaults.{SignerCounted};
 ghost use Rattle.sshc_run_script.specs.RunOutside.{run_outside, sink_state, source_state, CountsMoved};
 ghost use Rattle.sshc_run_script.specs.RunPromises.{run_asked};
 ghost use Rattle.sshc_run_script.specs.TurnContracts.{hosts_of};
 
 use crate::error::RunError;
+use crate::kept_records::KeptRecords;
 use crate::known_hosts_handler::KnownHostsHandler;
 use crate::laws::run_laws;
 use crate::lent::{LentBytes, LineSink};
 use crate::point::Point;
+use crate::record_sink::RecordSink;
 use crate::run_step::RunStep;
 use crate::turns::take_turns;
 use sshc_auth::Ended;
 use sshc_client::Config;
 use sshc_key::{LocalSigner, Verifier};
-use sshc_wire::{NoMemory, Sink, Source};
+use sshc_wire::{NoMemory, Source};
 use std::alloc::Global;
 use std::marker::Model;
 use std::mem;
@@ -115,7 +118,7 @@ impl PausedRun {
     }
 
     /// Takes the events of a source, until one of them stops the run or the source ends.
-    pub(crate) fn run_on<S: Source, G: LocalSigner, V: Verifier, K: Sink>(
+    pub(crate) fn run_on<S: Source, G: LocalSigner, V: Verifier, K: RecordSink>(
         &mut self,
         source: &mut S,
         signer: &mut G,
@@ -188,6 +191,33 @@ impl PausedRun {
         let mut sink = LineSink::new(mem::replace(lines, Vec::new(self.alloc)));
         let answer = self.run_on(&mut source, signer, verifier, &mut sink);
         *lines = sink.into_lines();
+        step_of(answer)
+    }
+    /// Takes the events of these bytes as `take` does, and adds their records to `records` as they are, without lines.
+    pub fn take_kept<G: LocalSigner, V: Verifier>(
+        &mut self,
+        events: &[u8],
+        signer: &mut G,
+        verifier: &V,
+        records: &mut KeptRecords,
+    ) -> RunStep
+        // As of `take`, of the lines that these records have.
+        ensures takes { Takes (V.accepts verifier.now) self.old events.now
+            (since (G.calls signer.old) (G.calls signer.new))
+            (text_since (text_lines records.old) (text_lines records.new)) self.new result }
+        // `SignerFault` is returned only if the signer's count of refusals rose.
+        ensures signer { result
+            ≡ RunStep.Refused RunError.SignerFault → Rose (G.refusals signer.old) (G.refusals signer.new) }
+        ensures records { text_lines records.new
+            ≡ text_lines records.old ++ text_since (text_lines records.old) (text_lines records.new) }
+        ensures gained { G.calls signer.new ≡ G.calls signer.old ++ since (G.calls signer.old) (G.calls signer.new) }
+    {
+        run_laws();
+        if self.over {
+            return RunStep::Closed;
+        }
+        let mut source = LentBytes::new(events);
+        let answer = self.run_on(&mut source, signer, verifier, records);
         step_of(answer)
     }
 }

@@ -10,17 +10,17 @@ ghost use Rattle.sshc_run_script.specs.TurnContracts.{TakeGives};
 
 use crate::error::RunError;
 use crate::point::Buffers;
-use crate::record_lines::write_lines;
+use crate::record_sink::RecordSink;
 use crate::turn::{event_error_at, write_failed};
 use sshc_auth::Ended;
 use sshc_key::LocalSigner;
 use sshc_run_agent::{AgentEvent, ServedAgent, read_agent_event};
 use sshc_run_reader::RawEvent;
-use sshc_wire::{NoMemory, Sink};
+use sshc_wire::NoMemory;
 use std::alloc::Global;
 
 /// Serves an event at a moment in milliseconds, and writes the records.
-fn serve_event<G: LocalSigner, K: Sink>(
+fn serve_event<G: LocalSigner, K: RecordSink>(
     buffers: &mut Buffers,
     agents: &mut ServedAgent,
     moment: u64,
@@ -39,7 +39,7 @@ fn serve_event<G: LocalSigner, K: Sink>(
     ensures signer { SignerTaken (G.refusals signer.old) (G.refusals signer.new) result }
 {
     match agents.take(moment, event, signer, &mut buffers.output) {
-        Ok(()) => match write_lines(&mut buffers.lines, sink, &buffers.output) {
+        Ok(()) => match sink.put_records(&mut buffers.lines, &buffers.output) {
             Ok(()) => None,
             Err(failed) => Some(Err(write_failed(failed))),
         },
@@ -48,7 +48,7 @@ fn serve_event<G: LocalSigner, K: Sink>(
 }
 
 /// Takes an event of an agent at its place, and writes its records.
-pub fn take_agent_event<G: LocalSigner, K: Sink>(
+pub fn take_agent_event<G: LocalSigner, K: RecordSink>(
     alloc: Global,
     buffers: &mut Buffers,
     agents: &mut ServedAgent,

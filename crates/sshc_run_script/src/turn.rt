@@ -21,14 +21,14 @@ ghost use Rattle.sshc_run_script.specs.TurnContracts.{hosts_of, step_answer, Tak
 use crate::error::RunError;
 use crate::known_hosts_handler::{HandlerError, KnownHostsHandler};
 use crate::point::Point;
-use crate::record_lines::write_lines;
+use crate::record_sink::RecordSink;
 use crate::serving::take_agent_event;
 use crate::stepping::step_session;
 use sshc_auth::{Ended, Error, Step};
 use sshc_auth_event::Event;
 use sshc_key::{LocalSigner, Verifier};
 use sshc_run_reader::{EventError, EventKind, NextError, RawEvent, next_event, read_event};
-use sshc_wire::{Failed, Sink, Source, read_up_to};
+use sshc_wire::{Failed, Source, read_up_to};
 use std::alloc::Global;
 
 fn error_at(place: u64, e: Error) -> RunError
@@ -126,7 +126,7 @@ fn stop_at(place: u64, step: Step<HandlerError>) -> Option<Result<Ended, RunErro
 }
 
 /// Steps the session, and writes the records.
-fn step_event<G: LocalSigner, V: Verifier, K: Sink>(
+fn step_event<G: LocalSigner, V: Verifier, K: RecordSink>(
     at: &mut Point,
     event: &Event,
     gate: &mut KnownHostsHandler,
@@ -152,7 +152,7 @@ fn step_event<G: LocalSigner, V: Verifier, K: Sink>(
     ensures signer { SignerTaken (G.refusals signer.old) (G.refusals signer.new) result }
 {
     let step = step_session(at, event, gate, signer, verifier);
-    let written = write_lines(&mut at.buffers.lines, sink, at.session.records());
+    let written = sink.put_records(&mut at.buffers.lines, at.session.records());
     at.session.clear_records();
     match written {
         Ok(()) => stop_at(at.place, step),
@@ -161,7 +161,7 @@ fn step_event<G: LocalSigner, V: Verifier, K: Sink>(
 }
 
 /// Takes an event of the session, and writes its records.
-fn take_session_event<G: LocalSigner, V: Verifier, K: Sink>(
+fn take_session_event<G: LocalSigner, V: Verifier, K: RecordSink>(
     alloc: Global,
     at: &mut Point,
     event: &RawEvent<'_>,
@@ -211,7 +211,7 @@ fn is_session_kind(kind: EventKind) -> bool
 }
 
 /// Takes an event, and writes its records.
-fn take_event<G: LocalSigner, V: Verifier, K: Sink>(
+fn take_event<G: LocalSigner, V: Verifier, K: RecordSink>(
     alloc: Global,
     at: &mut Point,
     event: &RawEvent<'_>,
@@ -252,7 +252,7 @@ fn take_event<G: LocalSigner, V: Verifier, K: Sink>(
 }
 
 /// Reads one event into the buffer, and takes it.
-pub fn one_turn<S: Source, G: LocalSigner, V: Verifier, K: Sink>(
+pub fn one_turn<S: Source, G: LocalSigner, V: Verifier, K: RecordSink>(
     alloc: Global,
     buffer: &mut Vec<u8>,
     at: &mut Point,

@@ -14,15 +14,16 @@ ghost use Rattle.sshc_run_script.specs.TurnContracts.{hosts_of};
 use crate::error::RunError;
 use crate::known_hosts_handler::KnownHostsHandler;
 use crate::point::Point;
+use crate::record_sink::RecordSink;
 use crate::turn::{at_limit, one_turn};
 use sshc_auth::Ended;
 use sshc_key::{LocalSigner, Verifier};
-use sshc_wire::{Sink, Source};
+use sshc_wire::Source;
 use std::alloc::Global;
 
 /// Takes events, at most as many as remain, from the state of a run. At the end of the source the state is that after
 /// its last event.
-pub fn take_turns<S: Source, G: LocalSigner, V: Verifier, K: Sink>(
+pub fn take_turns<S: Source, G: LocalSigner, V: Verifier, K: RecordSink>(
     alloc: Global,
     memory: &mut Vec<u8>,
     remaining: &mut u32,

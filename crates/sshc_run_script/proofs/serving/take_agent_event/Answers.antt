@@ -11,4 +11,4 @@ returns-in-Ok-clause-gives g c =
 pub returns-in-Err-clause-gives : goal.returns-in-Err-clause-gives
 returns-in-Err-clause-gives g c =
     let fails = rw (c.kind.ensures, c.fields.ensures) at c.in-Err.ensures in
-    agent_unread c.args.agents.now (frame_at c.args.place c.args.event.now) (g.G.LocalSigner.calls c.args.signer.now) (g.K.Sink.contents c.args.sink.now) c.in-Err.e _ fails c.event_error_at.ensures
+    agent_unread c.args.agents.now (frame_at c.args.place c.args.event.now) (g.G.LocalSigner.calls c.args.signer.now) (g.K.RecordSink.contents c.args.sink.now) c.in-Err.e _ fails c.event_error_at.ensures

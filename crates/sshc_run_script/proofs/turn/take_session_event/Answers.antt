@@ -10,4 +10,4 @@ returns-in-Ok-clause-gives g c =
 pub returns-in-Err-clause-gives : goal.returns-in-Err-clause-gives
 returns-in-Err-clause-gives g c =
     let fails = rw (c.kind.ensures, c.fields.ensures) at c.in-Err.ensures.reads in
-    unread_turn (hosts_of c.args.gate.now) (g.V.Verifier.accepts c.args.verifier.now) c.args.at.now.session (frame_at c.args.at.now.place c.args.event.now) (g.G.LocalSigner.calls c.args.signer.now) (g.K.Sink.contents c.args.sink.now) c.in-Err.e _ fails c.event_error_at.ensures
+    unread_turn (hosts_of c.args.gate.now) (g.V.Verifier.accepts c.args.verifier.now) c.args.at.now.session (frame_at c.args.at.now.place c.args.event.now) (g.G.LocalSigner.calls c.args.signer.now) (g.K.RecordSink.contents c.args.sink.now) c.in-Err.e _ fails c.event_error_at.ensures

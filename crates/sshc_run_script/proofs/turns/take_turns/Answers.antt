@@ -53,7 +53,7 @@ pub returns-clause-run : goal.returns-clause-run
 returns-clause-run g c =
     let none : 0 ≡ c.args.remaining.now - c.loop-turn.turn = omega (arith, c.loop-turn-test.false) in
     let at : Spot RunState = spot c.loop-turn.at.place c.loop-turn.at.last (kept c.loop-turn.at.session c.loop-turn.at.agents) in
-    let now : Streams = streams (g.S.Source.left c.loop-turn.source) (g.K.Sink.contents c.loop-turn.sink) (g.S.Source.reads c.loop-turn.source) (g.G.LocalSigner.calls c.loop-turn.signer) in
+    let now : Streams = streams (g.S.Source.left c.loop-turn.source) (g.K.RecordSink.contents c.loop-turn.sink) (g.S.Source.reads c.loop-turn.source) (g.G.LocalSigner.calls c.loop-turn.signer) in
     let ends = limit_ends (run_turn (hosts_of c.args.gate.now) (g.V.Verifier.accepts c.args.verifier.now)) at now (g.S.Source.left c.at_limit.new.source) (g.S.Source.reads c.at_limit.new.source) c.at_limit.result c.at_limit.ensures.gives c.at_limit.ensures.count in
     (along_ends (run (run_turn (hosts_of c.args.gate.now) (g.V.Verifier.accepts c.args.verifier.now))) (spot c.args.at.now.place c.args.at.now.last (kept c.args.at.now.session c.args.at.now.agents)) c.args.remaining.now c.loop-turn.turn at _ now _ c.at_limit.result (omega (arith, c.loop-turn.invariant.count)) c.loop-turn.invariant.along
     (subst (λ (n : ℕ). Ends n at.place at.last (run (run_turn (hosts_of c.args.gate.now) (g.V.Verifier.accepts c.args.verifier.now)) n at) now (record now { left = g.S.Source.left c.at_limit.new.source; reads = g.S.Source.reads c.at_limit.new.source }) c.at_limit.result) none ends))
@@ -62,12 +62,12 @@ returns-clause-run g c =
 
 pub returns-in-Some-clause-paused : goal.returns-in-Some-clause-paused
 returns-in-Some-clause-paused g c = λ is.
-    pauses_still (run (run_turn (hosts_of c.args.gate.now) (g.V.Verifier.accepts c.args.verifier.now))) _ _ _ _ _ _ _ (streams (g.S.Source.left c.loop-turn.source) (g.K.Sink.contents c.loop-turn.sink) (g.S.Source.reads c.loop-turn.source) (g.G.LocalSigner.calls c.loop-turn.signer)) (streams (g.S.Source.left c.one_turn-answer.new.source) (g.K.Sink.contents c.one_turn-answer.new.sink) (g.S.Source.reads c.one_turn-answer.new.source) (g.G.LocalSigner.calls c.one_turn-answer.new.signer))
+    pauses_still (run (run_turn (hosts_of c.args.gate.now) (g.V.Verifier.accepts c.args.verifier.now))) _ _ _ _ _ _ _ (streams (g.S.Source.left c.loop-turn.source) (g.K.RecordSink.contents c.loop-turn.sink) (g.S.Source.reads c.loop-turn.source) (g.G.LocalSigner.calls c.loop-turn.signer)) (streams (g.S.Source.left c.one_turn-answer.new.source) (g.K.RecordSink.contents c.one_turn-answer.new.sink) (g.S.Source.reads c.one_turn-answer.new.source) (g.G.LocalSigner.calls c.one_turn-answer.new.signer))
     c.loop-turn.invariant.count c.loop-turn.invariant.along (c.in-Some.ensures.ended (ap Some is))
 
 pub returns-clause-paused : goal.returns-clause-paused
 returns-clause-paused g c = λ is.
-    pauses_still (run (run_turn (hosts_of c.args.gate.now) (g.V.Verifier.accepts c.args.verifier.now))) _ _ _ _ _ _ _ (streams (g.S.Source.left c.loop-turn.source) (g.K.Sink.contents c.loop-turn.sink) (g.S.Source.reads c.loop-turn.source) (g.G.LocalSigner.calls c.loop-turn.signer)) (streams (g.S.Source.left c.at_limit.new.source) (g.K.Sink.contents c.loop-turn.sink) (g.S.Source.reads c.at_limit.new.source) (g.G.LocalSigner.calls c.loop-turn.signer))
+    pauses_still (run (run_turn (hosts_of c.args.gate.now) (g.V.Verifier.accepts c.args.verifier.now))) _ _ _ _ _ _ _ (streams (g.S.Source.left c.loop-turn.source) (g.K.RecordSink.contents c.loop-turn.sink) (g.S.Source.reads c.loop-turn.source) (g.G.LocalSigner.calls c.loop-turn.signer)) (streams (g.S.Source.left c.at_limit.new.source) (g.K.RecordSink.contents c.loop-turn.sink) (g.S.Source.reads c.at_limit.new.source) (g.G.LocalSigner.calls c.loop-turn.signer))
     c.loop-turn.invariant.count c.loop-turn.invariant.along (refl, limit_still _ _ c.at_limit.result is c.at_limit.ensures.gives, refl, refl)
 
 pub returns-in-Some-clause-ready : goal.returns-in-Some-clause-ready

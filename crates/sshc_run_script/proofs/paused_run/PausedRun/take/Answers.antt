@@ -1,4 +1,4 @@
-use Rattle.std.proofs.Common.{◌≡◌, false, ap, refl, sym, ◌∙◌}
+use Rattle.std.proofs.Common.{◌≡◌, false, sym}
 use Rattle.sshc_run_script.proofs.PausedLemmas.{takes_by}
 use Rattle.sshc_run_script.proofs.paused_run.PausedRun.take.Goals as goal
 
