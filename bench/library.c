@@ -15,6 +15,7 @@ static const char KNOWN[] = "[localhost]:13265 ssh-ed25519 "
 
 static uint8_t event[ROOM], record[ROOM], body[PACKET];
 static size_t event_len;
+static uint32_t channel; /* our number of it */
 static sshc_session session = SSHC_SESSION_INIT;
 
 static void put(const void *from, size_t count) {
@@ -51,7 +52,7 @@ static void take(void) {
   uint64_t detail;
   sshc_status status = sshc_session_take(&session, event, event_len, &detail);
   if (status != SSHC_OK) {
-    fprintf(stderr, "status %u at %llu\n", (unsigned)status, (unsigned long long)detail);
+    fprintf(stderr, "status %u at %llu, event %02x\n", (unsigned)status, (unsigned long long)detail, event[12]);
     exit(1);
   }
 }
@@ -88,13 +89,17 @@ static void open_channel(void) {
   for (int i = 0; i < 5; i++) put_text("name");
   put_u8(1);
   take();
+  records();
   begin(0x17);
   put_u32(7);
   take();
-  records();
+  size_t size;
+  /* The record of the packet: 01, 90, "session" as a str, our number. */
+  if (sshc_session_record(&session, record, sizeof record, &size) != SSHC_OK || size < 17 || record[1] != 90) exit(3);
+  for (int i = 13; i < 17; i++) channel = channel << 8 | record[i];
   begin(0x03);
   put_u8(91);
-  put_u32(0);
+  put_u32(channel);
   put_u32(9);
   put_u32(UINT32_MAX);
   put_u32(PACKET);
@@ -116,7 +121,7 @@ static void tell(const char *what, double begun, size_t bytes) {
 static size_t down(void) {
   begin(0x03);
   put_u8(94);
-  put_u32(0);
+  put_u32(channel);
   put_str(body, PACKET);
   take();
   return records();
@@ -124,7 +129,7 @@ static size_t down(void) {
 
 static size_t up(void) {
   begin(0x21);
-  put_u32(0);
+  put_u32(channel);
   put_u8(0);
   put_str(body, PACKET);
   take();
