@@ -7,3 +7,5 @@ pub mod HeldBytes
 pub mod KeptForms
 pub mod Groups
 pub mod Generations
+pub mod Lasting
+pub mod LongHistory

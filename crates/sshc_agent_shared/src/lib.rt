@@ -19,6 +19,7 @@ mod seat;
 mod settings;
 mod shared;
 mod state;
+mod taking;
 mod tear;
 
 pub use agent_lasting::{AgentLasting, Keeper};
