@@ -5,3 +5,4 @@ mod Seams
 mod LockSteps
 mod LongLaws
 mod LastingSteps
+mod ApartLemmas

@@ -9,3 +9,6 @@ pub mod Groups
 pub mod Generations
 pub mod Lasting
 pub mod LongHistory
+pub mod Ready
+pub mod Apart
+pub mod LastingApart

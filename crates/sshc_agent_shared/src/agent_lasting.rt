@@ -5,10 +5,12 @@ ghost use Rattle.sshc_key.specs.Signers.{since};
 ghost use Rattle.sshc_wire.specs.Faults.{Rose};
 ghost use Rattle.sshc_agent_shared.specs.Calls.{call_of, journal_weight};
 ghost use Rattle.sshc_agent_shared.specs.Generations.{IsLastingStep};
+ghost use Rattle.sshc_agent_shared.specs.LastingApart.{AsksLastingOnce, TellsLastingApart};
 ghost use Rattle.sshc_agent_shared.specs.LongHistory.{IsLastOf};
 
 use crate::error::{CloseError, LastingRefused};
 use crate::lasting::LastingState;
+use crate::lasting_apart::LastingBegun;
 use crate::past::Past;
 use crate::settings::Settings;
 use sshc_agent_core::{AgentInput, AgentOutput, Cause};
@@ -95,6 +97,47 @@ impl<L: Settings> AgentLasting<L> {
         let (answer, seam) = state.take(conn, now, input, signer);
         hand_on(seam, keeper);
         answer
+    }
+
+    /// Calls as `call` does, but has the signature made outside the lock, so that no other connection waits for it. It
+    /// takes the lock once for what the input asks to be signed, and again for the call itself, which takes the
+    /// signature only if the same question still stands: if the key was removed meanwhile, or a lock came, it is answered
+    /// with FAILURE.
+    #[tactic(auto, using(crate::proofs::ApartLemmas::lasting_once))]
+    pub fn call_apart<G: LocalSigner, K: Keeper, R: Wait>(
+        &self,
+        rt: &R,
+        conn: u32,
+        now: u64,
+        input: AgentInput,
+        signer: &mut G,
+        keeper: &K,
+    ) -> Result<AgentOutput, LastingRefused>
+        // The call is a step of an agent to which generations lead, which took the signature or none.
+        ensures tells { IfOk result
+            (λ out. TellsLastingApart L.asks conn (call_of now input out)
+            (since (G.calls signer.old) (G.calls signer.new))) }
+        // The signer is asked once at most, and what the input asked of an agent to which generations lead.
+        ensures once { AsksLastingOnce L.asks conn now input (since (G.calls signer.old) (G.calls signer.new)) }
+        ensures asked { G.calls signer.new ≡ G.calls signer.old ++ since (G.calls signer.old) (G.calls signer.new) }
+        // The connection is closed because the signer refused only where its count rose.
+        ensures cause { IfOk result (λ out. out ≡ AgentOutput.Closed Cause.SignerRefused
+            → Rose (G.refusals signer.old) (G.refusals signer.new)) }
+        ensures later { G.refusals signer.old ≤ G.refusals signer.new }
+    {
+        let begun = self.state.lock(rt).begin(conn, now, input);
+        match begun {
+            LastingBegun::Made(answer, seam) => {
+                hand_on(seam, keeper);
+                answer
+            }
+            LastingBegun::Asks(input, question) => {
+                let signed = question.ask(signer);
+                let (answer, seam) = self.state.lock(rt).finish(conn, now, input, signed);
+                hand_on(seam, keeper);
+                answer
+            }
+        }
     }
 
     /// Takes the lock. The connection ended.

@@ -152,6 +152,11 @@ impl<L: Settings> LastingState<L> {
         call_by(&mut self.generation, &mut self.live[at], now, input, signer)
     }
 
+    /// Whether a connection that goes on has this number.
+    pub(crate) fn is_connected(&self, conn: u32) -> bool {
+        place_of(self.live.as_slice(), conn).is_some()
+    }
+
     /// The connection ended: its seat is kept with those of the ended ones, and the agent forgets it with the next
     /// generation. Nothing changes where no connection has this number, or memory runs out.
     pub fn leave(&mut self, conn: u32)
