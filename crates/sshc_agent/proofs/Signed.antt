@@ -13,8 +13,8 @@ use Rattle.sshc_agent_shared.specs.Calls.{call_of}
 use Rattle.sshc_agent_shared.specs.Closing.{Tells}
 use Rattle.sshc_agent_shared.specs.Kept.{SeatState, refused_once}
 use Rattle.sshc_agent_shared.specs.declared.error.LastingRefused.{LastingRefused}
-use Rattle.sshc_agent_shared.specs.Generations.{IsLastingStep}
-use Rattle.sshc_agent.specs.Signing.{AreLastingSteps, AreSteps, Caused, EachRefused, Signs, SignsLasting}
+use Rattle.sshc_agent_shared.specs.LastingApart.{AsksLastingOnce, TellsLastingApart}
+use Rattle.sshc_agent.specs.Signing.{AreAttempts, AreSteps, Attempt, Caused, EachRefused, Signs, SignsLasting}
 
 pub signs_nothing : (signed : List SignCall) (seat : SeatState) → Signs signed signed seat seat
 signs_nothing signed seat = record { added = []; calls = sym (append-nil seat.calls); conn = refl; gained = []; list = sym (append-nil signed); steps = refl }
@@ -102,27 +102,28 @@ caused_on count mid count' seat seat' seat'' s t =
 -- ---- an agent that lasts
 
 pub lasting_nothing : (asks : Bool) (conn : ℕ) (signed : List SignCall) → SignsLasting asks conn signed signed
-lasting_nothing asks conn signed = record { calls = []; gained = []; list = sym (append-nil signed); steps = refl }
+lasting_nothing asks conn signed = record { attempts = []; gained = []; list = sym (append-nil signed); are = refl }
 
 -- one call, answered or refused
 pub lasting_once : (asks : Bool) (conn : ℕ) (signed signed' : List SignCall) (now : ℕ) (input : AgentInput) (r : Result AgentOutput LastingRefused)
-    → IfOk r (λ out. IsLastingStep asks conn (call_of now input out) (since signed signed')) → OnOk r (signed' ≡ signed ++ since signed signed')
-    → OnErr r (signed' ≡ signed) → SignsLasting asks conn signed signed'
-lasting_once asks conn signed signed' now input (Ok output) tells asked unasked =
-    record { calls = call_of now input output ∷ []; gained = since signed signed'; list = asked; steps = (since signed signed', [], sym (append-nil (since signed signed')), tells, refl) }
-lasting_once asks conn signed signed' now input (Err e) tells asked unasked = record { calls = []; gained = []; list = unasked ∙ sym (append-nil signed); steps = refl }
+    → IfOk r (λ out. TellsLastingApart asks conn (call_of now input out) (since signed signed')) → AsksLastingOnce asks conn now input (since signed signed')
+    → signed' ≡ signed ++ since signed signed' → SignsLasting asks conn signed signed'
+lasting_once asks conn signed signed' now input (Ok output) tells once asked =
+    record { attempts = Attempt.answered (call_of now input output) ∷ []; gained = since signed signed'; list = asked; are = (since signed signed', [], sym (append-nil (since signed signed')), (once, tells), refl) }
+lasting_once asks conn signed signed' now input (Err e) tells once asked =
+    record { attempts = Attempt.refused now input ∷ []; gained = since signed signed'; list = asked; are = (since signed signed', [], sym (append-nil (since signed signed')), once, refl) }
 
-lasting_more : (asks : Bool) (conn : ℕ) (calls more : List Call) (gained gained' : List SignCall) → AreLastingSteps asks conn calls gained → AreLastingSteps asks conn more gained' → AreLastingSteps asks conn (calls ++ more) (gained ++ gained')
-lasting_more asks conn [] more gained gained' none on = subst (λ (g : List SignCall). AreLastingSteps asks conn more (g ++ gained')) (sym none) on
-lasting_more asks conn (call ∷ calls) more gained gained' (first, rest, parts, step, steps) on =
-    (first, rest ++ gained', ap (λ (g : List SignCall). g ++ gained') parts ∙ append_assoc first rest gained', step, lasting_more asks conn calls more rest gained' steps on)
+lasting_more : (asks : Bool) (conn : ℕ) (attempts more : List Attempt) (gained gained' : List SignCall) → AreAttempts asks conn attempts gained → AreAttempts asks conn more gained' → AreAttempts asks conn (attempts ++ more) (gained ++ gained')
+lasting_more asks conn [] more gained gained' none on = subst (λ (g : List SignCall). AreAttempts asks conn more (g ++ gained')) (sym none) on
+lasting_more asks conn (attempt ∷ attempts) more gained gained' (first, rest, parts, is, are) on =
+    (first, rest ++ gained', ap (λ (g : List SignCall). g ++ gained') parts ∙ append_assoc first rest gained', is, lasting_more asks conn attempts more rest gained' are on)
 
 -- calls, and more calls after them
 pub lasting_on : (asks : Bool) (conn : ℕ) (signed mid signed' : List SignCall) → SignsLasting asks conn signed mid → SignsLasting asks conn mid signed' → SignsLasting asks conn signed signed'
 lasting_on asks conn signed mid signed' s t =
     record {
-      calls = s.calls ++ t.calls;
+      attempts = s.attempts ++ t.attempts;
       gained = s.gained ++ t.gained;
       list = t.list ∙ (ap (λ (x : List SignCall). x ++ t.gained) s.list ∙ append_assoc signed s.gained t.gained);
-      steps = lasting_more asks conn s.calls t.calls s.gained t.gained s.steps t.steps;
+      are = lasting_more asks conn s.attempts t.attempts s.gained t.gained s.are t.are;
     }

@@ -3,8 +3,7 @@
 ghost use Rattle.std.specs.Prelude.{◌≡◌, ◌≤◌, IfOk, OnOk, true};
 ghost use Rattle.std.specs.Thread.{IsSend, IsSync};
 ghost use Rattle.sshc_agent_shared.specs.Calls.{journal_weight};
-ghost use Rattle.sshc_agent_shared.specs.Generations.{IsReached};
-ghost use Rattle.sshc_agent_shared.specs.Kept.{IsHistoryFrom};
+ghost use Rattle.sshc_agent_shared.specs.LongHistory.{IsLastOf};
 ghost use Rattle.sshc_wire.specs.Faults.{Rose};
 
 use crate::lasting::serve_lasting_one;
@@ -168,8 +167,7 @@ fn serve_generations_by<
     requires ledger { (blank.name ≡ L.name) × (blank.parts ≡ L.parts) }
     requires settings { (L.asks ≡ true) × (L.limit ≡ journal_limit) }
     ensures fault { OnOk result (Rose (I.faults listener.old) (I.faults listener.new)) }
-    ensures reached { IfOk result (λ past. IsReached true past.start) }
-    ensures legal { IfOk result (λ past. IsHistoryFrom past.start past.entries past.last) }
+    ensures lasts { IfOk result (λ past. IsLastOf true past) }
     ensures within { IfOk result (λ past. journal_weight 0 past.entries ≤ journal_limit) }
 {
     let server = LastingServer {
@@ -213,10 +211,9 @@ pub fn serve_generations<
 ) -> Result<Past, CloseError>
     // The last generation is returned only if the listener failed.
     ensures fault { OnOk result (Rose (I.faults listener.old) (I.faults listener.new)) }
-    // Generations lead to its begin from an agent that asks and holds nothing.
-    ensures reached { IfOk result (λ past. IsReached true past.start) }
-    // Its history is a legal one, and weighs at most the limit.
-    ensures legal { IfOk result (λ past. IsHistoryFrom past.start past.entries past.last) }
+    // Generations lead to its begin from an agent that asks and holds nothing, its history is a legal one, and over all
+    // that happened to the agent, seams included, locks hold and signatures are permitted.
+    ensures lasts { IfOk result (λ past. IsLastOf true past) }
     ensures within { IfOk result (λ past. journal_weight 0 past.entries ≤ journal_limit) }
 {
     serve_generations_by::<Brand, I, A, G, K, C, R>(

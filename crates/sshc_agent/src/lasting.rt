@@ -13,7 +13,7 @@ use sshc_wire::{AgentStream, Clock, NoMemory};
 use std::alloc::Global;
 use std::sync::Wait;
 
-/// Calls the agent at the clock's moment.
+/// Calls the agent at the clock's moment. A signature is made outside its lock.
 fn lasting_called<L: Settings, G: LocalSigner, C: Clock, K: Keeper, R: Wait>(
     rt: &R,
     shared: &AgentLasting<L>,
@@ -26,7 +26,7 @@ fn lasting_called<L: Settings, G: LocalSigner, C: Clock, K: Keeper, R: Wait>(
     ensures signs { SignsLasting L.asks conn (G.calls signer.old) (G.calls signer.new) }
 {
     let now = clock.now();
-    shared.call(rt, conn, now, input, signer, keeper)
+    shared.call_apart(rt, conn, now, input, signer, keeper)
 }
 
 /// Calls the agent, and does what comes after its answer.
@@ -79,8 +79,8 @@ pub fn serve_lasting_one<
     clock: &mut C,
     keeper: &K,
 ) -> Result<(), NoMemory>
-    // The signer gets exactly the calls of the steps of some calls of this connection, each a step of an agent to which
-    // generations lead.
+    // For each call of this connection the signer is asked once at most, and what its input asks of an agent to which
+    // generations lead; the calls are steps of such agents, which take these signatures or none.
     ensures signs { SignsLasting L.asks conn (G.calls signer.old) (G.calls signer.new) }
 {
     let mut frames = Frames::new(alloc);

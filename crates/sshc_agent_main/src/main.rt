@@ -20,9 +20,9 @@ SOCKET has to be one that only you enter; the socket's mode is 0600.
 
 The agent keeps a history of all its calls. When the history weighs WEIGHT
 (64 for each connection and each call, and the bytes of each call's frame;
-16777216 if it isn't given), it is compared with what each connection was
-answered, and a new one begins. Keys, their lifetimes, the lock, and open
-connections with their questions stay as they are.
+16777216 if it isn't given), it is compared, call by call, with what the agent
+keeps of each connection, and a new one begins. Keys, their lifetimes, the lock,
+and open connections with their questions stay as they are.
 
 It signs by toy pairs, which a real server refuses, and answers yes to each
 question.
@@ -97,7 +97,7 @@ impl<'a, R: Eprint + Sync> Keeper for Reports<'a, R> {
     fn keep(&self, past: Past) {
         let calls = past.len();
         let _ = eprintln!(self.rt;
-            "history closed: {calls} calls, all as they were answered; a new one begins"
+            "history closed: {calls} calls, each compared with its connection's; a new one begins"
         );
     }
 
@@ -146,7 +146,7 @@ fn serve<R: Files + Net + Clock + Threads + Wait + Eprint + Sync>(
         Ok(past) => {
             let calls = past.len();
             let _ = eprintln!(rt;
-                "the socket is gone; history closed: {calls} calls, all as they were answered"
+                "the socket is gone; history closed: {calls} calls, each compared with its connection's"
             );
             0
         }

@@ -2,3 +2,7 @@ mod Histories
 mod Keeping
 mod Parting
 mod Seams
+mod LockSteps
+mod LongLaws
+mod LastingSteps
+mod ApartLemmas

@@ -79,7 +79,7 @@ lasting_step asks start conn now input old new seat seat' gained output reached 
 
 pub lasting_tells :
     (asks named : Bool) (start : AgentList) (conn now : ℕ) (input : AgentInput) (old new : SharedState) (seat seat' : SeatState) (gained : List SignCall) (r : Result AgentOutput LastingRefused)
-    → asks ≡ named → IsReached asks start → IsHistoryFrom start old.journal old.list → OnOk r (seat.conn ≡ conn) → IfOk r (λ out. Adds old new seat seat' now input gained out)
+    → asks ≡ named → IsReached asks start → IsHistoryFrom start old.journal old.list → seat.conn ≡ conn → IfOk r (λ out. Adds old new seat seat' now input gained out)
     → IfOk r (λ out. IsLastingStep named conn (call_of now input out) gained)
 lasting_tells asks named start conn now input old new seat seat' gained (Ok output) same reached history whose adds =
     subst (λ (b : Bool). IsLastingStep b conn (call_of now input output) gained) same (lasting_step asks start conn now input old new seat seat' gained output reached history whose adds)

@@ -7,3 +7,8 @@ pub mod HeldBytes
 pub mod KeptForms
 pub mod Groups
 pub mod Generations
+pub mod Lasting
+pub mod LongHistory
+pub mod Ready
+pub mod Apart
+pub mod LastingApart

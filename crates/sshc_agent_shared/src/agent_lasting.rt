@@ -4,11 +4,13 @@ ghost use Rattle.std.specs.Prelude.{◌≡◌, ◌++◌, ◌≤◌, IfOk, OnErr,
 ghost use Rattle.sshc_key.specs.Signers.{since};
 ghost use Rattle.sshc_wire.specs.Faults.{Rose};
 ghost use Rattle.sshc_agent_shared.specs.Calls.{call_of, journal_weight};
-ghost use Rattle.sshc_agent_shared.specs.Generations.{IsLastingStep, IsReached};
-ghost use Rattle.sshc_agent_shared.specs.Kept.{IsHistoryFrom};
+ghost use Rattle.sshc_agent_shared.specs.Generations.{IsLastingStep};
+ghost use Rattle.sshc_agent_shared.specs.LastingApart.{AsksLastingOnce, TellsLastingApart};
+ghost use Rattle.sshc_agent_shared.specs.LongHistory.{IsLastOf};
 
 use crate::error::{CloseError, LastingRefused};
 use crate::lasting::LastingState;
+use crate::lasting_apart::LastingBegun;
 use crate::past::Past;
 use crate::settings::Settings;
 use sshc_agent_core::{AgentInput, AgentOutput, Cause};
@@ -39,11 +41,12 @@ pub struct AgentLasting<L: Settings> {
     state: Mutex<LastingState<L>>,
 }
 
-/// Closes the journal, and begins the next generation.
-fn renew<L: Settings, K: Keeper>(state: &mut LastingState<L>, keeper: &K) {
-    match state.renew() {
-        Ok(past) => keeper.keep(past),
-        Err(why) => keeper.keeps_on(why),
+/// Tells the keeper what became of a full journal.
+fn hand_on<K: Keeper>(seam: Option<Result<Past, CloseError>>, keeper: &K) {
+    match seam {
+        None => {}
+        Some(Ok(past)) => keeper.keep(past),
+        Some(Err(why)) => keeper.keeps_on(why),
     }
 }
 
@@ -64,10 +67,9 @@ impl<L: Settings> AgentLasting<L> {
     /// Takes the lock, and returns the number of a new connection. A full journal is closed first.
     pub fn connect<K: Keeper, R: Wait>(&self, rt: &R, keeper: &K) -> Result<u32, LastingRefused> {
         let mut state = self.state.lock(rt);
-        if !state.has_seat() {
-            renew(&mut state, keeper);
-        }
-        state.connect()
+        let (conn, seam) = state.admit();
+        hand_on(seam, keeper);
+        conn
     }
 
     /// Takes the lock, and takes the input of a connection at a moment in milliseconds. A full journal is closed first.
@@ -92,10 +94,50 @@ impl<L: Settings> AgentLasting<L> {
         ensures later { G.refusals signer.old ≤ G.refusals signer.new }
     {
         let mut state = self.state.lock(rt);
-        if !state.has_room(&input) {
-            renew(&mut state, keeper);
+        let (answer, seam) = state.take(conn, now, input, signer);
+        hand_on(seam, keeper);
+        answer
+    }
+
+    /// Calls as `call` does, but has the signature made outside the lock, so that no other connection waits for it. It
+    /// takes the lock once for what the input asks to be signed, and again for the call itself, which takes the
+    /// signature only if the same question still stands: if the key was removed meanwhile, or a lock came, it is answered
+    /// with FAILURE.
+    #[tactic(auto, using(crate::proofs::ApartLemmas::lasting_once))]
+    pub fn call_apart<G: LocalSigner, K: Keeper, R: Wait>(
+        &self,
+        rt: &R,
+        conn: u32,
+        now: u64,
+        input: AgentInput,
+        signer: &mut G,
+        keeper: &K,
+    ) -> Result<AgentOutput, LastingRefused>
+        // The call is a step of an agent to which generations lead, which took the signature or none.
+        ensures tells { IfOk result
+            (λ out. TellsLastingApart L.asks conn (call_of now input out)
+            (since (G.calls signer.old) (G.calls signer.new))) }
+        // The signer is asked once at most, and what the input asked of an agent to which generations lead.
+        ensures once { AsksLastingOnce L.asks conn now input (since (G.calls signer.old) (G.calls signer.new)) }
+        ensures asked { G.calls signer.new ≡ G.calls signer.old ++ since (G.calls signer.old) (G.calls signer.new) }
+        // The connection is closed because the signer refused only where its count rose.
+        ensures cause { IfOk result (λ out. out ≡ AgentOutput.Closed Cause.SignerRefused
+            → Rose (G.refusals signer.old) (G.refusals signer.new)) }
+        ensures later { G.refusals signer.old ≤ G.refusals signer.new }
+    {
+        let begun = self.state.lock(rt).begin(conn, now, input);
+        match begun {
+            LastingBegun::Made(answer, seam) => {
+                hand_on(seam, keeper);
+                answer
+            }
+            LastingBegun::Asks(input, question) => {
+                let signed = question.ask(signer);
+                let (answer, seam) = self.state.lock(rt).finish(conn, now, input, signed);
+                hand_on(seam, keeper);
+                answer
+            }
         }
-        state.call(conn, now, input, signer)
     }
 
     /// Takes the lock. The connection ended.
@@ -104,11 +146,11 @@ impl<L: Settings> AgentLasting<L> {
     }
 
     /// The last generation, closed.
+    #[tactic(auto, using(crate::proofs::LongLaws::last_of))]
     pub fn close(self) -> Result<Past, CloseError>
-        // Generations lead to its begin from an agent that holds nothing.
-        ensures reached { IfOk result (λ past. IsReached L.asks past.start) }
-        // Its history is a legal one, and weighs at most the limit.
-        ensures legal { IfOk result (λ past. IsHistoryFrom past.start past.entries past.last) }
+        // Generations lead to its begin from an agent that holds nothing, its history is a legal one, and over all that
+        // happened to the agent, seams included, locks hold and signatures are permitted.
+        ensures lasts { IfOk result (λ past. IsLastOf L.asks past) }
         ensures within { IfOk result (λ past. journal_weight 0 past.entries ≤ L.limit) }
     {
         let AgentLasting { state } = self;

@@ -1,13 +1,13 @@
 //! The state behind the mutex of an agent that lasts: its generation, and the seats of all its connections.
 
-ghost use Rattle.std.specs.Prelude.{◌≡◌, ◌≤◌, ◌+◌, ◌++◌, ◌<◌, ◌↔◌, [], IfOk, IfSome, IsTrue, OnErr, OnOk, length};
+ghost use Rattle.std.specs.Prelude.{◌≡◌, ◌≤◌, ◌++◌, ◌<◌, ◌⊎◌, [], IfErr, IfOk, IfSome, OnErr, OnOk, length};
 ghost use Rattle.sshc_key.specs.Signers.{since};
 ghost use Rattle.sshc_wire.specs.Faults.{Rose};
 ghost use Rattle.sshc_agent_core.specs.AgentList.{empty_list};
-ghost use Rattle.sshc_agent_shared.specs.Calls.{call_of, entry_weight};
-ghost use Rattle.sshc_agent_shared.specs.Closing.{AccountsFrom};
-ghost use Rattle.sshc_agent_shared.specs.Generations.{CarriesOn, IsLastingStep, IsReached, conns_of, next_of, renewed};
-ghost use Rattle.sshc_agent_shared.specs.Kept.{Adds, weight_of};
+ghost use Rattle.sshc_agent_shared.specs.Calls.{call_of};
+ghost use Rattle.sshc_agent_shared.specs.Generations.{IsLastingStep, IsReached};
+ghost use Rattle.sshc_agent_shared.specs.Kept.{Adds};
+ghost use Rattle.sshc_agent_shared.specs.Lasting.{Called, Connects, HasSeat, Leaves, RefusesSeat, Renews};
 
 use crate::error::{CallRefused, CloseError, LastingRefused};
 use crate::generation::Generation;
@@ -23,7 +23,7 @@ use std::sync::ledger::Blank;
 /// An agent whose history is kept in generations, with the seats of all its connections. A connection is a number.
 #[derive(Drop)]
 pub struct LastingState<L: Settings> {
-    generation: Generation<L>,
+    pub(crate) generation: Generation<L>,
     live: Vec<Seat<L>>,
     ended: Vec<Seat<L>>,
 }
@@ -46,16 +46,17 @@ impl<L: Settings> Model for LastingState<L> {
 
 /// The index of the connection's seat, if it is there: seats are in the order of their numbers.
 fn place_of<L: Settings>(seats: &[Seat<L>], conn: u32) -> Option<usize>
-    ensures { IfSome result (λ at. at < length seats.now) }
+    ensures { IfSome result (λ at. (at < length seats.now) × HasSeat seats.now conn at) }
 {
-    seats.binary_search_by_key(&conn, |seat| seat.conn).ok()
+    let at = seats.binary_search_by_key(&conn, |seat| seat.conn).ok()?;
+    let seat = &seats[at];
+    if seat.conn == conn { Some(at) } else { None }
 }
 
-/// A call of a seat, if it is this connection's.
+/// A call of a seat, with the reason as this agent's where it is refused.
 fn call_by<L: Settings, G: LocalSigner>(
     generation: &mut Generation<L>,
     seat: &mut Seat<L>,
-    conn: u32,
     now: u64,
     input: AgentInput,
     signer: &mut G,
@@ -63,7 +64,6 @@ fn call_by<L: Settings, G: LocalSigner>(
     ensures adds { IfOk result
         (λ out. Adds generation.old.of generation.new.of seat.old seat.new now input
         (since (G.calls signer.old) (G.calls signer.new)) out) }
-    ensures whose { OnOk result (seat.old.conn ≡ conn) }
     ensures start { (generation.new.start ≡ generation.old.start) × (generation.new.last ≡ generation.old.last) }
     ensures err { OnErr result ((generation.new ≡ generation.old) × (seat.new ≡ seat.old)) }
     ensures asked { OnOk result
@@ -73,9 +73,6 @@ fn call_by<L: Settings, G: LocalSigner>(
         → Rose (G.refusals signer.old) (G.refusals signer.new)) }
     ensures later { G.refusals signer.old ≤ G.refusals signer.new }
 {
-    if seat.conn != conn {
-        return Err(LastingRefused::NotConnected);
-    }
     match generation.try_call(seat, now, input, signer) {
         Ok(output) => Ok(output),
         Err(refused) => Err(LastingRefused::Call(refused)),
@@ -106,26 +103,10 @@ impl<L: Settings> LastingState<L> {
         self.generation.is_as_named();
     }
 
-    /// Whether the journal has room for one more connection.
-    pub fn has_seat(&self) -> bool
-        ensures { IsTrue result ↔ (weight_of self.now.generation.of + 64 ≤ self.now.generation.of.limit) }
-    {
-        self.generation.has_seat()
-    }
-
-    /// Whether the journal has room for a call with this input.
-    pub fn has_room(&self, input: &AgentInput) -> bool
-        ensures { IsTrue result
-            ↔ (weight_of self.now.generation.of + entry_weight input.now ≤ self.now.generation.of.limit) }
-    {
-        self.generation.has_room(input)
-    }
-
-    /// The number of a new connection.
+    /// The number of a new connection. If it is refused, the journal would weigh more than its limit, or memory ran out.
     pub fn connect(&mut self) -> Result<u32, LastingRefused>
-        ensures conn { IfOk result (λ conn. conn ≡ self.old.generation.last + 1) }
-        ensures list { self.new.generation.of.list ≡ self.old.generation.of.list }
-        ensures journal { self.new.generation.of.journal ≡ self.old.generation.of.journal }
+        ensures connects { Connects self.old self.new result }
+        ensures refused { IfErr result (λ e. RefusesSeat self.old e) }
     {
         if self.live.reserve(1).is_err() || self.generation.last() == u32::MAX {
             return Err(LastingRefused::Call(CallRefused::NoMemory));
@@ -149,11 +130,12 @@ impl<L: Settings> LastingState<L> {
         input: AgentInput,
         signer: &mut G,
     ) -> Result<AgentOutput, LastingRefused>
+        ensures called { Called self.old self.new conn now input
+            (since (G.calls signer.old) (G.calls signer.new)) result }
         // The output is that of a step of an agent to which generations lead.
         ensures tells { IfOk result
             (λ out. IsLastingStep L.asks conn (call_of now input out)
             (since (G.calls signer.old) (G.calls signer.new))) }
-        ensures same { OnErr result (self.new ≡ self.old) }
         ensures asked { OnOk result
             (G.calls signer.new ≡ G.calls signer.old ++ since (G.calls signer.old) (G.calls signer.new)) }
         ensures unasked { OnErr result (G.calls signer.new ≡ G.calls signer.old) }
@@ -167,19 +149,18 @@ impl<L: Settings> LastingState<L> {
         let Some(at) = place_of(self.live.as_slice(), conn) else {
             return Err(LastingRefused::NotConnected);
         };
-        call_by(
-            &mut self.generation,
-            &mut self.live[at],
-            conn,
-            now,
-            input,
-            signer,
-        )
+        call_by(&mut self.generation, &mut self.live[at], now, input, signer)
     }
 
-    /// The connection ended. The agent forgets it with the next generation.
+    /// Whether a connection that goes on has this number.
+    pub(crate) fn is_connected(&self, conn: u32) -> bool {
+        place_of(self.live.as_slice(), conn).is_some()
+    }
+
+    /// The connection ended: its seat is kept with those of the ended ones, and the agent forgets it with the next
+    /// generation. Nothing changes where no connection has this number, or memory runs out.
     pub fn leave(&mut self, conn: u32)
-        ensures same { self.new.generation ≡ self.old.generation }
+        ensures leaves { Leaves self.old self.new conn ⊎ (self.new ≡ self.old) }
     {
         let Some(at) = place_of(self.live.as_slice(), conn) else {
             return;
@@ -195,22 +176,7 @@ impl<L: Settings> LastingState<L> {
     /// is, of which only connections that ended are forgotten, and a seat without calls for each connection that goes
     /// on. Otherwise nothing changes.
     pub fn renew(&mut self) -> Result<Past, CloseError>
-        // What is returned is the generation: where it began, where it ended, and its history.
-        ensures past { IfOk result
-            (λ p. p ≡ record {
-              start = self.old.generation.start;
-              last = self.old.generation.of.list;
-              entries = self.old.generation.of.journal;
-            }) }
-        ensures accounts { OnOk result (AccountsFrom self.old.generation.start self.old.generation.of.list
-            L.limit self.old.generation.of.journal (self.old.live ++ self.old.ended)) }
-        // Keys, deadlines, constraints, the lock and the questions of the connections that go on are the same.
-        ensures carries { OnOk result
-            (CarriesOn (conns_of self.old.ended) self.old.generation.of.list self.new.generation.of.list) }
-        ensures next { OnOk result (self.new.generation
-            ≡ next_of self.old.generation (conns_of self.old.ended) (length self.old.live)) }
-        ensures seats { OnOk result ((self.new.live ≡ renewed self.old.live) × (self.new.ended ≡ [])) }
-        ensures same { OnErr result (self.new ≡ self.old) }
+        ensures renews { Renews L.limit self.old self.new result }
     {
         self.generation.is_legal();
         self.generation.renew(&mut self.live, &mut self.ended)

@@ -2,6 +2,7 @@
 
 ghost use Rattle.std.specs.Prelude.{◌≡◌, ◌++◌, ◌≤◌, [], All, IfErr, IfOk, OnErr, OnOk};
 ghost use Rattle.sshc_key.specs.Signers.{since};
+ghost use Rattle.sshc_agent_shared.specs.Apart.{AsksOnce, TellsApart};
 ghost use Rattle.sshc_agent_shared.specs.Calls.{call_of};
 ghost use Rattle.sshc_agent_shared.specs.Kept.{refused_once};
 ghost use Rattle.sshc_agent_shared.specs.Closing.{Accounts, CloseCause, RefusalSeen, Tells};
@@ -10,6 +11,7 @@ ghost use Rattle.sshc_agent_core.specs.LockLaw.{LocksHold};
 ghost use Rattle.sshc_agent_core.specs.SignedEntries.{SignaturesArePermitted};
 ghost use Rattle.sshc_wire.specs.Faults.{Rose};
 
+use crate::apart::Begun;
 use crate::error::{CallRefused, CloseError};
 use crate::seat::Seat;
 use crate::settings::Settings;
@@ -77,6 +79,42 @@ impl<L: Settings> AgentShared<L> {
         ensures later { G.refusals signer.old ≤ G.refusals signer.new }
     {
         self.state.lock(rt).call(seat, now, input, signer)
+    }
+
+    /// Calls as `call` does, but has the signature made outside the lock, so that no other connection waits for it. It
+    /// takes the lock once for what the input asks to be signed, and again for the call itself, which takes the
+    /// signature only if the same question still stands: if the key was removed meanwhile, or a lock came, it is answered
+    /// with FAILURE.
+    pub fn call_apart<G: LocalSigner, R: Wait>(
+        &self,
+        rt: &R,
+        seat: Seat<L>,
+        now: u64,
+        input: AgentInput,
+        signer: &mut G,
+    ) -> (Seat<L>, Result<AgentOutput, CallRefused>)
+        // The call is a step after a legal history, which took the signature or none.
+        ensures tells { IfOk result.1
+            (λ out. TellsApart seat result.0 (call_of now input out)
+            (since (G.calls signer.old) (G.calls signer.new))) }
+        // The signer is asked once at most, and what the input asked of an agent after a legal history.
+        ensures once { AsksOnce seat.conn now input (since (G.calls signer.old) (G.calls signer.new)) }
+        ensures refused { OnErr result.1 (result.0 ≡ refused_once seat) }
+        ensures seen { IfErr result.1 (λ e. RefusalSeen seat e) }
+        ensures asked { G.calls signer.new ≡ G.calls signer.old ++ since (G.calls signer.old) (G.calls signer.new) }
+        // The connection is closed because the signer refused only where its count rose.
+        ensures cause { IfOk result.1 (λ out. out ≡ AgentOutput.Closed Cause.SignerRefused
+            → Rose (G.refusals signer.old) (G.refusals signer.new)) }
+        ensures later { G.refusals signer.old ≤ G.refusals signer.new }
+    {
+        let (seat, begun) = self.state.lock(rt).begin(seat, now, input);
+        match begun {
+            Begun::Made(answer) => (seat, answer),
+            Begun::Asks(input, question) => {
+                let signed = question.ask(signer);
+                self.state.lock(rt).finish(seat, now, input, signed)
+            }
+        }
     }
 
     /// The history of all calls of an agent with the settings of its type, if all seats are back and their calls are in

@@ -21,6 +21,12 @@ pub(crate) const SIGNS: &[u8] = b"\x0d\0\0\0\x33\0\0\0\x0bssh-ed25519\0\0\0\x20\
 \x08\x08\x08\x08\x08\x08\x08\x08\x08\x08\x08\x08\x08\x08\x08\x08\
 \0\0\0\x05bytes\0\0\0\0";
 
+/// A frame that asks for a signature by the pair over `other`.
+pub(crate) const SIGNS_OTHER: &[u8] = b"\x0d\0\0\0\x33\0\0\0\x0bssh-ed25519\0\0\0\x20\
+\x08\x08\x08\x08\x08\x08\x08\x08\x08\x08\x08\x08\x08\x08\x08\x08\
+\x08\x08\x08\x08\x08\x08\x08\x08\x08\x08\x08\x08\x08\x08\x08\x08\
+\0\0\0\x05other\0\0\0\0";
+
 /// A frame that asks for the list of keys.
 pub(crate) const LISTS: &[u8] = b"\x0b";
 
