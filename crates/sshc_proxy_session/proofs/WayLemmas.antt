@@ -9,8 +9,8 @@ use Rattle.sshc_wire.specs.LookupLaws.{same_bytes}
 use Rattle.sshc_proxy.specs.Binding.{Binding}
 use Rattle.sshc_proxy_session.specs.declared.bound.Bound.{Bound}
 use Rattle.sshc_proxy_session.specs.declared.session_policy.SessionRule.{SessionRule}
-use Rattle.sshc_proxy_session.specs.SessionTable.{bound_of, is_login_bound, is_towards, is_usable, is_user, is_way, names, onto, parted, permits}
-use Rattle.sshc_proxy_session.specs.SessionHistory.{AreHops, IsWay, NamesUser}
+use Rattle.sshc_proxy_session.specs.SessionTable.{bound_of, has_key, is_login_bound, is_towards, is_usable, is_user, is_way, names, onto, parted, permits}
+use Rattle.sshc_proxy_session.specs.SessionHistory.{AreHops, AreOver, IsWay, NamesUser}
 
 -- ---- the last binding
 
@@ -69,28 +69,33 @@ any_there p (x ∷ xs) e = elim (or_cases (p x) (list_any p xs) e) [
   | inr later ↦ let c = any_there p xs later in (c.0, (suc c.1.0, omega (arith, c.1.1), c.1.2), c.2)
 ]
 
-same_way : (via : List (List ℕ)) (hops : List Binding) → is_way via (map bound_of hops) ≡ true → via ≡ map (λ hop. hop.host_key) hops
-same_way [] [] e = refl
-same_way [] (hop ∷ hops) e = absurd cc
-same_way (host ∷ via) [] e = absurd cc
-same_way (host ∷ via) (hop ∷ hops) e =
-    let h = and_parts (bytes_eq host hop.host_key) _ e in
-    ap (λ (first : List ℕ). first ∷ via) (same_bytes host hop.host_key h.0) ∙ ap (λ (rest : List (List ℕ)). hop.host_key ∷ rest) (same_way via hops h.1)
+known_key : (keys : List (List ℕ)) (key : List ℕ) → has_key keys key ≡ true → Contains keys key
+known_key keys key e =
+    let c = any_there (λ (known : List ℕ). bytes_eq known key) keys e in
+    subst (λ (k : List ℕ). Contains keys k) (same_bytes c.0 key c.2) c.1
+
+over_hosts : (via : List (List (List ℕ))) (hops : List Binding) → is_way via (map bound_of hops) ≡ true → AreOver via hops
+over_hosts [] [] e = tt
+over_hosts [] (hop ∷ hops) e = absurd cc
+over_hosts (keys ∷ via) [] e = absurd cc
+over_hosts (keys ∷ via) (hop ∷ hops) e =
+    let h = and_parts (has_key keys hop.host_key) _ e in
+    (known_key keys hop.host_key h.0, over_hosts via hops h.1)
 
 -- the parts of a way that a rule names
 pub record IsNamed (used : List ℕ) (hops : List Binding) (last : Binding) (rule : SessionRule) : Type 0 where
   pub key : rule.key ≡ used
-  pub host : rule.host ≡ last.host_key
-  pub via : rule.via ≡ map (λ hop. hop.host_key) hops
+  pub host : Contains rule.host last.host_key
+  pub via : AreOver rule.via hops
 
 pub towards_is : (hops : List Binding) (last : Binding) (key : List ℕ) (rule : SessionRule) → is_towards (map bound_of hops) (bound_of last) key rule ≡ true → IsNamed key hops last rule
 towards_is hops last key rule e =
     let a = and_parts (bytes_eq rule.key key) _ e in
-    let b = and_parts (bytes_eq rule.host last.host_key) _ a.1 in
+    let b = and_parts (has_key rule.host last.host_key) _ a.1 in
     record {
       key = same_bytes rule.key key a.0;
-      host = same_bytes rule.host last.host_key b.0;
-      via = same_way rule.via hops b.1;
+      host = known_key rule.host last.host_key b.0;
+      via = over_hosts rule.via hops b.1;
     }
 
 pub user_is : (named : Option (List ℕ)) (user : List ℕ) → is_user named user ≡ true → NamesUser named user

@@ -46,8 +46,15 @@ forwarded steps = fold (λ last step. forwarded_by last step.input step.output) 
 
 -- ---- what a step keeps
 
+-- the hops are over hosts with these keys, in order
+abbrev pub AreOver : List (List (List ℕ)) → List Binding → Type 0
+AreOver [] [] = Unit {0}
+AreOver [] (hop ∷ hops) = ⊥
+AreOver (keys ∷ via) [] = ⊥
+AreOver (keys ∷ via) (hop ∷ hops) = Contains keys hop.host_key × AreOver via hops
+
 -- The way of a login: the session that was bound last is one in which the user logs in, those before it forward the agent,
--- and a rule names the key for the host of the last and, in order, the hosts of the others.
+-- and a rule names the key for a host that has the last one's host key and, in order, hosts that have the others'.
 pub record IsWay (policy : List SessionRule) (bindings : List Binding) (used : List ℕ) : Type 0 where
   pub hops : List Binding
   pub last : Binding
@@ -57,8 +64,8 @@ pub record IsWay (policy : List SessionRule) (bindings : List Binding) (used : L
   pub rule : SessionRule
   pub named : Contains policy rule
   pub key : rule.key ≡ used
-  pub host : rule.host ≡ last.host_key
-  pub via : rule.via ≡ map (λ hop. hop.host_key) hops
+  pub host : Contains rule.host last.host_key
+  pub via : AreOver rule.via hops
 
 -- anybody, or this user
 abbrev pub NamesUser : Option (List ℕ) → List ℕ → Type 0

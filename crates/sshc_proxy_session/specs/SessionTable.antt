@@ -43,16 +43,20 @@ is_known bindings session_id = list_any (λ bound. bytes_eq bound.session_id ses
 
 -- ---- what a policy permits
 
--- the hops are over these hosts, in order
-abbrev pub is_way : List (List ℕ) → List Bound → Bool
+-- one of a host's keys
+abbrev pub has_key : List (List ℕ) → List ℕ → Bool
+has_key keys key = list_any (λ known. bytes_eq known key) keys
+
+-- the hops are over hosts with these keys, in order
+abbrev pub is_way : List (List (List ℕ)) → List Bound → Bool
 is_way [] [] = true
 is_way [] (hop ∷ hops) = false
-is_way (host ∷ via) [] = false
-is_way (host ∷ via) (hop ∷ hops) = bytes_eq host hop.host_key && is_way via hops
+is_way (keys ∷ via) [] = false
+is_way (keys ∷ via) (hop ∷ hops) = has_key keys hop.host_key && is_way via hops
 
 -- the rule is one for the key, the last binding's host and the hops before it
 abbrev pub is_towards : List Bound → Bound → List ℕ → SessionRule → Bool
-is_towards hops last key rule = bytes_eq rule.key key && (bytes_eq rule.host last.host_key && is_way rule.via hops)
+is_towards hops last key rule = bytes_eq rule.key key && (has_key rule.host last.host_key && is_way rule.via hops)
 
 -- the rule's user is this one, or anybody
 abbrev pub is_user : Option (List ℕ) → List ℕ → Bool

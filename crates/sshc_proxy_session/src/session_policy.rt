@@ -1,7 +1,7 @@
 //! A policy by session: which keys may be used by whom, towards which hosts, and over which.
 
 ghost use Rattle.std.specs.Prelude.{◌≡◌, option_map};
-ghost use Rattle.sshc_proxy_session.specs.SessionTable.{is_towards, is_usable, is_user, is_way, names};
+ghost use Rattle.sshc_proxy_session.specs.SessionTable.{has_key, is_towards, is_usable, is_user, is_way, names};
 ghost use Rattle.sshc_proxy_session.specs.SessionTable.{parted, permits};
 
 use crate::bound::{Bound, parted};
@@ -15,10 +15,10 @@ pub struct SessionRule {
     /// The key's blob.
     pub key: Octets,
     pub user: Option<Octets>,
-    /// The blob of the host's key.
-    pub host: Octets,
-    /// The blobs of the host keys of the hosts to which the agent is forwarded before, from the first.
-    pub via: List<Octets>,
+    /// The blobs of the host's keys, each of which is taken for it.
+    pub host: List<Octets>,
+    /// Of each host to which the agent is forwarded before, from the first, the blobs of its keys.
+    pub via: List<List<Octets>>,
 }
 
 /// Rules in order, which contracts see as a list.
@@ -84,15 +84,24 @@ impl SessionPolicy {
     }
 }
 
-/// Whether the hops are over these hosts, in order.
-fn is_way(via: &[Octets], hops: &[Bound]) -> bool
+/// Whether the key is one of a host's.
+fn has_key(keys: &[Octets], key: &[u8]) -> bool
+    ensures { result ≡ has_key keys.now key.now }
+{
+    keys.iter().any(|known| known.as_slice() == key)
+}
+
+/// Whether the hops are over hosts with these keys, in order.
+fn is_way(via: &[List<Octets>], hops: &[Bound]) -> bool
     ensures { result ≡ is_way via.now hops.now }
 {
     match via {
         [] => hops.is_empty(),
-        [host, via @ ..] => match hops {
+        [keys, via @ ..] => match hops {
             [] => false,
-            [hop, hops @ ..] => host.as_slice() == hop.host_key.as_slice() && is_way(via, hops),
+            [hop, hops @ ..] => {
+                has_key(keys.as_slice(), hop.host_key.as_slice()) && is_way(via, hops)
+            }
         },
     }
 }
@@ -102,7 +111,7 @@ fn is_towards(hops: &[Bound], last: &Bound, key: &[u8], rule: &SessionRule) -> b
     ensures { result ≡ is_towards hops.now last.now key.now rule.now }
 {
     rule.key.as_slice() == key
-        && rule.host.as_slice() == last.host_key.as_slice()
+        && has_key(rule.host.as_slice(), last.host_key.as_slice())
         && is_way(rule.via.as_slice(), hops)
 }
 

@@ -38,6 +38,9 @@ const HOST: u8 = 0x22;
 
 const NEXT: u8 = 0x33;
 
+/// Both hosts' other key.
+const OTHER: u8 = 0x44;
+
 /// What is asked, in order; why the last is refused by session, if it is; and whether it is forwarded by hosts.
 type Row = (&'static [Asks], Option<Refusal>, bool);
 
@@ -126,11 +129,19 @@ fn blob(alloc: Global, key: u8) -> Result<Octets, NoMemory> {
     Octets::from_vec(out)
 }
 
-fn rule(alloc: Global, host: u8, via: List<Octets>) -> Result<SessionRule, NoMemory> {
+/// A host with another key beside this one.
+fn keys(alloc: Global, host: u8) -> Result<List<Octets>, NoMemory> {
+    let mut keys = List::new(alloc);
+    keys.push(blob(alloc, OTHER)?)?;
+    keys.push(blob(alloc, host)?)?;
+    Ok(keys)
+}
+
+fn rule(alloc: Global, host: u8, via: List<List<Octets>>) -> Result<SessionRule, NoMemory> {
     Ok(SessionRule {
         key: blob(alloc, KEY)?,
         user: Some(Octets::from_slice(alloc, b"alice")?),
-        host: blob(alloc, host)?,
+        host: keys(alloc, host)?,
         via,
     })
 }
@@ -138,7 +149,7 @@ fn rule(alloc: Global, host: u8, via: List<Octets>) -> Result<SessionRule, NoMem
 /// The key logs in as alice to the host, and over it to the next.
 fn by_session(alloc: Global) -> Result<SessionPolicy, NoMemory> {
     let mut via = List::new(alloc);
-    via.push(blob(alloc, HOST)?)?;
+    via.push(keys(alloc, HOST)?)?;
     let mut rules = List::new(alloc);
     rules.push(rule(alloc, HOST, List::new(alloc))?)?;
     rules.push(rule(alloc, NEXT, via)?)?;
