@@ -1,0 +1,1 @@
+//! What a written policy is read as, and its faults.
