@@ -76,24 +76,3 @@ fn policies_and_faults(rt: HostRuntime) -> Result<(), Fail> {
     }
     Ok(())
 }
-
-/// A host at another port has the keys that aren't revoked for it.
-#[test]
-fn a_rule_has_the_hosts_keys(rt: HostRuntime) -> Result<(), Fail> {
-    let alloc = rt.alloc();
-    let keys = keys(alloc)?;
-    let text = "allow work@laptop alice@[h]:2222 via h";
-    let Ok(policy) = read_policy(alloc, text, keys.as_slice(), HOSTS) else {
-        assert!(rt; false, "no policy");
-        return Ok(());
-    };
-    let rule = &policy.rules()[0];
-    let first = keys[1].blob();
-    assert_eq!(rt; rule.key.as_slice(), keys[0].blob());
-    assert!(rt; matches!(&rule.user, Some(user) if user.as_slice() == b"alice".as_slice()));
-    assert_eq!(rt; rule.host.as_slice().len(), 1);
-    assert_eq!(rt; rule.host.as_slice()[0].as_slice(), first);
-    assert_eq!(rt; rule.via.as_slice().len(), 1);
-    assert_eq!(rt; rule.via.as_slice()[0].as_slice()[0].as_slice(), first);
-    Ok(())
-}
