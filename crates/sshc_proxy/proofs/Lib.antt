@@ -2,6 +2,7 @@ mod Moved
 mod AllowedLaws
 mod RowLemmas
 mod HistoryLemmas
+mod VerdictLemmas
 mod ReadingLemmas
 mod PolicyLemmas
 mod ListingLemmas

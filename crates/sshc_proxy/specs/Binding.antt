@@ -15,19 +15,21 @@ use Rattle.sshc_proxy.specs.declared.binding.Binding.{Binding as Lent}
 abbrev pub Accepts : Type 0
 Accepts = Key → List ℕ → Signature → Bool
 
--- the host key's blob, the session's identifier, and the host key's signature over it
+-- the host key's blob, the session's identifier, the host key's signature over it, and whether the session forwards the
+-- agent
 pub record Binding : Type 0 where
   pub host_key : List ℕ
   pub session_id : List ℕ
   pub signature : List ℕ
+  pub is_forwarding : Bool
 
 -- ---- reading
 
--- three strings, and whether the agent is forwarded
+-- three strings, and whether the session forwards the agent
 unfoldable pub fields_at : Reader WireError Binding
 fields_at bytes =
     string_at bytes >>= λ host_key. string_at host_key.1 >>= λ session_id. string_at session_id.1 >>= λ signature. boolean_at signature.1 >>= λ forwarding.
-    Ok (record { host_key = host_key.0; session_id = session_id.0; signature = signature.0 }, forwarding.1)
+    Ok (record { host_key = host_key.0; session_id = session_id.0; signature = signature.0; is_forwarding = forwarding.0 }, forwarding.1)
 
 -- nothing follows the fields
 abbrev pub ended : Result (Binding × List ℕ) WireError → Option Binding
@@ -62,4 +64,4 @@ is_signed accepts binding = signed_by accepts (whole_blob_key binding.host_key) 
 -- ---- the binding that a value of the code's type represents
 
 abbrev pub binding_seen : Lent → Binding
-binding_seen lent = record { host_key = lent.host_key.now; session_id = lent.session_id.now; signature = lent.signature.now }
+binding_seen lent = record { host_key = lent.host_key.now; session_id = lent.session_id.now; signature = lent.signature.now; is_forwarding = lent.is_forwarding }

@@ -2,6 +2,7 @@ pub mod Policy
 pub mod Listing
 pub mod Binding
 pub mod ProxyTable
+pub mod Verdicts
 pub mod ProxyHistory
 pub mod Frames
 pub mod ProxyRun

@@ -1,23 +1,25 @@
 //! Bindings of sessions (OpenSSH's PROTOCOL.agent, section 1).
 
 ghost use Rattle.std.specs.Prelude.{◌≡◌, IfOk, MatchResult, Ok, Err, Some, option_map};
-ghost use Rattle.sshc_proxy.specs.Binding.{binding_in, binding_seen, ended, fields_at, is_signed, signed_by};
+ghost use Rattle.sshc_proxy.specs.Binding.{binding_in, binding_of, binding_seen, ended, fields_at, is_signed, signed_by};
 
-use sshc_key::{Error, KeyData, PublicKey, Verifier, Verify, parse_whole_public_key};
+use sshc_key::{Error, KeyData, PublicKey, Verifier, Verify, agent_msg, parse_whole_public_key};
 use sshc_wire::{Cursor, NoMemory, WireError};
 use std::alloc::Global;
 
 /// The name of the extension.
 const SESSION_BIND: &[u8] = b"session-bind@openssh.com";
 
-/// A session that a client binds to its connection.
+/// A session that a client binds to its connection, as a frame has it.
 #[derive(Clone, Copy)]
-pub(crate) struct Binding<'a> {
+pub struct Binding<'a> {
     /// The blob of the server's host key.
-    pub(crate) host_key: &'a [u8],
-    pub(crate) session_id: &'a [u8],
+    pub host_key: &'a [u8],
+    pub session_id: &'a [u8],
     /// The host key's signature over the session's identifier.
-    pub(crate) signature: &'a [u8],
+    pub signature: &'a [u8],
+    /// Whether the session forwards the agent, and isn't the one in which the user logs in.
+    pub is_forwarding: bool,
 }
 
 /// Reads the fields after the extension's name.
@@ -28,11 +30,12 @@ fn fields<'a>(c: &mut Cursor<'a>) -> Result<Binding<'a>, WireError>
     let host_key = c.bytes()?;
     let session_id = c.bytes()?;
     let signature = c.bytes()?;
-    let _is_forwarding = c.boolean()?;
+    let is_forwarding = c.boolean()?;
     Ok(Binding {
         host_key,
         session_id,
         signature,
+        is_forwarding,
     })
 }
 
@@ -71,6 +74,17 @@ pub(crate) fn binding_in(body: &[u8]) -> Option<Binding<'_>>
     }
 }
 
+/// The binding in a frame, without its length. `None` if it is no EXTENSION with this name and these fields and nothing
+/// more.
+pub fn binding_of(frame: &[u8]) -> Option<Binding<'_>>
+    ensures { option_map binding_seen result ≡ binding_of frame.now }
+{
+    match frame {
+        [agent_msg::EXTENSION, body @ ..] => binding_in(body),
+        _ => None,
+    }
+}
+
 /// Whether the key is plain, and the bytes are one whole signature of it over the session's identifier.
 fn is_signed_by<V: Verifier>(
     key: &PublicKey,
@@ -92,7 +106,7 @@ fn is_signed_by<V: Verifier>(
 
 /// Whether the binding's host key is one plain key, and its signature is that key's.
 #[tactic(auto, unfolding(crate::specs::Binding::is_signed))]
-pub(crate) fn is_signed<V: Verifier>(
+pub fn is_signed<V: Verifier>(
     alloc: Global,
     binding: &Binding<'_>,
     verifier: &V,

@@ -2,7 +2,7 @@
 
 /// Why a frame can't be read whole.
 #[derive(Clone, Copy, PartialEq, Eq)]
-pub(crate) enum Broken {
+pub enum Broken {
     /// Out of memory.
     NoMemory,
     /// A read failed.

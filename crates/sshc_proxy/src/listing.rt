@@ -15,9 +15,9 @@ use std::alloc::Global;
 
 /// A key of a listing.
 #[derive(Clone, Copy)]
-pub(crate) struct Listed<'a> {
-    pub(crate) blob: &'a [u8],
-    pub(crate) comment: &'a str,
+pub struct Listed<'a> {
+    pub blob: &'a [u8],
+    pub comment: &'a str,
 }
 
 /// Reads a key of a listing: its blob, its comment, and then the key in the blob.
@@ -43,9 +43,10 @@ fn read_keys<'a>(alloc: Global, count: u32, c: &mut Cursor<'a>) -> Result<Vec<Li
     Ok(found)
 }
 
-/// The keys of a listing, after its number.
+/// The keys of a listing, which follow the number of IDENTITIES_ANSWER. Each blob begins with a key and each comment is
+/// UTF-8; bytes after the last one are ignored.
 #[tactic(auto, unfolding(crate::specs::Listing::listed_keys, sshc_key::specs::KeyReading::u32_at))]
-pub(crate) fn listed_keys(alloc: Global, body: &[u8]) -> Result<Vec<Listed<'_>>, Error>
+pub fn listed_keys(alloc: Global, body: &[u8]) -> Result<Vec<Listed<'_>>, Error>
     ensures { GivesAll (λ found. keys_seen found.items) result (listed_keys body.now) }
 {
     let mut c = Cursor::new(body);
@@ -86,7 +87,7 @@ fn listing_body(alloc: Global, keys: &[Listed<'_>]) -> Result<Vec<u8>, NoMemory>
 }
 
 /// The answer that lists the keys, as a whole frame.
-pub(crate) fn framed_listing(alloc: Global, keys: &[Listed<'_>]) -> Result<Octets, NoMemory>
+pub fn framed_listing(alloc: Global, keys: &[Listed<'_>]) -> Result<Octets, NoMemory>
     ensures { IfOk result (λ o. o ≡ string_text (listing (keys_seen keys.now))) }
 {
     let body = listing_body(alloc, keys)?;

@@ -27,7 +27,7 @@ fn decoded(alloc: Global, text: &str) -> Result<Option<Octets>, NoMemory>
 }
 
 /// The blob of which the text is the padded base64, if it is exactly one plain key.
-fn key_blob(alloc: Global, text: &str) -> Result<Option<Octets>, NoMemory>
+pub fn key_blob(alloc: Global, text: &str) -> Result<Option<Octets>, NoMemory>
     ensures { IfOk result (λ blob. blob ≡ key_blob text.now) }
 {
     let Some(blob) = decoded(alloc, text)? else {

@@ -18,6 +18,7 @@ use std::alloc::Global;
 use std::marker::Model;
 
 mod answers;
+mod asking;
 mod requests;
 
 /// A policy and connections, which contracts see as plain data.
@@ -54,8 +55,8 @@ impl ProxyCore {
         }
     }
 
-    /// Takes an input of a connection. After `NoMemory` the core is as it was.
-    #[tactic(auto, using(crate::proofs::HistoryLemmas::remembers_more))]
+    /// Takes an input of a connection. After `NoMemory` the core is as it was. It is `asks`, the verifier, and `apply`
+    /// with its answer.
     pub fn step<V: Verifier>(&mut self, conn: u32, input: &ProxyInput, verifier: &V) -> ProxyOutput
         ensures row { Takes (V.accepts verifier.now) conn input.now self.old self.new result
             ⊎ Starves self.old self.new result }
@@ -67,7 +68,10 @@ impl ProxyCore {
             → Remembers (V.accepts verifier.now) self.new
             (steps ++ record { conn = conn; input = input.now; output = result } ∷ []) }
     {
-        self.take(conn, input, verifier)
+        match self.ask(conn, input, verifier) {
+            Ok(is_signed) => self.apply(conn, input, is_signed),
+            Err(NoMemory) => ProxyOutput::NoMemory,
+        }
     }
 
     /// Does the row of an input, or runs out of memory.

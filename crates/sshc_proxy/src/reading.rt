@@ -111,10 +111,7 @@ fn read_body<S: AgentStream>(
 
 /// Reads a frame into the buffer, without its length. Returns false if the bytes had ended before it. Nothing is
 /// allocated for a length above the limit, and no byte behind it is read.
-pub(crate) fn read_frame<S: AgentStream>(
-    source: &mut S,
-    frame: &mut Vec<u8>,
-) -> Result<bool, Broken>
+pub fn read_frame<S: AgentStream>(source: &mut S, frame: &mut Vec<u8>) -> Result<bool, Broken>
     ensures read { ReadsFrame frame.new.items
         (stream (S.left source.old) (S.contents source.old) (S.Source.faults source.old) (S.Sink.faults source.old))
         (stream (S.left source.new) (S.contents source.new) (S.Source.faults source.new) (S.Sink.faults source.new))

@@ -18,8 +18,8 @@ fn write_bytes<S: AgentStream>(sink: &mut S, frame: &[u8]) -> Result<(), Failed>
     write_whole(sink, frame)
 }
 
-/// The same, as one fact of the stream.
-pub(crate) fn write_frame<S: AgentStream>(sink: &mut S, frame: &[u8]) -> Result<(), Failed>
+/// Writes a frame that has its length already, whole. After an error a front of it is written.
+pub fn write_frame<S: AgentStream>(sink: &mut S, frame: &[u8]) -> Result<(), Failed>
     ensures written { WritesFrame frame.now
         (stream (S.left sink.old) (S.contents sink.old) (S.Source.faults sink.old) (S.Sink.faults sink.old))
         (stream (S.left sink.new) (S.contents sink.new) (S.Source.faults sink.new) (S.Sink.faults sink.new))

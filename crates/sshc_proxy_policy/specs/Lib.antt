@@ -1,0 +1,2 @@
+pub mod PolicyNames
+pub mod WrittenPolicy

@@ -1,0 +1,5 @@
+mod UserauthLemmas
+mod WayLemmas
+mod AnswerLemmas
+mod RowLemmas
+mod HistoryLemmas

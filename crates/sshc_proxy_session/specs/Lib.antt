@@ -1,0 +1,3 @@
+pub mod Userauth
+pub mod SessionTable
+pub mod SessionHistory
