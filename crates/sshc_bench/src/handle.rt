@@ -1,7 +1,7 @@
 //! A handle over a transport in memory: pings from one thread, or from eight.
 
 use sshc_client::Error;
-use sshc_handle::Handle;
+use sshc_handle::{Handle, HandleCalls};
 use sshc_sample_fakes::{Host, Keeper, at_once, opened, run_beside};
 use sshc_wire::Disconnect;
 use std::sync::Wait;

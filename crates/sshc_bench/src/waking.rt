@@ -3,7 +3,7 @@
 
 use crossbeam_channel::{Receiver, Sender, unbounded};
 use sshc_client::{Config, Error};
-use sshc_handle::{Handle, Runner, Waker, at_once, connect_stream};
+use sshc_handle::{Handle, HandleCalls, Runner, Waker, at_once, connect_stream};
 use sshc_sample_fakes::{FarServer, FarTransport, Host, Keeper, StillClock, across_threads};
 use sshc_toy::{RefusingVerifier, ToySigner};
 use sshc_wire::{ChannelId, Disconnect};

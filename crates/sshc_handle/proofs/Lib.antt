@@ -1,3 +1,4 @@
-pub mod Sending
 mod AnsweringLemmas
 mod Hints
+mod OpenedLemmas
+pub mod Sending

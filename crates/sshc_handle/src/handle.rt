@@ -1,17 +1,16 @@
 //! The handle of a session.
 
-ghost use Rattle.std.specs.Prelude.{◌≡◌, Err, IfErr, IfOk, IfSome, OnErr, true};
+ghost use Rattle.std.specs.Prelude.{◌≡◌, Err, IfErr, IfSome, OnErr, true};
 ghost use Rattle.sshc_handle_tickets.specs.Tickets.{is_of};
 ghost use Rattle.sshc_handle_state.specs.Submission.{asks_answer};
 ghost use Rattle.sshc_handle.specs.Answering.{IsEndError};
 ghost use Rattle.sshc_handle_calls.specs.Lines.{Given, IsDeclined};
 
-use crate::channel::Channel;
 use crate::shared::Shared;
 use sshc_auth::{Ended, Error};
 use sshc_client::{Handler, Msg};
 use sshc_key::AgentSessionBinding;
-use sshc_wire::{ChannelId, NoMemory, Record, Ticket};
+use sshc_wire::{ChannelId, Record, Ticket};
 use std::alloc::Global;
 use std::sync::{Arc, Wait};
 use std::time::{Clock, Duration};
@@ -68,13 +67,6 @@ impl<H: Handler> Handle<H> {
     /// Whether the runner has come to its end.
     pub fn is_closed(&self) -> bool {
         self.shared.is_closed()
-    }
-
-    /// The channel of this number, for example one that the server opened.
-    pub fn channel(&self, id: ChannelId) -> Result<Channel<H>, NoMemory>
-        ensures { IfOk result (λ c. c ≡ id) }
-    {
-        Ok(Channel::over(Arc::try_clone(&self.shared)?, id))
     }
 
     /// Waits until something is held of what happened on some channel, and returns the channel of what happened first;

@@ -2,27 +2,28 @@
 #![tactic(auto)]
 
 mod beside;
-mod caller;
 mod channel;
-mod channels;
+mod channel_calls;
 mod connecting;
 mod handle;
-mod logins;
+mod handle_calls;
+mod line;
 mod places;
-mod requests;
 mod runner;
 mod shared;
 mod short;
-mod signing;
 mod stopping;
 
 pub use beside::at_once;
 pub use channel::Channel;
+pub use channel_calls::ChannelCalls;
 pub use connecting::{Maker, connect, connect_stream};
 pub use handle::Handle;
+pub use handle_calls::HandleCalls;
+pub use line::{HandleLine, HasLine};
 pub use runner::{Runner, Waker};
 pub use short::is_short;
-pub use sshc_handle_calls::WithError;
+pub use sshc_handle_calls::{Line, LoggedAuthenticator, LoggedSigner, WithError};
 pub use sshc_handle_state::{End, HandleState, Timers, Turn};
 pub use sshc_handle_tickets::{
     AuthResult, KeyboardInteractiveAuthResponse, algs_answer, auth_answer, done_answer,

@@ -1,7 +1,7 @@
 //! Logs in over a transport in memory, and runs a command.
 
 use sshc_client::{ChannelMsg, Config, Error};
-use sshc_handle::{AuthResult, Handle, at_once, connect_stream};
+use sshc_handle::{AuthResult, ChannelCalls, Handle, HandleCalls, at_once, connect_stream};
 use sshc_sample_fakes::{FakeTransport, Host, Keeper, StillClock};
 use sshc_toy::{RefusingVerifier, ToySigner};
 use sshc_wire::Disconnect;

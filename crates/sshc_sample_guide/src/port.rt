@@ -4,7 +4,7 @@
 use crate::doorman::{Arrivals, Doorman, watch_door};
 use crate::server::Forwarding;
 use sshc_client::{ChannelMsg, Config, Error};
-use sshc_handle::{AuthResult, Channel, Handle, at_once, connect_stream};
+use sshc_handle::{AuthResult, Channel, Handle, HandleCalls, at_once, connect_stream};
 use sshc_sample_fakes::{Host, StillClock, across_threads};
 use sshc_toy::{RefusingVerifier, ToySigner};
 use sshc_wire::{ChannelId, Disconnect};

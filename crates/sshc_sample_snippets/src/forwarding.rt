@@ -2,7 +2,7 @@
 
 use sshc_client::Handler;
 use sshc_forward::{ForwardCore, FwdEvent, FwdOutput, FwdRefused, StreamEnd, serve_pair};
-use sshc_handle::Handle;
+use sshc_handle::{Handle, HandleCalls};
 use sshc_wire::{Sink, Source};
 use std::alloc::Global;
 use std::sync::Wait;

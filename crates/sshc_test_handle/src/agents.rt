@@ -7,7 +7,7 @@ use crate::answers::leave;
 use crate::packets::{PROBE, PROBE_OK};
 use crate::script::{Line, scripted};
 use sshc_ask::AgentClient;
-use sshc_handle::{AuthResult, Handle, WithError};
+use sshc_handle::{AuthResult, Handle, HandleCalls, WithError};
 use sshc_key::Error;
 use sshc_sample_fakes::{Keeper, fake_key, run_beside};
 use sshc_wire::{AgentStream, Failed, NoMemory, Sink, Source};

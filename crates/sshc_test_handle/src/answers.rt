@@ -2,7 +2,7 @@
 
 use sshc_auth::Error;
 use sshc_client::Msg;
-use sshc_handle::{AuthResult, Handle, KeyboardInteractiveAuthResponse, done_answer};
+use sshc_handle::{AuthResult, Handle, HandleCalls, KeyboardInteractiveAuthResponse, done_answer};
 use sshc_sample_fakes::Keeper;
 use sshc_wire::{Disconnect, NoMemory, Record, Text, Ticket};
 use std::alloc::Global;

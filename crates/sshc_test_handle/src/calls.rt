@@ -2,7 +2,7 @@
 
 use crate::answers::leave;
 use sshc_auth::Error;
-use sshc_handle::{Channel, Handle};
+use sshc_handle::{Channel, Handle, HandleCalls};
 use sshc_sample_fakes::{Host, Keeper, at_once, fake_key, opened, run_beside};
 use sshc_wire::{ChannelOpenFailure, HashAlg, NoMemory};
 use std::alloc::Global;

@@ -4,7 +4,7 @@ use crate::answers::let_go;
 use crate::maker::FakeMaker;
 use sshc_auth::Error;
 use sshc_client::Config;
-use sshc_handle::connect;
+use sshc_handle::{HandleCalls, connect};
 use sshc_sample_fakes::{FakeTransport, Host, Keeper, TickingClock};
 use sshc_toy::{RefusingVerifier, ToySigner};
 use sshc_wire::{Disconnect, NoMemory};

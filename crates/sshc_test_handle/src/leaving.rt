@@ -4,7 +4,9 @@ use crate::answers::{GONE, done, leave, ping};
 use crate::script::{Line, Script, awaiting};
 use sshc_auth::{Ended, Error};
 use sshc_client::Config;
-use sshc_handle::{Handle, Runner, Stoppable, Stopper, connect_stream, with_stopper};
+use sshc_handle::{
+    ChannelCalls, Handle, HandleCalls, Runner, Stoppable, Stopper, connect_stream, with_stopper,
+};
 use sshc_sample_fakes::{FakeTransport, Host, Keeper, StillClock, at_once, opened};
 use sshc_toy::{RefusingVerifier, ToySigner};
 use sshc_wire::ChannelId;

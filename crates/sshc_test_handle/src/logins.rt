@@ -4,7 +4,7 @@
 use crate::answers::{Came, leave, logged_in, prompted, respond, together};
 use sshc_auth::{Error, GssapiAuthenticator, GssapiError, GssapiStep};
 use sshc_client::Config;
-use sshc_handle::{AuthResult, Handle, WithError};
+use sshc_handle::{AuthResult, Handle, HandleCalls, WithError};
 use sshc_key::{AgentIdentity, HashAlg, PrivateKeyWithHashAlg, Signer};
 use sshc_sample_fakes::{
     FakeRunner, Host, Keeper, at_once, fake_certificate, fake_key, fake_pair, hosted, run_beside,

@@ -3,7 +3,7 @@
 use crate::answers::leave;
 use crate::script::{Line, scripted};
 use sshc_auth::{ChannelMsg, Error};
-use sshc_handle::Handle;
+use sshc_handle::{Handle, HandleCalls};
 use sshc_sample_fakes::{Keeper, run_beside};
 use sshc_wire::ChannelId;
 use std::sync::Wait;

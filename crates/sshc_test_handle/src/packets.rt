@@ -5,7 +5,7 @@ use crate::calls::{Answer, Call, DENIED, PROHIBITED};
 use crate::logins::{Way, tried};
 use crate::script::{Line, scripted};
 use sshc_client::{Config, Error};
-use sshc_handle::{Handle, connect_stream};
+use sshc_handle::{Handle, HandleCalls, connect_stream};
 use sshc_sample_fakes::{Coming, FakeTransport, Host, Keeper, Server, TickingClock, run_beside};
 use sshc_toy::{RefusingVerifier, ToySigner};
 use sshc_wire::{Disconnect, NoMemory};

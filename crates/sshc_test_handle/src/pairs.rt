@@ -5,7 +5,7 @@ use crate::answers::leave;
 use crate::echo::{Echo, echoing};
 use sshc_client::Error;
 use sshc_forward::serve_pair;
-use sshc_handle::Handle;
+use sshc_handle::{Handle, HandleCalls};
 use sshc_sample_fakes::{Keeper, at_once, run_beside};
 use sshc_wire::{MemSink, MemSource, NoMemory};
 use std::alloc::Global;

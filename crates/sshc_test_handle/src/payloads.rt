@@ -3,7 +3,7 @@
 use crate::answers::{Came, leave, logged_in, prompted, respond};
 use crate::script::{Line, scripted, shows};
 use sshc_client::Error;
-use sshc_handle::{Channel, Handle};
+use sshc_handle::{Channel, ChannelCalls, Handle, HandleCalls};
 use sshc_sample_fakes::{Keeper, run_beside};
 use sshc_wire::{Octets, Pty, Sig};
 use std::alloc::Global;

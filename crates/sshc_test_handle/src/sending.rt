@@ -3,7 +3,7 @@
 use crate::answers::{GONE, done, leave, ping};
 use crate::script::{Line, parting, scripted, shows};
 use sshc_auth::{ChannelMsg, Error};
-use sshc_handle::Handle;
+use sshc_handle::{ChannelCalls, Handle, HandleCalls};
 use sshc_sample_fakes::{Keeper, run_beside};
 use std::sync::Wait;
 use std::test::*;

@@ -5,7 +5,7 @@ use crate::answers::leave;
 use crate::echo::{Echo, echoing};
 use sshc_client::Error;
 use sshc_forward::{serve_pair, split_socket};
-use sshc_handle::Handle;
+use sshc_handle::{Handle, HandleCalls};
 use sshc_sample_fakes::{Keeper, at_once, run_beside};
 use std::alloc::Global;
 use std::io::{self, Read, Write};

@@ -1,6 +1,0 @@
-use Rattle.sshc_handle_calls.proofs.SigningAnswers.{answers_with}
-use Rattle.sshc_handle.proofs.handle.Handle.authenticate_certificate_with.Goals as goal
-
--- what the call of the same name ensures, without the calls of its line
-pub returns : goal.returns
-returns g c = answers_with _ _ _ _ _ _ c.authenticate_certificate_with.ensures

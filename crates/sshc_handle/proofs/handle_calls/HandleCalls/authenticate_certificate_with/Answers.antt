@@ -1,0 +1,6 @@
+use Rattle.sshc_handle_calls.proofs.SigningAnswers.{answers_with}
+use Rattle.sshc_handle.proofs.handle_calls.HandleCalls.authenticate_certificate_with.Goals as goal
+
+-- what the call of the same name ensures, without the calls of its line
+pub returns-clause-answer : goal.returns-clause-answer
+returns-clause-answer g c = answers_with _ _ _ _ _ _ c.authenticate_certificate_with-answer.ensures
